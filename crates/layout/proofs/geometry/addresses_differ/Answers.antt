@@ -1,0 +1,5 @@
+use Rattle.layout.specs.GeometryLaws.{differ}
+use Rattle.layout.proofs.geometry.addresses_differ.Goals as goal
+
+pub returns : goal.returns
+returns c = differ
