@@ -1,5 +1,5 @@
 -- Bytes that a source has left and that a sink took, where they are told.
-use Rattle.std.specs.Prelude.{◌≡◌, ℕ, ◌≤◌, List, [], ◌++◌, length, take, Option, Some, None, IfSome}
+use Rattle.std.specs.Prelude.{◌≡◌, ℕ, ◌<◌, List, [], ◌++◌, length, take, Option, Some, None, IfSome}
 
 -- the bytes with these at their end
 abbrev pub with_bytes : Option (List ℕ) → List ℕ → Option (List ℕ)
@@ -16,8 +16,8 @@ GivesFirst (Some old) given (Some new) = old ≡ given ++ new
 abbrev pub IsEnd : Option (List ℕ) → Type 0
 IsEnd left = IfSome left (λ bytes. bytes ≡ [])
 
--- a front of the piece was taken
+-- a front of the piece was taken, and not the whole
 pub record TookFront (old : Option (List ℕ)) (piece : List ℕ) (new : Option (List ℕ)) : Type 0 where
   pub count : ℕ
-  pub within : count ≤ length piece
+  pub within : count < length piece
   pub bytes : new ≡ with_bytes old (take count piece)

@@ -1,8 +1,19 @@
 //! Where bytes come from and where they go.
 #![tactic(auto)]
 
+mod calls;
+mod mem_sink;
+mod mem_source;
 mod sink;
 mod source;
+mod std_sink;
+mod std_source;
+#[cfg(test)]
+mod tests;
 
-pub use sink::{Sink, WriteFault};
+pub use mem_sink::MemSink;
+pub use mem_source::MemSource;
+pub use sink::{Sink, WriteFault, write_all};
 pub use source::{ReadFault, Source};
+pub use std_sink::StdSink;
+pub use std_source::StdSource;

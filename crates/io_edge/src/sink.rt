@@ -1,7 +1,7 @@
 // Where bytes go.
-ghost use Rattle.std.specs.Prelude.{◌≡◌, ◌<◌, ◌≤◌, List, ℕ, Option, Result, Ok, length, take, IfOk, OnErr};
+ghost use Rattle.std.specs.Prelude.{◌≡◌, ◌<◌, ◌≤◌, List, ℕ, Option, Result, Ok, length, take, IfOk, OnOk, OnErr};
 ghost use Rattle.pm_trait.specs.Device.{HasRisen};
-ghost use Rattle.io_edge.specs.Bytes.{with_bytes};
+ghost use Rattle.io_edge.specs.Bytes.{with_bytes, TookFront};
 
 use thiserror::Error;
 
@@ -27,4 +27,19 @@ pub trait Sink {
         ensures err { OnErr result (taken self.new ≡ taken self.old) }
         ensures faults { faults self.old ≤ faults self.new }
         ensures cause { OnErr result (HasRisen (faults self.old) (faults self.new)) };
+}
+
+/// Writes the whole piece, or fails after a front of it.
+pub fn write_all<K: Sink>(sink: &mut K, piece: &[u8]) -> Result<(), WriteFault>
+    ensures ok { OnOk result (K.taken sink.new ≡ with_bytes (K.taken sink.old) piece.now) }
+    ensures err { OnErr result (TookFront (K.taken sink.old) piece.now (K.taken sink.new)) }
+    ensures ok_faults { OnOk result (K.faults sink.new ≡ K.faults sink.old) }
+    ensures faults { K.faults sink.old ≤ K.faults sink.new }
+    ensures cause { OnErr result (HasRisen (K.faults sink.old) (K.faults sink.new)) }
+{
+    let mut count = 0;
+    while count < piece.len() {
+        count += sink.write(&piece[count..])?;
+    }
+    Ok(())
 }

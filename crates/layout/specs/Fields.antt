@@ -1,5 +1,5 @@
 -- The fields of an image, a list of words: P is its number of pages, I the image.
-use Rattle.std.specs.Prelude.{◌≡◌, ℕ, zero, suc, ◌+◌, ◌*◌, ◌/◌, ◌%◌, ◌^◌, List, [], ◌∷◌, slice_index}
+use Rattle.std.specs.Prelude.{ℕ, zero, suc, ◌+◌, ◌/◌, ◌%◌, ◌^◌, List, [], ◌∷◌, slice_index}
 use Rattle.layout.specs.Geometry.{inode_word_of, descriptor_word_of, slot_word_of, page_word_of}
 use Rattle.layout.specs.Name.{name_in_words}
 

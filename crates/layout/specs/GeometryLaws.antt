@@ -1,62 +1,62 @@
 -- What follows from the regions' sizes: which numbers are in range, and that addresses differ.
-use Rattle.std.proofs.Common.{◌≡◌, ◌≢◌, ℕ, ◌+◌, ◌-◌, ◌*◌, ◌/◌, ◌%◌, ◌<◌, ◌≤◌, arith}
-use Rattle.layout.specs.Geometry.{IsVolumeSize, inodes_of, inode_pages_of, descriptor_pages_of, data_pages_of, slots_of, page_of_slot, first_data_word_of, inode_word_of, descriptor_word_of, slot_word_of, page_word_of, IsInodeField, IsDescriptorField, IsSlotField, IsPageWord, AddressesDiffer, AddressesInRange}
+use Rattle.std.proofs.Common.{◌≡◌, ◌≢◌, ℕ, ◌+◌, ◌*◌, ◌/◌, ◌%◌, ◌<◌, ◌≤◌, arith}
+use Rattle.layout.specs.Geometry.{IsVolumeSize, inodes_of, inode_pages_of, descriptor_pages_of, data_pages_of, slots_of, page_of_slot, first_data_word_of, inode_word_of, descriptor_word_of, slot_word_of, page_word_of, AddressesDiffer, AddressesInRange}
 
 -- ---- sizes
 
 -- the regions fill the device
-pub regions-fill : (P : ℕ) → IsVolumeSize P → 1 + inode_pages_of P + descriptor_pages_of P + data_pages_of P ≡ P
+pub regions_fill : (P : ℕ) → IsVolumeSize P → 1 + inode_pages_of P + descriptor_pages_of P + data_pages_of P ≡ P
 unfolding data_pages_of
-regions-fill P h = omega arith
+regions_fill P h = omega arith
 
 -- there is a data page
-pub data_pages_of-some : (P : ℕ) → IsVolumeSize P → 1 ≤ data_pages_of P
+pub some_data_page : (P : ℕ) → IsVolumeSize P → 1 ≤ data_pages_of P
 unfolding data_pages_of
-data_pages_of-some P h = omega arith
+some_data_page P h = omega arith
 
-pub data_pages_of-below : (P : ℕ) → IsVolumeSize P → data_pages_of P < P
+pub data_pages_below : (P : ℕ) → IsVolumeSize P → data_pages_of P < P
 unfolding data_pages_of
-data_pages_of-below P h = omega arith
+data_pages_below P h = omega arith
 
 -- there are inodes beside the root's
-pub inodes_of-some : (P : ℕ) → IsVolumeSize P → 4 ≤ inodes_of P
+pub some_inodes : (P : ℕ) → IsVolumeSize P → 4 ≤ inodes_of P
 unfolding inodes_of
-inodes_of-some P h = omega arith
+some_inodes P h = omega arith
 
-pub inodes_of-below : (P : ℕ) → IsVolumeSize P → inodes_of P < P
+pub inodes_below : (P : ℕ) → IsVolumeSize P → inodes_of P < P
 unfolding inodes_of
-inodes_of-below P h = omega arith
+inodes_below P h = omega arith
 
-pub slots_of-pages : (P : ℕ) → slots_of P ≡ 32 * data_pages_of P
+pub slots_in_pages : (P : ℕ) → slots_of P ≡ 32 * data_pages_of P
 unfolding slots_of
-slots_of-pages P = omega arith
+slots_in_pages P = omega arith
 
 -- ---- slots and their pages
 
 -- a slot in range stands in a data page
-pub page_of_slot-below : (P s : ℕ) → s < slots_of P → page_of_slot s < data_pages_of P
+pub page_of_slot_below : (P s : ℕ) → s < slots_of P → page_of_slot s < data_pages_of P
 unfolding slots_of page_of_slot
-page_of_slot-below P s h = omega arith
+page_of_slot_below P s h = omega arith
 
 -- and what stands in a data page is a slot in range
-pub slots_of-above : (P s : ℕ) → page_of_slot s < data_pages_of P → s < slots_of P
+pub slot_below : (P s : ℕ) → page_of_slot s < data_pages_of P → s < slots_of P
 unfolding slots_of page_of_slot
-slots_of-above P s h = omega arith
+slot_below P s h = omega arith
 
 -- entry k of page j
-pub page_of_slot-entry : (j k : ℕ) → k < 32 → page_of_slot (32 * j + k) ≡ j
+pub page_of_entry : (j k : ℕ) → k < 32 → page_of_slot (32 * j + k) ≡ j
 unfolding page_of_slot
-page_of_slot-entry j k h = omega arith
+page_of_entry j k h = omega arith
 
 -- the words of a slot are words of its page
-pub slot_word_of-page : (P s f : ℕ) → slot_word_of P s f ≡ page_word_of P (page_of_slot s) (16 * (s % 32) + f)
+pub slot_word_in_page : (P s f : ℕ) → slot_word_of P s f ≡ page_word_of P (page_of_slot s) (16 * (s % 32) + f)
 unfolding slot_word_of page_word_of page_of_slot
-slot_word_of-page P s f = omega arith
+slot_word_in_page P s f = omega arith
 
 -- and the words of a page are words of its slots
-pub page_word_of-slot : (P j k : ℕ) → page_word_of P j k ≡ slot_word_of P (32 * j + k / 16) (k % 16)
+pub page_word_in_slot : (P j k : ℕ) → page_word_of P j k ≡ slot_word_of P (32 * j + k / 16) (k % 16)
 unfolding slot_word_of page_word_of
-page_word_of-slot P j k = omega arith
+page_word_in_slot P j k = omega arith
 
 -- ---- one place, one address
 
@@ -78,89 +78,94 @@ same_page_word P i j k l hk hl e = (omega arith, omega arith)
 
 -- ---- where the tables stand
 
-pub inode_word_of-above : (i f : ℕ) → 512 ≤ inode_word_of i f
+pub inode_word_above : (i f : ℕ) → 512 ≤ inode_word_of i f
 unfolding inode_word_of
-inode_word_of-above i f = omega arith
+inode_word_above i f = omega arith
 
-pub inode_word_of-below : (P i f : ℕ) → i ≤ inodes_of P → f < 16 → 1 ≤ i → inode_word_of i f < 512 * (1 + inode_pages_of P)
+pub inode_word_below : (P i f : ℕ) → 1 ≤ i → i ≤ inodes_of P → f < 16 → inode_word_of i f < 512 * (1 + inode_pages_of P)
 unfolding inode_word_of inode_pages_of
-inode_word_of-below P i f h hf some = omega arith
+inode_word_below P i f some h hf = omega arith
 
-pub descriptor_word_of-above : (P j f : ℕ) → 512 * (1 + inode_pages_of P) ≤ descriptor_word_of P j f
+pub descriptor_word_above : (P j f : ℕ) → 512 * (1 + inode_pages_of P) ≤ descriptor_word_of P j f
 unfolding descriptor_word_of
-descriptor_word_of-above P j f = omega arith
+descriptor_word_above P j f = omega arith
 
-pub descriptor_word_of-below : (P j f : ℕ) → j < data_pages_of P → f < 8 → descriptor_word_of P j f < first_data_word_of P
+pub descriptor_word_below : (P j f : ℕ) → j < data_pages_of P → f < 8 → descriptor_word_of P j f < first_data_word_of P
 unfolding descriptor_word_of first_data_word_of data_pages_of
-descriptor_word_of-below P j f h hf = omega arith
+descriptor_word_below P j f h hf = omega arith
 
-pub slot_word_of-above : (P s f : ℕ) → first_data_word_of P ≤ slot_word_of P s f
+pub slot_word_above : (P s f : ℕ) → first_data_word_of P ≤ slot_word_of P s f
 unfolding slot_word_of
-slot_word_of-above P s f = omega arith
+slot_word_above P s f = omega arith
 
-pub slot_word_of-below : (P s f : ℕ) → s < slots_of P → f < 16 → slot_word_of P s f < 512 * P
+pub slot_word_within : (P s f : ℕ) → s < slots_of P → f < 16 → slot_word_of P s f < 512 * P
 unfolding slot_word_of slots_of
-slot_word_of-below P s f h hf = omega arith
+slot_word_within P s f h hf = omega arith
 
-pub page_word_of-above : (P j k : ℕ) → first_data_word_of P ≤ page_word_of P j k
+-- and all of a slot's words from one on
+pub slot_words_within : (P s f n : ℕ) → s < slots_of P → f + n ≤ 16 → slot_word_of P s f + n ≤ 512 * P
+unfolding slot_word_of slots_of
+slot_words_within P s f n h hf = omega arith
+
+pub page_word_above : (P j k : ℕ) → first_data_word_of P ≤ page_word_of P j k
 unfolding page_word_of
-page_word_of-above P j k = omega arith
+page_word_above P j k = omega arith
 
-pub page_word_of-below : (P j k : ℕ) → j < data_pages_of P → k < 512 → page_word_of P j k < 512 * P
+pub page_word_within : (P j k : ℕ) → j < data_pages_of P → k < 512 → page_word_of P j k < 512 * P
 unfolding page_word_of data_pages_of
-page_word_of-below P j k h hk = omega arith
+page_word_within P j k h hk = omega arith
 
 -- every address is one of the device
 
-pub first_data_word_of-within : (P : ℕ) → IsVolumeSize P → first_data_word_of P < 512 * P
+pub first_data_word_within : (P : ℕ) → IsVolumeSize P → first_data_word_of P < 512 * P
 unfolding first_data_word_of
-first_data_word_of-within P h = omega arith
+first_data_word_within P h = omega arith
 
-pub inode_word_of-within : (P i f : ℕ) → IsVolumeSize P → 1 ≤ i → i ≤ inodes_of P → f < 16 → inode_word_of i f < 512 * P
+pub inode_word_within : (P i f : ℕ) → IsVolumeSize P → 1 ≤ i → i ≤ inodes_of P → f < 16 → inode_word_of i f < 512 * P
 unfolding first_data_word_of
-inode_word_of-within P i f size some h hf =
-    let below = inode_word_of-below P i f h hf some in
-    let within = first_data_word_of-within P size in
+inode_word_within P i f size some h hf =
+    let below = inode_word_below P i f some h hf in
+    let within = first_data_word_within P size in
     omega arith
 
-pub descriptor_word_of-within : (P j f : ℕ) → IsVolumeSize P → j < data_pages_of P → f < 8 → descriptor_word_of P j f < 512 * P
-descriptor_word_of-within P j f size h hf =
-    let below = descriptor_word_of-below P j f h hf in
-    let within = first_data_word_of-within P size in
+pub descriptor_word_within : (P j f : ℕ) → IsVolumeSize P → j < data_pages_of P → f < 8 → descriptor_word_of P j f < 512 * P
+descriptor_word_within P j f size h hf =
+    let below = descriptor_word_below P j f h hf in
+    let within = first_data_word_within P size in
     omega arith
 
 -- ---- no word of one table is a word of another
 
-pub inode_word-descriptor_word : (P i j f g : ℕ) → 1 ≤ i → i ≤ inodes_of P → f < 16 → inode_word_of i f ≢ descriptor_word_of P j g
-inode_word-descriptor_word P i j f g some h hf e =
-    let below = inode_word_of-below P i f h hf some in
-    let above = descriptor_word_of-above P j g in
+pub inode_word_not_descriptor_word : (P i j f g : ℕ) → 1 ≤ i → i ≤ inodes_of P → f < 16 → inode_word_of i f ≢ descriptor_word_of P j g
+inode_word_not_descriptor_word P i j f g some h hf e =
+    let below = inode_word_below P i f some h hf in
+    let above = descriptor_word_above P j g in
     omega arith
 
-pub inode_word-slot_word : (P i s f g : ℕ) → 1 ≤ i → i ≤ inodes_of P → f < 16 → inode_word_of i f ≢ slot_word_of P s g
+pub inode_word_not_slot_word : (P i s f g : ℕ) → 1 ≤ i → i ≤ inodes_of P → f < 16 → inode_word_of i f ≢ slot_word_of P s g
 unfolding first_data_word_of
-inode_word-slot_word P i s f g some h hf e =
-    let below = inode_word_of-below P i f h hf some in
-    let above = slot_word_of-above P s g in
+inode_word_not_slot_word P i s f g some h hf e =
+    let below = inode_word_below P i f some h hf in
+    let above = slot_word_above P s g in
     omega arith
 
-pub inode_word-page_word : (P i j f k : ℕ) → 1 ≤ i → i ≤ inodes_of P → f < 16 → inode_word_of i f ≢ page_word_of P j k
+pub inode_word_not_page_word : (P i j f k : ℕ) → 1 ≤ i → i ≤ inodes_of P → f < 16 → inode_word_of i f ≢ page_word_of P j k
 unfolding first_data_word_of
-inode_word-page_word P i j f k some h hf e =
-    let below = inode_word_of-below P i f h hf some in
-    let above = page_word_of-above P j k in
+inode_word_not_page_word P i j f k some h hf e =
+    let below = inode_word_below P i f some h hf in
+    let above = page_word_above P j k in
     omega arith
 
-pub descriptor_word-slot_word : (P j s f g : ℕ) → j < data_pages_of P → f < 8 → descriptor_word_of P j f ≢ slot_word_of P s g
-descriptor_word-slot_word P j s f g h hf e =
-    let below = descriptor_word_of-below P j f h hf in
-    let above = slot_word_of-above P s g in
+pub descriptor_word_not_slot_word : (P j s f g : ℕ) → j < data_pages_of P → f < 8 → descriptor_word_of P j f ≢ slot_word_of P s g
+descriptor_word_not_slot_word P j s f g h hf e =
+    let below = descriptor_word_below P j f h hf in
+    let above = slot_word_above P s g in
     omega arith
 
-pub descriptor_word-page_word : (P i j f k : ℕ) → i < data_pages_of P → f < 8 → descriptor_word_of P i f ≢ page_word_of P j k
-descriptor_word-page_word P i j f k h hf e =
-    let below = descriptor_word_of-below P i f h hf in
-    let above = page_word_of-above P j k in
+pub descriptor_word_not_page_word : (P i j f k : ℕ) → i < data_pages_of P → f < 8 → descriptor_word_of P i f ≢ page_word_of P j k
+descriptor_word_not_page_word P i j f k h hf e =
+    let below = descriptor_word_below P i f h hf in
+    let above = page_word_above P j k in
     omega arith
 
 -- ---- both as the records
@@ -175,8 +180,8 @@ differ P = record {
 
 pub in_range : (P : ℕ) → AddressesInRange P
 in_range P = record {
-  inodes = λ i f h. (inode_word_of-above i f, inode_word_of-below P i f h.1 h.2 h.0);
-  descriptors = λ j f h. (descriptor_word_of-above P j f, descriptor_word_of-below P j f h.0 h.1);
-  slots = λ s f h. (slot_word_of-above P s f, slot_word_of-below P s f h.0 h.1);
-  pages_of_data = λ j k h. (page_word_of-above P j k, page_word_of-below P j k h.0 h.1);
+  inodes = λ i f h. (inode_word_above i f, inode_word_below P i f h.0 h.1 h.2);
+  descriptors = λ j f h. (descriptor_word_above P j f, descriptor_word_below P j f h.0 h.1);
+  slots = λ s f h. (slot_word_above P s f, slot_word_within P s f h.0 h.1);
+  pages_of_data = λ j k h. (page_word_above P j k, page_word_within P j k h.0 h.1);
 }

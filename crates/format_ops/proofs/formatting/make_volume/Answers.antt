@@ -1,0 +1,75 @@
+use Rattle.std.proofs.Common.{◌<◌, inl, inr, length, arith}
+use Rattle.std.specs.Prelude.{Ok, Err, Result, OnOk}
+use Rattle.pm_trait.specs.DeviceLaws.{fenced_leaves, leaves_then}
+use Rattle.format_ops.specs.Stops.{IsOldHiddenOrFormatted}
+use Rattle.format_ops.proofs.Stops.{cleared, hidden_tables, hiding, writing, publishing, formatted}
+use Rattle.format_ops.proofs.formatting.make_volume.Goals as goal
+
+on_ok : {T E P : Type 0} (result : Result T E) → P → OnOk result P
+on_ok (Ok done) holds = holds
+on_ok (Err fault) holds = tt
+
+pub returns-in_err-set_first_word-clause-any_moment : goal.returns-in_err-set_first_word-clause-any_moment
+returns-in_err-set_first_word-clause-any_moment g c =
+    let pages = c.args.geometry.now.pages in
+    let size = c.args.geometry.now.volume_size in
+    let some : 0 < length (g.P.Pm.now c.args.pm.now) = omega (arith, c.requires.long, size) in
+    fenced_leaves {P = λ _. IsOldHiddenOrFormatted pages (g.P.Pm.now c.args.pm.now)} c.set_first_word.ensures.fenced (hiding pages some c.set_first_word.ensures.words)
+
+pub returns-in_err-write_tables-clause-any_moment : goal.returns-in_err-write_tables-clause-any_moment
+returns-in_err-write_tables-clause-any_moment g c =
+    let pages = c.args.geometry.now.pages in
+    let size = c.args.geometry.now.volume_size in
+    let old = g.P.Pm.now c.args.pm.now in
+    let some : 0 < length old = omega (arith, c.requires.long, size) in
+    let hide = c.set_first_word.ensures in
+    let write = c.write_tables.ensures in
+    leaves_then {P = λ _. IsOldHiddenOrFormatted pages old}
+    (fenced_leaves {P = λ _. IsOldHiddenOrFormatted pages old} hide.fenced (hiding pages some hide.words))
+    (fenced_leaves {P = λ _. IsOldHiddenOrFormatted pages old} write.fenced (writing pages some hide.words write.beside))
+
+pub returns-clause-formatted : goal.returns-clause-formatted
+returns-clause-formatted g c =
+    let pages = c.args.geometry.now.pages in
+    let size = c.args.geometry.now.volume_size in
+    let old = g.P.Pm.now c.args.pm.now in
+    let some : 0 < length old = omega (arith, c.requires.long, size) in
+    let write = c.write_tables.ensures in
+    on_ok c.set_first_word-2.result (formatted pages some size c.requires.long c.set_first_word.ensures.words write.beside write.long write.written c.set_first_word-2.ensures.words)
+
+pub returns-clause-any_moment : goal.returns-clause-any_moment
+returns-clause-any_moment g c =
+    let pages = c.args.geometry.now.pages in
+    let size = c.args.geometry.now.volume_size in
+    let old = g.P.Pm.now c.args.pm.now in
+    let some : 0 < length old = omega (arith, c.requires.long, size) in
+    let hide = c.set_first_word.ensures in
+    let write = c.write_tables.ensures in
+    let publish = c.set_first_word-2.ensures in
+    let done = formatted pages some size c.requires.long hide.words write.beside write.long write.written publish.words in
+    leaves_then {P = λ _. IsOldHiddenOrFormatted pages old}
+    (leaves_then {P = λ _. IsOldHiddenOrFormatted pages old}
+    (fenced_leaves {P = λ _. IsOldHiddenOrFormatted pages old} hide.fenced (hiding pages some hide.words))
+    (fenced_leaves {P = λ _. IsOldHiddenOrFormatted pages old} write.fenced (writing pages some hide.words write.beside)))
+    (fenced_leaves {P = λ _. IsOldHiddenOrFormatted pages old} publish.fenced (publishing pages some hide.words write.beside write.long publish.words done))
+
+pub returns-in_err-set_first_word-clause-words : goal.returns-in_err-set_first_word-clause-words
+returns-in_err-set_first_word-clause-words g c =
+    let size = c.args.geometry.now.volume_size in
+    let some : 0 < length (g.P.Pm.now c.args.pm.now) = omega (arith, c.requires.long, size) in
+    inr (inl (cleared c.args.geometry.now.pages some c.set_first_word.ensures.words))
+
+pub returns-in_err-write_tables-clause-words : goal.returns-in_err-write_tables-clause-words
+returns-in_err-write_tables-clause-words g c =
+    let size = c.args.geometry.now.volume_size in
+    let some : 0 < length (g.P.Pm.now c.args.pm.now) = omega (arith, c.requires.long, size) in
+    let write = c.write_tables.ensures in
+    inr (inl (hidden_tables c.args.geometry.now.pages some c.set_first_word.ensures.words write.beside write.long))
+
+pub returns-clause-words : goal.returns-clause-words
+returns-clause-words g c =
+    let pages = c.args.geometry.now.pages in
+    let size = c.args.geometry.now.volume_size in
+    let some : 0 < length (g.P.Pm.now c.args.pm.now) = omega (arith, c.requires.long, size) in
+    let write = c.write_tables.ensures in
+    inr (inr (formatted pages some size c.requires.long c.set_first_word.ensures.words write.beside write.long write.written c.set_first_word-2.ensures.words))

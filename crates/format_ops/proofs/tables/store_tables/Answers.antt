@@ -1,0 +1,37 @@
+use Rattle.std.proofs.Common.{◌≡◌, ◌⊎◌, inl, inr, ℕ, ◌+◌, ◌<◌, ◌≤◌, List, length, get_or, slice_set, ◌∙◌, ap, sym, subst, arith, get_or-set_same, get_or-set_other, length-set}
+use Rattle.std.proofs.lemmas.Bool.{cases_eq}
+use Rattle.pm_trait.specs.DeviceLaws.{interval_weaker, then_store}
+use Rattle.format_ops.specs.Tables.{IsWithin, IsTableValue, HasTableValues}
+use Rattle.format_ops.proofs.tables.store_tables.Goals as goal
+
+wider : (word other : ℕ) → 1 ≤ word → IsWithin 1 word other ⊎ (other ≡ word) → IsWithin 1 (word + 1) other
+wider word other order (inl within) = record { low = within.low; high = omega (arith, within.high) }
+wider word other order (inr is) = record { low = omega arith; high = omega arith }
+
+written_more : (pages word value : ℕ) (old new : List ℕ) → word < length old → new ≡ slice_set old word value → IsTableValue pages word value → HasTableValues pages 1 word old → HasTableValues pages 1 (word + 1) new
+written_more pages word value old new inside is right so_far = record {
+  each = λ other low high. subst (IsTableValue pages other) (sym (ap (λ (l : List ℕ). get_or l other 0) is)) (elim (cases_eq other word) [
+    | inl here ↦ subst (IsTableValue pages other) (sym (ap (λ (k : ℕ). get_or (slice_set old word value) k 0) here ∙ get_or-set_same old word value 0 inside)) (subst (λ (k : ℕ). IsTableValue pages k value) (sym here) right)
+    | inr there ↦ subst (IsTableValue pages other) (sym (get_or-set_other old word other value 0 there)) (so_far.each other low (omega (arith, there, high)))
+  ]);
+}
+
+same_length : (word value : ℕ) (old new : List ℕ) → new ≡ slice_set old word value → length new ≡ length old
+same_length word value old new is = ap length is ∙ length-set old word value
+
+pub loop-word-preserved : goal.loop-word-preserved
+loop-word-preserved g c =
+    let so_far = c.loop-word.invariant in
+    let word = c.loop-word.word in
+    let before = g.P.Pm.now c.loop-word.pm in
+    let inside : word < length before = omega (arith, so_far.long) in
+    record {
+      stores = interval_weaker (λ other either. wider word other (omega arith) either) (then_store word c.table_word.result so_far.stores (λ within. omega (arith, within.high)) c.store.ensures.words c.store.ensures.trail);
+      written = written_more c.args.geometry.now.pages word c.table_word.result before (g.P.Pm.now c.store.new.self) inside c.store.ensures.words c.table_word.ensures so_far.written;
+      long = same_length word c.table_word.result before (g.P.Pm.now c.store.new.self) c.store.ensures.words ∙ so_far.long;
+      room = omega arith;
+      faults = c.store.ensures.faults ∙ so_far.faults;
+      refused = c.store.ensures.refused ∙ so_far.refused;
+      fences = c.store.ensures.fences ∙ so_far.fences;
+      acks = c.store.ensures.acks ∙ so_far.acks;
+    }

@@ -1,0 +1,9 @@
+-- How many words the file of a volume has.
+use Rattle.std.specs.Prelude.{◌≡◌, ℕ, ◌*◌, ◌≤◌}
+
+-- so many words are those of whole pages, from the smallest volume to the largest
+pub record IsVolumeLength (words : ℕ) : Type 0 where
+  pub pages : ℕ
+  pub least : 16 ≤ pages
+  pub most : pages ≤ 65536
+  pub whole : words ≡ 512 * pages

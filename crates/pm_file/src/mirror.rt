@@ -1,0 +1,176 @@
+// The words of a file in memory, and which of their lines the file has still to be given.
+ghost use Rattle.std.specs.Prelude.{◌≡◌, ◌+◌, ◌-◌, ◌*◌, ◌^◌, ◌<◌, ◌≤◌, ℕ, List, [], ◌∷◌, ◌++◌, ◌==◌, length, slice_index, slice_set, vec_len, replicate, count_by, IfOk, OnOk, OnErr, true};
+ghost use Rattle.std.specs.Vec.{vec_capacity};
+ghost use Rattle.pm_file.specs.Given.{is_listed, HasLines, ReadsFrom};
+
+use crate::FileFault;
+use crate::medium::{Medium, WORDS_OF_A_LINE, WORDS_OF_A_PAGE};
+use std::alloc::{AllocError, Global};
+use std::io;
+
+const LINES_OF_A_PAGE: usize = 64;
+
+/// What a file's words take of memory.
+#[derive(Drop)]
+pub struct Room {
+    pub words: Vec<u64>,
+    pub rounds: Vec<u64>,
+    pub flushed: Vec<u64>,
+}
+
+/// Takes the memory for the words of so many pages, of which none is there yet.
+pub fn take_room(alloc: Global, pages: usize) -> Result<Room, AllocError>
+    requires { 4096 * pages < 2 ^ 63 }
+    ensures words { IfOk result (λ room. room.words.items ≡ []) }
+    ensures rounds { IfOk result (λ room. room.rounds.items ≡ replicate (64 * pages) 0) }
+    ensures flushed { IfOk result (λ room. room.flushed.items ≡ []) }
+    ensures enough { IfOk result (λ room. vec_capacity room.flushed ≡ 64 * pages) }
+{
+    let lines = LINES_OF_A_PAGE * pages;
+    Ok(Room {
+        words: Vec::with_capacity(alloc, WORDS_OF_A_PAGE * pages)?,
+        rounds: vec![in alloc; 0u64; lines]?,
+        flushed: Vec::with_capacity(alloc, lines)?,
+    })
+}
+
+/// Adds the words of so many pages from the start of a medium.
+fn read_pages<F: Medium>(
+    medium: &mut F,
+    words: &mut Vec<u64>,
+    pages: usize,
+) -> Result<(), FileFault>
+    requires in_range { 4096 * pages < 2 ^ 63 }
+    requires none { words.old.items ≡ [] }
+    ensures length { OnOk result (length words.new.items ≡ 512 * pages) }
+    ensures read { OnOk result (ReadsFrom (F.held medium.old) 0 (512 * pages) words.new.items) }
+{
+    for page in 0..pages {
+        let read = medium.read_page(page as u64)?;
+        words.extend_from_slice(&read)?;
+    }
+    Ok(())
+}
+
+/// Gives a medium each of the listed lines.
+fn write_lines<F: Medium>(medium: &mut F, words: &[u64], lines: &[u64]) -> io::Result<()>
+    requires in_file { 8 * length words.now < 2 ^ 63 }
+    requires in_range { (k : ℕ) → k < length lines.now → 8 * slice_index lines.now k + 8 ≤ length words.now }
+    ensures { OnOk result (HasLines (F.held medium.old) (F.held medium.new) words.now lines.now) }
+{
+    for line in lines {
+        let first = *line as usize * WORDS_OF_A_LINE;
+        medium.write_line(*line, &words[first..first + WORDS_OF_A_LINE])?;
+    }
+    Ok(())
+}
+
+/// Adds a line where there is room for it.
+fn note(flushed: &mut Vec<u64>, line: u64)
+    requires { vec_len flushed.old < vec_capacity flushed.old }
+    ensures items { flushed.new.items ≡ flushed.old.items ++ line ∷ [] }
+    ensures capacity { vec_capacity flushed.old ≤ vec_capacity flushed.new }
+{
+    let _ = flushed.push(line);
+}
+
+/// The words of a medium. A round ends each time that the flushed lines were written and are safe there.
+#[derive(Drop)]
+pub struct Mirror<F> {
+    medium: F,
+    words: Vec<u64>,
+    /// For each line the last round in which it was flushed, or 0.
+    rounds: Vec<u64>,
+    /// The lines that were flushed in this round, each once.
+    flushed: Vec<u64>,
+    round: u64,
+    ghost whole_lines: { length words.items ≡ 8 * length rounds.items },
+    ghost in_file: { 8 * length words.items < 2 ^ 63 },
+    ghost started: { 1 ≤ round },
+    ghost past: { (line : ℕ) → slice_index rounds.items line ≤ round },
+    ghost in_range: { (k : ℕ) → k < length flushed.items → slice_index flushed.items k < length rounds.items },
+    ghost counted: { count_by (λ r. r == round) rounds.items ≡ length flushed.items },
+    ghost room: { length rounds.items ≤ vec_capacity flushed },
+    ghost noted: { (line : ℕ) → slice_index rounds.items line ≡ round → is_listed flushed.items line ≡ true },
+}
+
+impl<F: Medium + Drop> Mirror<F> {
+    /// Reads the words of so many pages from the start of a medium, for which there is room.
+    pub fn read_from(mut medium: F, room: Room, pages: usize) -> Result<Mirror<F>, FileFault>
+        requires in_file { 4096 * pages < 2 ^ 63 }
+        requires words { room.words.items ≡ [] }
+        requires rounds { room.rounds.items ≡ replicate (64 * pages) 0 }
+        requires flushed { room.flushed.items ≡ [] }
+        requires enough { vec_capacity room.flushed ≡ 64 * pages }
+        ensures length { IfOk result (λ mirror. length mirror.words.items ≡ 512 * pages) }
+        ensures read { IfOk result (λ mirror. ReadsFrom (F.held medium) 0 (512 * pages) mirror.words.items) }
+    {
+        let Room {
+            mut words,
+            rounds,
+            flushed,
+        } = room;
+        read_pages(&mut medium, &mut words, pages)?;
+        Ok(Mirror {
+            medium,
+            words,
+            rounds,
+            flushed,
+            round: 1,
+        })
+    }
+
+    /// The words as they read.
+    pub fn words(&self) -> &[u64]
+        ensures { result.now ≡ self.now.words.items }
+    {
+        &self.words
+    }
+
+    /// Gives a word a value.
+    pub fn set(&mut self, word: u64, value: u64)
+        requires { word < length self.old.words.items }
+        ensures { self.new.words.items ≡ slice_set self.old.words.items word value }
+    {
+        self.words[word as usize] = value;
+    }
+
+    /// Notes that a line was flushed. It takes no memory.
+    pub fn flush(&mut self, line: u64)
+        requires { 8 * line < length self.old.words.items }
+        ensures words { self.new.words.items ≡ self.old.words.items }
+        ensures noted { is_listed self.new.flushed.items line ≡ true }
+        ensures kept { (other : ℕ) → is_listed self.old.flushed.items other ≡ true → is_listed self.new.flushed.items other ≡ true }
+    {
+        if self.rounds[line as usize] < self.round {
+            self.rounds[line as usize] = self.round;
+            note(&mut self.flushed, line);
+        }
+    }
+
+    /// Writes the flushed lines to the medium and waits until they are safe there.
+    pub fn write_back(&mut self) -> io::Result<()>
+        ensures words { self.new.words.items ≡ self.old.words.items }
+        ensures ok { OnOk result (HasLines (F.held self.old.medium) (F.safe self.new.medium) self.old.words.items self.old.flushed.items) }
+        ensures forgotten { OnOk result (self.old.round < 2 ^ 64 - 1 → self.new.flushed.items ≡ []) }
+        ensures err { OnErr result (self.new.flushed.items ≡ self.old.flushed.items) }
+    {
+        write_lines(&mut self.medium, &self.words, &self.flushed)?;
+        self.medium.sync()?;
+        self.end_round();
+        Ok(())
+    }
+
+    #[tactic(auto, using(crate::proofs::Rounds::no_later_round))]
+    /// Forgets the flushed lines. In the last round that there can be they stay, to be written again.
+    fn end_round(&mut self)
+        ensures words { self.new.words.items ≡ self.old.words.items }
+        ensures medium { self.new.medium ≡ self.old.medium }
+        ensures forgotten { self.old.round < 2 ^ 64 - 1 → self.new.flushed.items ≡ [] }
+    {
+        if self.round < u64::MAX {
+            self.flushed.clear();
+            self.round += 1;
+        }
+    }
+}
