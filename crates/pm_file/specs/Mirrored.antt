@@ -1,8 +1,16 @@
 -- What a device over a file reads as.
-use Rattle.std.specs.Prelude.{ℕ, List, [], Option, Some, None}
+use Rattle.std.specs.Prelude.{ℕ, List, [], Option, Some, None, ⊤}
 use Rattle.pm_file.specs.declared.mirror.Mirror.{Mirror}
+use Rattle.pm_file.specs.Given.{HasLines}
 
 -- the words in memory, where there is a file
 abbrev pub mirrored_words : {F : Type 0} → Option (Mirror F) → List ℕ
 mirrored_words None = []
 mirrored_words (Some mirror) = mirror.words.items
+
+-- The medium has the words of each line that was flushed, and no stop takes them from it; all its other words are as they
+-- were. Where there is none nothing is said.
+abbrev pub IsGiven : {F : Type 0} → (F → Option (List ℕ)) → (F → Option (List ℕ)) → Option (Mirror F) → Option (Mirror F) → Type 0
+IsGiven held safe None new = ⊤
+IsGiven held safe (Some old) None = ⊥
+IsGiven held safe (Some old) (Some new) = HasLines (held old.medium) (safe new.medium) old.words.items old.flushed.items

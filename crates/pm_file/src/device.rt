@@ -3,7 +3,7 @@ ghost use Rattle.std.specs.Prelude.{◌≡◌, ◌⊎◌, ◌+◌, ◌-◌, ◌*
 ghost use Rattle.std.specs.Vec.{vec_capacity};
 ghost use Rattle.pm_trait.specs.Device.{HasRisen};
 ghost use Rattle.pm_file.specs.Length.{IsVolumeLength};
-ghost use Rattle.pm_file.specs.Mirrored.{mirrored_words};
+ghost use Rattle.pm_file.specs.Mirrored.{mirrored_words, IsGiven};
 
 use crate::FileFault;
 use crate::medium::Medium;
@@ -207,7 +207,8 @@ impl<R: Files> Pm for FilePm<R> {
 
 /// Writes the flushed lines to the file, where there is one.
 fn write_back<F: Medium + Drop>(mirror: &mut Option<Mirror<F>>) -> io::Result<()>
-    ensures { mirrored_words mirror.new ≡ mirrored_words mirror.old }
+    ensures words { mirrored_words mirror.new ≡ mirrored_words mirror.old }
+    ensures given { OnOk result (IsGiven F.held F.safe mirror.old mirror.new) }
 {
     match mirror {
         Some(mirror) => mirror.write_back(),

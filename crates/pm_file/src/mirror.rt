@@ -130,7 +130,9 @@ impl<F: Medium + Drop> Mirror<F> {
     /// Gives a word a value.
     pub fn set(&mut self, word: u64, value: u64)
         requires { word < length self.old.words.items }
-        ensures { self.new.words.items ≡ slice_set self.old.words.items word value }
+        ensures words { self.new.words.items ≡ slice_set self.old.words.items word value }
+        ensures medium { self.new.medium ≡ self.old.medium }
+        ensures flushed { self.new.flushed.items ≡ self.old.flushed.items }
     {
         self.words[word as usize] = value;
     }
@@ -139,6 +141,7 @@ impl<F: Medium + Drop> Mirror<F> {
     pub fn flush(&mut self, line: u64)
         requires { 8 * line < length self.old.words.items }
         ensures words { self.new.words.items ≡ self.old.words.items }
+        ensures medium { self.new.medium ≡ self.old.medium }
         ensures noted { is_listed self.new.flushed.items line ≡ true }
         ensures kept { (other : ℕ) → is_listed self.old.flushed.items other ≡ true → is_listed self.new.flushed.items other ≡ true }
     {
