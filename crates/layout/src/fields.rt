@@ -7,7 +7,9 @@ use crate::geometry::Geometry;
 /// What the words of an inode say.
 #[derive(Clone, Copy, Debug, PartialEq, Eq)]
 pub struct InodeFields {
+    /// 0 for a free inode, 1 for a file, 2 for a directory.
     pub kind: u64,
+    /// A file's names, or a directory's 2 and its subdirectories; more where recovery has still to count them.
     pub links: u64,
     /// In bytes; 0 for a directory.
     pub size: u64,
@@ -20,8 +22,9 @@ pub struct InodeFields {
 pub struct DescriptorFields {
     /// The number of the inode that the page belongs to, 0 for none.
     pub owner: u64,
+    /// 1 for a page of a file's bytes, 2 for a page of slots.
     pub kind: u64,
-    /// In pages from the file's first.
+    /// In pages from the file's first; 0 for a page of slots.
     pub offset: u64,
 }
 
