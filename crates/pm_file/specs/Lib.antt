@@ -1,3 +1,4 @@
 pub mod Given
 pub mod Length
 pub mod Mirrored
+pub mod Noted

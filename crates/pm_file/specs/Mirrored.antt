@@ -1,5 +1,5 @@
 -- What a device over a file reads as.
-use Rattle.std.specs.Prelude.{ℕ, List, [], Option, Some, None, ⊤}
+use Rattle.std.specs.Prelude.{ℕ, ◌-◌, ◌^◌, ◌<◌, List, [], Option, Some, None, ⊤}
 use Rattle.pm_file.specs.declared.mirror.Mirror.{Mirror}
 use Rattle.pm_file.specs.Given.{HasLines}
 
@@ -14,3 +14,13 @@ abbrev pub IsGiven : {F : Type 0} → (F → Option (List ℕ)) → (F → Optio
 IsGiven held safe None new = ⊤
 IsGiven held safe (Some old) None = ⊥
 IsGiven held safe (Some old) (Some new) = HasLines (held old.medium) (safe new.medium) old.words.items old.flushed.items
+
+-- the lines that the next fence gives to the medium
+abbrev pub listed_lines : {F : Type 0} → Option (Mirror F) → List ℕ
+listed_lines None = []
+listed_lines (Some mirror) = mirror.flushed.items
+
+-- A fence that succeeds forgets the lines that it gave, but in the last round that can be counted.
+abbrev pub HasNextRound : {F : Type 0} → Option (Mirror F) → Type 0
+HasNextRound None = ⊤
+HasNextRound (Some mirror) = mirror.round < 2 ^ 64 - 1

@@ -1,9 +1,11 @@
 // The device itself.
-ghost use Rattle.std.specs.Prelude.{◌≡◌, ◌⊎◌, ◌+◌, ◌-◌, ◌*◌, ◌^◌, ◌<◌, ◌≤◌, ℕ, None, [], length, replicate, slice_set, IfOk, IfSome, IsSome, OnOk, OnErr};
+ghost use Rattle.std.specs.Prelude.{◌≡◌, ◌⊎◌, ◌+◌, ◌-◌, ◌*◌, ◌^◌, ◌<◌, ◌≤◌, ℕ, None, [], length, replicate, slice_set, IfOk, IfSome, IsSome, IsOk, OnOk, OnErr, true};
 ghost use Rattle.std.specs.Vec.{vec_capacity};
-ghost use Rattle.pm_trait.specs.Device.{HasRisen};
+ghost use Rattle.pm_trait.specs.Device.{HasRisen, with_event};
+ghost use Rattle.pm_trait.specs.declared.event.Event.TheVariants.{Store, Flush, Fence, BadFence, Ack};
+ghost use Rattle.pm_file.specs.Given.{is_listed};
 ghost use Rattle.pm_file.specs.Length.{IsVolumeLength};
-ghost use Rattle.pm_file.specs.Mirrored.{mirrored_words, IsGiven};
+ghost use Rattle.pm_file.specs.Mirrored.{mirrored_words, listed_lines, IsGiven, HasNextRound};
 
 use crate::FileFault;
 use crate::medium::Medium;
@@ -140,6 +142,8 @@ impl<R: Files> FilePm<R> {
 }
 
 impl<R: Files> Pm for FilePm<R> {
+    ghost use Rattle.pm_file.specs.Noted.{noted_lines, CanForget};
+
     ghost now = { λ pm. mirrored_words pm.mirror };
 
     ghost trail = { λ _. None };
@@ -165,19 +169,58 @@ impl<R: Files> Pm for FilePm<R> {
         self.image()[word as usize]
     }
 
-    fn store(&mut self, word: u64, value: u64) {
+    fn store(&mut self, word: u64, value: u64)
+        requires in_range { word < length (⟦<FilePm<R> as Pm>⟧.now self.old) }
+        requires room { 1 ≤ ⟦<FilePm<R> as Pm>⟧.spare self.old }
+        ensures words { ⟦<FilePm<R> as Pm>⟧.now self.new ≡ slice_set (⟦<FilePm<R> as Pm>⟧.now self.old) word value }
+        ensures trail { ⟦<FilePm<R> as Pm>⟧.trail self.new ≡ with_event (⟦<FilePm<R> as Pm>⟧.trail self.old) (Store word value) }
+        ensures room { ⟦<FilePm<R> as Pm>⟧.spare self.old ≤ ⟦<FilePm<R> as Pm>⟧.spare self.new + 1 }
+        ensures faults { ⟦<FilePm<R> as Pm>⟧.faults self.new ≡ ⟦<FilePm<R> as Pm>⟧.faults self.old }
+        ensures refused { ⟦<FilePm<R> as Pm>⟧.refused self.new ≡ ⟦<FilePm<R> as Pm>⟧.refused self.old }
+        ensures fences { ⟦<FilePm<R> as Pm>⟧.fences self.new ≡ ⟦<FilePm<R> as Pm>⟧.fences self.old }
+        ensures acks { ⟦<FilePm<R> as Pm>⟧.acks self.new ≡ ⟦<FilePm<R> as Pm>⟧.acks self.old }
+        ensures noted { noted_lines self.new ≡ noted_lines self.old }
+    {
         if let Some(mirror) = &mut self.mirror {
             mirror.set(word, value);
         }
     }
 
-    fn flush(&mut self, line: u64) {
+    fn flush(&mut self, line: u64)
+        requires in_range { 8 * line < length (⟦<FilePm<R> as Pm>⟧.now self.old) }
+        requires room { 1 ≤ ⟦<FilePm<R> as Pm>⟧.spare self.old }
+        ensures words { ⟦<FilePm<R> as Pm>⟧.now self.new ≡ ⟦<FilePm<R> as Pm>⟧.now self.old }
+        ensures trail { ⟦<FilePm<R> as Pm>⟧.trail self.new ≡ with_event (⟦<FilePm<R> as Pm>⟧.trail self.old) (Flush line) }
+        ensures room { ⟦<FilePm<R> as Pm>⟧.spare self.old ≤ ⟦<FilePm<R> as Pm>⟧.spare self.new + 1 }
+        ensures faults { ⟦<FilePm<R> as Pm>⟧.faults self.new ≡ ⟦<FilePm<R> as Pm>⟧.faults self.old }
+        ensures refused { ⟦<FilePm<R> as Pm>⟧.refused self.new ≡ ⟦<FilePm<R> as Pm>⟧.refused self.old }
+        ensures fences { ⟦<FilePm<R> as Pm>⟧.fences self.new ≡ ⟦<FilePm<R> as Pm>⟧.fences self.old }
+        ensures acks { ⟦<FilePm<R> as Pm>⟧.acks self.new ≡ ⟦<FilePm<R> as Pm>⟧.acks self.old }
+        ensures noted { is_listed (noted_lines self.new) line ≡ true }
+        ensures kept { (other : ℕ) → is_listed (noted_lines self.old) other ≡ true → is_listed (noted_lines self.new) other ≡ true }
+    {
         if let Some(mirror) = &mut self.mirror {
             mirror.flush(line);
         }
     }
 
-    fn fence(&mut self) -> Result<(), PmFault> {
+    fn fence(&mut self) -> Result<(), PmFault>
+        requires countable { ⟦<FilePm<R> as Pm>⟧.fences self.old < 2 ^ 64 - 1 }
+        requires room { 1 ≤ ⟦<FilePm<R> as Pm>⟧.spare self.old }
+        ensures words { ⟦<FilePm<R> as Pm>⟧.now self.new ≡ ⟦<FilePm<R> as Pm>⟧.now self.old }
+        ensures ok { OnOk result (⟦<FilePm<R> as Pm>⟧.trail self.new ≡ with_event (⟦<FilePm<R> as Pm>⟧.trail self.old) Fence) }
+        ensures err { OnErr result (⟦<FilePm<R> as Pm>⟧.trail self.new ≡ with_event (⟦<FilePm<R> as Pm>⟧.trail self.old) BadFence) }
+        ensures room { ⟦<FilePm<R> as Pm>⟧.spare self.old ≤ ⟦<FilePm<R> as Pm>⟧.spare self.new + 1 }
+        ensures faults { ⟦<FilePm<R> as Pm>⟧.faults self.old ≤ ⟦<FilePm<R> as Pm>⟧.faults self.new }
+        ensures no_fault { OnOk result (⟦<FilePm<R> as Pm>⟧.faults self.new ≡ ⟦<FilePm<R> as Pm>⟧.faults self.old) }
+        ensures cause { OnErr result (HasRisen (⟦<FilePm<R> as Pm>⟧.faults self.old) (⟦<FilePm<R> as Pm>⟧.faults self.new)) }
+        ensures refused { ⟦<FilePm<R> as Pm>⟧.refused self.new ≡ ⟦<FilePm<R> as Pm>⟧.refused self.old }
+        ensures counted { OnOk result (⟦<FilePm<R> as Pm>⟧.fences self.new ≡ ⟦<FilePm<R> as Pm>⟧.fences self.old + 1) }
+        ensures not_counted { OnErr result (⟦<FilePm<R> as Pm>⟧.fences self.new ≡ ⟦<FilePm<R> as Pm>⟧.fences self.old) }
+        ensures acks { ⟦<FilePm<R> as Pm>⟧.acks self.new ≡ ⟦<FilePm<R> as Pm>⟧.acks self.old }
+        ensures forgotten { OnOk result (CanForget self.old → noted_lines self.new ≡ []) }
+        ensures noted { OnErr result (noted_lines self.new ≡ noted_lines self.old) }
+    {
         if write_back(&mut self.mirror).is_err() {
             self.faults = self.faults.saturating_add(1);
             return Err(PmFault);
@@ -186,11 +229,36 @@ impl<R: Files> Pm for FilePm<R> {
         Ok(())
     }
 
-    fn ack(&mut self) {
+    fn ack(&mut self)
+        requires countable { ⟦<FilePm<R> as Pm>⟧.acks self.old < 2 ^ 64 - 1 }
+        ensures words { ⟦<FilePm<R> as Pm>⟧.now self.new ≡ ⟦<FilePm<R> as Pm>⟧.now self.old }
+        ensures trail { ⟦<FilePm<R> as Pm>⟧.trail self.new ≡ with_event (⟦<FilePm<R> as Pm>⟧.trail self.old) Ack }
+        ensures room { ⟦<FilePm<R> as Pm>⟧.spare self.new ≡ ⟦<FilePm<R> as Pm>⟧.spare self.old }
+        ensures faults { ⟦<FilePm<R> as Pm>⟧.faults self.new ≡ ⟦<FilePm<R> as Pm>⟧.faults self.old }
+        ensures refused { ⟦<FilePm<R> as Pm>⟧.refused self.new ≡ ⟦<FilePm<R> as Pm>⟧.refused self.old }
+        ensures fences { ⟦<FilePm<R> as Pm>⟧.fences self.new ≡ ⟦<FilePm<R> as Pm>⟧.fences self.old }
+        ensures acks { ⟦<FilePm<R> as Pm>⟧.acks self.new ≡ ⟦<FilePm<R> as Pm>⟧.acks self.old + 1 }
+        ensures noted { noted_lines self.new ≡ noted_lines self.old }
+    {
         self.acks += 1;
     }
 
-    fn reserve(&mut self, _events: u64) -> Result<(), NoMemory> {
+    fn reserve(&mut self, events: u64) -> Result<(), NoMemory>
+        ensures words { ⟦<FilePm<R> as Pm>⟧.now self.new ≡ ⟦<FilePm<R> as Pm>⟧.now self.old }
+        ensures trail { ⟦<FilePm<R> as Pm>⟧.trail self.new ≡ ⟦<FilePm<R> as Pm>⟧.trail self.old }
+        ensures ok { OnOk result (events ≤ ⟦<FilePm<R> as Pm>⟧.spare self.new) }
+        ensures room { ⟦<FilePm<R> as Pm>⟧.spare self.old ≤ ⟦<FilePm<R> as Pm>⟧.spare self.new }
+        ensures no_room { OnErr result (⟦<FilePm<R> as Pm>⟧.spare self.new ≡ ⟦<FilePm<R> as Pm>⟧.spare self.old) }
+        ensures faults { ⟦<FilePm<R> as Pm>⟧.faults self.new ≡ ⟦<FilePm<R> as Pm>⟧.faults self.old }
+        ensures refused { ⟦<FilePm<R> as Pm>⟧.refused self.old ≤ ⟦<FilePm<R> as Pm>⟧.refused self.new }
+        ensures not_refused { OnOk result (⟦<FilePm<R> as Pm>⟧.refused self.new ≡ ⟦<FilePm<R> as Pm>⟧.refused self.old) }
+        ensures cause { OnErr result (HasRisen (⟦<FilePm<R> as Pm>⟧.refused self.old) (⟦<FilePm<R> as Pm>⟧.refused self.new)) }
+        ensures fences { ⟦<FilePm<R> as Pm>⟧.fences self.new ≡ ⟦<FilePm<R> as Pm>⟧.fences self.old }
+        ensures acks { ⟦<FilePm<R> as Pm>⟧.acks self.new ≡ ⟦<FilePm<R> as Pm>⟧.acks self.old }
+        ensures answer { IsOk result }
+        ensures noted { noted_lines self.new ≡ noted_lines self.old }
+    {
+        let _events = events;
         Ok(())
     }
 
@@ -209,6 +277,8 @@ impl<R: Files> Pm for FilePm<R> {
 fn write_back<F: Medium + Drop>(mirror: &mut Option<Mirror<F>>) -> io::Result<()>
     ensures words { mirrored_words mirror.new ≡ mirrored_words mirror.old }
     ensures given { OnOk result (IsGiven F.held F.safe mirror.old mirror.new) }
+    ensures forgotten { OnOk result (HasNextRound mirror.old → listed_lines mirror.new ≡ []) }
+    ensures err { OnErr result (listed_lines mirror.new ≡ listed_lines mirror.old) }
 {
     match mirror {
         Some(mirror) => mirror.write_back(),
