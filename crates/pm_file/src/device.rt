@@ -270,7 +270,7 @@ impl<R: Files> Pm for FilePm<R> {
         self.acks
     }
 
-    ghost honest = { λ _. record { told = Prim.search } };
+    ghost honest = { λ _. record { told = tt } };
 }
 
 /// Writes the flushed lines to the file, where there is one.
