@@ -1,0 +1,231 @@
+ghost use Rattle.std.specs.Prelude.{◌≡◌, ◌≤◌};
+
+use crate::{Call, Lines, Step, write_count, write_name, write_newline, write_plain, write_space};
+use io_edge::{MemSink, MemSource, ReadFault, Source};
+use layout::Name;
+use std::alloc::Global;
+use std::test::Fail;
+use tree_model::{Command, Free, LineFault, Refusal, Reply, Stat};
+
+// What a line asks for, in a word.
+fn word_of(alloc: Global, line: &[u8]) -> Result<&'static str, Fail> {
+    let mut scratch = vec![in alloc; 0; 32_768]?;
+    let word = match Call::parse(line, &mut scratch) {
+        Call::Do(Command::Create { .. }) => "create",
+        Call::Do(Command::Stat { .. }) => "stat",
+        Call::Do(Command::List { .. }) => "list",
+        Call::Do(_) => "another",
+        Call::Refused(LineFault::BadLine) => "BadLine",
+        Call::Refused(LineFault::BadPath) => "BadPath",
+        Call::Refused(LineFault::NameTooLong) => "NameTooLong",
+    };
+    Ok(word)
+}
+
+#[test]
+fn calls(rt: HostRuntime) -> Result<(), Fail> {
+    for (line, wanted) in [
+        ("create /a", "create"),
+        ("  stat   /a ", "stat"),
+        ("list /", "list"),
+        ("", "BadLine"),
+        ("  ", "BadLine"),
+        ("list", "BadLine"),
+        ("list / x", "BadLine"),
+        ("mkdir /a", "BadLine"),
+        ("frob a", "BadLine"),
+        ("create a", "BadPath"),
+        ("create /%4", "BadPath"),
+        ("stat /.", "BadPath"),
+    ] {
+        assert_eq!(rt; word_of(rt.alloc(), line.as_bytes())?, wanted, "at {line}");
+    }
+    Ok(())
+}
+
+#[test]
+fn long_calls(rt: HostRuntime) -> Result<(), Fail> {
+    for (count, wanted) in [
+        (110, "create"),
+        (111, "NameTooLong"),
+        (65_528, "NameTooLong"),
+        (65_529, "BadLine"),
+    ] {
+        let mut line = Vec::from_slice(rt.alloc(), b"create /")?;
+        line.extend_from_slice(vec![in rt.alloc(); b'n'; count]?.as_slice())?;
+        assert_eq!(rt; word_of(rt.alloc(), &line)?, wanted, "at {count}");
+    }
+    Ok(())
+}
+
+// What reading the lines of a source comes to: each line before a bar, and how it ends.
+fn steps_of(alloc: Global, bytes: &[u8], step: usize, failing: &[u64]) -> Result<Vec<u8>, Fail>
+    requires { 1 ≤ step }
+{
+    let bytes = Vec::from_slice(alloc, bytes)?;
+    let mut source = MemSource::new(bytes, step, Vec::from_slice(alloc, failing)?);
+    let mut lines = Lines::new(alloc)?;
+    let mut told = Vec::new(alloc);
+    'steps: for _ in 0..16 {
+        match lines.next(&mut source) {
+            Ok(Step::Line) => {
+                told.extend_from_slice(lines.line())?;
+                told.push(b'|')?;
+            }
+            Ok(Step::TooLong) => told.extend_from_slice(b"TooLong|")?,
+            Ok(Step::Limit) => told.extend_from_slice(b"Limit|")?,
+            Ok(Step::End) => {
+                told.extend_from_slice(b"End")?;
+                break;
+            }
+            Err(ReadFault) => {
+                told.extend_from_slice(b"fault")?;
+                break;
+            }
+        }
+    }
+    Ok(told)
+}
+
+#[test]
+fn lines_however_they_are_cut(rt: HostRuntime) -> Result<(), Fail> {
+    for (bytes, wanted) in [
+        ("", "End"),
+        ("\n", "|End"),
+        ("create /a\n\n list /\n", "create /a|| list /|End"),
+        ("a\nbc", "a|bc|End"),
+    ] {
+        for step in 1..24 {
+            let told = steps_of(rt.alloc(), bytes.as_bytes(), step, &[])?;
+            assert_eq!(rt; told.as_slice(), wanted.as_bytes(), "at {step}");
+        }
+    }
+    Ok(())
+}
+
+#[test]
+fn read_faults(rt: HostRuntime) -> Result<(), Fail> {
+    for (bytes, failing, wanted) in [
+        ("df\ndf\n", 3, "df|fault"),
+        ("df\ndf\n", 1, "fault"),
+        ("df\ndf\n", 4, "df|df|fault"),
+        ("df\ndf\n", 5, "df|df|End"),
+        ("df", 2, "fault"),
+        ("df", 3, "df|End"),
+    ] {
+        let told = steps_of(rt.alloc(), bytes.as_bytes(), 2, &[failing])?;
+        assert_eq!(rt;
+            told.as_slice(),
+            wanted.as_bytes(),
+            "at {failing} of {bytes}"
+        );
+    }
+    Ok(())
+}
+
+#[test]
+fn lines_at_the_limit(rt: HostRuntime) -> Result<(), Fail> {
+    for step in [1_000, 4_096, 65_537, 1_000_000] {
+        for (count, wanted) in [(65_536, 65_545), (65_537, 16), (200_000, 16)] {
+            let mut bytes = vec![in rt.alloc(); b'x'; count]?;
+            bytes.extend_from_slice(b"\nfrob")?;
+            let told = steps_of(rt.alloc(), &bytes, step, &[])?;
+            assert!(rt; told.ends_with(b"|frob|End"), "at {step}");
+            assert_eq!(rt; told.len(), wanted, "at {step}");
+        }
+    }
+    Ok(())
+}
+
+// A source of bytes that are no newlines. It keeps the least room that it was lent.
+#[derive(Drop)]
+struct Probe {
+    left: usize,
+    least: usize,
+}
+
+impl Source for Probe {
+    ghost use Rattle.std.specs.Prelude.{List, ℕ, Option, None};
+
+    ghost left = { λ _. None };
+
+    ghost faults = { λ _. 0 };
+
+    fn read(&mut self, buf: &mut [u8]) -> Result<usize, ReadFault> {
+        self.least = self.least.min(buf.len());
+        let count = self.left.min(buf.len()).min(7_777);
+        self.left -= count;
+        Ok(count)
+    }
+}
+
+#[test]
+fn reads_are_lent_room(rt: HostRuntime) -> Result<(), Fail> {
+    let mut source = Probe {
+        left: 300_000,
+        least: 1_000_000,
+    };
+    let mut lines = Lines::new(rt.alloc())?;
+    assert_eq!(rt; lines.next(&mut source), Ok(Step::TooLong));
+    assert!(rt; source.least >= 4_096);
+    Ok(())
+}
+
+#[test]
+fn replies(rt: HostRuntime) -> Result<(), Fail> {
+    let stat = |dir| Stat {
+        dir,
+        inode: 12,
+        links: 3,
+        amount: 18_446_744_073_709_551_615,
+    };
+    let free = Free {
+        inodes: 3,
+        inodes_all: 4,
+        pages: 13,
+        pages_all: 63_999,
+    };
+    for (reply, wanted) in [
+        (Reply::Done, "ok\n"),
+        (Reply::Count(0), "ok 0\n"),
+        (
+            Reply::Status(stat(false)),
+            "ok file inode 12 links 3 size 18446744073709551615\n",
+        ),
+        (
+            Reply::Status(stat(true)),
+            "ok dir inode 12 links 3 names 18446744073709551615\n",
+        ),
+        (Reply::Space(free), "ok inodes 3 4 pages 13 63999\n"),
+        (Reply::Refused(Refusal::IntoItself), "error IntoItself\n"),
+        (Reply::Unread(LineFault::NameTooLong), "error NameTooLong\n"),
+        (Reply::Fault, "error Fault\n"),
+        (Reply::Stopped, "error Stopped\n"),
+    ] {
+        let mut sink = MemSink::new(rt.alloc(), 100, Vec::new(rt.alloc()))?;
+        assert_eq!(rt; write_plain(&reply, &mut sink), Ok(()));
+        assert_eq!(rt; sink.bytes(), wanted.as_bytes());
+    }
+    Ok(())
+}
+
+#[test]
+fn listing_in_pieces(rt: HostRuntime) -> Result<(), Fail> {
+    let mut sink = MemSink::new(rt.alloc(), 100, Vec::new(rt.alloc()))?;
+    let name = Name::new(b"a b").ok().ok_or("no name")?;
+    write_count(1, &mut sink)?;
+    write_space(&mut sink)?;
+    write_name(&name, &mut sink)?;
+    write_newline(&mut sink)?;
+    assert_eq!(rt; sink.bytes(), b"ok 1 a%20b\n".as_slice());
+    Ok(())
+}
+
+#[test]
+fn full_sink(rt: HostRuntime) -> Result<(), Fail> {
+    let mut sink = MemSink::new(rt.alloc(), 4, Vec::new(rt.alloc()))?;
+    assert!(rt; write_plain(&Reply::Done, &mut sink).is_ok());
+    assert!(rt; write_plain(&Reply::Done, &mut sink).is_err());
+    assert_eq!(rt; sink.bytes(), b"ok\no".as_slice());
+    Ok(())
+}

@@ -1,0 +1,263 @@
+ghost use Rattle.std.specs.Prelude.{◌≡◌, ◌≤◌, ◌+◌, ◌++◌, ◌∷◌, [], length, codes, decimal, if◌then◌else◌, OnOk, OnErr};
+ghost use Rattle.arrayvec.specs.ArrayVec.{array_vec_len};
+ghost use Rattle.pm_trait.specs.Device.{HasRisen};
+ghost use Rattle.io_edge.specs.Bytes.{with_bytes, TookFront};
+ghost use Rattle.script.specs.Lines.{newline, space};
+ghost use Rattle.script.specs.Texts.{name_text, byte_text, refusal_text, fault_text, stands_for_itself as stands_for_itself_of, answer_text};
+ghost use Rattle.script.specs.Replies.{IsPlain, reply_text};
+ghost use Rattle.tree_model.specs.Step.{Answer};
+
+use arrayvec::ArrayVec;
+use io_edge::{Sink, WriteFault, write_all};
+use itoa::Buffer;
+use layout::Name;
+use percent_encoding::percent_encode_byte;
+use tree_model::{Free, LineFault, Refusal, Reply, Stat};
+
+// No plain reply has a longer line.
+/// The text of a line that needs no bytes of a file, in at most 128 bytes.
+pub type LineText = ArrayVec<u8, 128>;
+
+// A name has at most 110 bytes, and each becomes at most three.
+type NameText = ArrayVec<u8, 330>;
+
+/// Writes the line of a reply that is neither `Bytes` nor `Names`.
+pub fn write_plain<K: Sink>(reply: &Reply, sink: &mut K) -> Result<(), WriteFault>
+    requires { IsPlain reply.now }
+    ensures ok { OnOk result (K.taken sink.new ≡ with_bytes (K.taken sink.old) (reply_text reply.now)) }
+    ensures err { OnErr result (TookFront (K.taken sink.old) (reply_text reply.now) (K.taken sink.new)) }
+    ensures ok_faults { OnOk result (K.faults sink.new ≡ K.faults sink.old) }
+    ensures faults { K.faults sink.old ≤ K.faults sink.new }
+    ensures cause { OnErr result (HasRisen (K.faults sink.old) (K.faults sink.new)) }
+{
+    write_all(sink, reply_line(reply).as_slice())
+}
+
+/// Writes the beginning of the line of a listing, up to the number of names.
+pub fn write_count<K: Sink>(count: u64, sink: &mut K) -> Result<(), WriteFault>
+    ensures ok { OnOk result (K.taken sink.new ≡ with_bytes (K.taken sink.old) (codes "ok " ++ decimal count)) }
+    ensures err { OnErr result (TookFront (K.taken sink.old) (codes "ok " ++ decimal count) (K.taken sink.new)) }
+    ensures ok_faults { OnOk result (K.faults sink.new ≡ K.faults sink.old) }
+    ensures faults { K.faults sink.old ≤ K.faults sink.new }
+    ensures cause { OnErr result (HasRisen (K.faults sink.old) (K.faults sink.new)) }
+{
+    write_all(sink, count_text(count).as_slice())
+}
+
+/// Writes a name, with `%` and two digits for each byte that does not stand for itself.
+pub fn write_name<K: Sink>(name: &Name, sink: &mut K) -> Result<(), WriteFault>
+    ensures ok { OnOk result (K.taken sink.new ≡ with_bytes (K.taken sink.old) (name_text name.now)) }
+    ensures err { OnErr result (TookFront (K.taken sink.old) (name_text name.now) (K.taken sink.new)) }
+    ensures ok_faults { OnOk result (K.faults sink.new ≡ K.faults sink.old) }
+    ensures faults { K.faults sink.old ≤ K.faults sink.new }
+    ensures cause { OnErr result (HasRisen (K.faults sink.old) (K.faults sink.new)) }
+{
+    write_all(sink, escaped(name).as_slice())
+}
+
+/// Writes a space.
+pub fn write_space<K: Sink>(sink: &mut K) -> Result<(), WriteFault>
+    ensures ok { OnOk result (K.taken sink.new ≡ with_bytes (K.taken sink.old) (space ∷ [])) }
+    ensures err { OnErr result (K.taken sink.new ≡ K.taken sink.old) }
+    ensures ok_faults { OnOk result (K.faults sink.new ≡ K.faults sink.old) }
+    ensures faults { K.faults sink.old ≤ K.faults sink.new }
+    ensures cause { OnErr result (HasRisen (K.faults sink.old) (K.faults sink.new)) }
+{
+    write_all(sink, b" ")
+}
+
+/// Writes a newline.
+pub fn write_newline<K: Sink>(sink: &mut K) -> Result<(), WriteFault>
+    ensures ok { OnOk result (K.taken sink.new ≡ with_bytes (K.taken sink.old) (newline ∷ [])) }
+    ensures err { OnErr result (K.taken sink.new ≡ K.taken sink.old) }
+    ensures ok_faults { OnOk result (K.faults sink.new ≡ K.faults sink.old) }
+    ensures faults { K.faults sink.old ≤ K.faults sink.new }
+    ensures cause { OnErr result (HasRisen (K.faults sink.old) (K.faults sink.new)) }
+{
+    write_all(sink, b"\n")
+}
+
+// The line of a plain reply.
+fn reply_line(reply: &Reply) -> LineText
+    requires { IsPlain reply.now }
+    ensures { result.items ≡ reply_text reply.now }
+{
+    match reply {
+        Reply::Done => line_of(b"ok"),
+        Reply::Count(count) => count_line(*count),
+        Reply::Status(stat) => status_line(stat),
+        Reply::Space(free) => space_line(free),
+        Reply::Refused(refusal) => error_line(refusal_name(*refusal)),
+        Reply::Unread(fault) => error_line(fault_name(*fault)),
+        Reply::Fault => error_line(b"Fault"),
+        Reply::Stopped => error_line(b"Stopped"),
+        Reply::Bytes(_) | Reply::Names { .. } => unreachable!(),
+    }
+}
+
+// A line of these words.
+fn line_of(words: &[u8]) -> LineText
+    requires { length words.now ≤ 127 }
+    ensures { result.items ≡ words.now ++ newline ∷ [] }
+{
+    let mut line = ArrayVec::new();
+    push_text(&mut line, words);
+    line.push(b'\n');
+    line
+}
+
+fn error_line(name: &[u8]) -> LineText
+    requires { length name.now ≤ 11 }
+    ensures { result.items ≡ codes "error " ++ name.now ++ newline ∷ [] }
+{
+    let mut line = ArrayVec::new();
+    push_text(&mut line, b"error ");
+    push_text(&mut line, name);
+    line.push(b'\n');
+    line
+}
+
+fn count_text(count: u64) -> LineText
+    ensures items { result.items ≡ codes "ok " ++ decimal count }
+    ensures short { array_vec_len result ≤ 23 }
+{
+    let mut line = ArrayVec::new();
+    push_text(&mut line, b"ok ");
+    push_number(&mut line, count);
+    line
+}
+
+fn count_line(count: u64) -> LineText
+    ensures { result.items ≡ codes "ok " ++ decimal count ++ newline ∷ [] }
+{
+    let mut line = count_text(count);
+    line.push(b'\n');
+    line
+}
+
+fn status_line(stat: &Stat) -> LineText
+    ensures { result.items ≡ answer_text (Answer.Status stat.now) }
+{
+    let mut line = ArrayVec::new();
+    push_text(&mut line, b"ok ");
+    push_text(&mut line, kind_word(stat.dir));
+    push_text(&mut line, b" inode ");
+    push_number(&mut line, stat.inode);
+    push_text(&mut line, b" links ");
+    push_number(&mut line, stat.links);
+    push_text(&mut line, b" ");
+    push_text(&mut line, amount_word(stat.dir));
+    push_text(&mut line, b" ");
+    push_number(&mut line, stat.amount);
+    line.push(b'\n');
+    line
+}
+
+fn space_line(free: &Free) -> LineText
+    ensures { result.items ≡ answer_text (Answer.Space free.now) }
+{
+    let mut line = ArrayVec::new();
+    push_text(&mut line, b"ok inodes ");
+    push_number(&mut line, free.inodes);
+    push_text(&mut line, b" ");
+    push_number(&mut line, free.inodes_all);
+    push_text(&mut line, b" pages ");
+    push_number(&mut line, free.pages);
+    push_text(&mut line, b" ");
+    push_number(&mut line, free.pages_all);
+    line.push(b'\n');
+    line
+}
+
+fn kind_word(dir: bool) -> &'static [u8]
+    ensures word { result.now ≡ (if dir then codes "dir" else codes "file") }
+    ensures short { length result.now ≤ 5 }
+{
+    if dir { b"dir" } else { b"file" }
+}
+
+fn amount_word(dir: bool) -> &'static [u8]
+    ensures word { result.now ≡ (if dir then codes "names" else codes "size") }
+    ensures short { length result.now ≤ 5 }
+{
+    if dir { b"names" } else { b"size" }
+}
+
+fn refusal_name(refusal: Refusal) -> &'static [u8]
+    ensures name { result.now ≡ refusal_text refusal }
+    ensures short { length result.now ≤ 11 }
+{
+    match refusal {
+        Refusal::NotFound => b"NotFound",
+        Refusal::NotDir => b"NotDir",
+        Refusal::Root => b"Root",
+        Refusal::Exists => b"Exists",
+        Refusal::IsDir => b"IsDir",
+        Refusal::NotEmpty => b"NotEmpty",
+        Refusal::IntoItself => b"IntoItself",
+        Refusal::TooBig => b"TooBig",
+        Refusal::NoInodes => b"NoInodes",
+        Refusal::NoPages => b"NoPages",
+        Refusal::NoMemory => b"NoMemory",
+    }
+}
+
+fn fault_name(fault: LineFault) -> &'static [u8]
+    ensures name { result.now ≡ fault_text fault }
+    ensures short { length result.now ≤ 11 }
+{
+    match fault {
+        LineFault::BadLine => b"BadLine",
+        LineFault::BadPath => b"BadPath",
+        LineFault::NameTooLong => b"NameTooLong",
+    }
+}
+
+/// Adds a text.
+pub fn push_text<const SIZE: usize>(line: &mut ArrayVec<u8, SIZE>, text: &[u8])
+    requires { array_vec_len line.old + length text.now ≤ SIZE }
+    ensures items { line.new.items ≡ line.old.items ++ text.now }
+    ensures len { array_vec_len line.new ≡ array_vec_len line.old + length text.now }
+{
+    let _ = line.try_extend_from_slice(text);
+}
+
+/// Adds a number in decimal.
+pub fn push_number(line: &mut LineText, number: u64)
+    requires { array_vec_len line.old + 20 ≤ 128 }
+    ensures items { line.new.items ≡ line.old.items ++ decimal number }
+    ensures len { array_vec_len line.new ≤ array_vec_len line.old + 20 }
+{
+    let mut digits = Buffer::new();
+    push_text(line, digits.format(number).as_bytes());
+}
+
+// A name as it is written.
+fn escaped(name: &Name) -> NameText
+    ensures { result.items ≡ name_text name.now }
+{
+    let mut text = ArrayVec::new();
+    for byte in name.as_slice() {
+        push_byte(&mut text, *byte);
+    }
+    text
+}
+
+#[tactic(auto, using(crate::proofs::Pieces::length_percent))]
+fn push_byte(text: &mut NameText, byte: u8)
+    requires { array_vec_len text.old + 3 ≤ 330 }
+    ensures items { text.new.items ≡ text.old.items ++ byte_text byte }
+    ensures len { array_vec_len text.new ≤ array_vec_len text.old + 3 }
+{
+    if stands_for_itself(byte) {
+        text.push(byte);
+    } else {
+        push_text(text, percent_encode_byte(byte).as_bytes());
+    }
+}
+
+fn stands_for_itself(byte: u8) -> bool
+    ensures { result ≡ stands_for_itself_of byte }
+{
+    byte.is_ascii_alphanumeric() || byte == b'-' || byte == b'.' || byte == b'_' || byte == b'~'
+}

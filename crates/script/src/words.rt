@@ -1,0 +1,31 @@
+ghost use Rattle.std.specs.Prelude.{◌≡◌, ◌<◌, ◌∷◌, [], ◌==◌, false, length, slice_index, MatchOption};
+ghost use Rattle.script.specs.Lines.{words_of, is_space};
+
+use crate::places::first_place;
+
+// The first word of a text, and the text behind it.
+pub fn next_word(text: &[u8]) -> Option<(&[u8], &[u8])>
+    ensures { MatchOption result (words_of text.now ≡ []) (λ found. words_of text.now ≡ found.0.now ∷ words_of found.1.now) }
+{
+    let text = without_spaces(text);
+    if text.is_empty() {
+        return None;
+    }
+    match first_place(text, b' ') {
+        Some(end) => Some((&text[..end], &text[end + 1..])),
+        None => Some((text, &text[text.len()..])),
+    }
+}
+
+// The text from its first byte that is no space.
+fn without_spaces(text: &[u8]) -> &[u8]
+    ensures words { words_of result.now ≡ words_of text.now }
+    ensures first { 0 < length result.now → is_space (slice_index result.now 0) ≡ false }
+{
+    for (place, byte) in text.iter().enumerate() {
+        if *byte != b' ' {
+            return &text[place..];
+        }
+    }
+    &text[text.len()..]
+}

@@ -1,0 +1,48 @@
+-- What a write of a reply says of the run.
+use Rattle.std.proofs.Common.{◌≡◌, ℕ, Bool, true, false, List, [], ◌∷◌, ◌++◌, refl, sym, subst}
+use Rattle.std.specs.Prelude.{Option, Some, None, IfSome, IsTrue, Result, Ok, Err, OnOk, OnErr}
+use Rattle.pm_trait.specs.Trail.{Trail}
+use Rattle.io_edge.specs.declared.sink.WriteFault.{WriteFault}
+use Rattle.io_edge.specs.Bytes.{with_bytes, TookFront}
+use Rattle.tree_model.specs.Run.{Line, State}
+use Rattle.image_reading.specs.Reading.{ReadsAs}
+use Rattle.script.specs.Reading.{IfTold, ReadFront}
+use Rattle.squirrel_cli.specs.declared.flat.Flat.{Flat}
+use Rattle.squirrel_cli.specs.declared.run_end.RunEnd.{RunEnd}
+use Rattle.squirrel_cli.specs.declared.run_end.RunEnd.TheVariants as end
+use Rattle.squirrel_cli.specs.Script.{RunsScript}
+use Rattle.squirrel_cli.specs.Stands.{state_of_flat}
+use Rattle.squirrel_cli.specs.Exec.{Wrote, Turned}
+use Rattle.squirrel_cli.specs.Turns.{AreTakenTold, RanSoFar}
+use Rattle.squirrel_cli.proofs.Taken.{executes_write_fault}
+use Rattle.squirrel_cli.proofs.Turned.{turned_more, turned_cut}
+
+pub wrote : (written : Result (Unit {0}) WriteFault) (before : Option (List ℕ)) (text : List ℕ) (after : Option (List ℕ)) → OnOk written (after ≡ with_bytes before text) → OnErr written (TookFront before text after) → Wrote written before text after
+wrote (Ok done) before text after ok err = ok
+wrote (Err fault) before text after ok err = err
+
+-- a test that isn't true is false
+pub not_true : (b : Bool) → ¬ IsTrue b → b ≡ false
+not_true true not = absurd (not refl)
+not_true false not = refl
+
+module _ {P : ℕ} {start : State} {first : Option Trail} {script taken : Option (List ℕ)} {flat : Flat} {was_stopped : Bool} {words : List ℕ} {trail : Option Trail} {seen : Bool} {rest now : Option (List ℕ)}
+    (so_far : RanSoFar P start first script taken flat was_stopped words trail seen rest now) (line : Line) (flat_after : Flat) (stopped : Bool) (words_after : List ℕ) (trail_after : Option Trail) where
+  pub line_more : (written : Result (Unit {0}) WriteFault) (found : Option RunEnd) (seen_after : Bool) (rest_after now_after : Option (List ℕ)) → OnErr written (found ≡ Some end.WriteFault) → found ≡ None
+      → Turned P (state_of_flat flat) was_stopped line flat_after stopped trail words_after trail_after written now now_after → AreTakenTold (so_far.lines ++ line ∷ []) seen_after script rest_after
+      → RanSoFar P start first script taken flat_after stopped words_after trail_after seen_after rest_after now_after
+  line_more (Ok done) found seen_after rest_after now_after cut is turned are_taken =
+      turned_more was_stopped stopped so_far line flat_after words_after trail_after seen_after rest_after now_after done turned are_taken
+  line_more (Err fault) found seen_after rest_after now_after cut is turned are_taken = absurd (cc (cut, is))
+
+  pub line_ends : (base : List ℕ) → ReadsAs P base start → (written : Result (Unit {0}) WriteFault) (found : Option RunEnd) (seen_after : Bool) (rest_after left now_after : Option (List ℕ)) (read : ℕ)
+      → OnOk written (found ≡ None) → OnErr written (found ≡ Some end.WriteFault)
+      → Turned P (state_of_flat flat) was_stopped line flat_after stopped trail words_after trail_after written now now_after → AreTakenTold (so_far.lines ++ line ∷ []) seen_after script rest_after
+      → IfTold script left (ReadFront 0 read)
+      → IfSome found (λ ended. RunsScript P base ended script left taken now_after first trail_after)
+  line_ends base reads (Ok done) found seen_after rest_after left now_after read whole cut turned are_taken counted =
+      subst (λ (f : Option RunEnd). IfSome f (λ ended. RunsScript P base ended script left taken now_after first trail_after)) (sym whole) tt
+  line_ends base reads (Err fault) found seen_after rest_after left now_after read whole cut turned are_taken counted =
+      subst (λ (f : Option RunEnd). IfSome f (λ ended. RunsScript P base ended script left taken now_after first trail_after)) (sym cut)
+      (turned_cut base reads was_stopped stopped so_far line flat_after words_after trail_after seen_after rest_after left now_after fault turned are_taken
+      (executes_write_fault (so_far.lines ++ line ∷ []) seen_after script rest_after left read are_taken counted))

@@ -1,0 +1,55 @@
+use Rattle.std.proofs.Common.{◌≡◌, [], ◌∷◌, length, map, sym, ap, ◌∙◌, arith}
+use Rattle.std.proofs.lemmas.List.{length-map}
+use Rattle.tree_model.specs.Replies.{reply_of}
+use Rattle.tree_model.specs.declared.reply.Reply.TheVariants as reply
+use Rattle.tree_model.specs.declared.command.Command.TheVariants.{List as Show}
+use Rattle.tree_model.specs.declared.reply.Refusal.TheVariants.{NotFound, NotDir}
+use Rattle.squirrel_cli.specs.FlatTree.{tree_of, room_of}
+use Rattle.squirrel_cli.specs.Stands.{files_of}
+use Rattle.squirrel_cli.proofs.FileLists.{shown, contains_some}
+use Rattle.squirrel_cli.proofs.FlatAnswers.{refused_answer, list_root, list_refused-file, list_refused-absent, list_refused-fault}
+use Rattle.squirrel_cli.proofs.flat.Flat.list.Goals as goal
+
+pub returns-in-Root-clause-answer : goal.returns-in-Root-clause-answer
+returns-in-Root-clause-answer c =
+    let flat = c.args.self.now in
+    sym (list_root flat.geometry.pages (files_of flat) flat.pages c.requires c.args.path.now c.in-Root.ensures)
+
+pub returns-in-File-clause-answer : goal.returns-in-File-clause-answer
+returns-in-File-clause-answer c =
+    let flat = c.args.self.now in
+    let (file, there, path) = contains_some (files_of flat) c.in-File.field-0 (λ file. c.args.path.now ≡ file.0 ∷ []) c.in-File.ensures in
+    sym (refused_answer flat.geometry.pages (tree_of (files_of flat)) (room_of flat.pages) (Show c.args.path.now) NotDir
+    (list_refused-file flat.geometry.pages (files_of flat) flat.pages c.requires c.args.path.now file there path))
+
+pub returns-in-Free-clause-answer : goal.returns-in-Free-clause-answer
+returns-in-Free-clause-answer c =
+    let flat = c.args.self.now in
+    let gap = c.in-Free.ensures in
+    sym (refused_answer flat.geometry.pages (tree_of (files_of flat)) (room_of flat.pages) (Show c.args.path.now) NotFound
+    (list_refused-absent flat.geometry.pages (files_of flat) flat.pages c.args.path.now c.in-Free.name gap.1.absent gap.0))
+
+pub returns-in-Fault-clause-answer : goal.returns-in-Fault-clause-answer
+returns-in-Fault-clause-answer c =
+    let flat = c.args.self.now in
+    sym (refused_answer flat.geometry.pages (tree_of (files_of flat)) (room_of flat.pages) (Show c.args.path.now) c.in-Fault.refusal
+    (list_refused-fault flat.geometry.pages (files_of flat) flat.pages c.requires c.args.path.now c.in-Fault.refusal c.in-Fault.ensures))
+
+-- the reply is the answer's, with the number of its names
+
+pub returns-in-Root-clause-reply : goal.returns-in-Root-clause-reply
+returns-in-Root-clause-reply c =
+    let flat = c.args.self.now in
+    let mapped = length-map flat.files.items shown in
+    let named = length-map (files_of flat) (λ file. file.0) in
+    let counted : c.len.result ≡ length (map (λ file. file.0) (files_of flat)) = omega (arith, c.len.ensures, flat.files.ok.0, mapped, named) in
+    ap (λ n. reply.Names 1 n) counted ∙ ap reply_of (returns-in-Root-clause-answer c)
+
+pub returns-in-File-clause-reply : goal.returns-in-File-clause-reply
+returns-in-File-clause-reply c = ap reply_of (returns-in-File-clause-answer c)
+
+pub returns-in-Free-clause-reply : goal.returns-in-Free-clause-reply
+returns-in-Free-clause-reply c = ap reply_of (returns-in-Free-clause-answer c)
+
+pub returns-in-Fault-clause-reply : goal.returns-in-Fault-clause-reply
+returns-in-Fault-clause-reply c = ap reply_of (returns-in-Fault-clause-answer c)

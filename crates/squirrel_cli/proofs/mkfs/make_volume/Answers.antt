@@ -1,0 +1,34 @@
+use Rattle.std.proofs.Common.{◌≡◌, ℕ, ◌*◌, ◌/◌, List, length, ap, subst, ◌∙◌, arith}
+use Rattle.layout.specs.Format.{IsFormattedFrom}
+use Rattle.image_reading.specs.Laws.{IsFresh}
+use Rattle.io_edge.specs.Bytes.{with_bytes}
+use Rattle.squirrel_cli.specs.Texts.{formatted_text}
+use Rattle.squirrel_cli.proofs.mkfs.make_volume.Goals as goal
+
+-- the pages are those of the length
+pages_of : (now seen : List ℕ) (pages : ℕ) → seen ≡ now → length seen ≡ 512 * pages → length now / 512 ≡ pages
+pages_of now seen pages is long = let same = ap length is in omega (arith, same, long)
+
+pub returns-in-Ok-write_all-clause-formatted : goal.returns-in-Ok-write_all-clause-formatted
+returns-in-Ok-write_all-clause-formatted g c ends =
+    subst (λ (p : ℕ). IsFormattedFrom p (g.P.Pm.now c.args.pm.now) (g.P.Pm.now c.format.new.pm))
+    (pages_of (g.P.Pm.now c.args.pm.now) c.image.result.now c.args.pages c.image.ensures c.in-Some.ensures.words) c.in-Ok.ensures.formatted
+
+pub returns-in-Ok-write_all-clause-fresh : goal.returns-in-Ok-write_all-clause-fresh
+returns-in-Ok-write_all-clause-fresh g c ends =
+    subst (λ (p : ℕ). IsFresh p (g.P.Pm.now c.format.new.pm))
+    (pages_of (g.P.Pm.now c.args.pm.now) c.image.result.now c.args.pages c.image.ensures c.in-Some.ensures.words) c.in-Ok.ensures.fresh
+
+pub returns-in-Ok-write_all-clause-told : goal.returns-in-Ok-write_all-clause-told
+returns-in-Ok-write_all-clause-told g c ends =
+    c.in-Ok-write_all.ensures.ok ∙ ap (λ (text : List ℕ). with_bytes (g.K.Sink.taken c.args.out.now) text) (c.as_slice.ensures.value ∙ c.formatted_line.ensures ∙ ap formatted_text c.in-Some.ensures.pages)
+
+pub returns-in-Err-clause-formatted : goal.returns-in-Err-clause-formatted
+returns-in-Err-clause-formatted g c ends =
+    subst (λ (p : ℕ). IsFormattedFrom p (g.P.Pm.now c.args.pm.now) (g.P.Pm.now c.format.new.pm))
+    (pages_of (g.P.Pm.now c.args.pm.now) c.image.result.now c.args.pages c.image.ensures c.in-Some.ensures.words) c.in-Ok.ensures.formatted
+
+pub returns-in-Err-clause-fresh : goal.returns-in-Err-clause-fresh
+returns-in-Err-clause-fresh g c ends =
+    subst (λ (p : ℕ). IsFresh p (g.P.Pm.now c.format.new.pm))
+    (pages_of (g.P.Pm.now c.args.pm.now) c.image.result.now c.args.pages c.image.ensures c.in-Some.ensures.words) c.in-Ok.ensures.fresh

@@ -1,0 +1,28 @@
+use Rattle.std.proofs.Common.{◌≡◌, ◌+◌, ◌-◌, ◌*◌, ◌^◌, ◌≤◌, true, false, IsTrue}
+use Rattle.pm_trait.specs.Device.{HasRisen}
+use Rattle.io_edge.specs.Bytes.{IsEnd}
+use Rattle.script.specs.Reader.{pending, read_count, given_count, has_ended}
+use Rattle.script.specs.Reading.{rest_of, IfTold, ReadFront}
+use Rattle.squirrel_cli.specs.Stands.{StandsOn, state_of_flat}
+use Rattle.squirrel_cli.specs.Turns.{RanSoFar}
+use Rattle.squirrel_cli.proofs.run.run.Given as goal
+
+abbrev pub invariant-turns : goal.invariant-turns
+invariant-turns g l = record {
+  so_far : RanSoFar l.session.flat.geometry.pages (state_of_flat l.fn.session.flat) (g.P.Pm.trail l.fn.pm) (g.S.Source.left l.fn.source) (g.K.Sink.taken l.fn.sink) l.session.flat l.session.stopped (g.P.Pm.now l.pm) (g.P.Pm.trail l.pm)
+      (has_ended l.lines) (rest_of (pending l.lines) (g.S.Source.left l.source)) (g.K.Sink.taken l.sink);
+  counted : IfTold (g.S.Source.left l.fn.source) (g.S.Source.left l.source) (ReadFront 0 (read_count l.lines));
+  stands : l.session.stopped ≡ false → StandsOn l.session.flat (g.P.Pm.now l.pm) (g.P.Pm.trail l.pm);
+  ended : IsTrue (has_ended l.lines) → IsEnd (g.S.Source.left l.source);
+  volume : l.session.flat.geometry ≡ l.fn.session.flat.geometry;
+  given : given_count l.lines ≤ 2 ^ 32;
+  fences : g.P.Pm.fences l.pm ≤ g.P.Pm.fences l.fn.pm + 4 * given_count l.lines;
+  acks : g.P.Pm.acks l.pm ≤ g.P.Pm.acks l.fn.pm + given_count l.lines;
+  halted : l.session.stopped ≡ true → HasRisen (g.P.Pm.faults l.fn.pm) (g.P.Pm.faults l.pm);
+  faults : g.P.Pm.faults l.fn.pm ≤ g.P.Pm.faults l.pm;
+  source_faults : g.S.Source.faults l.fn.source ≤ g.S.Source.faults l.source;
+  sink_faults : g.K.Sink.faults l.fn.sink ≤ g.K.Sink.faults l.sink;
+}
+
+abbrev pub decreases-turns : goal.decreases-turns
+decreases-turns g l = 2 ^ 32 - given_count l.lines

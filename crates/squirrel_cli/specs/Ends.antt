@@ -1,0 +1,48 @@
+-- How the ends of a run are told, and which starts a job needs.
+use Rattle.std.specs.Prelude.{◌≡◌, ℕ, ◌*◌, ◌<◌, ◌++◌, List, length, Option, Some, None}
+use Rattle.image_reading.specs.Soundness.{KeepsRule1, pages_in_image}
+use Rattle.squirrel_cli.specs.declared.job.Job.{Job}
+use Rattle.squirrel_cli.specs.declared.job.Job.TheVariants.{Mkfs, Run}
+use Rattle.squirrel_cli.specs.declared.run_end.RunEnd.{RunEnd}
+use Rattle.squirrel_cli.specs.declared.run_end.RunEnd.TheVariants as ends
+use Rattle.squirrel_cli.specs.declared.status.Status.{Status}
+use Rattle.squirrel_cli.specs.declared.status.Status.TheVariants.{Done, Usage, NoMemory, NotVolume, Damaged, DeviceFault, ReadFault, WriteFault, ScriptLimit}
+use Rattle.squirrel_cli.specs.Flat.{IsFlat}
+use Rattle.script.specs.Lines.{script_limit}
+
+-- the end of a run that a status tells
+abbrev pub end_of : Status → Option RunEnd
+end_of Done = Some ends.Done
+end_of Usage = None
+end_of NoMemory = None
+end_of NotVolume = None
+end_of (Damaged violation) = None
+end_of DeviceFault = Some ends.Faulted
+end_of ReadFault = Some ends.ReadFault
+end_of WriteFault = Some ends.WriteFault
+end_of ScriptLimit = Some ends.Limit
+
+-- the words are a volume's: their length and the first of them
+abbrev pub IsVolume : List ℕ → Type 0
+IsVolume words = KeepsRule1 (pages_in_image words) words
+
+-- and it is a flat one
+abbrev pub IsFlatVolume : List ℕ → Type 0
+IsFlatVolume words = IsFlat (pages_in_image words) words
+
+-- 2^32 bytes left the source
+abbrev pub GaveAll : Option (List ℕ) → Option (List ℕ) → Type 0
+GaveAll None after = Unit {0}
+GaveAll (Some before) None = ⊥
+GaveAll (Some before) (Some after) = (bytes : List ℕ) × (before ≡ bytes ++ after) × (length bytes ≡ script_limit)
+
+-- the script has fewer bytes than are read at the most
+abbrev pub IsShortScript : Option (List ℕ) → Type 0
+IsShortScript None = ⊥
+IsShortScript (Some bytes) = length bytes < script_limit
+
+-- the device is as the job needs it: of the right length, or a flat volume
+abbrev pub IsReady : Option Job → List ℕ → Type 0
+IsReady None words = ⊥
+IsReady (Some (Mkfs pages)) words = length words ≡ 512 * pages
+IsReady (Some Run) words = IsFlatVolume words

@@ -1,0 +1,75 @@
+-- What the top call does with a script: which lines it executes, and what it writes.
+use Rattle.std.specs.Prelude.{◌≡◌, ℕ, ◌<◌, List, [], ◌∷◌, ◌++◌, map, flat_map, take, length, Option, Some, None}
+use Rattle.pm_trait.specs.Trail.{Trail}
+use Rattle.pm_trait.specs.Device.{LeavesOnly, AcksSettled, acks_from, moment_of}
+use Rattle.io_edge.specs.Bytes.{with_bytes}
+use Rattle.tree_model.specs.Step.{Answer}
+use Rattle.tree_model.specs.Run.{Line, State}
+use Rattle.script.specs.Lines.{script_limit, call_of, complete_lines_of, calls_of}
+use Rattle.script.specs.Texts.{answer_text}
+use Rattle.image_reading.specs.Reading.{ReadsAs}
+use Rattle.squirrel_cli.specs.declared.run_end.RunEnd.{RunEnd}
+use Rattle.squirrel_cli.specs.declared.run_end.RunEnd.TheVariants.{Done, Faulted, ReadFault, WriteFault, Limit}
+use Rattle.squirrel_cli.specs.Run.{Run, IsBetween, IsStateAfter}
+
+-- The lines that a run executes: all lines of the whole input; where it was cut by a failed read or by the limit, those
+-- that end with a newline among the bytes read; where a write failed, the first of them.
+abbrev pub Executes : RunEnd → List ℕ → List ℕ → List Line → Type 0
+Executes Done before after lines = (lines ≡ calls_of before) × (after ≡ [])
+Executes Faulted before after lines = (lines ≡ calls_of before) × (after ≡ [])
+Executes ReadFault before after lines = (bytes : List ℕ) × (before ≡ bytes ++ after) × (lines ≡ map call_of (complete_lines_of bytes))
+Executes Limit before after lines = (bytes : List ℕ) × (before ≡ bytes ++ after) × (length bytes ≡ script_limit) × (lines ≡ map call_of (complete_lines_of bytes))
+Executes WriteFault before after lines = (rest : List Line) × (calls_of before ≡ lines ++ rest)
+
+abbrev pub ExecutesTold : RunEnd → Option (List ℕ) → Option (List ℕ) → List Line → Type 0
+ExecutesTold end None after lines = Unit {0}
+ExecutesTold end (Some before) None lines = ⊥
+ExecutesTold end (Some before) (Some after) lines = Executes end before after lines
+
+abbrev pub texts_of : List Answer → List ℕ
+texts_of answers = flat_map answer_text answers
+
+-- the texts of all answers but the last, and a front of the last one's
+pub record WritesFront (before : Option (List ℕ)) (answers : List Answer) (after : Option (List ℕ)) : Type 0 where
+  pub whole : List Answer
+  pub last : Answer
+  pub split : answers ≡ whole ++ last ∷ []
+  pub count : ℕ
+  pub short : count < length (answer_text last)
+  pub bytes : after ≡ with_bytes before (texts_of whole ++ take count (answer_text last))
+
+-- the sink took the texts of the answers, or where a write failed a front of them that has all but the last text whole
+abbrev pub Writes : RunEnd → Option (List ℕ) → List Answer → Option (List ℕ) → Type 0
+Writes Done before answers after = after ≡ with_bytes before (texts_of answers)
+Writes Faulted before answers after = after ≡ with_bytes before (texts_of answers)
+Writes ReadFault before answers after = after ≡ with_bytes before (texts_of answers)
+Writes Limit before answers after = after ≡ with_bytes before (texts_of answers)
+Writes WriteFault before answers after = WritesFront before answers after
+
+-- Done comes where no line was answered Fault, and Faulted where one was: then fewer states are left than answers.
+abbrev pub EndsWith : RunEnd → List Answer → List State → Type 0
+EndsWith Done answers states = length states ≡ length answers
+EndsWith Faulted answers states = length states < length answers
+EndsWith ReadFault answers states = Unit {0}
+EndsWith WriteFault answers states = Unit {0}
+EndsWith Limit answers states = Unit {0}
+
+-- a run of the script, from the state that the words at entry read as
+pub record RunsScript (P : ℕ) (words : List ℕ) (end : RunEnd) (script rest taken now : Option (List ℕ)) (before after : Option Trail) : Type 0 where
+  pub start : State
+  pub reads : ReadsAs P words start
+  pub lines : List Line
+  pub answers : List Answer
+  pub states : List State
+  pub run : Run P start lines answers states
+  pub ends : EndsWith end answers states
+  -- the lines are those of the script
+  pub executes : ExecutesTold end script rest lines
+  -- the replies are the answers
+  pub writes : Writes end taken answers now
+  -- at the k-th acknowledgement every word has one candidate, and the words are tidy and read as the state after k lines
+  pub acks : AcksSettled before after (IsStateAfter P start states)
+  -- every answered line was acknowledged, but those that were answered Fault or Stopped
+  pub acked : (trail : Trail) → after ≡ Some trail → acks_from before after (moment_of after) ≡ length states
+  -- a stop at any moment leaves the tree after all acknowledged lines, or one that the running line may leave
+  pub any_moment : LeavesOnly before after (IsBetween P start states lines)

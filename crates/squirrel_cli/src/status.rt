@@ -1,0 +1,45 @@
+ghost use Rattle.std.specs.Prelude.{◌≡◌};
+ghost use Rattle.squirrel_cli.specs.Status.{number_of_status};
+
+use image_reading::Violation;
+
+/// How a job ended.
+#[derive(Clone, Copy, Debug, PartialEq, Eq)]
+pub enum Status {
+    /// The work is done, and the script was read to its end.
+    Done,
+    /// The words ask for no job, or for a volume of another size than the device.
+    Usage,
+    /// There was not enough memory, before anything was written.
+    NoMemory,
+    /// The device's first words are no volume's.
+    NotVolume,
+    /// The volume breaks a rule.
+    Damaged(Violation),
+    /// A fence failed.
+    DeviceFault,
+    /// A read of the script failed.
+    ReadFault,
+    /// A write of the output failed.
+    WriteFault,
+    /// The script has 2^32 bytes or more.
+    ScriptLimit,
+}
+
+impl Status {
+    /// The exit status of the program.
+    pub fn number(self) -> u8
+        ensures { result ≡ number_of_status self }
+    {
+        match self {
+            Status::Done => 0,
+            Status::Usage => 2,
+            Status::NoMemory => 3,
+            Status::NotVolume | Status::Damaged(_) => 4,
+            Status::DeviceFault => 5,
+            Status::ReadFault => 6,
+            Status::WriteFault => 7,
+            Status::ScriptLimit => 8,
+        }
+    }
+}

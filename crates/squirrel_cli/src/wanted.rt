@@ -1,0 +1,36 @@
+// The device that the words of a command line need.
+ghost use Rattle.std.specs.Prelude.{◌≡◌, IfOk};
+ghost use Rattle.squirrel_cli.specs.Wanted.{Wants};
+
+use crate::job::{Job, job_of};
+use crate::words::{ImagePath, Words};
+use pm_trait::NoMemory;
+use std::alloc::Global;
+
+/// The device that a job needs.
+#[derive(Drop)]
+pub enum Wanted {
+    /// None: the words ask for no job.
+    Nothing,
+    /// A file that is given this many pages, and made where it isn't there.
+    Make { path: ImagePath, pages: u64 },
+    /// A file that is there.
+    Existing { path: ImagePath },
+}
+
+/// The device that the words need: none exactly where they ask for no job.
+pub fn device_of(alloc: Global, words: &Words) -> Result<Wanted, NoMemory>
+    ensures { IfOk result (λ wanted. Wants words.now wanted) }
+{
+    match job_of(words) {
+        None => Ok(Wanted::Nothing),
+        Some(Job::Mkfs { pages }) => {
+            let path = ImagePath::new(alloc, words.word(2))?;
+            Ok(Wanted::Make { path, pages })
+        }
+        Some(Job::Run) => {
+            let path = ImagePath::new(alloc, words.word(2))?;
+            Ok(Wanted::Existing { path })
+        }
+    }
+}

@@ -1,0 +1,108 @@
+// The words of a command line, and the path of an image.
+ghost use Rattle.std.specs.Prelude.{◌≡◌, ◌++◌, ◌<◌, length, Some, [], ◌∷◌, OnOk, OnErr, IfOk, IfSome, slice_get, option_copied};
+ghost use Rattle.std.specs.String.{string_bytes};
+
+use pm_trait::NoMemory;
+use std::alloc::Global;
+use std::marker::Model;
+
+/// The words of a command line, the first of them the program's name, seen as the list of them.
+#[derive(Drop)]
+pub struct Words {
+    alloc: Global,
+    words: Vec<String>,
+}
+
+impl Model for Words {
+    ghost use Rattle.std.specs.Prelude.{List, ℕ, map};
+    ghost use Rattle.std.specs.String.{string_bytes};
+
+    ghost Value = { List (List ℕ) };
+
+    ghost view = { λ words. map string_bytes words.words.items };
+}
+
+impl Words {
+    /// No words.
+    pub fn new(alloc: Global) -> Words
+        ensures { result ≡ [] }
+    {
+        Words {
+            alloc,
+            words: Vec::new(alloc),
+        }
+    }
+
+    /// Adds a word at the end, or changes nothing.
+    pub fn push(&mut self, word: &str) -> Result<(), NoMemory>
+        ensures ok { OnOk result (self.new ≡ self.old ++ word.now ∷ []) }
+        ensures err { OnErr result (self.new ≡ self.old) }
+    {
+        match owned(self.alloc, word) {
+            Ok(word) => match self.words.push(word) {
+                Ok(()) => Ok(()),
+                Err(_) => Err(NoMemory),
+            },
+            Err(fault) => Err(fault),
+        }
+    }
+
+    /// How many words there are.
+    pub(crate) fn len(&self) -> usize
+        ensures { result ≡ length self.now }
+    {
+        self.words.len()
+    }
+
+    /// One word, counted from 0.
+    pub(crate) fn word(&self, k: usize) -> &str
+        requires { k < length self.now }
+        ensures { slice_get self.now k ≡ Some result.now }
+    {
+        self.words[k].as_str()
+    }
+}
+
+/// The path of an image file, seen as its bytes.
+#[derive(Drop)]
+pub struct ImagePath {
+    text: String,
+}
+
+impl Model for ImagePath {
+    ghost use Rattle.std.specs.Prelude.{List, ℕ};
+    ghost use Rattle.std.specs.String.{string_bytes};
+
+    ghost Value = { List ℕ };
+
+    ghost view = { λ path. string_bytes path.text };
+}
+
+impl ImagePath {
+    /// A path of this text.
+    pub(crate) fn new(alloc: Global, text: &str) -> Result<ImagePath, NoMemory>
+        ensures { IfOk result (λ path. path ≡ text.now) }
+    {
+        match owned(alloc, text) {
+            Ok(text) => Ok(ImagePath { text }),
+            Err(fault) => Err(fault),
+        }
+    }
+
+    /// The text.
+    pub fn as_str(&self) -> &str
+        ensures { result.now ≡ self.now }
+    {
+        self.text.as_str()
+    }
+}
+
+// The text, owned.
+fn owned(alloc: Global, text: &str) -> Result<String, NoMemory>
+    ensures { IfOk result (λ owned. string_bytes owned ≡ text.now) }
+{
+    match text.to_string(alloc) {
+        Ok(owned) => Ok(owned),
+        Err(_) => Err(NoMemory),
+    }
+}
