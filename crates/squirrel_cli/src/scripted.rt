@@ -21,7 +21,7 @@ use pm_trait::Pm;
 use script::{LineText, Lines, push_number, push_text};
 use std::alloc::Global;
 
-/// How many bytes a line has at the most, and so what it is decoded into.
+/// How many bytes the longest line, of 65,536 bytes, gives at the most: each stands in two hexadecimal digits.
 const LINE_BYTES: usize = 32768;
 
 // Why there is nothing to run a script on.

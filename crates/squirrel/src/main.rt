@@ -1,0 +1,50 @@
+//! The program: the words of the command line, the device in a file, standard input and output, and the exit status.
+#![tactic(auto)]
+
+mod device;
+mod faults;
+mod words;
+
+use device::device_for;
+use faults::{fault_line, status_of_file_fault};
+use io_edge::{StdSink, StdSource};
+use squirrel_cli::{Status, Words, squirrel};
+use std::alloc::Global;
+use std::io;
+use std::process::ExitCode;
+use std::rt::Files;
+use words::words_of;
+
+fn main(rt: HostRuntime) -> ExitCode {
+    let status = status_of_run(&rt);
+    tell(&rt, status);
+    ExitCode::from(status.number())
+}
+
+// How the job ended that the command line asks for.
+fn status_of_run(rt: &HostRuntime) -> Status {
+    match words_of(rt, rt.alloc()) {
+        Ok(words) => do_job(rt, rt.alloc(), &words),
+        Err(status) => status,
+    }
+}
+
+// Does what the words ask for, on the file that they name.
+fn do_job<R: Files + Input + Print>(rt: &R, alloc: Global, words: &Words) -> Status {
+    match device_for(rt, alloc, words) {
+        Ok(mut pm) => {
+            let mut script = StdSource::new(rt.reader());
+            let mut out = StdSink::new(io::writer(rt));
+            squirrel(alloc, words, &mut pm, &mut script, &mut out)
+        }
+        Err(fault) => status_of_file_fault(fault),
+    }
+}
+
+// Tells a fault on standard error. A failure to do so changes nothing.
+fn tell<R: Eprint>(rt: &R, status: Status) {
+    let line = fault_line(status);
+    if !line.is_empty() {
+        let _ = eprintln!(rt; "{line}");
+    }
+}

@@ -1,0 +1,15 @@
+//! Worked examples of whole jobs, on a device in memory, with a script and an output in memory.
+#![tactic(auto)]
+
+#[cfg(test)]
+mod faults;
+#[cfg(test)]
+mod jobs;
+#[cfg(test)]
+mod limits;
+#[cfg(test)]
+mod lines;
+#[cfg(test)]
+mod scarce;
+#[cfg(test)]
+mod volumes;

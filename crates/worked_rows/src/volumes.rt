@@ -1,0 +1,198 @@
+// Making a volume, words that ask for no job, and words of a device that are no volume.
+use crate::jobs::{Left, job_on, small_volume};
+use squirrel_cli::Status;
+use std::alloc::Global;
+use std::process::Abort;
+use std::test::Fail;
+
+const MAGIC: u64 = 0x3130_4D50_4C52_5153;
+
+// Makes a volume of so many pages out of words that are 7.
+fn make(alloc: Global, line: &str, pages: usize) -> Result<Left, Fail> {
+    let old = vec![in alloc; 7; pages.saturating_mul(512)]?;
+    job_on(alloc, line, old.as_slice(), b"")
+}
+
+#[test]
+fn volumes_are_made(rt: HostRuntime) -> Result<(), Fail> {
+    for (line, pages, wanted) in [
+        (
+            "squirrel mkfs v 16",
+            16,
+            "formatted pages 16 inodes 4 data 13\n",
+        ),
+        (
+            "squirrel mkfs v 0016",
+            16,
+            "formatted pages 16 inodes 4 data 13\n",
+        ),
+        (
+            "squirrel mkfs v 64",
+            64,
+            "formatted pages 64 inodes 16 data 61\n",
+        ),
+        (
+            "squirrel mkfs v 132",
+            132,
+            "formatted pages 132 inodes 33 data 126\n",
+        ),
+        (
+            "squirrel mkfs v 256",
+            256,
+            "formatted pages 256 inodes 64 data 249\n",
+        ),
+    ] {
+        let left = make(rt.alloc(), line, pages)?;
+        assert_eq!(rt; left.told.as_slice(), wanted.as_bytes(), "at {line}");
+        assert_eq!(rt; left.status, Status::Done, "at {line}");
+        assert_eq!(rt; left.status.number(), 0);
+        assert_eq!(rt; left.fences, 3, "at {line}");
+    }
+    Ok(())
+}
+
+// The first words, the root, the free inode after it, the first descriptor, and the data pages, which stay.
+#[test]
+fn a_fresh_volume_has_the_words_of_the_format(rt: HostRuntime) -> Result<(), Fail> {
+    let left = make(rt.alloc(), "squirrel mkfs v 16", 16)?;
+    assert_eq!(rt; left.image.len(), 8_192);
+    for (first, wanted) in [
+        (0usize, [MAGIC, 1, 16, 4, 13, 0].as_slice()),
+        (512, [2, 2, 0, 1, 0].as_slice()),
+        (528, [0, 0, 0, 0].as_slice()),
+        (1_024, [0, 0, 0].as_slice()),
+        (1_535, [0, 7, 7].as_slice()),
+        (8_191, [7].as_slice()),
+    ] {
+        assert_eq!(rt;
+            left.image.get(first..first.saturating_add(wanted.len())),
+            Some(wanted),
+            "at {first}"
+        );
+    }
+    Ok(())
+}
+
+#[test]
+fn words_that_ask_for_no_job(rt: HostRuntime) -> Result<(), Fail> {
+    let volume = small_volume(rt.alloc())?;
+    for line in [
+        "",
+        "squirrel",
+        "squirrel frob",
+        "squirrel frob v",
+        "squirrel run",
+        "squirrel run v w",
+        "squirrel run -v",
+        "squirrel RUN v",
+        "squirrel mkfs v",
+        "squirrel mkfs v 15",
+        "squirrel mkfs v 17",
+        "squirrel mkfs v 65537",
+        "squirrel mkfs v 18446744073709551632",
+        "squirrel mkfs v 000000000000000000016",
+        "squirrel mkfs v +16",
+        "squirrel mkfs v 16x",
+        "squirrel mkfs v -16",
+        "squirrel mkfs -v 16",
+        "squirrel mkfs v 16 16",
+        "squirrel help",
+        "squirrel --help",
+        "squirrel --version",
+    ] {
+        let left = job_on(rt.alloc(), line, volume.as_slice(), b"create /a\n")?;
+        assert_eq!(rt; left.status, Status::Usage, "at {line}");
+        assert_eq!(rt; left.status.number(), 2);
+        assert!(rt; left.told.is_empty(), "at {line}");
+        assert_eq!(rt; left.image.as_slice(), volume.as_slice(), "at {line}");
+    }
+    Ok(())
+}
+
+// Runs a script on words that are no volume that can be taken: it is told so, and nothing is done.
+fn compare(rt: &impl Abort, alloc: Global, image: &[u64], told: &str) -> Result<(), Fail> {
+    let left = job_on(alloc, "squirrel run v", image, b"create /b\n")?;
+    assert_eq!(rt; left.told.as_slice(), told.as_bytes());
+    assert_eq!(rt; left.status.number(), 4);
+    assert_eq!(rt; left.image.as_slice(), image);
+    assert_eq!(rt; (left.fences, left.acks), (0, 0));
+    Ok(())
+}
+
+// The words of a volume of 16 pages with the file `/a`, of which one is set.
+fn with_word(alloc: Global, word: usize, value: u64) -> Result<Vec<u64>, Fail> {
+    let volume = small_volume(alloc)?;
+    let left = job_on(alloc, "squirrel run v", volume.as_slice(), b"create /a\n")?;
+    let mut image = left.image;
+    let place = image.get_mut(word).ok_or("no word")?;
+    *place = value;
+    Ok(image)
+}
+
+#[test]
+fn words_that_are_no_volume(rt: HostRuntime) -> Result<(), Fail> {
+    for (word, value) in [(0, 0), (0, MAGIC + 1), (1, 2), (2, 17), (3, 5), (4, 12)] {
+        let image = with_word(rt.alloc(), word, value)?;
+        compare(&rt, rt.alloc(), image.as_slice(), "not a volume\n")?;
+    }
+    let image = with_word(rt.alloc(), 0, MAGIC)?;
+    for count in [0, 1, 5, 8_191] {
+        let cut = image.get(..count).ok_or("too short")?;
+        compare(&rt, rt.alloc(), cut, "not a volume\n")?;
+    }
+    Ok(())
+}
+
+// Each word is of the root, of the file's inode, of the page's descriptor, or of a slot of the page.
+#[test]
+fn volumes_that_break_a_rule(rt: HostRuntime) -> Result<(), Fail> {
+    for (word, value) in [
+        (512, 1),
+        (513, 3),
+        (514, 1),
+        (515, 2),
+        (528, 2),
+        (529, 2),
+        (530, 1),
+        (531, 3),
+        (544, 1),
+        (1_024, 2),
+        (1_025, 1),
+        (1_026, 1),
+        (1_033, 2),
+        (1_536, 0),
+        (1_536, 1),
+        (1_536, 3),
+        (1_536, 5),
+        (1_537, 2),
+        (1_538, 0x61_0000),
+        (1_538, 0x2F_0001),
+        (1_539, 1),
+        (1_553, 1),
+    ] {
+        let image = with_word(rt.alloc(), word, value)?;
+        compare(&rt, rt.alloc(), image.as_slice(), "damaged 0 0\n")?;
+    }
+    Ok(())
+}
+
+// The file's slot, copied to the slot after it.
+#[test]
+fn a_name_that_stands_twice(rt: HostRuntime) -> Result<(), Fail> {
+    let mut image = with_word(rt.alloc(), 1_552, 2)?;
+    let name = image.get_mut(1_554).ok_or("no word")?;
+    *name = 0x61_0001;
+    compare(&rt, rt.alloc(), image.as_slice(), "damaged 0 0\n")
+}
+
+// Words that no one reads may be anything.
+#[test]
+fn words_that_are_not_read(rt: HostRuntime) -> Result<(), Fail> {
+    for word in [5, 511, 516, 527, 532, 1_027, 1_031, 1_032 + 3, 2_048, 8_191] {
+        let image = with_word(rt.alloc(), word, 9)?;
+        let left = job_on(rt.alloc(), "squirrel run v", image.as_slice(), b"list /\n")?;
+        assert_eq!(rt; left.told.as_slice(), b"ok 1 a\n".as_slice(), "at {word}");
+        assert_eq!(rt; left.image.as_slice(), image.as_slice(), "at {word}");
+    }
+    Ok(())
+}
