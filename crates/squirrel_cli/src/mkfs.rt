@@ -34,6 +34,7 @@ pub fn make_volume<P: Pm, K: Sink>(pages: u64, out: &mut K, pm: &mut P) -> Statu
     ensures cut { result ≡ Status.WriteFault → TookFront (K.taken out.old) (formatted_text pages) (K.taken out.new) }
     ensures any_moment { length (P.now pm.old) ≡ 512 * pages →
         LeavesOnly (P.trail pm.old) (P.trail pm.new) (λ _. IsOldHiddenOrFormatted pages (P.now pm.old)) }
+    ensures done { (result ≡ Status.Done) ⊎ (result ≡ Status.WriteFault) → P.faults pm.new ≡ P.faults pm.old }
     ensures settled { HasRisen (P.faults pm.old) (P.faults pm.new) ⊎ IsSettledAt (P.now pm.new) (P.trail pm.new) }
 {
     let Some(geometry) = geometry_of_length(pm.image().len(), pages) else {

@@ -8,6 +8,7 @@ ghost use Rattle.image_reading.specs.Reading.{ReadsAs};
 ghost use Rattle.script.specs.Calls.{line_of_call, MayCome};
 ghost use Rattle.script.specs.Reader.{pending, read_count, given_count, has_ended};
 ghost use Rattle.script.specs.Reading.{rest_of, IfTold, ReadFront};
+ghost use Rattle.squirrel_cli.specs.Flat.{IsFlat};
 ghost use Rattle.squirrel_cli.specs.Exec.{Turned};
 ghost use Rattle.squirrel_cli.specs.Script.{RunsScript};
 ghost use Rattle.squirrel_cli.specs.Stands.{StandsOn, state_of_flat};
@@ -110,6 +111,9 @@ fn turn<P: Pm, S: Source, K: Sink>(
     ensures volume { session.new.flat.geometry ≡ session.old.flat.geometry }
     ensures stopped { session.new.stopped ≡ true → (session.old.stopped ≡ true) ⊎ HasRisen (P.faults pm.old) (P.faults pm.new) }
     ensures faulted { result ≡ Some RunEnd.Faulted → session.old.stopped ≡ true }
+    ensures done { result ≡ Some RunEnd.Done → session.new.stopped ≡ false }
+    ensures stays { session.old.stopped ≡ true → session.new.stopped ≡ true }
+    ensures no_fault { session.new.stopped ≡ false → P.faults pm.new ≡ P.faults pm.old }
     ensures read_cause { result ≡ Some RunEnd.ReadFault → HasRisen (S.faults source.old) (S.faults source.new) }
     ensures write_cause { result ≡ Some RunEnd.WriteFault → HasRisen (K.faults sink.old) (K.faults sink.new) }
     ensures faults { P.faults pm.old ≤ P.faults pm.new }
@@ -155,7 +159,9 @@ pub fn run<P: Pm, S: Source, K: Sink>(
     ensures device_cause { result ≡ RunEnd.Faulted → HasRisen (P.faults pm.old) (P.faults pm.new) }
     ensures read_cause { result ≡ RunEnd.ReadFault → HasRisen (S.faults source.old) (S.faults source.new) }
     ensures write_cause { result ≡ RunEnd.WriteFault → HasRisen (K.faults sink.old) (K.faults sink.new) }
+    ensures done { result ≡ RunEnd.Done → P.faults pm.new ≡ P.faults pm.old }
     ensures settled { HasRisen (P.faults pm.old) (P.faults pm.new) ⊎ IsSettledAt (P.now pm.new) (P.trail pm.new) }
+    ensures flat { HasRisen (P.faults pm.old) (P.faults pm.new) ⊎ IsFlat session.old.flat.geometry.pages (P.now pm.new) }
     ensures faults { P.faults pm.old ≤ P.faults pm.new }
     ensures fences { P.fences pm.new ≤ P.fences pm.old + 2 ^ 36 }
     ensures acks { P.acks pm.new ≤ P.acks pm.old + 2 ^ 36 }

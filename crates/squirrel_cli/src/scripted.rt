@@ -4,6 +4,7 @@ ghost use Rattle.pm_trait.specs.Device.{HasRisen, IsSettledAt};
 ghost use Rattle.io_edge.specs.Bytes.{with_bytes, TookFront};
 ghost use Rattle.image_reading.specs.Soundness.{pages_in_image};
 ghost use Rattle.squirrel_cli.specs.Ends.{end_of, IsVolume, IsFlatVolume, GaveAll};
+ghost use Rattle.squirrel_cli.specs.Flat.{IsFlat};
 ghost use Rattle.squirrel_cli.specs.Script.{RunsScript};
 ghost use Rattle.squirrel_cli.specs.Stands.{Knows, StandsOn};
 ghost use Rattle.squirrel_cli.specs.Texts.{not_a_volume_text, damaged_text};
@@ -66,8 +67,11 @@ pub fn answer_script<P: Pm, S: Source, K: Sink>(
     ensures limit_cause { result ≡ Status.ScriptLimit → GaveAll (S.left script.old) (S.left script.new) }
     ensures no_memory { result ≡ Status.NoMemory →
         (P.now pm.new ≡ P.now pm.old) × (P.trail pm.new ≡ P.trail pm.old) × (S.left script.new ≡ S.left script.old) × (K.taken out.new ≡ K.taken out.old) }
+    ensures done { result ≡ Status.Done → P.faults pm.new ≡ P.faults pm.old }
     ensures settled { HasRisen (P.faults pm.old) (P.faults pm.new) ⊎ IsSettledAt (P.now pm.new) (P.trail pm.new) }
+    ensures flat { IsFlatVolume (P.now pm.old) → HasRisen (P.faults pm.old) (P.faults pm.new) ⊎ IsFlatVolume (P.now pm.new) }
 {
+    head_law();
     match open(alloc, pm.image()) {
         Ok(flat) => answer_lines(alloc, flat, script, out, pm),
         Err(OpenError::NotVolume) => tell(out, b"not a volume\n", Status::NotVolume),
@@ -121,7 +125,9 @@ fn answer_lines<P: Pm, S: Source, K: Sink>(
     ensures write_cause { result ≡ Status.WriteFault → HasRisen (K.faults out.old) (K.faults out.new) }
     ensures no_memory { result ≡ Status.NoMemory →
         (P.now pm.new ≡ P.now pm.old) × (P.trail pm.new ≡ P.trail pm.old) × (S.left script.new ≡ S.left script.old) × (K.taken out.new ≡ K.taken out.old) }
+    ensures done { result ≡ Status.Done → P.faults pm.new ≡ P.faults pm.old }
     ensures settled { HasRisen (P.faults pm.old) (P.faults pm.new) ⊎ IsSettledAt (P.now pm.new) (P.trail pm.new) }
+    ensures flat { HasRisen (P.faults pm.old) (P.faults pm.new) ⊎ IsFlat flat.geometry.pages (P.now pm.new) }
 {
     let Ok(mut lines) = Lines::new(alloc) else {
         return Status::NoMemory;

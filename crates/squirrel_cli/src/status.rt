@@ -6,15 +6,15 @@ use image_reading::Violation;
 /// How a job ended.
 #[derive(Clone, Copy, Debug, PartialEq, Eq)]
 pub enum Status {
-    /// The work is done, and the script was read to its end.
+    /// The work is done. For `run` the script was read to its end.
     Done,
     /// The words ask for no job, or for a volume of another size than the device.
     Usage,
     /// There was not enough memory, before anything was written.
     NoMemory,
-    /// The device's first words are no volume's.
+    /// The device's length or its first words are no volume's.
     NotVolume,
-    /// The volume breaks a rule.
+    /// The volume is not flat: rule 0 and place 0, whether it breaks a rule or not.
     Damaged(Violation),
     /// A fence failed.
     DeviceFault,

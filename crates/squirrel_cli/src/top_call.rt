@@ -86,8 +86,12 @@ pub fn squirrel<P: Pm, S: Source, K: Sink>(
         ¬ HasRisen (P.faults pm.old) (P.faults pm.new) → ¬ HasRisen (S.faults script.old) (S.faults script.new) → ¬ HasRisen (K.faults out.old) (K.faults out.new) →
         (result ≡ Status.Done) ⊎ (result ≡ Status.NoMemory) }
 
-    // Where no fence failed the device is settled again.
+    // Where no fence failed the device is settled again, and a flat volume is left, which the next job takes. The work is
+    // not done where one failed.
     ensures settled { HasRisen (P.faults pm.old) (P.faults pm.new) ⊎ IsSettledAt (P.now pm.new) (P.trail pm.new) }
+    ensures flat { job_of_words words.now ≡ Some Job.Run → IsFlatVolume (P.now pm.old) →
+        HasRisen (P.faults pm.old) (P.faults pm.new) ⊎ IsFlatVolume (P.now pm.new) }
+    ensures done { result ≡ Status.Done → P.faults pm.new ≡ P.faults pm.old }
 {
     match job_of(words) {
         None => Status::Usage,

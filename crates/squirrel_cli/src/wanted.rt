@@ -1,5 +1,6 @@
 // The device that the words of a command line need.
-ghost use Rattle.std.specs.Prelude.{◌≡◌, IfOk};
+ghost use Rattle.std.specs.Prelude.{◌≡◌, IfOk, OnErr, IsSome};
+ghost use Rattle.squirrel_cli.specs.Job.{job_of as job_of_words};
 ghost use Rattle.squirrel_cli.specs.Wanted.{Wants};
 
 use crate::job::{Job, job_of};
@@ -18,9 +19,11 @@ pub enum Wanted {
     Existing { path: ImagePath },
 }
 
-/// The device that the words need: none exactly where they ask for no job.
+/// The device that the words need: none exactly where they ask for no job. `NoMemory` comes where there is none for the
+/// path.
 pub fn device_of(alloc: Global, words: &Words) -> Result<Wanted, NoMemory>
-    ensures { IfOk result (λ wanted. Wants words.now wanted) }
+    ensures ok { IfOk result (λ wanted. Wants words.now wanted) }
+    ensures err { OnErr result (IsSome (job_of_words words.now)) }
 {
     match job_of(words) {
         None => Ok(Wanted::Nothing),

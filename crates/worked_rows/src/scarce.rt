@@ -1,6 +1,7 @@
 // A device that is short of memory, and what is answered then.
 ghost use Rattle.std.specs.Prelude.{◌≡◌, IfOk};
 ghost use Rattle.pm_trait.specs.Device.{IsSettledAt};
+ghost use Rattle.pm_memory.specs.contracts.ram.RamPmPm.TheImpl.Laws.{honest-law};
 
 use crate::jobs::{Left, do_job, job_on, sink_of, small_volume, source_of};
 use pm_memory::RamPm;
@@ -92,7 +93,7 @@ impl Pm for ScarcePm {
         self.pm.acks()
     }
 
-    ghost honest = { λ scarce. ⟦<RamPm as Pm>⟧.honest scarce.pm };
+    ghost honest = { λ scarce. honest-law scarce.pm };
 }
 
 // Does a job on a device that refuses the listed reserves.

@@ -1,4 +1,8 @@
-use Rattle.std.proofs.Common.{◌≡◌, inl, inr, ◌+◌, ◌<◌, ◌≤◌, length, refl, sym, ap, subst, ◌∙◌, arith}
+use Rattle.std.proofs.Common.{◌≡◌, ◌⊎◌, Bool, true, false, inl, inr, ◌+◌, ◌<◌, ◌≤◌, length, refl, sym, ap, subst, ◌∙◌, arith}
+use Rattle.std.specs.Prelude.{Some}
+use Rattle.pm_trait.specs.Device.{HasRisen}
+use Rattle.squirrel_cli.specs.Flat.{IsFlat}
+use Rattle.squirrel_cli.proofs.Wrote.{not_true}
 use Rattle.layout.specs.declared.geometry.Geometry.{Geometry}
 use Rattle.script.specs.Reader.{pending, read_count, given_count, has_ended}
 use Rattle.script.specs.Reading.{rest_of}
@@ -24,6 +28,7 @@ turns-init g c =
       fences = omega arith;
       acks = omega arith;
       halted = λ is. absurd (let no = c.requires.going in cc (is, no));
+      no_fault = λ is. refl;
       faults = omega arith;
       source_faults = omega arith;
       sink_faults = omega arith;
@@ -58,7 +63,27 @@ turns-preserved g c =
         | inl old ↦ risen_later _ _ _ (was.halted old) turned.faults
         | inr now ↦ risen_earlier _ _ _ was.faults now
       ];
+      no_fault = λ is. turned.no_fault is ∙ was.no_fault (not_true c.turns.session.stopped (λ old. let new = turned.stays old in cc (new, is)));
       faults = let more = turned.faults in let before = was.faults in omega (arith, more, before);
       source_faults = let more = turned.source_faults in let before = was.source_faults in omega (arith, more, before);
       sink_faults = let more = turned.sink_faults in let before = was.sink_faults in omega (arith, more, before);
     }
+
+pub returns-in-Some-clause-done : goal.returns-in-Some-clause-done
+returns-in-Some-clause-done g c is =
+    let turned = c.in-Some.ensures in
+    let going = turned.done (ap Some is) in
+    turned.no_fault going ∙ c.turns.invariant.no_fault (not_true c.turns.session.stopped (λ old. let new = turned.stays old in cc (new, going)))
+
+pub returns-in-Some-clause-flat : goal.returns-in-Some-clause-flat
+returns-in-Some-clause-flat g c = by c.turn.new.session.stopped refl
+  where
+    volume : c.turn.new.session.flat.geometry ≡ c.args.session.now.flat.geometry
+    volume = c.in-Some.ensures.volume ∙ c.turns.invariant.volume
+
+    by : (stopped : Bool) → c.turn.new.session.stopped ≡ stopped → HasRisen (g.P.Pm.faults c.args.pm.now) (g.P.Pm.faults c.turn.new.pm) ⊎ IsFlat c.args.session.now.flat.geometry.pages (g.P.Pm.now c.turn.new.pm)
+    by false is = inr (subst (λ (k : Geometry). IsFlat k.pages (g.P.Pm.now c.turn.new.pm)) volume (c.in-Some.ensures.stands is).in_words)
+    by true is = inl (elim (c.in-Some.ensures.stopped is) [
+      | inl old ↦ risen_later _ _ _ (c.turns.invariant.halted old) c.in-Some.ensures.faults
+      | inr now ↦ risen_earlier _ _ _ c.turns.invariant.faults now
+    ])

@@ -19,6 +19,7 @@ invariant-turns g l = record {
   fences : g.P.Pm.fences l.pm ≤ g.P.Pm.fences l.fn.pm + 4 * given_count l.lines;
   acks : g.P.Pm.acks l.pm ≤ g.P.Pm.acks l.fn.pm + given_count l.lines;
   halted : l.session.stopped ≡ true → HasRisen (g.P.Pm.faults l.fn.pm) (g.P.Pm.faults l.pm);
+  no_fault : l.session.stopped ≡ false → g.P.Pm.faults l.pm ≡ g.P.Pm.faults l.fn.pm;
   faults : g.P.Pm.faults l.fn.pm ≤ g.P.Pm.faults l.pm;
   source_faults : g.S.Source.faults l.fn.source ≤ g.S.Source.faults l.source;
   sink_faults : g.K.Sink.faults l.fn.sink ≤ g.K.Sink.faults l.sink;

@@ -22,3 +22,9 @@ returns-clause-read_cause g c is = c.run.ensures.read_cause (ends_as c.status_of
 
 pub returns-clause-write_cause : goal.returns-clause-write_cause
 returns-clause-write_cause g c is = c.run.ensures.write_cause (ends_as c.status_of_end.ensures is refl)
+
+pub returns-clause-done : goal.returns-clause-done
+returns-clause-done g c is = c.run.ensures.done (ends_as c.status_of_end.ensures is refl)
+
+pub returns-clause-flat : goal.returns-clause-flat
+returns-clause-flat g c = c.run.ensures.flat
