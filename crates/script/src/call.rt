@@ -16,7 +16,8 @@ pub enum Call<'a> {
 
 impl<'a> Call<'a> {
     /// What a line asks for. A line that is too long, of other words than a command and a path, or of a command that has
-    /// not come yet is refused before its path is read. `scratch` is where the bytes of a line are to be decoded.
+    /// not come yet is refused before its path is read. `scratch`, of at least 32,768 bytes, is where the bytes of a line
+    /// are to be decoded.
     pub fn parse(line: &'a [u8], scratch: &'a mut [u8]) -> Call<'a>
         requires { 32768 ≤ length scratch.old }
         ensures { line_of_call result ≡ call_of line.now }

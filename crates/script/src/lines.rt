@@ -89,7 +89,8 @@ impl Lines {
     }
 
     /// Goes on to the next line. A line that was read already is given before anything is read, and each read is lent at
-    /// least 4,096 bytes, or what is left of the limit. After an `Err` the line that was begun is lost.
+    /// least 4,096 bytes, or what is left of the limit. After an `Err` a further step may begin inside the line that was
+    /// begun.
     ///
     /// Once the end of the input was seen, the source has to be one with none left.
     pub fn next<S: Source>(&mut self, source: &mut S) -> Result<Step, ReadFault>
