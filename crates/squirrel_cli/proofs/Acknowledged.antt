@@ -1,21 +1,24 @@
 -- A line that was executed, and then acknowledged.
-use Rattle.std.proofs.Common.{◌≡◌, inl, inr, ℕ, List, [], ◌∷◌, refl, sym, ap, subst, ◌∙◌}
+use Rattle.std.proofs.Common.{◌≡◌, ◌≢◌, inl, inr, ℕ, List, [], ◌∷◌, refl, sym, ap, subst, ◌∙◌}
 use Rattle.std.specs.Prelude.{Option, Some, None, Ok, Err}
 use Rattle.pm_trait.specs.declared.event.Event.TheVariants.{Ack}
 use Rattle.pm_trait.specs.Trail.{Trail}
 use Rattle.pm_trait.specs.Device.{with_event, acks_from, moment_of}
-use Rattle.pm_trait.specs.ContinuesLaws.{acks_from-all}
+use Rattle.pm_trait.specs.ContinuesLaws.{acks_from-all, continues_by}
 use Rattle.pm_trait.specs.DeviceLaws.{leaves_weaker, leaves_next}
 use Rattle.pm_trait.specs.AckLaws.{leaves_ack, acks_none, acks_next, acks_ack, settled_ack}
 use Rattle.tree_model.specs.Step.{Answer}
 use Rattle.tree_model.specs.Run.{Line, State, LineStep}
 use Rattle.tree_model.specs.declared.reply.Reply.{Reply}
+use Rattle.tree_model.specs.declared.reply.Reply.TheVariants as reply
 use Rattle.squirrel_cli.specs.declared.flat.Flat.{Flat}
 use Rattle.squirrel_cli.specs.Run.{command_of, MayReadAs}
 use Rattle.squirrel_cli.specs.Stands.{state_of_flat, Knows}
 use Rattle.squirrel_cli.specs.Flat.{IsFlat}
 use Rattle.squirrel_cli.specs.Exec.{answer_of_reply, IsAt, Executed, HasAnswered}
+use Rattle.squirrel_cli.specs.Quiet.{MayStore}
 use Rattle.squirrel_cli.proofs.After.{Acked, acked_then}
+use Rattle.squirrel_cli.proofs.Quiet.{acts_answered}
 
 -- an acknowledgement is one
 ack_counts : (old : Option Trail) {new : Option Trail} → new ≡ with_event old Ack → Acked old new 1
@@ -37,9 +40,9 @@ pub may_be_there : (P : ℕ) (state : State) (words : List ℕ) → IsAt P state
 may_be_there P state words is = record { sound = is.tidy.sound; tree = state.tree; reads = is.reads.tree; allowed = refl }
 
 pub acknowledged : {P : ℕ} {old : State} {line : Line} {flat : Flat} {answered : Reply} {before after acked : Option Trail} {words words_after : List ℕ}
-    → IsAt P (state_of_flat flat) words → Executed P old line flat answered before words after → words_after ≡ words → acked ≡ with_event after Ack
+    → IsAt P (state_of_flat flat) words → Executed P old line flat answered before words after → (answered ≢ reply.Done → after ≡ before) → words_after ≡ words → acked ≡ with_event after Ack
     → HasAnswered P old line flat answered before words_after acked
-acknowledged {P = P} {old = old} {line = line} {flat = flat} {answered = answered} {before = before} {after = after} {acked = acked} {words = words} {words_after = words_after} is done same appended = record {
+acknowledged {P = P} {old = old} {line = line} {flat = flat} {answered = answered} {before = before} {after = after} {acked = acked} {words = words} {words_after = words_after} is done still same appended = record {
   step = done.step;
   stands = record {
     settled = settled_ack same appended done.stands.settled;
@@ -51,5 +54,7 @@ acknowledged {P = P} {old = old} {line = line} {flat = flat} {answered = answere
       (leaves_ack _ done.stands.settled appended
       (inl (refl, may_be_after P old line (answer_of_reply flat answered) (state_of_flat flat) words done.step is))
       (inr (refl, may_be_there P (state_of_flat flat) words is)));
+  quiet = acts_answered (answer_of_reply flat answered) done.any_moment.continues (continues_by Ack appended) done.no_ack
+      (λ may_not. still (λ is_done. may_not (subst (λ (r : Reply). MayStore (Some (answer_of_reply flat r))) (sym is_done) tt))) appended;
   one_ack = λ told is_told. acked_then 0 1 done.any_moment.continues (leaves_ack (λ k image. Unit {0}) done.stands.settled appended tt tt).continues (λ t i. done.no_ack) (ack_counts after appended) told is_told;
 }

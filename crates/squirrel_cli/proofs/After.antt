@@ -3,7 +3,7 @@ use Rattle.std.proofs.Common.{◌≡◌, ℕ, ◌+◌, List, refl, sym, subst, �
 use Rattle.std.specs.Prelude.{Option, Some, None}
 use Rattle.pm_trait.specs.Trail.{Trail}
 use Rattle.pm_trait.specs.Device.{Continues, LeavesOnly, AcksSettled, MayLeave, IsAckAt, acks_from, moment_of}
-use Rattle.pm_trait.specs.ContinuesLaws.{acks_from-then}
+use Rattle.pm_trait.specs.ContinuesLaws.{acks_from-then, acks_from-quiet}
 use Rattle.pm_trait.specs.DeviceLaws.{leaves_then}
 use Rattle.pm_trait.specs.AckLaws.{acks_then}
 
@@ -12,7 +12,7 @@ abbrev pub Acked : Option Trail → Option Trail → ℕ → Type 0
 Acked old new n = (told : Trail) → new ≡ Some told → acks_from old new (moment_of new) ≡ n
 
 -- what goes on from a trail that isn't told is not told
-untold : {c : Option Trail} → Continues None c → c ≡ None
+pub untold : {c : Option Trail} → Continues None c → c ≡ None
 untold run = run.appended
 
 pub leaves_after : {P : ℕ → List ℕ → Type 0} {a b c : Option Trail} (n : ℕ) → Acked a b n → LeavesOnly a b P → LeavesOnly b c (λ k. P (n + k)) → LeavesOnly a c P
@@ -34,6 +34,13 @@ acks_after {Q} {a} {b} {c} n acked first second = acks_then first (shifted b ack
       each = λ moment from upto is. absurd (subst (λ (t : Option Trail). IsAckAt t moment) (untold second.continues) is);
     }
     shifted (Some trail) acked second = subst (λ (m : ℕ). AcksSettled (Some trail) c (λ k. Q (m + k))) (sym (acked trail refl)) second
+
+-- a call that acknowledges nothing
+pub leaves_unacknowledged : {Q : List ℕ → Type 0} {a b : Option Trail} → LeavesOnly a b (λ k. Q) → acks_from a b (moment_of b) ≡ 0 → LeavesOnly a b (λ k image. (k ≡ 0) × Q image)
+leaves_unacknowledged leaves none = record {
+  continues = leaves.continues;
+  each = λ moment image from upto may. (acks_from-quiet moment leaves.continues none from, leaves.each moment image from upto may);
+}
 
 -- the numbers add up
 pub acked_then : {a b c : Option Trail} (n m : ℕ) → Continues a b → Continues b c → Acked a b n → Acked b c m → Acked a c (n + m)

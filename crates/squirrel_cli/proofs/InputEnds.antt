@@ -1,16 +1,17 @@
 -- How a run ends at the end of its input, and how many bytes it read until then.
-use Rattle.std.proofs.Common.{◌≡◌, ℕ, ◌+◌, Bool, true, false, List, ◌++◌, length, refl, sym, ap, subst, ◌∙◌, arith, append_assoc, length-append}
+use Rattle.std.proofs.Common.{◌≡◌, ℕ, ◌+◌, ◌<◌, Bool, true, false, List, ◌++◌, length, refl, sym, ap, subst, ◌∙◌, arith, append_assoc, length-append}
 use Rattle.std.specs.Prelude.{Option, Some, None}
 use Rattle.pm_trait.specs.Trail.{Trail}
 use Rattle.io_edge.specs.Bytes.{IsEnd}
 use Rattle.tree_model.specs.Run.{State}
 use Rattle.image_reading.specs.Reading.{ReadsAs}
+use Rattle.script.specs.Lines.{script_limit}
 use Rattle.script.specs.Reading.{IfTold, IsOver, ReadFront}
 use Rattle.squirrel_cli.specs.declared.flat.Flat.{Flat}
 use Rattle.squirrel_cli.specs.declared.run_end.RunEnd.{RunEnd}
 use Rattle.squirrel_cli.specs.declared.run_end.RunEnd.TheVariants as end
 use Rattle.squirrel_cli.specs.Script.{RunsScript}
-use Rattle.squirrel_cli.specs.Turns.{RanSoFar}
+use Rattle.squirrel_cli.specs.Turns.{CountsFaults, RanSoFar}
 use Rattle.squirrel_cli.proofs.Taken.{executes_done}
 use Rattle.squirrel_cli.proofs.RunEnds.{run_ends}
 
@@ -28,14 +29,14 @@ counted_on n read now (Some script) (Some left) (Some later) first second = reco
       omega (arith, a, b, length-append first.front second.front);
 }
 
-pub input_ends : {P : ℕ} {start : State} {first : Option Trail} {script taken : Option (List ℕ)} {flat : Flat} {words : List ℕ} {trail : Option Trail} {seen : Bool} {rest now : Option (List ℕ)}
-    (stopped : Bool) (base : List ℕ) → ReadsAs P base start → (so_far : RanSoFar P start first script taken flat stopped words trail seen rest now)
+pub input_ends : {P : ℕ} {start : State} {first : Option Trail} {script taken : Option (List ℕ)} {flat : Flat} {words : List ℕ} {trail : Option Trail} {seen : Bool} {rest now : Option (List ℕ)} {fences_first fences_now acks_first acks_now : ℕ}
+    (stopped : Bool) (base : List ℕ) → ReadsAs P base start → (so_far : RanSoFar P start first script taken flat stopped words trail seen rest now fences_first fences_now acks_first acks_now)
     → (found : RunEnd) → (stopped ≡ true → found ≡ end.Faulted) → (stopped ≡ false → found ≡ end.Done)
-    → (rest_after left : Option (List ℕ)) (read : ℕ) → IfTold rest rest_after IsOver → IfTold script left (ReadFront 0 read) → IsEnd left
-    → RunsScript P base found script left taken now first trail
-input_ends {P = P} {first = first} {script = script} {taken = taken} {trail = trail} {seen = seen} {rest = rest} {now = now} true base reads so_far found faulted done rest_after left read over counted ended =
-    subst (λ (e : RunEnd). RunsScript P base e script left taken now first trail) (sym (faulted refl))
-    (run_ends end.Faulted base left now so_far reads (so_far.halted refl) (executes_done so_far.lines seen script rest rest_after left read so_far.are_taken over counted ended).1 so_far.texts)
-input_ends {P = P} {first = first} {script = script} {taken = taken} {trail = trail} {seen = seen} {rest = rest} {now = now} false base reads so_far found faulted done rest_after left read over counted ended =
-    subst (λ (e : RunEnd). RunsScript P base e script left taken now first trail) (sym (done refl))
-    (run_ends end.Done base left now so_far reads (so_far.going refl).each (executes_done so_far.lines seen script rest rest_after left read so_far.are_taken over counted ended).0 so_far.texts)
+    → (rest_after left : Option (List ℕ)) (read : ℕ) → IfTold rest rest_after IsOver → IfTold script left (ReadFront 0 read) → IsEnd left → read < script_limit
+    → (faults_before faults_after : ℕ) → CountsFaults stopped faults_before faults_after → RunsScript P base found script left taken now first trail faults_before faults_after fences_first fences_now acks_first acks_now
+input_ends {P = P} {first = first} {script = script} {taken = taken} {trail = trail} {seen = seen} {rest = rest} {now = now} {fences_first = fences_first} {fences_now = fences_now} {acks_first = acks_first} {acks_now = acks_now} true base reads so_far found faulted done rest_after left read over counted ended below faults_before faults_after counts =
+    subst (λ (e : RunEnd). RunsScript P base e script left taken now first trail faults_before faults_after fences_first fences_now acks_first acks_now) (sym (faulted refl))
+    (run_ends end.Faulted base left now so_far faults_before faults_after counts reads (so_far.halted refl) (executes_done so_far.lines seen script rest rest_after left read so_far.are_taken over counted ended below).1 so_far.texts)
+input_ends {P = P} {first = first} {script = script} {taken = taken} {trail = trail} {seen = seen} {rest = rest} {now = now} {fences_first = fences_first} {fences_now = fences_now} {acks_first = acks_first} {acks_now = acks_now} false base reads so_far found faulted done rest_after left read over counted ended below faults_before faults_after counts =
+    subst (λ (e : RunEnd). RunsScript P base e script left taken now first trail faults_before faults_after fences_first fences_now acks_first acks_now) (sym (done refl))
+    (run_ends end.Done base left now so_far faults_before faults_after counts reads (so_far.going refl).each (executes_done so_far.lines seen script rest rest_after left read so_far.are_taken over counted ended below).0 so_far.texts)

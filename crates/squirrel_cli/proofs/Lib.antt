@@ -1,5 +1,7 @@
 pub mod Runs
 pub mod After
+pub mod Quiet
+pub mod Halts
 pub mod TurnLaws
 pub mod Acknowledged
 pub mod Taken
@@ -39,5 +41,6 @@ pub mod CreateList
 pub mod Counted
 pub mod CreatePlan
 pub mod FlatFull
+pub mod FenceCounts
 pub mod Sessions
 pub mod StatusEnds

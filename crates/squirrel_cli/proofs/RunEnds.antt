@@ -1,5 +1,5 @@
 -- How a run of a script ends.
-use Rattle.std.proofs.Common.{◌≡◌, ℕ, Bool, true, false, List, [], ◌∷◌, ◌++◌, refl}
+use Rattle.std.proofs.Common.{◌≡◌, ℕ, ◌+◌, Bool, true, false, ◌<◌, List, [], ◌∷◌, ◌++◌, length, refl, arith}
 use Rattle.std.specs.Prelude.{Option}
 use Rattle.pm_trait.specs.Trail.{Trail}
 use Rattle.io_edge.specs.Bytes.{with_bytes, TookFront}
@@ -12,17 +12,27 @@ use Rattle.script.specs.Texts.{answer_text}
 use Rattle.squirrel_cli.specs.declared.flat.Flat.{Flat}
 use Rattle.squirrel_cli.specs.declared.run_end.RunEnd.{RunEnd}
 use Rattle.squirrel_cli.specs.declared.run_end.RunEnd.TheVariants.{WriteFault}
+use Rattle.squirrel_cli.specs.Fences.{fences_of, root_pages}
 use Rattle.squirrel_cli.specs.Script.{texts_of, EndsWith, ExecutesTold, Writes, WritesFront, RunsScript}
 use Rattle.squirrel_cli.specs.Stands.{state_of_flat}
 use Rattle.squirrel_cli.specs.Exec.{answer_of_reply, HasAnswered, HasFailed}
-use Rattle.squirrel_cli.specs.Turns.{AreTakenTold, RanSoFar}
+use Rattle.squirrel_cli.specs.Turns.{AreTakenTold, CountsFaults, RanSoFar}
 use Rattle.squirrel_cli.proofs.TurnLaws.{ran_answered, ran_failed, ran_stopped}
 
-pub run_ends : {P : ℕ} {start : State} {first : Option Trail} {script taken : Option (List ℕ)} {flat : Flat} {stopped : Bool} {words : List ℕ} {trail : Option Trail} {seen : Bool} {rest now : Option (List ℕ)}
-    (end : RunEnd) (base : List ℕ) (left written : Option (List ℕ)) (so_far : RanSoFar P start first script taken flat stopped words trail seen rest now) → ReadsAs P base start
-    → EndsWith end so_far.answers so_far.states → ExecutesTold end script left so_far.lines → Writes end taken so_far.answers written
-    → RunsScript P base end script left taken written first trail
-run_ends {start = start} end base left written so_far reads ends executes writes = record {
+-- the volume is stopped exactly where fewer states are left than answers
+is_stopped : (stopped : Bool) (left given : ℕ) → (stopped ≡ false → left ≡ given) → left < given → stopped ≡ true
+is_stopped true left given going fewer = refl
+is_stopped false left given going fewer = absurd (let same = going refl in omega (arith, same, fewer))
+
+is_going : (stopped : Bool) (left given : ℕ) → (stopped ≡ true → left < given) → left ≡ given → stopped ≡ false
+is_going false left given halted same = refl
+is_going true left given halted same = absurd (let fewer = halted refl in omega (arith, same, fewer))
+
+pub run_ends : {P : ℕ} {start : State} {first : Option Trail} {script taken : Option (List ℕ)} {flat : Flat} {stopped : Bool} {words : List ℕ} {trail : Option Trail} {seen : Bool} {rest now : Option (List ℕ)} {fences_first fences_now acks_first acks_now : ℕ}
+    (end : RunEnd) (base : List ℕ) (left written : Option (List ℕ)) (so_far : RanSoFar P start first script taken flat stopped words trail seen rest now fences_first fences_now acks_first acks_now) (faults_before faults_after : ℕ)
+    → CountsFaults stopped faults_before faults_after → ReadsAs P base start → EndsWith end so_far.answers so_far.states → ExecutesTold end script left so_far.lines → Writes end taken so_far.answers written
+    → RunsScript P base end script left taken written first trail faults_before faults_after fences_first fences_now acks_first acks_now
+run_ends {start = start} {stopped = stopped} end base left written so_far faults_before faults_after counts reads ends executes writes = record {
   start = start;
   reads = reads;
   lines = so_far.lines;
@@ -30,11 +40,17 @@ run_ends {start = start} end base left written so_far reads ends executes writes
   states = so_far.states;
   run = so_far.run;
   ends = ends;
+  cause = λ fewer. counts.cause (is_stopped stopped (length so_far.states) (length so_far.answers) (λ going. (so_far.going going).each) fewer);
+  no_fault = λ same. counts.no_fault (is_going stopped (length so_far.states) (length so_far.answers) so_far.halted same);
   executes = executes;
   writes = writes;
   acks = so_far.acks;
   acked = so_far.counted;
+  ack_count = so_far.ack_count;
+  fences = λ same. so_far.fences (is_going stopped (length so_far.states) (length so_far.answers) so_far.halted same);
   any_moment = so_far.any_moment;
+  quiet = so_far.quiet;
+  halts = λ fewer. so_far.halts (is_stopped stopped (length so_far.states) (length so_far.answers) (λ going. (so_far.going going).each) fewer);
 }
 
 -- the last text was cut
@@ -49,27 +65,28 @@ front_written taken answers answer now cut is front = record {
   bytes = whole_then_whole taken now cut (texts_of answers) _ is front.bytes;
 }
 
-module _ {P : ℕ} {start : State} {first : Option Trail} {script taken : Option (List ℕ)} {flat : Flat} {words : List ℕ} {trail : Option Trail} {seen : Bool} {rest now : Option (List ℕ)} (base : List ℕ) (reads : ReadsAs P base start) where
-  pub cut_answered : (so_far : RanSoFar P start first script taken flat false words trail seen rest now) (line : Line) {flat_after : Flat} {answered : Reply} {words_after : List ℕ} {trail_after : Option Trail}
-      (done : HasAnswered P (state_of_flat flat) line flat_after answered trail words_after trail_after) (seen_after : Bool) (rest_after left cut : Option (List ℕ)) → AreTakenTold (so_far.lines ++ line ∷ []) seen_after script rest_after
+module _ {P : ℕ} {start : State} {first : Option Trail} {script taken : Option (List ℕ)} {flat : Flat} {words : List ℕ} {trail : Option Trail} {seen : Bool} {rest now : Option (List ℕ)} {fences_first fences_now acks_first acks_now : ℕ} (base : List ℕ) (reads : ReadsAs P base start) (faults_before : ℕ) where
+  pub cut_answered : {fences_after acks_after : ℕ} (so_far : RanSoFar P start first script taken flat false words trail seen rest now fences_first fences_now acks_first acks_now) (line : Line) {flat_after : Flat} {answered : Reply} {words_after : List ℕ} {trail_after : Option Trail}
+      (done : HasAnswered P (state_of_flat flat) line flat_after answered trail words_after trail_after) (faults_after : ℕ) → CountsFaults false faults_before faults_after → (seen_after : Bool) (rest_after left cut : Option (List ℕ)) → AreTakenTold (so_far.lines ++ line ∷ []) seen_after script rest_after
       → ExecutesTold WriteFault script left (so_far.lines ++ line ∷ []) → TookFront now (answer_text (answer_of_reply flat_after answered)) cut
-      → RunsScript P base WriteFault script left taken cut first trail_after
-  cut_answered so_far line {flat_after = flat_after} {answered = answered} done seen_after rest_after left cut are_taken executes front =
-      run_ends WriteFault base left cut (ran_answered so_far line done {ended_after = seen_after} {rest_after = rest_after} are_taken refl) reads tt executes
+      → fences_after ≡ fences_now + fences_of (answer_of_reply flat_after answered) (root_pages (state_of_flat flat)) (root_pages (state_of_flat flat_after)) → acks_after ≡ acks_now + 1
+      → RunsScript P base WriteFault script left taken cut first trail_after faults_before faults_after fences_first fences_after acks_first acks_after
+  cut_answered so_far line {flat_after = flat_after} {answered = answered} done faults_after counts seen_after rest_after left cut are_taken executes front fences_are acks_are =
+      run_ends WriteFault base left cut (ran_answered so_far line done {ended_after = seen_after} {rest_after = rest_after} are_taken refl fences_are acks_are) faults_before faults_after counts reads tt executes
       (front_written taken so_far.answers (answer_of_reply flat_after answered) now cut so_far.texts front)
 
-  pub cut_failed : (so_far : RanSoFar P start first script taken flat false words trail seen rest now) (line : Line) (flat_after : Flat) (words_after : List ℕ) {trail_after : Option Trail}
-      (failed : HasFailed P (state_of_flat flat) line trail trail_after) (seen_after : Bool) (rest_after left cut : Option (List ℕ)) → AreTakenTold (so_far.lines ++ line ∷ []) seen_after script rest_after
-      → ExecutesTold WriteFault script left (so_far.lines ++ line ∷ []) → TookFront now (answer_text Fault) cut
-      → RunsScript P base WriteFault script left taken cut first trail_after
-  cut_failed so_far line flat_after words_after failed seen_after rest_after left cut are_taken executes front =
-      run_ends WriteFault base left cut (ran_failed so_far line failed flat_after words_after {ended_after = seen_after} {rest_after = rest_after} are_taken refl) reads tt executes
+  pub cut_failed : (fences_after : ℕ) {acks_after : ℕ} (so_far : RanSoFar P start first script taken flat false words trail seen rest now fences_first fences_now acks_first acks_now) (line : Line) (flat_after : Flat) (words_after : List ℕ) {trail_after : Option Trail}
+      (failed : HasFailed P (state_of_flat flat) line trail trail_after) (faults_after : ℕ) → CountsFaults true faults_before faults_after → (seen_after : Bool) (rest_after left cut : Option (List ℕ)) → AreTakenTold (so_far.lines ++ line ∷ []) seen_after script rest_after
+      → ExecutesTold WriteFault script left (so_far.lines ++ line ∷ []) → TookFront now (answer_text Fault) cut → acks_after ≡ acks_now
+      → RunsScript P base WriteFault script left taken cut first trail_after faults_before faults_after fences_first fences_after acks_first acks_after
+  cut_failed fences_after so_far line flat_after words_after failed faults_after counts seen_after rest_after left cut are_taken executes front acks_are =
+      run_ends WriteFault base left cut (ran_failed so_far line failed flat_after words_after fences_after {ended_after = seen_after} {rest_after = rest_after} are_taken refl acks_are) faults_before faults_after counts reads tt executes
       (front_written taken so_far.answers Fault now cut so_far.texts front)
 
-  pub cut_stopped : (so_far : RanSoFar P start first script taken flat true words trail seen rest now) (line : Line) (flat_after : Flat) (words_after : List ℕ) {trail_after : Option Trail}
-      → trail_after ≡ trail → (seen_after : Bool) (rest_after left cut : Option (List ℕ)) → AreTakenTold (so_far.lines ++ line ∷ []) seen_after script rest_after
-      → ExecutesTold WriteFault script left (so_far.lines ++ line ∷ []) → TookFront now (answer_text Stopped) cut
-      → RunsScript P base WriteFault script left taken cut first trail_after
-  cut_stopped so_far line flat_after words_after same seen_after rest_after left cut are_taken executes front =
-      run_ends WriteFault base left cut (ran_stopped so_far line flat_after {words_after = words_after} {ended_after = seen_after} {rest_after = rest_after} same are_taken refl) reads tt executes
+  pub cut_stopped : (fences_after : ℕ) {acks_after : ℕ} (so_far : RanSoFar P start first script taken flat true words trail seen rest now fences_first fences_now acks_first acks_now) (line : Line) (flat_after : Flat) (words_after : List ℕ) {trail_after : Option Trail}
+      → trail_after ≡ trail → (faults_after : ℕ) → CountsFaults true faults_before faults_after → (seen_after : Bool) (rest_after left cut : Option (List ℕ)) → AreTakenTold (so_far.lines ++ line ∷ []) seen_after script rest_after
+      → ExecutesTold WriteFault script left (so_far.lines ++ line ∷ []) → TookFront now (answer_text Stopped) cut → acks_after ≡ acks_now
+      → RunsScript P base WriteFault script left taken cut first trail_after faults_before faults_after fences_first fences_after acks_first acks_after
+  cut_stopped fences_after so_far line flat_after words_after same faults_after counts seen_after rest_after left cut are_taken executes front acks_are =
+      run_ends WriteFault base left cut (ran_stopped so_far line flat_after fences_after {words_after = words_after} {ended_after = seen_after} {rest_after = rest_after} same are_taken refl acks_are) faults_before faults_after counts reads tt executes
       (front_written taken so_far.answers Stopped now cut so_far.texts front)

@@ -1,5 +1,5 @@
 -- How a run of a script begins.
-use Rattle.std.proofs.Common.{◌≡◌, inl, inr, ℕ, ◌≤◌, Bool, false, List, [], refl, sym, ap, subst, ◌∙◌, arith}
+use Rattle.std.proofs.Common.{◌≡◌, ◌⊎◌, inl, inr, ℕ, ◌≤◌, Bool, true, false, List, [], refl, sym, ap, subst, ◌∙◌, arith}
 use Rattle.std.specs.Prelude.{Option, Some, None}
 use Rattle.pm_trait.specs.Trail.{Trail}
 use Rattle.pm_trait.specs.Device.{HasRisen}
@@ -7,11 +7,12 @@ use Rattle.script.specs.Reading.{rest_of, IfTold, ReadFront}
 use Rattle.squirrel_cli.specs.declared.flat.Flat.{Flat}
 use Rattle.squirrel_cli.specs.Exec.{IsAt}
 use Rattle.squirrel_cli.specs.Stands.{files_of, state_of_flat, StandsOn}
-use Rattle.squirrel_cli.specs.Turns.{RanSoFar}
+use Rattle.squirrel_cli.specs.Turns.{CountsFaults, RanSoFar}
 use Rattle.squirrel_cli.proofs.FlatTidy.{flat_tidy}
 use Rattle.squirrel_cli.proofs.FlatRoom.{flat_reads_as}
 use Rattle.squirrel_cli.proofs.Acknowledged.{may_be_there}
 use Rattle.squirrel_cli.proofs.TurnLaws.{ran_none}
+use Rattle.squirrel_cli.proofs.Wrote.{not_true}
 
 -- what is known of a flat volume is what its words read as
 pub stands_at : (flat : Flat) (words : List ℕ) (trail : Option Trail) → StandsOn flat words trail → IsAt flat.geometry.pages (state_of_flat flat) words
@@ -24,15 +25,15 @@ rest_none : (script : Option (List ℕ)) → rest_of [] script ≡ script
 rest_none None = refl
 rest_none (Some bytes) = refl
 
-pub ran_starts : (flat : Flat) (words : List ℕ) (trail : Option Trail) (stopped seen : Bool) (pending : List ℕ) (script taken : Option (List ℕ)) → stopped ≡ false → seen ≡ false → pending ≡ [] → StandsOn flat words trail
-    → RanSoFar flat.geometry.pages (state_of_flat flat) trail script taken flat stopped words trail seen (rest_of pending script) taken
-ran_starts flat words trail stopped seen pending script taken going unseen none stands =
+pub ran_starts : (flat : Flat) (words : List ℕ) (trail : Option Trail) (stopped seen : Bool) (pending : List ℕ) (script taken : Option (List ℕ)) {fences acks : ℕ} → stopped ≡ false → seen ≡ false → pending ≡ [] → StandsOn flat words trail
+    → RanSoFar flat.geometry.pages (state_of_flat flat) trail script taken flat stopped words trail seen (rest_of pending script) taken fences fences acks acks
+ran_starts flat words trail stopped seen pending script taken {fences = fences} {acks = acks} going unseen none stands =
     let is = stands_at flat words trail stands in
-    let start : RanSoFar flat.geometry.pages (state_of_flat flat) trail script taken flat false words trail false script taken =
+    let start : RanSoFar flat.geometry.pages (state_of_flat flat) trail script taken flat false words trail false script taken fences fences acks acks =
     ran_none flat stands (λ image. (state_of_flat flat, refl, may_be_there flat.geometry.pages (state_of_flat flat) words is)) in
-    let one = subst (λ (b : Bool). RanSoFar flat.geometry.pages (state_of_flat flat) trail script taken flat b words trail false script taken) (sym going) start in
-    let two = subst (λ (b : Bool). RanSoFar flat.geometry.pages (state_of_flat flat) trail script taken flat stopped words trail b script taken) (sym unseen) one in
-    subst (λ (r : Option (List ℕ)). RanSoFar flat.geometry.pages (state_of_flat flat) trail script taken flat stopped words trail seen r taken)
+    let one = subst (λ (b : Bool). RanSoFar flat.geometry.pages (state_of_flat flat) trail script taken flat b words trail false script taken fences fences acks acks) (sym going) start in
+    let two = subst (λ (b : Bool). RanSoFar flat.geometry.pages (state_of_flat flat) trail script taken flat stopped words trail b script taken fences fences acks acks) (sym unseen) one in
+    subst (λ (r : Option (List ℕ)). RanSoFar flat.geometry.pages (state_of_flat flat) trail script taken flat stopped words trail seen r taken fences fences acks acks)
     (sym (ap (λ (p : List ℕ). rest_of p script) none ∙ rest_none script)) two
 
 pub counted_none : (script : Option (List ℕ)) (read : ℕ) → read ≡ 0 → IfTold script script (ReadFront 0 read)
@@ -47,3 +48,14 @@ risen_later before now later (inr all) order = inr (omega arith)
 pub risen_earlier : (before now later : ℕ) → before ≤ now → HasRisen now later → HasRisen before later
 risen_earlier before now later order (inl more) = inl (omega arith)
 risen_earlier before now later order (inr all) = inr all
+
+-- the count of faults goes with the stop over one more call
+pub counts_on : {was stopped : Bool} {first before now : ℕ} → CountsFaults was first before → first ≤ before → before ≤ now → (stopped ≡ true → (was ≡ true) ⊎ HasRisen before now) → (was ≡ true → stopped ≡ true) → (stopped ≡ false → now ≡ before)
+    → CountsFaults stopped first now
+counts_on {was} {stopped} {first} {before} {now} counts one two cause stays no_fault = record {
+  cause = λ is. elim (cause is) [
+    | inl old ↦ risen_later first before now (counts.cause old) two
+    | inr new ↦ risen_earlier first before now one new
+  ];
+  no_fault = λ is. no_fault is ∙ counts.no_fault (not_true was (λ old. let new = stays old in cc (new, is)));
+}

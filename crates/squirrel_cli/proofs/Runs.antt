@@ -62,11 +62,15 @@ pub last_state-append : (start : State) (states : List State) (new : State) → 
 last_state-append start [] new = refl
 last_state-append start (s ∷ states) new = last_state-append s states new
 
-get_front : {A : Type 0} (xs : List A) (x : A) (k : ℕ) (found : A) → slice_get xs k ≡ Some found → slice_get (xs ++ x ∷ []) k ≡ Some found
-get_front [] x k found is = absurd (cc is)
-get_front (y ∷ xs) x zero found is = is
-get_front (y ∷ xs) x (suc k) found is = get_front xs x k found is
+pub get_front : {A : Type 0} (xs more : List A) (k : ℕ) (found : A) → slice_get xs k ≡ Some found → slice_get (xs ++ more) k ≡ Some found
+get_front [] more k found is = absurd (cc is)
+get_front (y ∷ xs) more zero found is = is
+get_front (y ∷ xs) more (suc k) found is = get_front xs more k found is
+
+pub get_last : {A : Type 0} (xs : List A) (x : A) → slice_get (xs ++ x ∷ []) (length xs) ≡ Some x
+get_last [] x = refl
+get_last (y ∷ xs) x = grind (arith, get_last xs x)
 
 -- a state that was reached stays with its number
 pub state_stays : (start : State) (states : List State) (new : State) (k : ℕ) (state : State) → state_after start states k ≡ Some state → state_after start (states ++ new ∷ []) k ≡ Some state
-state_stays start states new k state is = get_front (start ∷ states) new k state is
+state_stays start states new k state is = get_front (start ∷ states) (new ∷ []) k state is

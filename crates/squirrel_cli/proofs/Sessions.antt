@@ -23,6 +23,7 @@ use Rattle.squirrel_cli.specs.Flat.{File, IsFlat, IsLoose, HoldsFiles, IsNamed, 
 use Rattle.image_reading.specs.Counts.{Count}
 use Rattle.squirrel_cli.specs.FlatTree.{tree_of, state_of}
 use Rattle.squirrel_cli.specs.Run.{MayReadAs}
+use Rattle.squirrel_cli.specs.Halts.{EndsInFault}
 use Rattle.squirrel_cli.specs.Stands.{files_of, state_of_flat, IsInOrder, StandsOn, with_file}
 use Rattle.squirrel_cli.specs.Planned.{IsPlanned, IsPlace, added_pages}
 use Rattle.squirrel_cli.specs.Made.{MakesFile}
@@ -169,5 +170,5 @@ module _ (flat mid : Flat) (volume : mid.geometry ≡ flat.geometry) (same_files
             ∙ ap (state_of (with_file (files_of flat) file.at (file.name, file.inode))) (pages ∙ ap (λ (p : ℕ). p + added_pages file.new_page) same_pages)
 
     -- a fence failed in it
-    pub failed_making : HasFailed flat.geometry.pages (state_of_flat flat) (Ok (Create path)) trail trail_after
-    failed_making = record { fails = may_fail_create flat path file makes; any_moment = making; no_ack = acks_none }
+    pub failed_making : EndsInFault trail_after → HasFailed flat.geometry.pages (state_of_flat flat) (Ok (Create path)) trail trail_after
+    failed_making last = record { fails = may_fail_create flat path file makes; any_moment = making; no_ack = acks_none; last = last }

@@ -3,6 +3,7 @@ use Rattle.std.proofs.Common.{◌≡◌, ◌≢◌, ◌⊎◌, inl, inr, ℕ, Li
 use Rattle.std.specs.Prelude.{Some}
 use Rattle.std.proofs.lemmas.List.{length-append}
 use Rattle.squirrel_cli.specs.declared.run_end.RunEnd.{RunEnd}
+use Rattle.squirrel_cli.specs.declared.run_end.RunEnd.TheVariants as run_end
 use Rattle.squirrel_cli.specs.declared.status.Status.{Status}
 use Rattle.squirrel_cli.specs.declared.status.Status.TheVariants as status
 use Rattle.squirrel_cli.specs.Ends.{end_of, GaveAll, IsShortScript}
@@ -36,6 +37,14 @@ run_done status.ReadFault usage not_volume damaged device read write limit = abs
 run_done status.WriteFault usage not_volume damaged device read write limit = absurd (write refl)
 run_done status.ScriptLimit usage not_volume damaged device read write limit = absurd (limit refl)
 
+pub mkfs_done : {is : Status} → (is ≡ status.Usage) ⊎ (is ≡ status.Done) ⊎ (is ≡ status.NoMemory) ⊎ (is ≡ status.DeviceFault) ⊎ (is ≡ status.WriteFault)
+    → is ≢ status.Usage → is ≢ status.DeviceFault → is ≢ status.WriteFault → (is ≡ status.Done) ⊎ (is ≡ status.NoMemory)
+mkfs_done (inl usage) right device write = absurd (right usage)
+mkfs_done (inr (inl done)) right device write = inl done
+mkfs_done (inr (inr (inl memory))) right device write = inr memory
+mkfs_done (inr (inr (inr (inl fault)))) right device write = absurd (device fault)
+mkfs_done (inr (inr (inr (inr fault)))) right device write = absurd (write fault)
+
 -- a short script does not reach the limit
 pub not_at_limit : (before after : Option (List ℕ)) → IsShortScript before → GaveAll before after → ⊥
 not_at_limit None after short gave = short
@@ -43,3 +52,26 @@ not_at_limit (Some bytes) None short gave = gave
 not_at_limit (Some bytes) (Some rest) short (given, e, long) =
     let whole : length bytes ≡ length given + length rest = ap length e ∙ length-append given rest in
     omega (arith, whole, long, short)
+
+-- the status tells a failed read and a failed write alone
+pub tells_read_fault : (is : Status) → end_of is ≡ Some run_end.ReadFault → is ≡ status.ReadFault
+tells_read_fault status.Done e = absurd (cc e)
+tells_read_fault status.Usage e = absurd (cc e)
+tells_read_fault status.NoMemory e = absurd (cc e)
+tells_read_fault status.NotVolume e = absurd (cc e)
+tells_read_fault (status.Damaged violation) e = absurd (cc e)
+tells_read_fault status.DeviceFault e = absurd (cc e)
+tells_read_fault status.ReadFault e = refl
+tells_read_fault status.WriteFault e = absurd (cc e)
+tells_read_fault status.ScriptLimit e = absurd (cc e)
+
+pub tells_write_fault : (is : Status) → end_of is ≡ Some run_end.WriteFault → is ≡ status.WriteFault
+tells_write_fault status.Done e = absurd (cc e)
+tells_write_fault status.Usage e = absurd (cc e)
+tells_write_fault status.NoMemory e = absurd (cc e)
+tells_write_fault status.NotVolume e = absurd (cc e)
+tells_write_fault (status.Damaged violation) e = absurd (cc e)
+tells_write_fault status.DeviceFault e = absurd (cc e)
+tells_write_fault status.ReadFault e = absurd (cc e)
+tells_write_fault status.WriteFault e = refl
+tells_write_fault status.ScriptLimit e = absurd (cc e)

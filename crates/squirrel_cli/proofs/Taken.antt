@@ -1,5 +1,5 @@
 -- The lines that were taken off a script.
-use Rattle.std.proofs.Common.{◌≡◌, inl, inr, ℕ, ◌+◌, Bool, false, List, [], ◌∷◌, ◌++◌, length, map, sym, ap, subst, ◌∙◌, arith, length-append, append_assoc}
+use Rattle.std.proofs.Common.{◌≡◌, inl, inr, ℕ, ◌+◌, ◌<◌, Bool, false, List, [], ◌∷◌, ◌++◌, length, map, sym, ap, subst, ◌∙◌, arith, length-append, append_assoc}
 use Rattle.std.proofs.lemmas.List.{append-nil}
 use Rattle.std.specs.Prelude.{Option, Some, None, Err}
 use Rattle.io_edge.specs.Bytes.{IsEnd}
@@ -74,13 +74,23 @@ complete_taken {lines} left taken unseen breaks = (
   sym (taken.complete unseen breaks.begun ∙ ap (λ (ls : List (List ℕ)). lines ++ map call_of ls) (complete_lines_of-begun breaks.begun breaks.unbroken) ∙ append-nil lines),
 )
 
+-- the whole script was read
+all_read : (script left : List ℕ) (read : ℕ) → ReadFront 0 read script left → left ≡ [] → read < script_limit → length script < script_limit
+all_read script left read counted ended below =
+    let whole : length script ≡ length counted.front + length left = ap length counted.split ∙ length-append counted.front left in
+    let as_many : read ≡ 0 + length counted.front = counted.counted in
+    let none : length left ≡ 0 = ap length ended in
+    omega (arith, whole, as_many, none, below)
+
 pub executes_done : (lines : List Line) (seen : Bool) (script rest rest_after left : Option (List ℕ)) (read : ℕ) → AreTakenTold lines seen script rest → IfTold rest rest_after IsOver → IfTold script left (ReadFront 0 read) → IsEnd left
-    → ExecutesTold Done script left lines × ExecutesTold Faulted script left lines
-executes_done lines seen None rest rest_after left read taken over counted ended = (tt, tt)
-executes_done lines seen (Some script) None rest_after left read taken over counted ended = absurd taken
-executes_done lines seen (Some script) (Some rest) None left read taken over counted ended = absurd over
-executes_done lines seen (Some script) (Some rest) (Some rest_after) None read taken over counted ended = absurd counted
-executes_done lines seen (Some script) (Some rest) (Some rest_after) (Some left) read taken over counted ended = ((all_taken taken over, ended), (all_taken taken over, ended))
+    → read < script_limit → ExecutesTold Done script left lines × ExecutesTold Faulted script left lines
+executes_done lines seen None rest rest_after left read taken over counted ended below = (tt, tt)
+executes_done lines seen (Some script) None rest_after left read taken over counted ended below = absurd taken
+executes_done lines seen (Some script) (Some rest) None left read taken over counted ended below = absurd over
+executes_done lines seen (Some script) (Some rest) (Some rest_after) None read taken over counted ended below = absurd counted
+executes_done lines seen (Some script) (Some rest) (Some rest_after) (Some left) read taken over counted ended below =
+    let short = all_read script left read counted ended below in
+    ((all_taken taken over, ended, short), (all_taken taken over, ended, short))
 
 pub executes_read_fault : (lines : List Line) (seen : Bool) (script rest left : Option (List ℕ)) → AreTakenTold lines seen script rest → seen ≡ false → IfTold rest left BreaksOff → ExecutesTold ReadFault script left lines
 executes_read_fault lines seen None rest left taken unseen breaks = tt

@@ -14,12 +14,17 @@ use Rattle.tree_model.specs.declared.reply.Reply.{Reply}
 use Rattle.script.specs.Texts.{answer_text}
 use Rattle.squirrel_cli.specs.declared.flat.Flat.{Flat}
 use Rattle.squirrel_cli.specs.Run.{state_after, command_of, MayReadAs, IsBetween, IsStateAfter}
+use Rattle.squirrel_cli.specs.Quiet.{MayStore, ActsOnly}
+use Rattle.squirrel_cli.specs.Halts.{EndsInFault}
+use Rattle.squirrel_cli.specs.Fences.{fences_of, root_pages}
 use Rattle.squirrel_cli.specs.Script.{texts_of}
 use Rattle.squirrel_cli.specs.Stands.{StandsOn, state_of_flat}
 use Rattle.squirrel_cli.specs.Exec.{answer_of_reply, IsAt, HasAnswered, HasFailed}
 use Rattle.squirrel_cli.specs.Turns.{last_state, IsGoing, AreTakenTold, RanSoFar}
+use Rattle.squirrel_cli.proofs.FenceCounts.{fences_more}
 use Rattle.squirrel_cli.proofs.After.{Acked, leaves_after, acks_after, acked_then}
-use Rattle.squirrel_cli.proofs.Runs.{answers_as_lines, run_step, run_fails, run_stopped, state_after_last, last_state-append, state_stays}
+use Rattle.squirrel_cli.proofs.Quiet.{acts_weaker, acts_here, acts_after, acts_failed, may_store_more, may_store_now}
+use Rattle.squirrel_cli.proofs.Runs.{answers_as_lines, run_step, run_fails, run_stopped, state_after_last, last_state-append, state_stays, get_last}
 
 -- ---- what may be read between lines
 
@@ -40,10 +45,6 @@ between_line P start states lines line k image (state, after, may) = (state, aft
 
 pub between_state : (P : ℕ) (start : State) (states : List State) (new : State) (lines : List Line) (k : ℕ) (image : List ℕ) → IsBetween P start states lines k image → IsBetween P start (states ++ new ∷ []) lines k image
 between_state P start states new lines k image (state, after, may) = (state, state_stays start states new k state after, may)
-
-get_last : (lines : List Line) (line : Line) → slice_get (lines ++ line ∷ []) (length lines) ≡ Some line
-get_last [] line = refl
-get_last (l ∷ lines) line = grind (arith, get_last lines line)
 
 get_past : (lines : List Line) (k : ℕ) → length lines ≤ k → slice_get lines k ≡ None
 get_past [] k past = refl
@@ -90,6 +91,9 @@ state_after_all P start states n words many is = record {
 pub one_more : {A : Type 0} (xs : List A) (x : A) → length (xs ++ x ∷ []) ≡ length xs + 1
 one_more xs x = length-append xs (x ∷ [])
 
+pub ack_more : (states : List State) (new : State) (first now after : ℕ) → now ≡ first + length states → after ≡ now + 1 → after ≡ first + length (states ++ new ∷ [])
+ack_more states new first now after before more = let all = one_more states new in omega (arith, before, more, all)
+
 pub texts_more : (taken : Option (List ℕ)) (answers : List Answer) (answer : Answer) (now later : Option (List ℕ)) → now ≡ with_bytes taken (texts_of answers) → later ≡ with_bytes now (answer_text answer)
     → later ≡ with_bytes taken (texts_of (answers ++ answer ∷ []))
 texts_more None answers answer now later is more = more ∙ ap (λ (t : Option (List ℕ)). with_bytes t (answer_text answer)) is
@@ -103,8 +107,8 @@ texts_more (Some taken) answers answer now later is more =
 
 -- ---- one line, answered
 
-module _ {P : ℕ} {start : State} {first : Option Trail} {script taken : Option (List ℕ)} {flat : Flat} {words : List ℕ} {trail : Option Trail} {has_ended : Bool} {rest now : Option (List ℕ)}
-    (so_far : RanSoFar P start first script taken flat false words trail has_ended rest now) (line : Line) where
+module _ {P : ℕ} {start : State} {first : Option Trail} {script taken : Option (List ℕ)} {flat : Flat} {words : List ℕ} {trail : Option Trail} {has_ended : Bool} {rest now : Option (List ℕ)} {fences_first fences_now acks_first acks_now : ℕ}
+    (so_far : RanSoFar P start first script taken flat false words trail has_ended rest now fences_first fences_now acks_first acks_now) (line : Line) where
   pub going : IsGoing start so_far.answers so_far.states flat words trail
   going = so_far.going refl
 
@@ -137,10 +141,11 @@ module _ {P : ℕ} {start : State} {first : Option Trail} {script taken : Option
         state_after_all P start (so_far.states ++ state_of_flat flat_after ∷ []) (length so_far.states + k) image
         (one_more so_far.states (state_of_flat flat_after) ∙ omega (arith, one)) (subst (λ (s : State). IsAt P s image) (sym new_is) is)
 
-    abbrev pub ran_answered : {ended_after : Bool} {rest_after now_after : Option (List ℕ)} → AreTakenTold (so_far.lines ++ line ∷ []) ended_after script rest_after
+    abbrev pub ran_answered : {ended_after : Bool} {rest_after now_after : Option (List ℕ)} {fences_after acks_after : ℕ} → AreTakenTold (so_far.lines ++ line ∷ []) ended_after script rest_after
         → now_after ≡ with_bytes now (answer_text (answer_of_reply flat_after answered))
-        → RanSoFar P start first script taken flat_after false words_after trail_after ended_after rest_after now_after
-    ran_answered {now_after = now_after} are_taken written = record {
+        → fences_after ≡ fences_now + fences_of (answer_of_reply flat_after answered) (root_pages (state_of_flat flat)) (root_pages (state_of_flat flat_after)) → acks_after ≡ acks_now + 1
+        → RanSoFar P start first script taken flat_after false words_after trail_after ended_after rest_after now_after fences_first fences_after acks_first acks_after
+    ran_answered {now_after = now_after} are_taken written fences_are acks_are = record {
       lines = so_far.lines ++ line ∷ [];
       answers = so_far.answers ++ answer_of_reply flat_after answered ∷ [];
       states = so_far.states ++ state_of_flat flat_after ∷ [];
@@ -160,7 +165,13 @@ module _ {P : ℕ} {start : State} {first : Option Trail} {script taken : Option
       any_moment = leaves_after (length so_far.states) so_far.counted
           (leaves_weaker (λ k image is. between_state P start so_far.states (state_of_flat flat_after) (so_far.lines ++ line ∷ []) k image (between_line P start so_far.states so_far.lines line k image is)) so_far.any_moment)
           (leaves_weaker while_running done.any_moment);
+      quiet = acts_after (length so_far.states) so_far.counted so_far.any_moment.continues done.any_moment.continues
+          (acts_weaker (λ k may. may_store_more so_far.answers (answer_of_reply flat_after answered ∷ []) k may) so_far.quiet)
+          (acts_weaker (λ k may. may_store_now so_far.answers (answer_of_reply flat_after answered) (length so_far.states) k going.each may) done.quiet);
+      halts = λ is. absurd (cc is);
       counted = λ told is. acked_then (length so_far.states) 1 so_far.any_moment.continues done.any_moment.continues so_far.counted done.one_ack told is ∙ sym (one_more so_far.states (state_of_flat flat_after));
+      fences = λ is. fences_more start so_far.answers so_far.states (answer_of_reply flat_after answered) (state_of_flat flat) (state_of_flat flat_after) fences_first fences_now _ going.each old_is (so_far.fences refl) fences_are;
+      ack_count = ack_more so_far.states (state_of_flat flat_after) acks_first acks_now _ so_far.ack_count acks_are;
     }
 
   module _ {trail_after : Option Trail} (failed : HasFailed P (state_of_flat flat) line trail trail_after) where
@@ -169,10 +180,10 @@ module _ {P : ℕ} {start : State} {first : Option Trail} {script taken : Option
         between_now P start so_far.states so_far.lines line (length so_far.states + k) image (omega (arith, many, none)) (omega (arith, none))
         (subst (λ (s : State). MayReadAs P s (command_of (Some line)) image) (sym going.last) may)
 
-    abbrev pub ran_failed : (flat_after : Flat) (words_after : List ℕ) {ended_after : Bool} {rest_after now_after : Option (List ℕ)} → AreTakenTold (so_far.lines ++ line ∷ []) ended_after script rest_after
-        → now_after ≡ with_bytes now (answer_text Fault)
-        → RanSoFar P start first script taken flat_after true words_after trail_after ended_after rest_after now_after
-    ran_failed flat_after words_after {now_after = now_after} are_taken written = record {
+    abbrev pub ran_failed : (flat_after : Flat) (words_after : List ℕ) (fences_after : ℕ) {ended_after : Bool} {rest_after now_after : Option (List ℕ)} {acks_after : ℕ} → AreTakenTold (so_far.lines ++ line ∷ []) ended_after script rest_after
+        → now_after ≡ with_bytes now (answer_text Fault) → acks_after ≡ acks_now
+        → RanSoFar P start first script taken flat_after true words_after trail_after ended_after rest_after now_after fences_first fences_after acks_first acks_after
+    ran_failed flat_after words_after fences_after {now_after = now_after} are_taken written acks_are = record {
       lines = so_far.lines ++ line ∷ [];
       answers = so_far.answers ++ Fault ∷ [];
       states = so_far.states;
@@ -186,16 +197,22 @@ module _ {P : ℕ} {start : State} {first : Option Trail} {script taken : Option
       any_moment = leaves_after (length so_far.states) so_far.counted
           (leaves_weaker (λ k image is. between_line P start so_far.states so_far.lines line k image is) so_far.any_moment)
           (leaves_weaker while_failing failed.any_moment);
+      quiet = acts_after (length so_far.states) so_far.counted so_far.any_moment.continues failed.any_moment.continues
+          (acts_weaker (λ k may. may_store_more so_far.answers (Fault ∷ []) k may) so_far.quiet)
+          (acts_weaker (λ k may. may_store_now so_far.answers Fault (length so_far.states) k going.each may) (acts_failed failed.any_moment.continues failed.no_ack));
+      halts = λ is. failed.last;
       counted = λ told is. acked_then (length so_far.states) 0 so_far.any_moment.continues failed.any_moment.continues so_far.counted (λ t i. failed.no_ack) told is ∙ omega arith;
+      fences = λ is. absurd (cc is);
+      ack_count = acks_are ∙ so_far.ack_count;
     }
 
 -- ---- one line after a failed fence
 
-abbrev pub ran_stopped : {P : ℕ} {start : State} {first : Option Trail} {script taken : Option (List ℕ)} {flat : Flat} {words : List ℕ} {trail : Option Trail} {has_ended : Bool} {rest now : Option (List ℕ)}
-    (so_far : RanSoFar P start first script taken flat true words trail has_ended rest now) (line : Line) (flat_after : Flat) {words_after : List ℕ} {trail_after : Option Trail} {ended_after : Bool} {rest_after now_after : Option (List ℕ)}
-    → trail_after ≡ trail → AreTakenTold (so_far.lines ++ line ∷ []) ended_after script rest_after → now_after ≡ with_bytes now (answer_text Stopped)
-    → RanSoFar P start first script taken flat_after true words_after trail_after ended_after rest_after now_after
-ran_stopped {P = P} {start = start} {first = first} {taken = taken} {trail = trail} {now = now} so_far line flat_after {trail_after = trail_after} {now_after = now_after} same are_taken written = record {
+abbrev pub ran_stopped : {P : ℕ} {start : State} {first : Option Trail} {script taken : Option (List ℕ)} {flat : Flat} {words : List ℕ} {trail : Option Trail} {has_ended : Bool} {rest now : Option (List ℕ)} {fences_first fences_now acks_first acks_now : ℕ}
+    (so_far : RanSoFar P start first script taken flat true words trail has_ended rest now fences_first fences_now acks_first acks_now) (line : Line) (flat_after : Flat) (fences_after : ℕ) {words_after : List ℕ} {trail_after : Option Trail} {ended_after : Bool} {rest_after now_after : Option (List ℕ)} {acks_after : ℕ}
+    → trail_after ≡ trail → AreTakenTold (so_far.lines ++ line ∷ []) ended_after script rest_after → now_after ≡ with_bytes now (answer_text Stopped) → acks_after ≡ acks_now
+    → RanSoFar P start first script taken flat_after true words_after trail_after ended_after rest_after now_after fences_first fences_after acks_first acks_after
+ran_stopped {P = P} {start = start} {first = first} {taken = taken} {trail = trail} {now = now} so_far line flat_after fences_after {trail_after = trail_after} {now_after = now_after} same are_taken written acks_are = record {
   lines = so_far.lines ++ line ∷ [];
   answers = so_far.answers ++ Stopped ∷ [];
   states = so_far.states;
@@ -207,14 +224,19 @@ ran_stopped {P = P} {start = start} {first = first} {taken = taken} {trail = tra
   acks = subst (λ (t : Option Trail). AcksSettled first t (IsStateAfter P start so_far.states)) (sym same) so_far.acks;
   any_moment = subst (λ (t : Option Trail). LeavesOnly first t (IsBetween P start so_far.states (so_far.lines ++ line ∷ []))) (sym same)
       (leaves_weaker (λ k image is. between_line P start so_far.states so_far.lines line k image is) so_far.any_moment);
+  quiet = subst (λ (t : Option Trail). ActsOnly first t (λ k. MayStore (slice_get (so_far.answers ++ Stopped ∷ []) k))) (sym same)
+      (acts_weaker (λ k may. may_store_more so_far.answers (Stopped ∷ []) k may) so_far.quiet);
+  halts = λ is. subst EndsInFault (sym same) (so_far.halts refl);
   counted = subst (λ (t : Option Trail). Acked first t (length so_far.states)) (sym same) so_far.counted;
+  fences = λ is. absurd (cc is);
+  ack_count = acks_are ∙ so_far.ack_count;
 }
 
 -- ---- before the first line
 
-pub ran_none : {P : ℕ} (flat : Flat) {words : List ℕ} {trail : Option Trail} {script taken : Option (List ℕ)} → StandsOn flat words trail
+pub ran_none : {P : ℕ} (flat : Flat) {words : List ℕ} {trail : Option Trail} {script taken : Option (List ℕ)} {fences acks : ℕ} → StandsOn flat words trail
     → ((image : List ℕ) → IsBetween P (state_of_flat flat) [] [] 0 words)
-    → RanSoFar P (state_of_flat flat) trail script taken flat false words trail false script taken
+    → RanSoFar P (state_of_flat flat) trail script taken flat false words trail false script taken fences fences acks acks
 ran_none {P = P} flat {words = words} {trail = trail} {script = script} {taken = taken} stands between = record {
   lines = [];
   answers = [];
@@ -226,7 +248,11 @@ ran_none {P = P} flat {words = words} {trail = trail} {script = script} {taken =
   texts = no_texts taken;
   acks = acks_here trail _;
   any_moment = leaves_here _ stands.settled (between words);
+  quiet = acts_here _ refl;
+  halts = λ is. absurd (cc is);
   counted = λ told is. acks_from-here (continues_here trail);
+  fences = λ is. omega arith;
+  ack_count = omega arith;
 }
   where
     taken_none : (script : Option (List ℕ)) → AreTakenTold [] false script script

@@ -10,33 +10,33 @@ use Rattle.squirrel_cli.specs.declared.run_end.RunEnd.TheVariants as end
 use Rattle.squirrel_cli.specs.Script.{ExecutesTold, RunsScript}
 use Rattle.squirrel_cli.specs.Stands.{state_of_flat}
 use Rattle.squirrel_cli.specs.Exec.{Turned}
-use Rattle.squirrel_cli.specs.Turns.{AreTakenTold, RanSoFar}
+use Rattle.squirrel_cli.specs.Turns.{AreTakenTold, CountsFaults, RanSoFar}
 use Rattle.squirrel_cli.proofs.TurnLaws.{ran_answered, ran_failed, ran_stopped}
 use Rattle.squirrel_cli.proofs.RunEnds.{cut_answered, cut_failed, cut_stopped}
 
-pub turned_more : {P : ℕ} {start : State} {first : Option Trail} {script taken : Option (List ℕ)} {flat : Flat} {words : List ℕ} {trail : Option Trail} {seen : Bool} {rest now : Option (List ℕ)}
-    (was_stopped stopped : Bool) (so_far : RanSoFar P start first script taken flat was_stopped words trail seen rest now) (line : Line) (flat_after : Flat) (words_after : List ℕ) (trail_after : Option Trail) (seen_after : Bool) (rest_after now_after : Option (List ℕ)) (done : Unit {0})
-    → Turned P (state_of_flat flat) was_stopped line flat_after stopped trail words_after trail_after (Ok done) now now_after → AreTakenTold (so_far.lines ++ line ∷ []) seen_after script rest_after
-    → RanSoFar P start first script taken flat_after stopped words_after trail_after seen_after rest_after now_after
+pub turned_more : {P : ℕ} {start : State} {first : Option Trail} {script taken : Option (List ℕ)} {flat : Flat} {words : List ℕ} {trail : Option Trail} {seen : Bool} {rest now : Option (List ℕ)} {fences_first fences_now fences_after acks_first acks_now acks_after : ℕ}
+    (was_stopped stopped : Bool) (so_far : RanSoFar P start first script taken flat was_stopped words trail seen rest now fences_first fences_now acks_first acks_now) (line : Line) (flat_after : Flat) (words_after : List ℕ) (trail_after : Option Trail) (seen_after : Bool) (rest_after now_after : Option (List ℕ)) (done : Unit {0})
+    → Turned P (state_of_flat flat) was_stopped line flat_after stopped trail words_after trail_after (Ok done) now now_after fences_now fences_after acks_now acks_after → AreTakenTold (so_far.lines ++ line ∷ []) seen_after script rest_after
+    → RanSoFar P start first script taken flat_after stopped words_after trail_after seen_after rest_after now_after fences_first fences_after acks_first acks_after
 turned_more false false so_far line flat_after words_after trail_after seen_after rest_after now_after done turned are_taken =
-    let answered = turned.answered refl refl in ran_answered so_far line answered.done {ended_after = seen_after} {rest_after = rest_after} are_taken answered.wrote
-turned_more false true so_far line flat_after words_after trail_after seen_after rest_after now_after done turned are_taken =
-    let failed = turned.failed refl refl in ran_failed so_far line failed.0 flat_after words_after {ended_after = seen_after} {rest_after = rest_after} are_taken failed.1
+    let answered = turned.answered refl refl in ran_answered so_far line answered.done {ended_after = seen_after} {rest_after = rest_after} are_taken answered.wrote answered.fences answered.one_ack
+turned_more {fences_after = fences_after} false true so_far line flat_after words_after trail_after seen_after rest_after now_after done turned are_taken =
+    let failed = turned.failed refl refl in ran_failed so_far line failed.0 flat_after words_after fences_after {ended_after = seen_after} {rest_after = rest_after} are_taken failed.1 failed.2
 turned_more true false so_far line flat_after words_after trail_after seen_after rest_after now_after done turned are_taken =
     absurd (let still = turned.still refl in let is = still.0 in cc is)
-turned_more true true so_far line flat_after words_after trail_after seen_after rest_after now_after done turned are_taken =
-    let still = turned.still refl in ran_stopped so_far line flat_after {words_after = words_after} {ended_after = seen_after} {rest_after = rest_after} still.1 are_taken still.2
+turned_more {fences_after = fences_after} true true so_far line flat_after words_after trail_after seen_after rest_after now_after done turned are_taken =
+    let still = turned.still refl in ran_stopped so_far line flat_after fences_after {words_after = words_after} {ended_after = seen_after} {rest_after = rest_after} still.1 are_taken still.2 still.3
 
-pub turned_cut : {P : ℕ} {start : State} {first : Option Trail} {script taken : Option (List ℕ)} {flat : Flat} {words : List ℕ} {trail : Option Trail} {seen : Bool} {rest now : Option (List ℕ)} (base : List ℕ) → ReadsAs P base start
-    → (was_stopped stopped : Bool) (so_far : RanSoFar P start first script taken flat was_stopped words trail seen rest now) (line : Line) (flat_after : Flat) (words_after : List ℕ) (trail_after : Option Trail) (seen_after : Bool) (rest_after left cut : Option (List ℕ)) (fault : WriteFault)
-    → Turned P (state_of_flat flat) was_stopped line flat_after stopped trail words_after trail_after (Err fault) now cut → AreTakenTold (so_far.lines ++ line ∷ []) seen_after script rest_after
-    → ExecutesTold end.WriteFault script left (so_far.lines ++ line ∷ [])
-    → RunsScript P base end.WriteFault script left taken cut first trail_after
-turned_cut base reads false false so_far line flat_after words_after trail_after seen_after rest_after left cut fault turned are_taken executes =
-    let answered = turned.answered refl refl in cut_answered base reads so_far line answered.done seen_after rest_after left cut are_taken executes answered.wrote
-turned_cut base reads false true so_far line flat_after words_after trail_after seen_after rest_after left cut fault turned are_taken executes =
-    let failed = turned.failed refl refl in cut_failed base reads so_far line flat_after words_after failed.0 seen_after rest_after left cut are_taken executes failed.1
-turned_cut base reads true false so_far line flat_after words_after trail_after seen_after rest_after left cut fault turned are_taken executes =
+pub turned_cut : {P : ℕ} {start : State} {first : Option Trail} {script taken : Option (List ℕ)} {flat : Flat} {words : List ℕ} {trail : Option Trail} {seen : Bool} {rest now : Option (List ℕ)} {fences_first fences_now fences_after acks_first acks_now acks_after : ℕ} (base : List ℕ) → ReadsAs P base start → (faults_before faults_after : ℕ)
+    → (was_stopped stopped : Bool) (so_far : RanSoFar P start first script taken flat was_stopped words trail seen rest now fences_first fences_now acks_first acks_now) (line : Line) (flat_after : Flat) (words_after : List ℕ) (trail_after : Option Trail) (seen_after : Bool) (rest_after left cut : Option (List ℕ)) (fault : WriteFault)
+    → Turned P (state_of_flat flat) was_stopped line flat_after stopped trail words_after trail_after (Err fault) now cut fences_now fences_after acks_now acks_after → AreTakenTold (so_far.lines ++ line ∷ []) seen_after script rest_after
+    → ExecutesTold end.WriteFault script left (so_far.lines ++ line ∷ []) → CountsFaults stopped faults_before faults_after
+    → RunsScript P base end.WriteFault script left taken cut first trail_after faults_before faults_after fences_first fences_after acks_first acks_after
+turned_cut base reads faults_before faults_after false false so_far line flat_after words_after trail_after seen_after rest_after left cut fault turned are_taken executes counts =
+    let answered = turned.answered refl refl in cut_answered base reads faults_before so_far line answered.done faults_after counts seen_after rest_after left cut are_taken executes answered.wrote answered.fences answered.one_ack
+turned_cut {fences_after = fences_after} base reads faults_before faults_after false true so_far line flat_after words_after trail_after seen_after rest_after left cut fault turned are_taken executes counts =
+    let failed = turned.failed refl refl in cut_failed base reads faults_before fences_after so_far line flat_after words_after failed.0 faults_after counts seen_after rest_after left cut are_taken executes failed.1 failed.2
+turned_cut base reads faults_before faults_after true false so_far line flat_after words_after trail_after seen_after rest_after left cut fault turned are_taken executes counts =
     absurd (let still = turned.still refl in let is = still.0 in cc is)
-turned_cut base reads true true so_far line flat_after words_after trail_after seen_after rest_after left cut fault turned are_taken executes =
-    let still = turned.still refl in cut_stopped base reads so_far line flat_after words_after still.1 seen_after rest_after left cut are_taken executes still.2
+turned_cut {fences_after = fences_after} base reads faults_before faults_after true true so_far line flat_after words_after trail_after seen_after rest_after left cut fault turned are_taken executes counts =
+    let still = turned.still refl in cut_stopped base reads faults_before fences_after so_far line flat_after words_after still.1 faults_after counts seen_after rest_after left cut are_taken executes still.2 still.3

@@ -8,6 +8,9 @@ pub mod Place
 pub mod FreeInode
 pub mod Listing
 pub mod Run
+pub mod Quiet
+pub mod Halts
+pub mod Fences
 pub mod Script
 pub mod Ends
 pub mod Exec

@@ -1,7 +1,7 @@
 -- What the top call does with a script: which lines it executes, and what it writes.
-use Rattle.std.specs.Prelude.{◌≡◌, ℕ, ◌<◌, List, [], ◌∷◌, ◌++◌, map, flat_map, take, length, Option, Some, None}
+use Rattle.std.specs.Prelude.{◌≡◌, ℕ, ◌+◌, ◌<◌, List, [], ◌∷◌, ◌++◌, map, flat_map, take, length, slice_get, Option, Some, None}
 use Rattle.pm_trait.specs.Trail.{Trail}
-use Rattle.pm_trait.specs.Device.{LeavesOnly, AcksSettled, acks_from, moment_of}
+use Rattle.pm_trait.specs.Device.{HasRisen, LeavesOnly, AcksSettled, acks_from, moment_of}
 use Rattle.io_edge.specs.Bytes.{with_bytes}
 use Rattle.tree_model.specs.Step.{Answer}
 use Rattle.tree_model.specs.Run.{Line, State}
@@ -11,12 +11,15 @@ use Rattle.image_reading.specs.Reading.{ReadsAs}
 use Rattle.squirrel_cli.specs.declared.run_end.RunEnd.{RunEnd}
 use Rattle.squirrel_cli.specs.declared.run_end.RunEnd.TheVariants.{Done, Faulted, ReadFault, WriteFault, Limit}
 use Rattle.squirrel_cli.specs.Run.{Run, IsBetween, IsStateAfter}
+use Rattle.squirrel_cli.specs.Quiet.{MayStore, ActsOnly}
+use Rattle.squirrel_cli.specs.Halts.{EndsInFault}
+use Rattle.squirrel_cli.specs.Fences.{fences_of_run}
 
--- The lines that a run executes: all lines of the whole input; where it was cut by a failed read or by the limit, those
+-- The lines that a run executes: all lines of the whole input, which is shorter than the limit; where it was cut by a failed read or by the limit, those
 -- that end with a newline among the bytes read; where a write failed, the first of them.
 abbrev pub Executes : RunEnd → List ℕ → List ℕ → List Line → Type 0
-Executes Done before after lines = (lines ≡ calls_of before) × (after ≡ [])
-Executes Faulted before after lines = (lines ≡ calls_of before) × (after ≡ [])
+Executes Done before after lines = (lines ≡ calls_of before) × (after ≡ []) × (length before < script_limit)
+Executes Faulted before after lines = (lines ≡ calls_of before) × (after ≡ []) × (length before < script_limit)
 Executes ReadFault before after lines = (bytes : List ℕ) × (before ≡ bytes ++ after) × (lines ≡ map call_of (complete_lines_of bytes))
 Executes Limit before after lines = (bytes : List ℕ) × (before ≡ bytes ++ after) × (length bytes ≡ script_limit) × (lines ≡ map call_of (complete_lines_of bytes))
 Executes WriteFault before after lines = (rest : List Line) × (calls_of before ≡ lines ++ rest)
@@ -54,8 +57,9 @@ EndsWith ReadFault answers states = Unit {0}
 EndsWith WriteFault answers states = Unit {0}
 EndsWith Limit answers states = Unit {0}
 
--- a run of the script, from the state that the words at entry read as
-pub record RunsScript (P : ℕ) (words : List ℕ) (end : RunEnd) (script rest taken now : Option (List ℕ)) (before after : Option Trail) : Type 0 where
+-- a run of the script, from the state that the words at entry read as; the device's counts of faults, fences and
+-- acknowledgements are those of entry and return
+pub record RunsScript (P : ℕ) (words : List ℕ) (end : RunEnd) (script rest taken now : Option (List ℕ)) (before after : Option Trail) (faults_before faults_after fences_before fences_after acks_before acks_after : ℕ) : Type 0 where
   pub start : State
   pub reads : ReadsAs P words start
   pub lines : List Line
@@ -63,6 +67,9 @@ pub record RunsScript (P : ℕ) (words : List ℕ) (end : RunEnd) (script rest t
   pub states : List State
   pub run : Run P start lines answers states
   pub ends : EndsWith end answers states
+  -- a line was answered Fault only where the device's count of faults rose, and where none was the count is as before
+  pub cause : length states < length answers → HasRisen faults_before faults_after
+  pub no_fault : length states ≡ length answers → faults_after ≡ faults_before
   -- the lines are those of the script
   pub executes : ExecutesTold end script rest lines
   -- the replies are the answers
@@ -71,5 +78,13 @@ pub record RunsScript (P : ℕ) (words : List ℕ) (end : RunEnd) (script rest t
   pub acks : AcksSettled before after (IsStateAfter P start states)
   -- every answered line was acknowledged, but those that were answered Fault or Stopped
   pub acked : (trail : Trail) → after ≡ Some trail → acks_from before after (moment_of after) ≡ length states
+  pub ack_count : acks_after ≡ acks_before + length states
+  -- where no line was answered Fault, each made file took two fences, and two more where the root got a page; nothing else
+  -- took one
+  pub fences : length states ≡ length answers → fences_after ≡ fences_before + fences_of_run start answers states
   -- a stop at any moment leaves the tree after all acknowledged lines, or one that the running line may leave
   pub any_moment : LeavesOnly before after (IsBetween P start states lines)
+  -- every store, flush and fence was made for a line that was answered Done, Count or Fault
+  pub quiet : ActsOnly before after (λ k. MayStore (slice_get answers k))
+  -- where a line was answered Fault, nothing was done to the device after the fence that failed
+  pub halts : length states < length answers → EndsInFault after

@@ -1,13 +1,16 @@
 -- What stands between two lines of a run.
-use Rattle.std.specs.Prelude.{◌≡◌, ℕ, ◌<◌, Bool, true, false, List, [], ◌∷◌, ◌++◌, map, length, Option, Some, None}
+use Rattle.std.specs.Prelude.{◌≡◌, ℕ, ◌+◌, ◌<◌, Bool, true, false, List, [], ◌∷◌, ◌++◌, map, length, slice_get, Option, Some, None}
 use Rattle.pm_trait.specs.Trail.{Trail}
-use Rattle.pm_trait.specs.Device.{LeavesOnly, AcksSettled, acks_from, moment_of}
+use Rattle.pm_trait.specs.Device.{HasRisen, LeavesOnly, AcksSettled, acks_from, moment_of}
 use Rattle.io_edge.specs.Bytes.{with_bytes}
 use Rattle.tree_model.specs.Step.{Answer}
 use Rattle.tree_model.specs.Run.{Line, State}
 use Rattle.script.specs.Lines.{call_of, calls_of, complete_lines_of}
 use Rattle.squirrel_cli.specs.declared.flat.Flat.{Flat}
 use Rattle.squirrel_cli.specs.Run.{Run, IsBetween, IsStateAfter}
+use Rattle.squirrel_cli.specs.Quiet.{MayStore, ActsOnly}
+use Rattle.squirrel_cli.specs.Halts.{EndsInFault}
+use Rattle.squirrel_cli.specs.Fences.{fences_of_run}
 use Rattle.squirrel_cli.specs.Script.{texts_of}
 use Rattle.squirrel_cli.specs.Stands.{StandsOn, state_of_flat}
 
@@ -35,8 +38,13 @@ AreTakenTold lines has_ended None rest = rest ≡ None
 AreTakenTold lines has_ended (Some script) None = ⊥
 AreTakenTold lines has_ended (Some script) (Some rest) = AreTaken lines has_ended script rest
 
+-- the device's count of faults has risen where the volume is stopped, and is as before where it isn't
+pub record CountsFaults (stopped : Bool) (before now : ℕ) : Type 0 where
+  pub cause : stopped ≡ true → HasRisen before now
+  pub no_fault : stopped ≡ false → now ≡ before
+
 -- From this start some lines were executed and answered, and the replies written.
-pub record RanSoFar (P : ℕ) (start : State) (first : Option Trail) (script taken : Option (List ℕ)) (flat : Flat) (stopped : Bool) (words : List ℕ) (trail : Option Trail) (has_ended : Bool) (rest now : Option (List ℕ)) : Type 0 where
+pub record RanSoFar (P : ℕ) (start : State) (first : Option Trail) (script taken : Option (List ℕ)) (flat : Flat) (stopped : Bool) (words : List ℕ) (trail : Option Trail) (has_ended : Bool) (rest now : Option (List ℕ)) (fences_first fences_now acks_first acks_now : ℕ) : Type 0 where
   pub lines : List Line
   pub answers : List Answer
   pub states : List State
@@ -47,4 +55,8 @@ pub record RanSoFar (P : ℕ) (start : State) (first : Option Trail) (script tak
   pub texts : now ≡ with_bytes taken (texts_of answers)
   pub acks : AcksSettled first trail (IsStateAfter P start states)
   pub any_moment : LeavesOnly first trail (IsBetween P start states lines)
+  pub quiet : ActsOnly first trail (λ k. MayStore (slice_get answers k))
+  pub halts : stopped ≡ true → EndsInFault trail
   pub counted : (told : Trail) → trail ≡ Some told → acks_from first trail (moment_of trail) ≡ length states
+  pub fences : stopped ≡ false → fences_now ≡ fences_first + fences_of_run start answers states
+  pub ack_count : acks_now ≡ acks_first + length states

@@ -1,4 +1,4 @@
-ghost use Rattle.std.specs.Prelude.{◌≡◌, ◌<◌, ◌≤◌, ◌+◌, ◌↔◌, IfSome, IsSome, length};
+ghost use Rattle.std.specs.Prelude.{◌≡◌, ◌≢◌, ◌<◌, ◌≤◌, ◌+◌, ◌↔◌, IfSome, IsSome, length};
 ghost use Rattle.layout.specs.Geometry.{inodes_of};
 ghost use Rattle.tree_model.specs.Step.{step};
 ghost use Rattle.tree_model.specs.Replies.{reply_of};
@@ -26,6 +26,7 @@ impl Flat {
             result ≡ reply_of (step self.now.geometry.pages state.tree state.room (Tell path.now)).answer }
         ensures answer { let state = state_of_flat self.now in
             answer_of_reply self.now result ≡ (step self.now.geometry.pages state.tree state.room (Tell path.now)).answer }
+        ensures not_done { result ≢ Reply.Done }
     {
         match self.place_of(path) {
             Place::Root => Reply::Status(Stat {
@@ -52,6 +53,7 @@ impl Flat {
             result ≡ reply_of (step self.now.geometry.pages state.tree state.room (Show path.now)).answer }
         ensures answer { let state = state_of_flat self.now in
             answer_of_reply self.now result ≡ (step self.now.geometry.pages state.tree state.room (Show path.now)).answer }
+        ensures not_done { result ≢ Reply.Done }
     {
         match self.place_of(path) {
             Place::Root => Reply::Names {

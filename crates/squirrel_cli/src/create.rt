@@ -6,6 +6,7 @@ ghost use Rattle.pm_trait.specs.Device.{IsSettledAt, LeavesOnly, HasRisen, acks_
 ghost use Rattle.layout.specs.Fields.{slot_name};
 ghost use Rattle.image_reading.specs.Counts.{Count};
 ghost use Rattle.squirrel_cli.specs.Flat.{IsFlat, IsLoose, IsNamed, IsRootPage, HoldsFiles};
+ghost use Rattle.squirrel_cli.specs.Halts.{EndsInFault};
 ghost use Rattle.squirrel_cli.specs.FlatSteps.{IsUnowned, IsSpareInode};
 ghost use Rattle.squirrel_cli.specs.Stands.{StandsOn, files_of, with_file};
 ghost use Rattle.squirrel_cli.specs.Opened.{IsOpenAt, KeepsFiles, AddsFile};
@@ -58,6 +59,7 @@ fn open_page<P: Pm>(pm: &mut P, geometry: &Geometry, page: u64) -> Result<(), Pm
     ensures any_moment { LeavesOnly (P.trail pm.old) (P.trail pm.new)
         (λ acks image. (acks ≡ 0) × KeepsFiles geometry.now.pages (P.now pm.old) image) }
     ensures no_ack { acks_from (P.trail pm.old) (P.trail pm.new) (moment_of (P.trail pm.new)) ≡ 0 }
+    ensures last { OnErr result (EndsInFault (P.trail pm.new)) }
 
     ensures long { length (P.now pm.new) ≡ length (P.now pm.old) }
     ensures room { P.spare pm.old ≤ P.spare pm.new + OPEN_EVENTS }
@@ -66,6 +68,7 @@ fn open_page<P: Pm>(pm: &mut P, geometry: &Geometry, page: u64) -> Result<(), Pm
     ensures cause { OnErr result (HasRisen (P.faults pm.old) (P.faults pm.new)) }
     ensures refused { P.refused pm.new ≡ P.refused pm.old }
     ensures fences { P.fences pm.new ≤ P.fences pm.old + 2 }
+    ensures counted { OnOk result (P.fences pm.new ≡ P.fences pm.old + 2) }
     ensures acks { P.acks pm.new ≡ P.acks pm.old }
 {
     fill_page(pm, geometry, page)?;
@@ -96,6 +99,7 @@ fn make_slot<P: Pm>(
     ensures any_moment { LeavesOnly (P.trail pm.old) (P.trail pm.new)
         (λ acks image. (acks ≡ 0) × KeepsFiles geometry.now.pages (P.now pm.old) image) }
     ensures no_ack { acks_from (P.trail pm.old) (P.trail pm.new) (moment_of (P.trail pm.new)) ≡ 0 }
+    ensures last { OnErr result (EndsInFault (P.trail pm.new)) }
 
     ensures long { length (P.now pm.new) ≡ length (P.now pm.old) }
     ensures room { P.spare pm.old ≤ P.spare pm.new + OPEN_EVENTS }
@@ -104,6 +108,7 @@ fn make_slot<P: Pm>(
     ensures cause { OnErr result (HasRisen (P.faults pm.old) (P.faults pm.new)) }
     ensures refused { P.refused pm.new ≡ P.refused pm.old }
     ensures fences { P.fences pm.new ≤ P.fences pm.old + 2 }
+    ensures counted { OnOk result (P.fences pm.new ≡ P.fences pm.old + 2 * added_pages new_page) }
     ensures acks { P.acks pm.new ≡ P.acks pm.old }
 {
     match new_page {
@@ -140,6 +145,7 @@ fn place_file<P: Pm>(
         (λ acks image. (acks ≡ 0) × (KeepsFiles geometry.now.pages (P.now pm.old) image
         ⊎ AddsFile geometry.now.pages (P.now pm.old) image (name.now, inode))) }
     ensures no_ack { acks_from (P.trail pm.old) (P.trail pm.new) (moment_of (P.trail pm.new)) ≡ 0 }
+    ensures last { OnErr result (EndsInFault (P.trail pm.new)) }
 
     ensures long { length (P.now pm.new) ≡ length (P.now pm.old) }
     ensures room { P.spare pm.old ≤ P.spare pm.new + PLACE_EVENTS }
@@ -148,6 +154,7 @@ fn place_file<P: Pm>(
     ensures cause { OnErr result (HasRisen (P.faults pm.old) (P.faults pm.new)) }
     ensures refused { P.refused pm.new ≡ P.refused pm.old }
     ensures fences { P.fences pm.new ≤ P.fences pm.old + 2 }
+    ensures counted { OnOk result (P.fences pm.new ≡ P.fences pm.old + 2) }
     ensures acks { P.acks pm.new ≡ P.acks pm.old }
 {
     write_file(pm, geometry, inode, slot, name)?;
@@ -206,6 +213,7 @@ pub fn create<P: Pm>(flat: &mut Flat, file: NewFile, pm: &mut P) -> Result<(), P
         × (HoldsFiles pages image files
         ⊎ HoldsFiles pages image (with_file files file.at (file.name, file.inode)))) }
     ensures no_ack { acks_from (P.trail pm.old) (P.trail pm.new) (moment_of (P.trail pm.new)) ≡ 0 }
+    ensures last { OnErr result (EndsInFault (P.trail pm.new)) }
 
     ensures long { length (P.now pm.new) ≡ length (P.now pm.old) }
     ensures room { P.spare pm.old ≤ P.spare pm.new + MOST_EVENTS }
@@ -214,6 +222,7 @@ pub fn create<P: Pm>(flat: &mut Flat, file: NewFile, pm: &mut P) -> Result<(), P
     ensures cause { OnErr result (HasRisen (P.faults pm.old) (P.faults pm.new)) }
     ensures refused { P.refused pm.new ≡ P.refused pm.old }
     ensures fences { P.fences pm.new ≤ P.fences pm.old + 4 }
+    ensures counted { OnOk result (P.fences pm.new ≡ P.fences pm.old + 2 + 2 * added_pages file.new_page) }
     ensures acks { P.acks pm.new ≡ P.acks pm.old }
 {
     make_slot(pm, &flat.geometry, file.slot, file.new_page)?;

@@ -1,5 +1,5 @@
 // Makes a volume.
-ghost use Rattle.std.specs.Prelude.{◌≡◌, ◌≢◌, ◌⊎◌, ◌↔◌, ◌*◌, ◌^◌, ◌<◌, ◌≤◌, length, None, IfSome};
+ghost use Rattle.std.specs.Prelude.{◌≡◌, ◌≢◌, ◌⊎◌, ◌↔◌, ◌+◌, ◌*◌, ◌^◌, ◌<◌, ◌≤◌, length, None, IfSome};
 ghost use Rattle.pm_trait.specs.Device.{HasRisen, IsSettledAt, LeavesOnly};
 ghost use Rattle.io_edge.specs.Bytes.{with_bytes, TookFront};
 ghost use Rattle.layout.specs.Geometry.{IsVolumeSize};
@@ -25,17 +25,20 @@ pub fn make_volume<P: Pm, K: Sink>(pages: u64, out: &mut K, pm: &mut P) -> Statu
     ensures usage { (result ≡ Status.Usage) ↔ (length (P.now pm.old) ≢ 512 * pages) }
     ensures ends { (result ≡ Status.Usage) ⊎ (result ≡ Status.Done) ⊎ (result ≡ Status.NoMemory) ⊎ (result ≡ Status.DeviceFault) ⊎ (result ≡ Status.WriteFault) }
     ensures unmade { (result ≡ Status.Usage) ⊎ (result ≡ Status.NoMemory) → (P.now pm.new ≡ P.now pm.old) × (P.trail pm.new ≡ P.trail pm.old) }
-    ensures unwritten { (result ≡ Status.Usage) ⊎ (result ≡ Status.NoMemory) ⊎ (result ≡ Status.DeviceFault) → K.taken out.new ≡ K.taken out.old }
+    ensures unwritten { (result ≡ Status.Usage) ⊎ (result ≡ Status.NoMemory) ⊎ (result ≡ Status.DeviceFault) → out.new ≡ out.old }
     ensures device_cause { result ≡ Status.DeviceFault → HasRisen (P.faults pm.old) (P.faults pm.new) }
     ensures write_cause { result ≡ Status.WriteFault → HasRisen (K.faults out.old) (K.faults out.new) }
+    ensures no_write_fault { result ≢ Status.WriteFault → K.faults out.new ≡ K.faults out.old }
     ensures formatted { (result ≡ Status.Done) ⊎ (result ≡ Status.WriteFault) → IsFormattedFrom pages (P.now pm.old) (P.now pm.new) }
     ensures fresh { (result ≡ Status.Done) ⊎ (result ≡ Status.WriteFault) → IsFresh pages (P.now pm.new) }
     ensures told { result ≡ Status.Done → K.taken out.new ≡ with_bytes (K.taken out.old) (formatted_text pages) }
     ensures cut { result ≡ Status.WriteFault → TookFront (K.taken out.old) (formatted_text pages) (K.taken out.new) }
     ensures any_moment { length (P.now pm.old) ≡ 512 * pages →
-        LeavesOnly (P.trail pm.old) (P.trail pm.new) (λ _. IsOldHiddenOrFormatted pages (P.now pm.old)) }
+        LeavesOnly (P.trail pm.old) (P.trail pm.new) (λ acks image. (acks ≡ 0) × IsOldHiddenOrFormatted pages (P.now pm.old) image) }
     ensures done { (result ≡ Status.Done) ⊎ (result ≡ Status.WriteFault) → P.faults pm.new ≡ P.faults pm.old }
     ensures settled { HasRisen (P.faults pm.old) (P.faults pm.new) ⊎ IsSettledAt (P.now pm.new) (P.trail pm.new) }
+    ensures fences { P.fences pm.new ≤ P.fences pm.old + 3 }
+    ensures acks { P.acks pm.new ≡ P.acks pm.old }
 {
     let Some(geometry) = geometry_of_length(pm.image().len(), pages) else {
         return Status::Usage;

@@ -1,5 +1,5 @@
 // A whole script on a flat volume.
-ghost use Rattle.std.specs.Prelude.{◌≡◌, ◌⊎◌, ◌+◌, ◌*◌, ◌^◌, ◌<◌, ◌≤◌, ℕ, List, Option, Some, None, IfSome, IsTrue, [], true, false, length, OnOk, OnErr};
+ghost use Rattle.std.specs.Prelude.{◌≡◌, ◌≢◌, ◌⊎◌, ◌+◌, ◌*◌, ◌^◌, ◌<◌, ◌≤◌, ℕ, List, Option, Some, None, IfSome, IsTrue, [], true, false, length, OnOk, OnErr};
 ghost use Rattle.pm_trait.specs.Trail.{Trail};
 ghost use Rattle.pm_trait.specs.Device.{HasRisen, IsSettledAt};
 ghost use Rattle.io_edge.specs.Bytes.{IsEnd};
@@ -12,7 +12,7 @@ ghost use Rattle.squirrel_cli.specs.Flat.{IsFlat};
 ghost use Rattle.squirrel_cli.specs.Exec.{Turned};
 ghost use Rattle.squirrel_cli.specs.Script.{RunsScript};
 ghost use Rattle.squirrel_cli.specs.Stands.{StandsOn, state_of_flat};
-ghost use Rattle.squirrel_cli.specs.Turns.{RanSoFar};
+ghost use Rattle.squirrel_cli.specs.Turns.{CountsFaults, RanSoFar};
 
 use crate::reply::write_reply;
 use crate::run_end::RunEnd;
@@ -35,7 +35,8 @@ fn answer<P: Pm, K: Sink>(
     requires acks { P.acks pm.old < 2 ^ 62 }
 
     ensures turned { Turned session.old.flat.geometry.pages (state_of_flat session.old.flat) session.old.stopped (line_of_call call.now)
-        session.new.flat session.new.stopped (P.trail pm.old) (P.now pm.new) (P.trail pm.new) result (K.taken sink.old) (K.taken sink.new) }
+        session.new.flat session.new.stopped (P.trail pm.old) (P.now pm.new) (P.trail pm.new) result (K.taken sink.old) (K.taken sink.new)
+        (P.fences pm.old) (P.fences pm.new) (P.acks pm.old) (P.acks pm.new) }
     ensures stopped { session.new.stopped ≡ true → (session.old.stopped ≡ true) ⊎ HasRisen (P.faults pm.old) (P.faults pm.new) }
     ensures no_fault { session.new.stopped ≡ false → P.faults pm.new ≡ P.faults pm.old }
     ensures ok_faults { OnOk result (K.faults sink.new ≡ K.faults sink.old) }
@@ -90,17 +91,22 @@ fn turn<P: Pm, S: Source, K: Sink>(
     requires acks { P.acks pm.old < 2 ^ 62 }
 
     // What a run did so far goes on by the line.
-    ensures more { result ≡ None → (start : State) (first : Option Trail) (script taken : Option (List ℕ)) →
+    ensures more { result ≡ None → (start : State) (first : Option Trail) (script taken : Option (List ℕ)) (fences acks : ℕ) →
         RanSoFar session.old.flat.geometry.pages start first script taken session.old.flat session.old.stopped (P.now pm.old) (P.trail pm.old)
-        (has_ended lines.old) (rest_of (pending lines.old) (S.left source.old)) (K.taken sink.old) →
+        (has_ended lines.old) (rest_of (pending lines.old) (S.left source.old)) (K.taken sink.old)
+        fences (P.fences pm.old) acks (P.acks pm.old) →
         RanSoFar session.old.flat.geometry.pages start first script taken session.new.flat session.new.stopped (P.now pm.new) (P.trail pm.new)
-        (has_ended lines.new) (rest_of (pending lines.new) (S.left source.new)) (K.taken sink.new) }
-    ensures ends { (start : State) (first : Option Trail) (script taken : Option (List ℕ)) (base : List ℕ) →
+        (has_ended lines.new) (rest_of (pending lines.new) (S.left source.new)) (K.taken sink.new)
+        fences (P.fences pm.new) acks (P.acks pm.new) }
+    ensures ends { (start : State) (first : Option Trail) (script taken : Option (List ℕ)) (base : List ℕ) (fences acks : ℕ) →
         ReadsAs session.old.flat.geometry.pages base start →
         RanSoFar session.old.flat.geometry.pages start first script taken session.old.flat session.old.stopped (P.now pm.old) (P.trail pm.old)
-        (has_ended lines.old) (rest_of (pending lines.old) (S.left source.old)) (K.taken sink.old) →
+        (has_ended lines.old) (rest_of (pending lines.old) (S.left source.old)) (K.taken sink.old)
+        fences (P.fences pm.old) acks (P.acks pm.old) →
         IfTold script (S.left source.old) (ReadFront 0 (read_count lines.old)) →
-        IfSome result (λ end. RunsScript session.old.flat.geometry.pages base end script (S.left source.new) taken (K.taken sink.new) first (P.trail pm.new)) }
+        (faults : ℕ) → CountsFaults session.new.stopped faults (P.faults pm.new) →
+        IfSome result (λ end. RunsScript session.old.flat.geometry.pages base end script (S.left source.new) taken (K.taken sink.new) first (P.trail pm.new)
+        faults (P.faults pm.new) fences (P.fences pm.new) acks (P.acks pm.new)) }
 
     ensures counted { IfTold (S.left source.old) (S.left source.new) (ReadFront (read_count lines.old) (read_count lines.new)) }
     ensures given { result ≡ None → given_count lines.old < given_count lines.new }
@@ -116,6 +122,8 @@ fn turn<P: Pm, S: Source, K: Sink>(
     ensures no_fault { session.new.stopped ≡ false → P.faults pm.new ≡ P.faults pm.old }
     ensures read_cause { result ≡ Some RunEnd.ReadFault → HasRisen (S.faults source.old) (S.faults source.new) }
     ensures write_cause { result ≡ Some RunEnd.WriteFault → HasRisen (K.faults sink.old) (K.faults sink.new) }
+    ensures no_read_fault { result ≢ Some RunEnd.ReadFault → S.faults source.new ≡ S.faults source.old }
+    ensures no_write_fault { result ≢ Some RunEnd.WriteFault → K.faults sink.new ≡ K.faults sink.old }
     ensures faults { P.faults pm.old ≤ P.faults pm.new }
     ensures source_faults { S.faults source.old ≤ S.faults source.new }
     ensures sink_faults { K.faults sink.old ≤ K.faults sink.new }
@@ -155,10 +163,13 @@ pub fn run<P: Pm, S: Source, K: Sink>(
     requires acks { P.acks pm.old ≤ 2 ^ 61 }
 
     ensures runs { RunsScript session.old.flat.geometry.pages (P.now pm.old) result (S.left source.old) (S.left source.new)
-        (K.taken sink.old) (K.taken sink.new) (P.trail pm.old) (P.trail pm.new) }
+        (K.taken sink.old) (K.taken sink.new) (P.trail pm.old) (P.trail pm.new) (P.faults pm.old) (P.faults pm.new)
+        (P.fences pm.old) (P.fences pm.new) (P.acks pm.old) (P.acks pm.new) }
     ensures device_cause { result ≡ RunEnd.Faulted → HasRisen (P.faults pm.old) (P.faults pm.new) }
     ensures read_cause { result ≡ RunEnd.ReadFault → HasRisen (S.faults source.old) (S.faults source.new) }
     ensures write_cause { result ≡ RunEnd.WriteFault → HasRisen (K.faults sink.old) (K.faults sink.new) }
+    ensures no_read_fault { result ≢ RunEnd.ReadFault → S.faults source.new ≡ S.faults source.old }
+    ensures no_write_fault { result ≢ RunEnd.WriteFault → K.faults sink.new ≡ K.faults sink.old }
     ensures done { result ≡ RunEnd.Done → P.faults pm.new ≡ P.faults pm.old }
     ensures settled { HasRisen (P.faults pm.old) (P.faults pm.new) ⊎ IsSettledAt (P.now pm.new) (P.trail pm.new) }
     ensures flat { HasRisen (P.faults pm.old) (P.faults pm.new) ⊎ IsFlat session.old.flat.geometry.pages (P.now pm.new) }

@@ -55,18 +55,21 @@ pub fn answer_script<P: Pm, S: Source, K: Sink>(
     ensures damaged_each { IsVolume (P.now pm.old) → ¬ IsFlatVolume (P.now pm.old) →
         (result ≡ Status.Damaged (record { rule = 0; place = 0 })) ⊎ (result ≡ Status.NoMemory)
         ⊎ (result ≡ Status.WriteFault) × TookFront (K.taken out.old) (damaged_text 0 0) (K.taken out.new) }
-    ensures left_alone { ¬ IsFlatVolume (P.now pm.old) → (P.now pm.new ≡ P.now pm.old) × (P.trail pm.new ≡ P.trail pm.old) × (S.left script.new ≡ S.left script.old) }
+    ensures left_alone { ¬ IsFlatVolume (P.now pm.old) → (P.now pm.new ≡ P.now pm.old) × (P.trail pm.new ≡ P.trail pm.old) × (script.new ≡ script.old) }
 
     ensures runs { IsFlatVolume (P.now pm.old) → IfSome (end_of result) (λ end.
         RunsScript (pages_in_image (P.now pm.old)) (P.now pm.old) end (S.left script.old) (S.left script.new)
-        (K.taken out.old) (K.taken out.new) (P.trail pm.old) (P.trail pm.new)) }
+        (K.taken out.old) (K.taken out.new) (P.trail pm.old) (P.trail pm.new) (P.faults pm.old) (P.faults pm.new)
+        (P.fences pm.old) (P.fences pm.new) (P.acks pm.old) (P.acks pm.new)) }
 
     ensures device_cause { result ≡ Status.DeviceFault → HasRisen (P.faults pm.old) (P.faults pm.new) }
     ensures read_cause { result ≡ Status.ReadFault → HasRisen (S.faults script.old) (S.faults script.new) }
     ensures write_cause { result ≡ Status.WriteFault → HasRisen (K.faults out.old) (K.faults out.new) }
+    ensures no_read_fault { result ≢ Status.ReadFault → S.faults script.new ≡ S.faults script.old }
+    ensures no_write_fault { result ≢ Status.WriteFault → K.faults out.new ≡ K.faults out.old }
     ensures limit_cause { result ≡ Status.ScriptLimit → GaveAll (S.left script.old) (S.left script.new) }
     ensures no_memory { result ≡ Status.NoMemory →
-        (P.now pm.new ≡ P.now pm.old) × (P.trail pm.new ≡ P.trail pm.old) × (S.left script.new ≡ S.left script.old) × (K.taken out.new ≡ K.taken out.old) }
+        (P.now pm.new ≡ P.now pm.old) × (P.trail pm.new ≡ P.trail pm.old) × (script.new ≡ script.old) × (out.new ≡ out.old) }
     ensures done { result ≡ Status.Done → P.faults pm.new ≡ P.faults pm.old }
     ensures settled { HasRisen (P.faults pm.old) (P.faults pm.new) ⊎ IsSettledAt (P.now pm.new) (P.trail pm.new) }
     ensures flat { IsFlatVolume (P.now pm.old) → HasRisen (P.faults pm.old) (P.faults pm.new) ⊎ IsFlatVolume (P.now pm.new) }
@@ -119,12 +122,15 @@ fn answer_lines<P: Pm, S: Source, K: Sink>(
     ensures ends { (result ≡ Status.NoMemory) ⊎ (result ≡ Status.Done) ⊎ (result ≡ Status.DeviceFault)
         ⊎ (result ≡ Status.ReadFault) ⊎ (result ≡ Status.WriteFault) ⊎ (result ≡ Status.ScriptLimit) }
     ensures runs { IfSome (end_of result) (λ end. RunsScript flat.geometry.pages (P.now pm.old) end (S.left script.old) (S.left script.new)
-        (K.taken out.old) (K.taken out.new) (P.trail pm.old) (P.trail pm.new)) }
+        (K.taken out.old) (K.taken out.new) (P.trail pm.old) (P.trail pm.new) (P.faults pm.old) (P.faults pm.new)
+        (P.fences pm.old) (P.fences pm.new) (P.acks pm.old) (P.acks pm.new)) }
     ensures device_cause { result ≡ Status.DeviceFault → HasRisen (P.faults pm.old) (P.faults pm.new) }
     ensures read_cause { result ≡ Status.ReadFault → HasRisen (S.faults script.old) (S.faults script.new) }
     ensures write_cause { result ≡ Status.WriteFault → HasRisen (K.faults out.old) (K.faults out.new) }
+    ensures no_read_fault { result ≢ Status.ReadFault → S.faults script.new ≡ S.faults script.old }
+    ensures no_write_fault { result ≢ Status.WriteFault → K.faults out.new ≡ K.faults out.old }
     ensures no_memory { result ≡ Status.NoMemory →
-        (P.now pm.new ≡ P.now pm.old) × (P.trail pm.new ≡ P.trail pm.old) × (S.left script.new ≡ S.left script.old) × (K.taken out.new ≡ K.taken out.old) }
+        (P.now pm.new ≡ P.now pm.old) × (P.trail pm.new ≡ P.trail pm.old) × (script.new ≡ script.old) × (out.new ≡ out.old) }
     ensures done { result ≡ Status.Done → P.faults pm.new ≡ P.faults pm.old }
     ensures settled { HasRisen (P.faults pm.old) (P.faults pm.new) ⊎ IsSettledAt (P.now pm.new) (P.trail pm.new) }
     ensures flat { HasRisen (P.faults pm.old) (P.faults pm.new) ⊎ IsFlat flat.geometry.pages (P.now pm.new) }
@@ -172,6 +178,7 @@ fn damaged_line(violation: &Violation) -> LineText
 fn tell<K: Sink>(out: &mut K, line: &[u8], status: Status) -> Status
     ensures whole { (result ≡ status) × (K.taken out.new ≡ with_bytes (K.taken out.old) line.now)
         ⊎ (result ≡ Status.WriteFault) × TookFront (K.taken out.old) line.now (K.taken out.new) × HasRisen (K.faults out.old) (K.faults out.new) }
+    ensures no_write_fault { result ≢ Status.WriteFault → K.faults out.new ≡ K.faults out.old }
 {
     match write_all(out, line) {
         Ok(()) => status,

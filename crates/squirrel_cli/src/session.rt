@@ -1,7 +1,8 @@
 // A flat volume and the lines of a script on it.
-ghost use Rattle.std.specs.Prelude.{◌≡◌, ◌+◌, ◌^◌, ◌<◌, ◌≤◌, Ok, Some, vec_len, IfOk, IfErr, OnOk, OnErr, true, false};
+ghost use Rattle.std.specs.Prelude.{◌≡◌, ◌≢◌, ◌+◌, ◌^◌, ◌<◌, ◌≤◌, Ok, Some, vec_len, IfOk, IfErr, OnOk, OnErr, true, false};
 ghost use Rattle.std.specs.Vec.{vec_capacity};
-ghost use Rattle.pm_trait.specs.Device.{HasRisen};
+ghost use Rattle.pm_trait.specs.declared.event.Event.TheVariants.{Ack};
+ghost use Rattle.pm_trait.specs.Device.{HasRisen, with_event};
 ghost use Rattle.tree_model.specs.Step.{refusal_of};
 ghost use Rattle.tree_model.specs.declared.command.Command.TheVariants.{Create};
 ghost use Rattle.script.specs.Calls.{line_of_call, MayCome, HasCome};
@@ -9,7 +10,8 @@ ghost use Rattle.squirrel_cli.specs.Flat.{IsFlat};
 ghost use Rattle.squirrel_cli.specs.Planned.{IsPlanned};
 ghost use Rattle.squirrel_cli.specs.Stands.{StandsOn, Knows, state_of_flat};
 ghost use Rattle.squirrel_cli.specs.Made.{MakesFile};
-ghost use Rattle.squirrel_cli.specs.Exec.{Executed, HasAnswered, HasFailed, IsTold};
+ghost use Rattle.squirrel_cli.specs.Exec.{answer_of_reply, Executed, HasAnswered, HasFailed, IsTold};
+ghost use Rattle.squirrel_cli.specs.Fences.{fences_of};
 
 use crate::create::{MOST_EVENTS, NewFile, create};
 use crate::flat::Flat;
@@ -40,6 +42,9 @@ pub fn exec<P: Pm>(session: &mut Session, call: &Call, pm: &mut P) -> Reply
     ensures answered { session.old.stopped ≡ false → session.new.stopped ≡ false →
         HasAnswered session.old.flat.geometry.pages (state_of_flat session.old.flat) (line_of_call call.now) session.new.flat result
         (P.trail pm.old) (P.now pm.new) (P.trail pm.new) }
+    // A line that is not answered Done stores nothing: the device is told of its acknowledgement alone.
+    ensures quiet { session.old.stopped ≡ false → session.new.stopped ≡ false → result ≢ Reply.Done →
+        (P.now pm.new ≡ P.now pm.old) × (P.trail pm.new ≡ with_event (P.trail pm.old) Ack) }
     ensures failed { session.old.stopped ≡ false → session.new.stopped ≡ true → (result ≡ Reply.Fault)
         × HasFailed session.old.flat.geometry.pages (state_of_flat session.old.flat) (line_of_call call.now) (P.trail pm.old) (P.trail pm.new) }
     ensures cause { session.old.stopped ≡ false → session.new.stopped ≡ true → HasRisen (P.faults pm.old) (P.faults pm.new) }
@@ -50,6 +55,12 @@ pub fn exec<P: Pm>(session: &mut Session, call: &Call, pm: &mut P) -> Reply
     ensures faults { P.faults pm.old ≤ P.faults pm.new }
     ensures fences { P.fences pm.new ≤ P.fences pm.old + 4 }
     ensures acks { P.acks pm.new ≤ P.acks pm.old + 1 }
+    // A file that is made takes two fences, and two more where the root gets a page. No other answered line takes any.
+    ensures counted { session.old.stopped ≡ false → session.new.stopped ≡ false →
+        P.fences pm.new ≡ P.fences pm.old + fences_of (answer_of_reply session.new.flat result) session.old.flat.pages session.new.flat.pages }
+    ensures counted_stopped { session.old.stopped ≡ true → P.fences pm.new ≡ P.fences pm.old }
+    ensures ack { session.new.stopped ≡ false → P.acks pm.new ≡ P.acks pm.old + 1 }
+    ensures no_ack { session.new.stopped ≡ true → P.acks pm.new ≡ P.acks pm.old }
 {
     if session.stopped {
         return Reply::Stopped;
@@ -73,6 +84,7 @@ fn line_reply<P: Pm>(flat: &mut Flat, call: &Call, pm: &mut P) -> Result<Reply, 
     requires fences { P.fences pm.old < 2 ^ 62 }
     ensures ok { IfOk result (λ reply. Executed flat.old.geometry.pages (state_of_flat flat.old) (line_of_call call.now) flat.new reply
         (P.trail pm.old) (P.now pm.new) (P.trail pm.new)) }
+    ensures quiet { IfOk result (λ reply. reply ≢ Reply.Done → (P.now pm.new ≡ P.now pm.old) × (P.trail pm.new ≡ P.trail pm.old)) }
     ensures told { IfOk result IsTold }
     ensures err { OnErr result (HasFailed flat.old.geometry.pages (state_of_flat flat.old) (line_of_call call.now) (P.trail pm.old) (P.trail pm.new)) }
     ensures cause { OnErr result (HasRisen (P.faults pm.old) (P.faults pm.new)) }
@@ -80,6 +92,7 @@ fn line_reply<P: Pm>(flat: &mut Flat, call: &Call, pm: &mut P) -> Result<Reply, 
     ensures volume { flat.new.geometry ≡ flat.old.geometry }
     ensures faults { P.faults pm.old ≤ P.faults pm.new }
     ensures fences { P.fences pm.new ≤ P.fences pm.old + 4 }
+    ensures counted { IfOk result (λ reply. P.fences pm.new ≡ P.fences pm.old + fences_of (answer_of_reply flat.new reply) flat.old.pages flat.new.pages) }
     ensures acks { P.acks pm.new ≡ P.acks pm.old }
 {
     match call {
@@ -95,6 +108,7 @@ fn command_reply<P: Pm>(flat: &mut Flat, command: &Command, pm: &mut P) -> Resul
     requires fences { P.fences pm.old < 2 ^ 62 }
     ensures ok { IfOk result (λ reply. Executed flat.old.geometry.pages (state_of_flat flat.old) (Ok command.now) flat.new reply
         (P.trail pm.old) (P.now pm.new) (P.trail pm.new)) }
+    ensures quiet { IfOk result (λ reply. reply ≢ Reply.Done → (P.now pm.new ≡ P.now pm.old) × (P.trail pm.new ≡ P.trail pm.old)) }
     ensures told { IfOk result IsTold }
     ensures err { OnErr result (HasFailed flat.old.geometry.pages (state_of_flat flat.old) (Ok command.now) (P.trail pm.old) (P.trail pm.new)) }
     ensures cause { OnErr result (HasRisen (P.faults pm.old) (P.faults pm.new)) }
@@ -102,6 +116,7 @@ fn command_reply<P: Pm>(flat: &mut Flat, command: &Command, pm: &mut P) -> Resul
     ensures volume { flat.new.geometry ≡ flat.old.geometry }
     ensures faults { P.faults pm.old ≤ P.faults pm.new }
     ensures fences { P.fences pm.new ≤ P.fences pm.old + 4 }
+    ensures counted { IfOk result (λ reply. P.fences pm.new ≡ P.fences pm.old + fences_of (answer_of_reply flat.new reply) flat.old.pages flat.new.pages) }
     ensures acks { P.acks pm.new ≡ P.acks pm.old }
 {
     match command {
@@ -118,6 +133,7 @@ fn create_file<P: Pm>(flat: &mut Flat, path: &Path, pm: &mut P) -> Result<Reply,
     requires fences { P.fences pm.old < 2 ^ 62 }
     ensures ok { IfOk result (λ reply. Executed flat.old.geometry.pages (state_of_flat flat.old) (Ok (Create path.now)) flat.new reply
         (P.trail pm.old) (P.now pm.new) (P.trail pm.new)) }
+    ensures quiet { IfOk result (λ reply. reply ≢ Reply.Done → (P.now pm.new ≡ P.now pm.old) × (P.trail pm.new ≡ P.trail pm.old)) }
     ensures told { IfOk result IsTold }
     ensures err { OnErr result (HasFailed flat.old.geometry.pages (state_of_flat flat.old) (Ok (Create path.now)) (P.trail pm.old) (P.trail pm.new)) }
     ensures cause { OnErr result (HasRisen (P.faults pm.old) (P.faults pm.new)) }
@@ -125,6 +141,7 @@ fn create_file<P: Pm>(flat: &mut Flat, path: &Path, pm: &mut P) -> Result<Reply,
     ensures volume { flat.new.geometry ≡ flat.old.geometry }
     ensures faults { P.faults pm.old ≤ P.faults pm.new }
     ensures fences { P.fences pm.new ≤ P.fences pm.old + 4 }
+    ensures counted { IfOk result (λ reply. P.fences pm.new ≡ P.fences pm.old + fences_of (answer_of_reply flat.new reply) flat.old.pages flat.new.pages) }
     ensures acks { P.acks pm.new ≡ P.acks pm.old }
 {
     let file = match new_file(flat, path, pm.image()) {

@@ -1,6 +1,7 @@
 // Words that are stored and settled together, with one fence.
 ghost use Rattle.std.specs.Prelude.{◌≡◌, ◌+◌, ◌-◌, ◌^◌, ◌<◌, ◌≤◌, length, slice_set, OnOk, OnErr};
 ghost use Rattle.pm_trait.specs.Device.{IsSettledAt, IsInterval, IsFenced, HasRisen};
+ghost use Rattle.squirrel_cli.specs.Halts.{EndsInFault};
 ghost use Rattle.squirrel_cli.specs.FlatSteps.{SameBut};
 ghost use Rattle.squirrel_cli.specs.Spans.{IsInSpan, IsInEither, HasWords, spans_events};
 
@@ -36,6 +37,7 @@ pub fn write_word<P: Pm>(pm: &mut P, word: u64, value: u64) -> Result<(), PmFaul
     requires countable { P.fences pm.old < 2 ^ 64 - 1 }
 
     ensures fenced { IsFenced (P.now pm.old) (P.trail pm.old) (P.now pm.new) (P.trail pm.new) result }
+    ensures last { OnErr result (EndsInFault (P.trail pm.new)) }
     ensures words { P.now pm.new ≡ slice_set (P.now pm.old) word value }
 
     ensures room { P.spare pm.old ≤ P.spare pm.new + 3 }
@@ -73,6 +75,7 @@ pub fn write_spans<P: Pm>(
     requires countable { P.fences pm.old < 2 ^ 64 - 1 }
 
     ensures fenced { IsFenced (P.now pm.old) (P.trail pm.old) (P.now pm.new) (P.trail pm.new) result }
+    ensures last { OnErr result (EndsInFault (P.trail pm.new)) }
     ensures beside { SameBut (IsInEither first (length values.now) second (length others.now)) (P.now pm.old) (P.now pm.new) }
     ensures values { HasWords first values.now (P.now pm.new) }
     ensures others { HasWords second others.now (P.now pm.new) }

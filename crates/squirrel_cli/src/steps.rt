@@ -5,6 +5,7 @@ ghost use Rattle.layout.specs.Geometry.{slots_of};
 ghost use Rattle.layout.specs.Name.{IsNameWords};
 ghost use Rattle.layout.specs.Fields.{page_owner, page_kind, page_offset, slot_inode, slot_words, slot_name};
 ghost use Rattle.squirrel_cli.specs.Flat.{HasInode};
+ghost use Rattle.squirrel_cli.specs.Halts.{EndsInFault};
 ghost use Rattle.squirrel_cli.specs.FlatSteps.{SameBut, IsFillWord, IsClaimWord, IsFileWord, IsCommitWord};
 ghost use Rattle.squirrel_cli.specs.Opened.{IsZeroPage};
 
@@ -39,6 +40,7 @@ pub fn fill_page<P: Pm>(pm: &mut P, geometry: &Geometry, page: u64) -> Result<()
     requires countable { P.fences pm.old < 2 ^ 64 - 1 }
 
     ensures fenced { IsFenced (P.now pm.old) (P.trail pm.old) (P.now pm.new) (P.trail pm.new) result }
+    ensures last { OnErr result (EndsInFault (P.trail pm.new)) }
     ensures beside { SameBut (IsFillWord geometry.now.pages page) (P.now pm.old) (P.now pm.new) }
     ensures zero { IsZeroPage geometry.now.pages (P.now pm.new) page }
     ensures kind { page_kind geometry.now.pages (P.now pm.new) page ≡ 2 }
@@ -73,6 +75,7 @@ pub fn claim_page<P: Pm>(pm: &mut P, geometry: &Geometry, page: u64) -> Result<(
     requires countable { P.fences pm.old < 2 ^ 64 - 1 }
 
     ensures fenced { IsFenced (P.now pm.old) (P.trail pm.old) (P.now pm.new) (P.trail pm.new) result }
+    ensures last { OnErr result (EndsInFault (P.trail pm.new)) }
     ensures beside { SameBut (IsClaimWord geometry.now.pages page) (P.now pm.old) (P.now pm.new) }
     ensures owner { page_owner geometry.now.pages (P.now pm.new) page ≡ 1 }
 
@@ -105,6 +108,7 @@ pub fn write_file<P: Pm>(
     requires countable { P.fences pm.old < 2 ^ 64 - 1 }
 
     ensures fenced { IsFenced (P.now pm.old) (P.trail pm.old) (P.now pm.new) (P.trail pm.new) result }
+    ensures last { OnErr result (EndsInFault (P.trail pm.new)) }
     ensures beside { SameBut (IsFileWord geometry.now.pages inode slot) (P.now pm.old) (P.now pm.new) }
     ensures file { HasInode (P.now pm.new) inode 1 1 0 inode }
     ensures words { IsNameWords (slot_words geometry.now.pages (P.now pm.new) slot) }
@@ -144,6 +148,7 @@ pub fn commit_file<P: Pm>(
     requires countable { P.fences pm.old < 2 ^ 64 - 1 }
 
     ensures fenced { IsFenced (P.now pm.old) (P.trail pm.old) (P.now pm.new) (P.trail pm.new) result }
+    ensures last { OnErr result (EndsInFault (P.trail pm.new)) }
     ensures beside { SameBut (IsCommitWord geometry.now.pages slot) (P.now pm.old) (P.now pm.new) }
     ensures inode { slot_inode geometry.now.pages (P.now pm.new) slot ≡ inode }
 

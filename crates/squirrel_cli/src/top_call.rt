@@ -1,5 +1,5 @@
 // The top call.
-ghost use Rattle.std.specs.Prelude.{◌≡◌, ◌⊎◌, ℕ, ◌+◌, ◌*◌, ◌^◌, ◌<◌, ◌≤◌, ◌↔◌, length, Some, IfSome};
+ghost use Rattle.std.specs.Prelude.{◌≡◌, ◌≢◌, ◌⊎◌, ℕ, ◌+◌, ◌*◌, ◌^◌, ◌<◌, ◌≤◌, ◌↔◌, length, Some, IfSome};
 ghost use Rattle.pm_trait.specs.Device.{HasRisen, IsSettledAt, LeavesOnly};
 ghost use Rattle.io_edge.specs.Bytes.{with_bytes, TookFront};
 ghost use Rattle.layout.specs.Format.{IsFormattedFrom};
@@ -36,8 +36,8 @@ pub fn squirrel<P: Pm, S: Source, K: Sink>(
     // No job is asked, or a volume of another size than the device: then nothing is read, written or stored.
     ensures usage { (result ≡ Status.Usage) ↔ IsUnusable (job_of_words words.now) (length (P.now pm.old)) }
     ensures usage_device { result ≡ Status.Usage → (P.now pm.new ≡ P.now pm.old) × (P.trail pm.new ≡ P.trail pm.old) }
-    ensures usage_output { result ≡ Status.Usage → K.taken out.new ≡ K.taken out.old }
-    ensures usage_script { result ≡ Status.Usage → S.left script.new ≡ S.left script.old }
+    ensures usage_output { result ≡ Status.Usage → out.new ≡ out.old }
+    ensures usage_script { result ≡ Status.Usage → script.new ≡ script.old }
 
     // A device that is no volume, or no flat one, is told so and left alone, and the script is not read.
     ensures not_volume { result ≡ Status.NotVolume → (job_of_words words.now ≡ Some Job.Run) × ¬ IsVolume (P.now pm.old) }
@@ -51,39 +51,48 @@ pub fn squirrel<P: Pm, S: Source, K: Sink>(
         (result ≡ Status.Damaged (record { rule = 0; place = 0 })) ⊎ (result ≡ Status.NoMemory)
         ⊎ (result ≡ Status.WriteFault) × TookFront (K.taken out.old) (damaged_text 0 0) (K.taken out.new) }
     ensures left_alone { job_of_words words.now ≡ Some Job.Run → ¬ IsFlatVolume (P.now pm.old) →
-        (P.now pm.new ≡ P.now pm.old) × (P.trail pm.new ≡ P.trail pm.old) × (S.left script.new ≡ S.left script.old) }
+        (P.now pm.new ≡ P.now pm.old) × (P.trail pm.new ≡ P.trail pm.old) × (script.new ≡ script.old) }
 
-    // Each fault has its cause, and want of memory comes before anything is read, written or stored.
+    // Each fault has its cause, which no other answer has, and want of memory comes before anything is read, written or stored.
     ensures device_cause { result ≡ Status.DeviceFault → HasRisen (P.faults pm.old) (P.faults pm.new) }
     ensures read_cause { result ≡ Status.ReadFault → HasRisen (S.faults script.old) (S.faults script.new) }
     ensures write_cause { result ≡ Status.WriteFault → HasRisen (K.faults out.old) (K.faults out.new) }
+    ensures no_read_fault { result ≢ Status.ReadFault → S.faults script.new ≡ S.faults script.old }
+    ensures no_write_fault { result ≢ Status.WriteFault → K.faults out.new ≡ K.faults out.old }
     ensures limit_cause { result ≡ Status.ScriptLimit → GaveAll (S.left script.old) (S.left script.new) }
     ensures no_memory_device { result ≡ Status.NoMemory → (P.now pm.new ≡ P.now pm.old) × (P.trail pm.new ≡ P.trail pm.old) }
-    ensures no_memory_output { result ≡ Status.NoMemory → K.taken out.new ≡ K.taken out.old }
-    ensures no_memory_script { result ≡ Status.NoMemory → S.left script.new ≡ S.left script.old }
+    ensures no_memory_output { result ≡ Status.NoMemory → out.new ≡ out.old }
+    ensures no_memory_script { result ≡ Status.NoMemory → script.new ≡ script.old }
 
     // `mkfs` leaves the root alone, and every word of the data pages as it was; a stop in it leaves the old words, no
-    // volume, or the fresh one. It reads no script.
+    // volume, or the fresh one. It acknowledges nothing, and leaves the script alone.
     ensures formatted { (pages : ℕ) → job_of_words words.now ≡ Some (Job.Mkfs pages) → (result ≡ Status.Done) ⊎ (result ≡ Status.WriteFault) →
         IsFormattedFrom pages (P.now pm.old) (P.now pm.new) × IsFresh pages (P.now pm.new) }
     ensures formatted_told { (pages : ℕ) → job_of_words words.now ≡ Some (Job.Mkfs pages) → result ≡ Status.Done →
         K.taken out.new ≡ with_bytes (K.taken out.old) (formatted_text pages) }
     ensures formatted_cut { (pages : ℕ) → job_of_words words.now ≡ Some (Job.Mkfs pages) → result ≡ Status.WriteFault →
         TookFront (K.taken out.old) (formatted_text pages) (K.taken out.new) }
-    ensures formatted_fault { (pages : ℕ) → job_of_words words.now ≡ Some (Job.Mkfs pages) → result ≡ Status.DeviceFault → K.taken out.new ≡ K.taken out.old }
+    ensures formatted_fault { (pages : ℕ) → job_of_words words.now ≡ Some (Job.Mkfs pages) → result ≡ Status.DeviceFault → out.new ≡ out.old }
     ensures formatted_any_moment { (pages : ℕ) → job_of_words words.now ≡ Some (Job.Mkfs pages) → length (P.now pm.old) ≡ 512 * pages →
-        LeavesOnly (P.trail pm.old) (P.trail pm.new) (λ _. IsOldHiddenOrFormatted pages (P.now pm.old)) }
-    ensures formatted_script { (pages : ℕ) → job_of_words words.now ≡ Some (Job.Mkfs pages) → S.left script.new ≡ S.left script.old }
+        LeavesOnly (P.trail pm.old) (P.trail pm.new) (λ acks image. (acks ≡ 0) × IsOldHiddenOrFormatted pages (P.now pm.old) image) }
+    ensures formatted_no_fault { (pages : ℕ) → job_of_words words.now ≡ Some (Job.Mkfs pages) → result ≡ Status.WriteFault → P.faults pm.new ≡ P.faults pm.old }
+    ensures formatted_fences { (pages : ℕ) → job_of_words words.now ≡ Some (Job.Mkfs pages) → P.fences pm.new ≤ P.fences pm.old + 3 }
+    ensures formatted_acks { (pages : ℕ) → job_of_words words.now ≡ Some (Job.Mkfs pages) → P.acks pm.new ≡ P.acks pm.old }
+    ensures formatted_script { (pages : ℕ) → job_of_words words.now ≡ Some (Job.Mkfs pages) → script.new ≡ script.old }
 
     // `run` executes the lines of the script: each reply is the tree's, and a stop at any moment leaves the tree after all
     // acknowledged lines, the running one's change whole or absent.
     ensures runs { job_of_words words.now ≡ Some Job.Run → IsFlatVolume (P.now pm.old) → IfSome (end_of result) (λ end.
         RunsScript (pages_in_image (P.now pm.old)) (P.now pm.old) end (S.left script.old) (S.left script.new)
-        (K.taken out.old) (K.taken out.new) (P.trail pm.old) (P.trail pm.new)) }
+        (K.taken out.old) (K.taken out.new) (P.trail pm.old) (P.trail pm.new) (P.faults pm.old) (P.faults pm.new)
+        (P.fences pm.old) (P.fences pm.new) (P.acks pm.old) (P.acks pm.new)) }
 
     // Where nothing fails the work is done, or there is not enough memory.
     ensures complete { IsReady (job_of_words words.now) (P.now pm.old) → IsShortScript (S.left script.old) →
         ¬ HasRisen (P.faults pm.old) (P.faults pm.new) → ¬ HasRisen (S.faults script.old) (S.faults script.new) → ¬ HasRisen (K.faults out.old) (K.faults out.new) →
+        (result ≡ Status.Done) ⊎ (result ≡ Status.NoMemory) }
+    ensures complete_mkfs { (pages : ℕ) → job_of_words words.now ≡ Some (Job.Mkfs pages) → length (P.now pm.old) ≡ 512 * pages →
+        ¬ HasRisen (P.faults pm.old) (P.faults pm.new) → ¬ HasRisen (K.faults out.old) (K.faults out.new) →
         (result ≡ Status.Done) ⊎ (result ≡ Status.NoMemory) }
 
     // Where no fence failed the device is settled again, and a flat volume is left, which the next job takes. The work is

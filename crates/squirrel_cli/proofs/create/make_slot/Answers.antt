@@ -1,4 +1,4 @@
-use Rattle.std.proofs.Common.{ℕ, ◌+◌, refl, sym, subst}
+use Rattle.std.proofs.Common.{◌≡◌, ℕ, ◌+◌, ◌*◌, refl, sym, subst}
 use Rattle.std.specs.Prelude.{Option, OnOk}
 use Rattle.pm_trait.specs.DeviceLaws.{leaves_here}
 use Rattle.image_reading.specs.Counts.{Count}
@@ -32,3 +32,7 @@ returns-in-Some-clause-pages g c =
     let new = g.P.Pm.now c.open_page.new.pm in
     subst (λ (page : Option ℕ). OnOk c.open_page.result ((n : ℕ) → Count (IsRootPage P old) n → Count (IsRootPage P new) (n + added_pages page)))
     (sym c.in-Some.is) c.open_page.ensures.pages
+
+pub returns-in-Some-clause-counted : goal.returns-in-Some-clause-counted
+returns-in-Some-clause-counted g c =
+    subst (λ (page : Option ℕ). OnOk c.open_page.result (g.P.Pm.fences c.open_page.new.pm ≡ g.P.Pm.fences c.args.pm.now + 2 * added_pages page)) (sym c.in-Some.is) c.open_page.ensures.counted

@@ -10,7 +10,8 @@ use Rattle.squirrel_cli.proofs.run.run.Given as goal
 abbrev pub invariant-turns : goal.invariant-turns
 invariant-turns g l = record {
   so_far : RanSoFar l.session.flat.geometry.pages (state_of_flat l.fn.session.flat) (g.P.Pm.trail l.fn.pm) (g.S.Source.left l.fn.source) (g.K.Sink.taken l.fn.sink) l.session.flat l.session.stopped (g.P.Pm.now l.pm) (g.P.Pm.trail l.pm)
-      (has_ended l.lines) (rest_of (pending l.lines) (g.S.Source.left l.source)) (g.K.Sink.taken l.sink);
+      (has_ended l.lines) (rest_of (pending l.lines) (g.S.Source.left l.source)) (g.K.Sink.taken l.sink)
+      (g.P.Pm.fences l.fn.pm) (g.P.Pm.fences l.pm) (g.P.Pm.acks l.fn.pm) (g.P.Pm.acks l.pm);
   counted : IfTold (g.S.Source.left l.fn.source) (g.S.Source.left l.source) (ReadFront 0 (read_count l.lines));
   stands : l.session.stopped ≡ false → StandsOn l.session.flat (g.P.Pm.now l.pm) (g.P.Pm.trail l.pm);
   ended : IsTrue (has_ended l.lines) → IsEnd (g.S.Source.left l.source);
@@ -21,8 +22,8 @@ invariant-turns g l = record {
   halted : l.session.stopped ≡ true → HasRisen (g.P.Pm.faults l.fn.pm) (g.P.Pm.faults l.pm);
   no_fault : l.session.stopped ≡ false → g.P.Pm.faults l.pm ≡ g.P.Pm.faults l.fn.pm;
   faults : g.P.Pm.faults l.fn.pm ≤ g.P.Pm.faults l.pm;
-  source_faults : g.S.Source.faults l.fn.source ≤ g.S.Source.faults l.source;
-  sink_faults : g.K.Sink.faults l.fn.sink ≤ g.K.Sink.faults l.sink;
+  source_faults : g.S.Source.faults l.source ≡ g.S.Source.faults l.fn.source;
+  sink_faults : g.K.Sink.faults l.sink ≡ g.K.Sink.faults l.fn.sink;
 }
 
 abbrev pub decreases-turns : goal.decreases-turns

@@ -6,6 +6,7 @@ use Rattle.squirrel_cli.specs.Stands.{files_of, state_of_flat}
 use Rattle.squirrel_cli.specs.Exec.{Executed}
 use Rattle.squirrel_cli.proofs.FlatFiles.{known_files, known_pages}
 use Rattle.squirrel_cli.proofs.FlatStates.{stat_steps, list_steps}
+use Rattle.squirrel_cli.proofs.FenceCounts.{still_fences}
 use Rattle.squirrel_cli.proofs.Sessions.{executed_still}
 use Rattle.squirrel_cli.proofs.session.command_reply.Goals as goal
 
@@ -32,3 +33,9 @@ returns-in-List-clause-ok g c =
     subst (λ (command : Command). Executed flat.geometry.pages (state_of_flat flat) (Ok command) flat c.list.result (g.P.Pm.trail c.args.pm.now) words (g.P.Pm.trail c.args.pm.now)) (sym c.in-List.is)
     (executed_still flat words (g.P.Pm.trail c.args.pm.now) (Ok (Show c.in-List.path)) c.list.result c.requires.stands
     (inl (record { answered = c.list.ensures.answer; tree = steps.tree; room = steps.room })))
+
+pub returns-in-Stat-clause-counted : goal.returns-in-Stat-clause-counted
+returns-in-Stat-clause-counted g c = still_fences c.args.flat.now c.stat.result c.args.flat.now.pages c.args.flat.now.pages (g.P.Pm.fences c.args.pm.now) c.stat.ensures.not_done
+
+pub returns-in-List-clause-counted : goal.returns-in-List-clause-counted
+returns-in-List-clause-counted g c = still_fences c.args.flat.now c.list.result c.args.flat.now.pages c.args.flat.now.pages (g.P.Pm.fences c.args.pm.now) c.list.ensures.not_done

@@ -2,6 +2,7 @@ use Rattle.std.proofs.Common.{ℕ, List, map, ap, subst}
 use Rattle.squirrel_cli.specs.Planned.{IsPlanned}
 use Rattle.tree_model.specs.declared.command.Command.TheVariants.{Create}
 use Rattle.squirrel_cli.proofs.FileLists.{shown}
+use Rattle.squirrel_cli.proofs.FenceCounts.{made_fences}
 use Rattle.squirrel_cli.proofs.Sessions.{executed_refused, executed_short, executed_made, failed_making, stands_as, planned_as}
 use Rattle.squirrel_cli.proofs.session.create_file.Goals as goal
 
@@ -34,4 +35,9 @@ returns-in-Ok-create-clause-ok g c =
 pub returns-in-Err-create-clause-err : goal.returns-in-Err-create-clause-err
 returns-in-Err-create-clause-err g c =
     failed_making c.args.flat.now c.reserve_file.new.flat c.reserve_file.ensures.volume (ap (map shown) c.reserve_file.ensures.files) c.reserve_file.ensures.pages c.args.path.now c.in-Ok.file c.in-Ok.ensures.accepted
-    (g.P.Pm.trail c.args.pm.now) (g.P.Pm.trail c.reserve_file.new.pm) (g.P.Pm.trail c.create.new.pm) c.reserve_file.ensures.trail c.create.ensures.any_moment c.create.ensures.no_ack
+    (g.P.Pm.trail c.args.pm.now) (g.P.Pm.trail c.reserve_file.new.pm) (g.P.Pm.trail c.create.new.pm) c.reserve_file.ensures.trail c.create.ensures.any_moment c.create.ensures.no_ack c.in-Err-create.ensures.last
+
+pub returns-in-Ok-create-clause-counted : goal.returns-in-Ok-create-clause-counted
+returns-in-Ok-create-clause-counted g c =
+    made_fences (g.P.Pm.fences c.args.pm.now) (g.P.Pm.fences c.reserve_file.new.pm) (g.P.Pm.fences c.create.new.pm) c.args.flat.now.pages c.reserve_file.new.flat.pages c.create.new.flat.pages c.in-Ok.file.new_page
+    c.reserve_file.ensures.fences c.in-Ok-create.ensures.counted c.reserve_file.ensures.pages c.in-Ok-create.ensures.pages

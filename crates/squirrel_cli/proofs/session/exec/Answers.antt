@@ -12,4 +12,4 @@ returns-in-Ok-clause-answered g c was is =
     let flat = c.line_reply.new.flat in
     let words = g.P.Pm.now c.line_reply.new.pm in
     let is_at = subst (λ (geometry : Geometry). IsAt geometry.pages (state_of_flat flat) words) c.line_reply.ensures.volume (stands_at flat words (g.P.Pm.trail c.line_reply.new.pm) done.stands) in
-    acknowledged is_at done c.ack.ensures.words c.ack.ensures.trail
+    acknowledged is_at done (λ change. (c.in-Ok.ensures.quiet change).1) c.ack.ensures.words c.ack.ensures.trail

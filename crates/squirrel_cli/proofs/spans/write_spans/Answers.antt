@@ -4,6 +4,7 @@ use Rattle.pm_trait.specs.DeviceLaws.{fence_ends}
 use Rattle.squirrel_cli.specs.Spans.{IsInEither}
 use Rattle.squirrel_cli.proofs.FlatFrame.{interval_same_but}
 use Rattle.squirrel_cli.proofs.SpanSteps.{spans_run, spans_flushed, first_span_stays, has_words_as, same_but_as}
+use Rattle.squirrel_cli.proofs.Halts.{ends_in_fault}
 use Rattle.squirrel_cli.proofs.spans.write_spans.Goals as goal
 
 pub returns-in-Ok-clause-fenced : goal.returns-in-Ok-clause-fenced
@@ -67,3 +68,6 @@ returns-in-Err-clause-values g c =
 pub returns-in-Err-clause-others : goal.returns-in-Err-clause-others
 returns-in-Err-clause-others g c =
     has_words_as c.args.second c.args.others.now (c.fence.ensures.words ∙ c.flush_span-back.ensures.words ∙ c.flush_span-front.ensures.words) c.store_words-2.ensures.written
+
+pub returns-in-Err-clause-last : goal.returns-in-Err-clause-last
+returns-in-Err-clause-last g c = ends_in_fault (g.P.Pm.trail c.flush_span-back.new.pm) c.in-Err.ensures.err

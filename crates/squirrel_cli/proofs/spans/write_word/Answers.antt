@@ -1,6 +1,7 @@
 use Rattle.std.proofs.Common.{arith}
 use Rattle.std.specs.Prelude.{Ok, Err}
 use Rattle.pm_trait.specs.DeviceLaws.{interval_store, then_nothing, fence_ends}
+use Rattle.squirrel_cli.proofs.Halts.{ends_in_fault}
 use Rattle.squirrel_cli.proofs.spans.write_word.Goals as goal
 
 pub returns-in-Ok-clause-fenced : goal.returns-in-Ok-clause-fenced
@@ -16,3 +17,6 @@ returns-in-Err-clause-fenced g c =
     (then_nothing (interval_store c.args.word c.args.value c.store.ensures.words c.store.ensures.trail) c.flush_span-line.ensures.stores_none)
     (λ word is. c.flush_span-line.ensures.flushed word (omega (arith, is)) (omega (arith, is)))
     c.fence.ensures.words tt c.in-Err.ensures.err
+
+pub returns-in-Err-clause-last : goal.returns-in-Err-clause-last
+returns-in-Err-clause-last g c = ends_in_fault (g.P.Pm.trail c.flush_span-line.new.pm) c.in-Err.ensures.err
