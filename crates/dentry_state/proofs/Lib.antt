@@ -1,0 +1,4 @@
+pub mod Events
+pub mod Stored
+pub mod Lines
+pub mod Zeros

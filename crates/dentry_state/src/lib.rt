@@ -1,0 +1,11 @@
+//! A slot of a directory as a value that stands for its words, with what they mean and how far they have come in its type.
+#![tactic(auto)]
+
+mod dentry;
+mod states;
+
+pub use dentry::DentryH;
+pub use states::{DentryState, Free, Live, Named};
+
+#[cfg(test)]
+mod tests;

@@ -1,0 +1,33 @@
+// What the words of a slot mean.
+ghost use Rattle.layout.specs.declared.fields.SlotFields.{SlotFields};
+ghost use Rattle.dentry_state.specs.States.{IsFree, IsNamed, IsLive};
+
+/// A meaning that the words of a slot may have.
+pub trait DentryState {
+    /// A slot has this meaning where its words say so.
+    ghost Reads: { SlotFields → Type 0 };
+}
+
+/// It is no entry of a directory: its words are 0.
+#[derive(Drop)]
+pub struct Free;
+
+/// It has a name, and names no inode yet.
+#[derive(Drop)]
+pub struct Named;
+
+/// It is an entry of its directory: its name stands for an inode.
+#[derive(Drop)]
+pub struct Live;
+
+impl DentryState for Free {
+    ghost Reads = { IsFree };
+}
+
+impl DentryState for Named {
+    ghost Reads = { IsNamed };
+}
+
+impl DentryState for Live {
+    ghost Reads = { IsLive };
+}

@@ -1,0 +1,121 @@
+-- Laws of objects, once for all of them: they go on standing while other words are stored, and a token settles them.
+use Rattle.std.proofs.Common.{◌≡◌, ℕ, ◌<◌, List, [], ◌∷◌, length, refl, sym, subst, arith}
+use Rattle.std.specs.Prelude.{Option, Some, None, IsSomeAnd}
+use Rattle.std.specs.Option.{ForSome}
+use Rattle.pm_trait.specs.declared.event.Event.{Event}
+use Rattle.pm_trait.specs.declared.event.Event.TheVariants.{Flush, Fence, BadFence, Ack}
+use Rattle.pm_trait.specs.Trail.{Trail, stores_to}
+use Rattle.pm_trait.specs.Device.{with_event, IsClean, IsFlushed, IsInFlight, IsSettledAt, IsHonest, IsInterval}
+use Rattle.pm_trait.specs.DeviceLaws.{interval_keeps, interval_length, clean_stays, in_flight_stays, in_flight_event, in_flight_now}
+use Rattle.pm_trait.specs.AckLaws.{clean_event}
+use Rattle.fence_token.specs.Ticket.{Settles, clean_by_token}
+use Rattle.fence_token.specs.Objects.{IsLocal, Stands, StandsClean, StandsInFlight, GoesOn}
+
+-- a ticket whose words are on their way still has them so where each of them goes on so
+flight_goes_on : {Owns : ℕ → Type 0} {old new : Option Trail} (ticket : Option ℕ) → ((fences word : ℕ) → Owns word → IsInFlight old fences word → IsInFlight new fences word) → IsSomeAnd ticket (λ fences. (word : ℕ) → Owns word → IsInFlight old fences word) → IsSomeAnd ticket (λ fences. (word : ℕ) → Owns word → IsInFlight new fences word)
+flight_goes_on None goes flight = flight
+flight_goes_on (Some fences) goes flight = λ word own. goes fences word own (flight word own)
+
+-- ---- over stores to other words
+
+pub stands_stays : {Owns W : ℕ → Type 0} {Reads : List ℕ → Type 0} {a b : List ℕ} {ta tb : Option Trail} → IsLocal Owns Reads → IsInterval W a ta b tb → ((word : ℕ) → Owns word → ¬ W word) → Stands Owns Reads a → Stands Owns Reads b
+stands_stays {a = a} {b = b} local run apart stands = record {
+  inside = λ word own. let before = stands.inside word own in omega (arith, before, interval_length run);
+  reads = local.carries a b (λ word own. interval_keeps word run (apart word own)) stands.reads;
+}
+
+pub stands_clean_stays : {Owns W : ℕ → Type 0} {Reads : List ℕ → Type 0} {a b : List ℕ} {ta tb : Option Trail} → IsLocal Owns Reads → IsInterval W a ta b tb → ((word : ℕ) → Owns word → ¬ W word) → StandsClean Owns Reads a ta → StandsClean Owns Reads b tb
+stands_clean_stays local run apart stands = record {
+  stands = stands_stays local run apart stands.stands;
+  clean = λ word own. clean_stays word run (apart word own) (stands.clean word own);
+}
+
+pub stands_in_flight_stays : {Owns W : ℕ → Type 0} {Reads : List ℕ → Type 0} {ticket : Option ℕ} {a b : List ℕ} {ta tb : Option Trail} → IsLocal Owns Reads → IsInterval W a ta b tb → ((word : ℕ) → Owns word → ¬ W word) → StandsInFlight Owns Reads ticket a ta → StandsInFlight Owns Reads ticket b tb
+stands_in_flight_stays {Owns} {ticket = ticket} {ta = ta} {tb = tb} local run apart stands = record {
+  stands = stands_stays local run apart stands.stands;
+  flight = flight_goes_on {Owns = Owns} {old = ta} {new = tb} ticket (λ fences word own flight. in_flight_stays word run (apart word own) flight) stands.flight;
+}
+
+-- ---- over one event that stores nothing, with the words as before
+
+pub stands_same : {Owns : ℕ → Type 0} {Reads : List ℕ → Type 0} {a b : List ℕ} → b ≡ a → Stands Owns Reads a → Stands Owns Reads b
+stands_same {Owns} {Reads} same stands = subst (λ (now : List ℕ). Stands Owns Reads now) (sym same) stands
+
+stands_clean_event : {Owns : ℕ → Type 0} {Reads : List ℕ → Type 0} {a b : List ℕ} {ta tb : Option Trail} (event : Event) → ((word : ℕ) → stores_to word (event ∷ []) ≡ []) → b ≡ a → tb ≡ with_event ta event → StandsClean Owns Reads a ta → StandsClean Owns Reads b tb
+stands_clean_event event none same appended stands = record {
+  stands = stands_same same stands.stands;
+  clean = λ word own. clean_event event word (none word) same appended (stands.clean word own);
+}
+
+stands_in_flight_event : {Owns : ℕ → Type 0} {Reads : List ℕ → Type 0} {ticket : Option ℕ} {a b : List ℕ} {ta tb : Option Trail} (event : Event) → ((word : ℕ) → stores_to word (event ∷ []) ≡ []) → b ≡ a → tb ≡ with_event ta event → StandsInFlight Owns Reads ticket a ta → StandsInFlight Owns Reads ticket b tb
+stands_in_flight_event {Owns} {ticket = ticket} {ta = ta} {tb = tb} event none same appended stands = record {
+  stands = stands_same same stands.stands;
+  flight = flight_goes_on {Owns = Owns} {old = ta} {new = tb} ticket (λ fences word own flight. in_flight_event event ta word (none word) appended flight) stands.flight;
+}
+
+pub stands_clean_flush : {Owns : ℕ → Type 0} {Reads : List ℕ → Type 0} {a b : List ℕ} {ta tb : Option Trail} (line : ℕ) → b ≡ a → tb ≡ with_event ta (Flush line) → StandsClean Owns Reads a ta → StandsClean Owns Reads b tb
+stands_clean_flush line same appended stands = stands_clean_event (Flush line) (λ word. refl) same appended stands
+
+pub stands_in_flight_flush : {Owns : ℕ → Type 0} {Reads : List ℕ → Type 0} {ticket : Option ℕ} {a b : List ℕ} {ta tb : Option Trail} (line : ℕ) → b ≡ a → tb ≡ with_event ta (Flush line) → StandsInFlight Owns Reads ticket a ta → StandsInFlight Owns Reads ticket b tb
+stands_in_flight_flush line same appended stands = stands_in_flight_event (Flush line) (λ word. refl) same appended stands
+
+pub stands_clean_fence : {Owns : ℕ → Type 0} {Reads : List ℕ → Type 0} {a b : List ℕ} {ta tb : Option Trail} → b ≡ a → tb ≡ with_event ta Fence → StandsClean Owns Reads a ta → StandsClean Owns Reads b tb
+stands_clean_fence same appended stands = stands_clean_event Fence (λ word. refl) same appended stands
+
+pub stands_in_flight_fence : {Owns : ℕ → Type 0} {Reads : List ℕ → Type 0} {ticket : Option ℕ} {a b : List ℕ} {ta tb : Option Trail} → b ≡ a → tb ≡ with_event ta Fence → StandsInFlight Owns Reads ticket a ta → StandsInFlight Owns Reads ticket b tb
+stands_in_flight_fence same appended stands = stands_in_flight_event Fence (λ word. refl) same appended stands
+
+pub stands_clean_bad_fence : {Owns : ℕ → Type 0} {Reads : List ℕ → Type 0} {a b : List ℕ} {ta tb : Option Trail} → b ≡ a → tb ≡ with_event ta BadFence → StandsClean Owns Reads a ta → StandsClean Owns Reads b tb
+stands_clean_bad_fence same appended stands = stands_clean_event BadFence (λ word. refl) same appended stands
+
+pub stands_in_flight_bad_fence : {Owns : ℕ → Type 0} {Reads : List ℕ → Type 0} {ticket : Option ℕ} {a b : List ℕ} {ta tb : Option Trail} → b ≡ a → tb ≡ with_event ta BadFence → StandsInFlight Owns Reads ticket a ta → StandsInFlight Owns Reads ticket b tb
+stands_in_flight_bad_fence same appended stands = stands_in_flight_event BadFence (λ word. refl) same appended stands
+
+pub stands_clean_ack : {Owns : ℕ → Type 0} {Reads : List ℕ → Type 0} {a b : List ℕ} {ta tb : Option Trail} → b ≡ a → tb ≡ with_event ta Ack → StandsClean Owns Reads a ta → StandsClean Owns Reads b tb
+stands_clean_ack same appended stands = stands_clean_event Ack (λ word. refl) same appended stands
+
+pub stands_in_flight_ack : {Owns : ℕ → Type 0} {Reads : List ℕ → Type 0} {ticket : Option ℕ} {a b : List ℕ} {ta tb : Option Trail} → b ≡ a → tb ≡ with_event ta Ack → StandsInFlight Owns Reads ticket a ta → StandsInFlight Owns Reads ticket b tb
+stands_in_flight_ack same appended stands = stands_in_flight_event Ack (λ word. refl) same appended stands
+
+-- ---- flushed and settled objects
+
+-- an object whose words are flushed is on its way, with the number of fences as its ticket
+pub stands_in_flight_now : {Owns : ℕ → Type 0} {Reads : List ℕ → Type 0} {now : List ℕ} {fences acks : ℕ} (trail : Option Trail) → IsHonest now trail fences acks → ((word : ℕ) → Owns word → IsFlushed trail word) → Stands Owns Reads now → StandsInFlight Owns Reads (Some fences) now trail
+stands_in_flight_now trail honest flushed stands = record {
+  stands = stands;
+  flight = λ word own. in_flight_now trail word honest (flushed word own);
+}
+
+settled_words : {Owns : ℕ → Type 0} {now : List ℕ} {fences acks token : ℕ} (ticket : Option ℕ) (trail : Option Trail) → IsHonest now trail fences acks → ((word : ℕ) → Owns word → word < length now) → IsSomeAnd ticket (λ flushed. (word : ℕ) → Owns word → IsInFlight trail flushed word) → ForSome ticket (λ flushed. Settles flushed token fences) → (word : ℕ) → Owns word → IsClean now trail word
+settled_words None trail honest inside flight settles = absurd flight
+settled_words (Some flushed) trail honest inside flight settles = λ word own. clean_by_token trail word honest (flight word own) (settles flushed refl) (inside word own)
+
+-- one on its way is clean once a token settles its ticket
+pub stands_clean_by_token : {Owns : ℕ → Type 0} {Reads : List ℕ → Type 0} {ticket : Option ℕ} {now : List ℕ} {fences acks token : ℕ} (trail : Option Trail) → IsHonest now trail fences acks → StandsInFlight Owns Reads ticket now trail → ForSome ticket (λ flushed. Settles flushed token fences) → StandsClean Owns Reads now trail
+stands_clean_by_token {Owns} {ticket = ticket} trail honest stands settles = record {
+  stands = stands.stands;
+  clean = settled_words {Owns = Owns} ticket trail honest stands.stands.inside stands.flight settles;
+}
+
+-- and each that stands on a settled device is clean
+pub stands_clean_settled : {Owns : ℕ → Type 0} {Reads : List ℕ → Type 0} {now : List ℕ} {trail : Option Trail} → IsSettledAt now trail → Stands Owns Reads now → StandsClean Owns Reads now trail
+stands_clean_settled settled stands = record {
+  stands = stands;
+  clean = λ word own. settled.each word (stands.inside word own);
+}
+
+-- ---- as records
+
+pub goes_on_stays : {Owns W : ℕ → Type 0} {Reads : List ℕ → Type 0} {a b : List ℕ} {ta tb : Option Trail} → IsLocal Owns Reads → IsInterval W a ta b tb → ((word : ℕ) → Owns word → ¬ W word) → GoesOn Owns Reads a ta b tb
+goes_on_stays local run apart = record {
+  stands = stands_stays local run apart;
+  clean = stands_clean_stays local run apart;
+  in_flight = λ ticket. stands_in_flight_stays local run apart;
+}
+
+pub goes_on_fence : {Owns : ℕ → Type 0} {Reads : List ℕ → Type 0} {a b : List ℕ} {ta tb : Option Trail} → b ≡ a → tb ≡ with_event ta Fence → GoesOn Owns Reads a ta b tb
+goes_on_fence same appended = record {
+  stands = stands_same same;
+  clean = stands_clean_fence same appended;
+  in_flight = λ ticket. stands_in_flight_fence same appended;
+}

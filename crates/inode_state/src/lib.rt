@@ -1,0 +1,11 @@
+//! An inode as a value that stands for its words, with what they mean and how far they have come in its type.
+#![tactic(auto)]
+
+mod inode;
+mod states;
+
+pub use inode::InodeH;
+pub use states::{Free, Init, InodeState, Linked, Live};
+
+#[cfg(test)]
+mod tests;

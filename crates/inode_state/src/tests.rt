@@ -1,0 +1,32 @@
+// One inode made a file and settled, then one link more, on a volume of 16 pages.
+use crate::{Free, InodeH};
+use fence_token::{Clean, fence};
+use layout::Geometry;
+use pm_memory::RamPm;
+use pm_trait::Pm;
+use std::test::Fail;
+
+#[test]
+fn a_file_with_two_links(rt: HostRuntime) -> Result<(), Fail> {
+    let alloc = rt.alloc();
+    let old = vec![in alloc; 0; 8_192]?;
+    let mut pm = RamPm::new(alloc, old.as_slice())?;
+    pm.reserve(9)?;
+    let geometry = Geometry::of(16).ok_or("no volume")?;
+    assert_eq!(rt; geometry.inodes, 4);
+    let free: InodeH<Clean, Free> = InodeH::at(&pm, &geometry, 2);
+    assert_eq!(rt; free.number(), 2);
+    let file = free.init_file(&mut pm).flush(&mut pm);
+    let token = fence(&mut pm)?;
+    let file = file.settle(&pm, &token).live();
+    let linked = file.inc_links(&mut pm).flush(&mut pm);
+    let token = fence(&mut pm)?;
+    let linked = linked.settle(&pm, &token).live();
+    assert_eq!(rt; linked.number(), 2);
+    for (word, value) in [(527, 0), (528, 1), (529, 2), (530, 0), (531, 2), (532, 0)] {
+        assert_eq!(rt; pm.image().get(word).copied(), Some(value), "at {word}");
+    }
+    assert_eq!(rt; pm.fences(), 2);
+    assert_eq!(rt; pm.events(), 9);
+    Ok(())
+}

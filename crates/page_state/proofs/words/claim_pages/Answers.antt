@@ -1,0 +1,42 @@
+use Rattle.std.proofs.Common.{◌≡◌, inr, ℕ, ◌<◌, length, slice_index, ◌∙◌, subst, arith}
+use Rattle.pm_trait.specs.DeviceLaws.{interval_length}
+use Rattle.pm_trait.specs.Device.{IsInterval}
+use Rattle.layout.specs.Fields.{page_owner}
+use Rattle.page_state.specs.Page.{AreDataPages, IsOwnerWord}
+use Rattle.page_state.proofs.Contents.{owner_is_own, owner_stays, owner_stored, owner_stores}
+use Rattle.page_state.proofs.Pages.{pages_more, earlier_kept, each_more}
+use Rattle.page_state.proofs.words.claim_pages.Goals as goal
+
+pub store-requires-clause-in_range : goal.store-requires-clause-in_range
+store-requires-clause-in_range g c =
+    let before = c.requires.inside c.descriptor_word.result (record { index = c.loop-page.page-index; before = omega arith; is = inr (record { field = 0; is_field = omega arith; at = c.descriptor_word.ensures.value }) }) in
+    omega (arith, before, interval_length c.loop-page.invariant.stores)
+
+pub loop-page-preserved : goal.loop-page-preserved
+loop-page-preserved g c =
+    let so_far = c.loop-page.invariant in
+    let geometry = c.args.geometry.now in
+    let volume_pages = geometry.pages in
+    let pages = c.args.pages.now in
+    let index = c.loop-page.page-index in
+    let word = c.descriptor_word.result in
+    let at = c.descriptor_word.ensures.value in
+    let old = g.P.Pm.now c.loop-page.pm in
+    let new = g.P.Pm.now c.store.new.self in
+    let valid = subst (λ (d : ℕ). AreDataPages d pages) geometry.data_pages_exact c.requires.data_pages in
+    let inside : index < length pages = omega arith in
+    let page = slice_index pages index in
+    let step : IsInterval (IsOwnerWord volume_pages page) old (g.P.Pm.trail c.loop-page.pm) new (g.P.Pm.trail c.store.new.self) = owner_stores volume_pages page c.args.owner word at c.store.ensures.words c.store.ensures.trail in
+    let before = c.requires.inside word (record { index = index; before = inside; is = inr (record { field = 0; is_field = omega arith; at = at }) }) in
+    let in_device : word < length old = omega (arith, before, interval_length so_far.stores) in
+    record {
+      stores = pages_more (IsOwnerWord volume_pages) volume_pages index pages (owner_is_own volume_pages) valid inside so_far.stores step;
+      owner = each_more (λ page. page_owner volume_pages old page ≡ c.args.owner) (λ page. page_owner volume_pages new page ≡ c.args.owner) pages index
+          (λ earlier order. owner_stays volume_pages (slice_index pages earlier) c.args.owner old new (λ other. earlier_kept (IsOwnerWord volume_pages) volume_pages index pages (owner_is_own volume_pages) valid inside step earlier other order))
+          (owner_stored volume_pages page c.args.owner word old new at in_device c.store.ensures.words) so_far.owner;
+      room = omega arith;
+      faults = c.store.ensures.faults ∙ so_far.faults;
+      refused = c.store.ensures.refused ∙ so_far.refused;
+      fences = c.store.ensures.fences ∙ so_far.fences;
+      acks = c.store.ensures.acks ∙ so_far.acks;
+    }

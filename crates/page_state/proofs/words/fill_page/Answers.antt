@@ -1,0 +1,33 @@
+use Rattle.std.proofs.Common.{inl, inr, ℕ, ◌<◌, subst, arith}
+use Rattle.pm_trait.specs.DeviceLaws.{interval_length}
+use Rattle.page_state.proofs.Contents.{same_length, fill_stores, fill_reads}
+use Rattle.page_state.proofs.words.fill_page.Goals as goal
+
+pub zero_page-requires-clause-inside : goal.zero_page-requires-clause-inside
+zero_page-requires-clause-inside g c = λ word content. c.requires.inside word (inl content)
+
+pub store-requires-clause-in_range : goal.store-requires-clause-in_range
+store-requires-clause-in_range g c =
+    let before = c.requires.inside c.descriptor_word.result (inr (record { field = 1; is_field = omega arith; at = c.descriptor_word.ensures.value })) in
+    omega (arith, before, interval_length c.zero_page.ensures.stores)
+
+pub store-requires-2-clause-in_range : goal.store-requires-2-clause-in_range
+store-requires-2-clause-in_range g c =
+    let before = c.requires.inside c.descriptor_word-2.result (inr (record { field = 2; is_field = omega arith; at = c.descriptor_word-2.ensures.value })) in
+    omega (arith, before, interval_length c.zero_page.ensures.stores, same_length _ _ _ _ c.store.ensures.words)
+
+pub returns-clause-filled : goal.returns-clause-filled
+returns-clause-filled g c =
+    let geometry = c.args.geometry.now in
+    let in_range = subst (λ (d : ℕ). c.args.page < d) geometry.data_pages_exact c.requires.in_range in
+    let first = c.requires.inside c.descriptor_word.result (inr (record { field = 1; is_field = omega arith; at = c.descriptor_word.ensures.value })) in
+    let second = c.requires.inside c.descriptor_word-2.result (inr (record { field = 2; is_field = omega arith; at = c.descriptor_word-2.ensures.value })) in
+    let long = interval_length c.zero_page.ensures.stores in
+    fill_reads (g.P.Pm.now c.zero_page.new.pm) (g.P.Pm.now c.store.new.self) (g.P.Pm.now c.store-2.new.self) geometry.pages c.args.page c.descriptor_word.result c.descriptor_word-2.result in_range
+    c.descriptor_word.ensures.value c.descriptor_word-2.ensures.value (omega (arith, first, long)) (omega (arith, second, long)) c.store.ensures.words c.store-2.ensures.words c.zero_page.ensures.zero
+
+pub returns-clause-stores : goal.returns-clause-stores
+returns-clause-stores g c =
+    let geometry = c.args.geometry.now in
+    fill_stores geometry.pages c.args.page c.descriptor_word.result c.descriptor_word-2.result 2 0 (subst (λ (d : ℕ). c.args.page < d) geometry.data_pages_exact c.requires.in_range)
+    c.descriptor_word.ensures.value c.descriptor_word-2.ensures.value c.zero_page.ensures.stores c.store.ensures.words c.store.ensures.trail c.store-2.ensures.words c.store-2.ensures.trail

@@ -1,0 +1,31 @@
+use Rattle.std.proofs.Common.{inl, inr, ℕ, slice_index, ◌∙◌, ap, subst, arith}
+use Rattle.std.specs.Prelude.{Some}
+use Rattle.std.proofs.lemmas.Bool.{cases_eq}
+use Rattle.pm_trait.specs.DeviceLaws.{flushed_stays, then_nothing, interval_length}
+use Rattle.page_state.specs.Page.{IsTouched}
+use Rattle.page_state.proofs.words.flush_pages.Goals as goal
+
+pub flush_page-requires-clause-inside : goal.flush_page-requires-clause-inside
+flush_page-requires-clause-inside g c = λ word own.
+    let before = c.requires.inside word (record { index = c.loop-page.page-index; before = omega arith; is = own }) in
+    omega (arith, before, interval_length c.loop-page.invariant.stores_none)
+
+pub loop-page-preserved : goal.loop-page-preserved
+loop-page-preserved g c =
+    let so_far = c.loop-page.invariant in
+    let pages = c.args.pages.now in
+    let index = c.loop-page.page-index in
+    record {
+      ticket = λ some. ap (λ (fences : ℕ). Some fences) c.flush_page.ensures.ticket;
+      flushed = λ word is. elim (cases_eq is.index index) [
+        | inl here ↦ c.flush_page.ensures.flushed word (subst (λ (k : ℕ). IsTouched c.args.touched c.args.geometry.now.pages (slice_index pages k) word) here is.is)
+        | inr other ↦ let before = is.before in flushed_stays word c.flush_page.ensures.stores_none (λ none. none) (so_far.flushed word (record { index = is.index; before = omega (arith, other, before); is = is.is }))
+      ];
+      stores_none = then_nothing so_far.stores_none c.flush_page.ensures.stores_none;
+      words = c.flush_page.ensures.words ∙ so_far.words;
+      room = omega arith;
+      faults = c.flush_page.ensures.faults ∙ so_far.faults;
+      refused = c.flush_page.ensures.refused ∙ so_far.refused;
+      fences = c.flush_page.ensures.fences ∙ so_far.fences;
+      acks = c.flush_page.ensures.acks ∙ so_far.acks;
+    }

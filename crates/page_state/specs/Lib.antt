@@ -1,0 +1,3 @@
+pub mod States
+pub mod Page
+pub mod PageLaws

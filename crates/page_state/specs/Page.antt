@@ -1,0 +1,119 @@
+-- One or more data pages as a value that stands for their words and for those of their descriptors.
+use Rattle.std.specs.Prelude.{◌≡◌, ◌⊎◌, ℕ, ◌<◌, List, length, slice_index, Option}
+use Rattle.pm_trait.specs.Trail.{Trail}
+use Rattle.pm_trait.specs.Device.{IsClean}
+use Rattle.layout.specs.declared.fields.DescriptorFields.{DescriptorFields}
+use Rattle.layout.specs.Geometry.{descriptor_word_of, page_word_of}
+use Rattle.layout.specs.Fields.{page_owner, page_kind, page_offset}
+use Rattle.fence_token.specs.Objects.{Stands, StandsClean, StandsInFlight}
+use Rattle.page_state.specs.declared.page.Touched.{Touched}
+use Rattle.page_state.specs.declared.page.Touched.TheVariants.{Descriptors, Whole}
+
+-- the volume's number of pages, the data pages, what may have been stored since they were clean, and the ticket of their flush
+pub record PageView : Type 0 where
+  pub volume_pages : ℕ
+  pub pages : List ℕ
+  pub touched : Touched
+  pub ticket : Option ℕ
+
+-- ---- lists of pages
+
+-- Q holds of each page of the list
+pub record EachPage (pages : List ℕ) (Q : ℕ → Type 0) : Type 0 where
+  pub each : (index : ℕ) → index < length pages → Q (slice_index pages index)
+
+-- no page stands twice in the list
+pub record AreDistinct (pages : List ℕ) : Type 0 where
+  pub each : (index other : ℕ) → index < length pages → other < length pages → slice_index pages index ≡ slice_index pages other → index ≡ other
+
+-- one or more distinct data pages of the volume
+pub record AreDataPages (data_pages : ℕ) (pages : List ℕ) : Type 0 where
+  pub some : 0 < length pages
+  pub in_range : EachPage pages (λ page. page < data_pages)
+  pub distinct : AreDistinct pages
+
+-- the word is one that Q says of one of the first pages of the list
+pub record OfFirst (pages : List ℕ) (count : ℕ) (Q : ℕ → ℕ → Type 0) (word : ℕ) : Type 0 where
+  pub index : ℕ
+  pub before : index < count
+  pub is : Q (slice_index pages index) word
+
+-- and of any of them
+abbrev pub OfSome : List ℕ → (ℕ → ℕ → Type 0) → ℕ → Type 0
+OfSome pages Q word = OfFirst pages (length pages) Q word
+
+-- ---- words of a page
+
+-- one of the page's own 512
+pub record IsContentWord (volume_pages page word : ℕ) : Type 0 where
+  pub place : ℕ
+  pub in_page : place < 512
+  pub at : word ≡ page_word_of volume_pages page place
+
+-- one of the three that its descriptor has: owner, kind and offset
+pub record IsDescriptorWord (volume_pages page word : ℕ) : Type 0 where
+  pub field : ℕ
+  pub is_field : field < 3
+  pub at : word ≡ descriptor_word_of volume_pages page field
+
+abbrev pub IsOwnWord : ℕ → ℕ → ℕ → Type 0
+IsOwnWord volume_pages page word = IsContentWord volume_pages page word ⊎ IsDescriptorWord volume_pages page word
+
+-- those that a fill stores: all but the owner
+abbrev pub IsFilledWord : ℕ → ℕ → ℕ → Type 0
+IsFilledWord volume_pages page word = IsContentWord volume_pages page word ⊎ ((word ≡ descriptor_word_of volume_pages page 1) ⊎ (word ≡ descriptor_word_of volume_pages page 2))
+
+-- the one that a claim stores
+abbrev pub IsOwnerWord : ℕ → ℕ → ℕ → Type 0
+IsOwnerWord volume_pages page word = word ≡ descriptor_word_of volume_pages page 0
+
+-- those that may have been stored
+abbrev pub IsTouched : Touched → ℕ → ℕ → ℕ → Type 0
+IsTouched Descriptors volume_pages page word = IsDescriptorWord volume_pages page word
+IsTouched Whole volume_pages page word = IsOwnWord volume_pages page word
+
+-- the number of a page's lines that hold such words
+abbrev pub touched_lines : Touched → ℕ
+touched_lines Descriptors = 1
+touched_lines Whole = 65
+
+-- each of the page's 512 words is 0
+pub record IsZeroPage (volume_pages : ℕ) (words : List ℕ) (page : ℕ) : Type 0 where
+  pub each : (place : ℕ) → place < 512 → slice_index words (page_word_of volume_pages page place) ≡ 0
+
+-- a page of free slots, whoever its owner is
+pub record IsSlotPage (volume_pages : ℕ) (words : List ℕ) (page : ℕ) : Type 0 where
+  pub zero : IsZeroPage volume_pages words page
+  pub kind : page_kind volume_pages words page ≡ 2
+  pub offset : page_offset volume_pages words page ≡ 0
+
+-- ---- the object
+
+-- what the descriptor's words say
+abbrev pub descriptor_of : ℕ → List ℕ → ℕ → DescriptorFields
+descriptor_of volume_pages words page = record { owner = page_owner volume_pages words page; kind = page_kind volume_pages words page; offset = page_offset volume_pages words page }
+
+-- the word is one of the object's
+abbrev pub IsWordOf : PageView → ℕ → Type 0
+IsWordOf view word = OfSome view.pages (IsOwnWord view.volume_pages) word
+
+-- each page's descriptor has the meaning
+abbrev pub ReadAs : (DescriptorFields → Type 0) → PageView → List ℕ → Type 0
+ReadAs reads view words = EachPage view.pages (λ page. reads (descriptor_of view.volume_pages words page))
+
+-- its words are the device's, and its descriptors have the meaning
+abbrev pub PageStands : (DescriptorFields → Type 0) → PageView → List ℕ → Type 0
+PageStands reads view now = Stands (IsWordOf view) (ReadAs reads view) now
+
+-- and a stop leaves all of its words so but those that may have been stored
+pub record PageIsDirty (reads : DescriptorFields → Type 0) (view : PageView) (now : List ℕ) (trail : Option Trail) : Type 0 where
+  pub stands : PageStands reads view now
+  pub untouched : (word : ℕ) → IsWordOf view word → ¬ OfSome view.pages (IsTouched view.touched view.volume_pages) word → IsClean now trail word
+
+-- and a stop leaves all of its words so
+abbrev pub PageIsClean : (DescriptorFields → Type 0) → PageView → List ℕ → Option Trail → Type 0
+PageIsClean reads view now trail = StandsClean (IsWordOf view) (ReadAs reads view) now trail
+
+-- and they were flushed since their last store, at the time that the ticket says
+abbrev pub PageIsInFlight : (DescriptorFields → Type 0) → PageView → List ℕ → Option Trail → Type 0
+PageIsInFlight reads view now trail = StandsInFlight (IsWordOf view) (ReadAs reads view) view.ticket now trail

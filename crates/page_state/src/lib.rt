@@ -1,0 +1,12 @@
+//! Data pages as a value that stands for their words, with what they mean and how far they have come in its type.
+#![tactic(auto)]
+
+mod page;
+mod states;
+mod words;
+
+pub use page::{PageH, Touched};
+pub use states::{Filled, Free, Live, PageState};
+
+#[cfg(test)]
+mod tests;
