@@ -1,0 +1,137 @@
+-- The inodes that are reached are the nodes, and in a tidy image those whose kind isn't 0.
+use Rattle.std.proofs.Common.{◌≡◌, ◌≢◌, ◌⊎◌, inl, inr, ℕ, ◌+◌, ◌<◌, ◌≤◌, Bool, true, false, length, List, Option, Some, None, is_some, nat_cmp, refl, sym, ap, ◌∙◌, arith}
+use Rattle.std.specs.Cmp.{nat_cmp_total}
+use Rattle.std.specs.FinMap.{nat_cmp-IsAntisymmetric}
+use Rattle.std.proofs.lemmas.Bool.{cases_eq}
+use Rattle.layout.specs.Geometry.{inodes_of}
+use Rattle.layout.specs.Fields.{inode_kind}
+use Rattle.tree_model.specs.Tree.{Tree, Node, node_at}
+use Rattle.tree_model.specs.Capacity.{inodes_in_use, free_inodes, untaken}
+use Rattle.tree_model.specs.Step.{least_free_id}
+use Rattle.tree_model.specs.TreeLaws.{least_free_id-only}
+use Rattle.image_reading.specs.Counts.{Count}
+use Rattle.image_reading.specs.Reading.{Reached, Reads}
+use Rattle.image_reading.specs.Repairs.{IsLitterInode}
+use Rattle.image_reading.specs.Soundness.{Rule, Sound}
+use Rattle.image_reading.specs.Tidy.{Tidy}
+use Rattle.image_reading.proofs.Counts.{count_one}
+use Rattle.image_counts.specs.Entries.{IsFreeInode}
+use Rattle.image_counts.specs.Laws.{HasInodes, HasUsedInodes, InodeCountLaw, FreeInodeLaw}
+use Rattle.image_counts.proofs.Paths.{in_range}
+use Rattle.image_counts.proofs.Nodes.{node_reached, reached_node}
+use Rattle.image_counts.proofs.Counting.{IsMatching, IsMatched, count_matched, count_alike, count_either, count_run, none_counted}
+use Rattle.image_counts.proofs.Entries.{find_among, same_entry, entries_apart, among_find}
+
+true_or_false : (b : Bool) → (b ≡ true) ⊎ (b ≡ false)
+true_or_false true = inl refl
+true_or_false false = inr refl
+
+not_both : (b : Bool) → b ≡ true → b ≡ false → ⊥
+not_both b passes fails = cc
+
+some_of : (o : Option Node) → is_some o ≡ true → (x : Node) × (o ≡ Some x)
+some_of None e = cc
+some_of (Some x) e = (x, refl)
+
+module _ (P : ℕ) (I : List ℕ) (T : Tree) (sound : Sound P I) (reads : Reads P I T) where
+  -- whether an inode is reached can be told from the tree
+  pub reached_or_not : (i : ℕ) → Reached P I i ⊎ ¬ Reached P I i
+  reached_or_not i = elim (true_or_false (is_some (node_at T i))) [
+    | inl there ↦ inl (node_reached P I T sound reads i there)
+    | inr none ↦ inr (λ reached. not_both (is_some (node_at T i)) (reached_node P I T sound reads i reached) none)
+  ]
+
+  abbrev IsKey : ℕ × Node → ℕ → Type 0
+  IsKey e i = i ≡ e.0
+
+  node_matching : IsMatching IsKey T.nodes.entries
+  node_matching = record {
+    apart = entries_apart nat_cmp nat_cmp_total T.nodes.entries T.nodes.sorted;
+    each = λ e among. (e.0, refl);
+    one = λ e s t among a b. a ∙ sym b;
+    own = λ e f s among there a b. same_entry nat_cmp nat_cmp_total T.nodes.entries e f T.nodes.sorted among there (sym a ∙ b);
+  }
+
+  key_reached : (i : ℕ) → IsMatched IsKey T.nodes.entries i → Reached P I i
+  key_reached i (e, among, is) =
+      node_reached P I T sound reads i (ap (λ z. is_some (node_at T z)) is ∙ ap is_some (find_among nat_cmp nat_cmp_total T.nodes.entries e T.nodes.sorted among))
+
+  reached_key : (i : ℕ) → Reached P I i → IsMatched IsKey T.nodes.entries i
+  reached_key i reached =
+      let (x, is) = some_of (node_at T i) (reached_node P I T sound reads i reached) in
+      ((i, x), among_find nat_cmp nat_cmp_total nat_cmp-IsAntisymmetric T.nodes.entries i x is, refl)
+
+  pub count_reached : Count (Reached P I) (inodes_in_use T)
+  count_reached = count_alike (IsMatched IsKey T.nodes.entries) (Reached P I) (length T.nodes.entries) key_reached reached_key (count_matched IsKey T.nodes.entries node_matching)
+
+  pub has_inodes : HasInodes P I T
+  has_inodes = record {
+    count = count_reached;
+    least = λ i reached. (in_range P I sound i reached).0;
+    most = λ i reached. (in_range P I sound i reached).1;
+  }
+
+module _ (P : ℕ) (I : List ℕ) (T : Tree) (tidy : Tidy P I) (reads : Reads P I T) where
+  sound : Sound P I
+  sound = tidy.sound
+
+  litter_inode : (i : ℕ) → 1 ≤ i → i ≤ inodes_of P → inode_kind I i ≢ 0 → ¬ Reached P I i → IsLitterInode P I i
+  unfolding inode_kind
+  litter_inode i least most kind unreached = record { least = least; most = most; unreached = unreached; nonzero = (0, omega arith, kind) }
+
+  kind_reached : (i : ℕ) → 1 ≤ i → i ≤ inodes_of P → inode_kind I i ≢ 0 → Reached P I i
+  kind_reached i least most kind = elim (reached_or_not P I T sound reads i) [
+    | inl reached ↦ reached
+    | inr unreached ↦ absurd (none_counted (IsLitterInode P I) tidy.repaired.of_inodes i (litter_inode i least most kind unreached))
+  ]
+
+  reached_kind : (i : ℕ) → Reached P I i → inode_kind I i ≢ 0
+  reached_kind i reached zero = elim ((sound Rule.kinds i).kind reached) [
+    | inl file ↦ let one : inode_kind I i ≡ 1 = file in omega (arith, one, zero)
+    | inr directory ↦ let two : inode_kind I i ≡ 2 = directory in omega (arith, two, zero)
+  ]
+
+  free_inodes_are : (n : ℕ) → Count (IsFreeInode P I) n → free_inodes (untaken P) T ≡ n
+  free_inodes_are n free =
+      let all = count_either (Reached P I) (IsFreeInode P I) (inodes_in_use T) n (λ i reached is. reached_kind i reached is.2) (count_reached P I T sound reads) free in
+      let total = count_one (λ i. (1 ≤ i) × (i < 1 + inodes_of P)) (inodes_in_use T + n) (inodes_of P)
+      (count_alike (λ i. Reached P I i ⊎ IsFreeInode P I i) (λ i. (1 ≤ i) × (i < 1 + inodes_of P)) (inodes_in_use T + n) in_table either all)
+      (count_run 1 (inodes_of P)) in
+      omega (arith, total)
+    where
+      in_table : (i : ℕ) → Reached P I i ⊎ IsFreeInode P I i → (1 ≤ i) × (i < 1 + inodes_of P)
+      in_table i has = elim has [
+        | inl reached ↦ let range = in_range P I sound i reached in (range.0, omega (arith, range.1))
+        | inr is ↦ let most = is.1 in (is.0, omega (arith, most))
+      ]
+
+      either : (i : ℕ) → (1 ≤ i) × (i < 1 + inodes_of P) → Reached P I i ⊎ IsFreeInode P I i
+      either i range = elim (cases_eq (inode_kind I i) 0) [
+        | inl zero ↦ inr (range.0, omega (arith, range.1), zero)
+        | inr other ↦ inl (kind_reached i range.0 (omega (arith, range.1)) other)
+      ]
+
+  least_free : (i : ℕ) → 2 ≤ i → IsFreeInode P I i → ((j : ℕ) → 2 ≤ j → j < i → inode_kind I j ≢ 0) → least_free_id T ≡ i
+  least_free i low free below = least_free_id-only T i low (none (node_at T i) refl) each
+    where
+      none : (o : Option Node) → node_at T i ≡ o → o ≡ None
+      none None is = refl
+      none (Some x) is = absurd (reached_kind i (node_reached P I T sound reads i (ap is_some is)) free.2)
+
+      each : (j : ℕ) → 2 ≤ j → j < i → is_some (node_at T j) ≡ true
+      each j least less =
+          let most = free.1 in
+          reached_node P I T sound reads j (kind_reached j (omega (arith, least)) (omega (arith, less, most)) (below j least less))
+
+  pub has_used_inodes : HasUsedInodes P I T
+  has_used_inodes = record {
+    used = λ i least most. ((λ reached. reached_kind i reached), (λ kind. kind_reached i least most kind));
+    free = free_inodes_are;
+    least = least_free;
+  }
+
+pub inode_count_law : InodeCountLaw
+inode_count_law P I state sound reads = has_inodes P I state.tree sound reads.tree
+
+pub free_inode_law : FreeInodeLaw
+free_inode_law P I state tidy reads = has_used_inodes P I state.tree tidy reads.tree

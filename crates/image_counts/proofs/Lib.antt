@@ -1,0 +1,13 @@
+pub mod Paths
+pub mod Nodes
+pub mod Distinct
+pub mod Counting
+pub mod Entries
+pub mod Inodes
+pub mod Slots
+pub mod Links
+pub mod Decided
+pub mod Pages
+pub mod PageSlots
+pub mod Tidied
+pub mod States

@@ -1,0 +1,69 @@
+//! What is counted in the words of an image is what is counted in the tree that the image reads as.
+#![tactic(auto)]
+
+ghost use Rattle.image_counts.specs.Laws.{EntryLaw, SizeLaw, InodeCountLaw, FreeInodeLaw, NameCountLaw, AbsenceLaw, LinkLaw, LinkWordLaw, KeptPageLaw, RoomLaw, PageCountLaw, FilePagesLaw, StateLaw};
+
+/// The names in a directory are the reached slots of its pages.
+pub fn entry_law()
+    ensures { EntryLaw }
+{}
+
+/// A node is of the kind and the size that its inode's words say.
+pub fn size_law()
+    ensures { SizeLaw }
+{}
+
+/// The inodes in use are those that are reached, and each is in the inode table.
+pub fn inode_count_law()
+    ensures { InodeCountLaw }
+{}
+
+/// In a tidy image an inode is free exactly where its kind is 0.
+pub fn free_inode_law()
+    ensures { FreeInodeLaw }
+{}
+
+/// A directory has as many names as reached slots.
+pub fn name_count_law()
+    ensures { NameCountLaw }
+{}
+
+/// There is no path where there is no slot.
+pub fn absence_law()
+    ensures { AbsenceLaw }
+{}
+
+/// A reached inode has as many links as are counted in the image.
+pub fn link_law()
+    ensures { LinkLaw }
+{}
+
+/// In a tidy image it has as many as its link word says.
+pub fn link_word_law()
+    ensures { LinkWordLaw }
+{}
+
+/// The pages in use are those that are kept.
+pub fn kept_page_law()
+    ensures { KeptPageLaw }
+{}
+
+/// A directory's room is the number of its pages, and it is full where each slot of them has an inode number.
+pub fn room_law()
+    ensures { RoomLaw }
+{}
+
+/// In a tidy image the pages in use are those that have an owner.
+pub fn page_count_law()
+    ensures { PageCountLaw }
+{}
+
+/// In a tidy image a file's pages are one for each page of its size.
+pub fn file_pages_law()
+    ensures { FilePagesLaw }
+{}
+
+/// What a sound image reads as is a state that a volume of its size may have.
+pub fn state_law()
+    ensures { StateLaw }
+{}

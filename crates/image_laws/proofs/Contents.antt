@@ -1,0 +1,143 @@
+-- The nodes of a sound image.
+use Rattle.std.proofs.Common.{◌≡◌, ◌⊎◌, inl, inr, ℕ, zero, suc, ◌+◌, ◌/◌, ◌%◌, ◌<◌, ◌≤◌, List, [], ◌∷◌, length, get_or, refl, sym, ap, subst, ◌∙◌, arith, add-zero}
+use Rattle.std.proofs.lemmas.Bool.{cases_eq, cases_lt}
+use Rattle.std.proofs.lemmas.List.{ext_get_or}
+use Rattle.layout.specs.Fields.{inode_kind, inode_size, page_byte}
+use Rattle.tree_model.specs.PathText.{Route}
+use Rattle.tree_model.specs.Tree.{Node, Directory, File}
+use Rattle.image_reading.specs.Reading.{Reached, IsPageOf, IsContent, IsNode, pages_of_size}
+use Rattle.image_reading.specs.Soundness.{Rule, Sound}
+use Rattle.image_laws.proofs.Addresses.{page_of_byte-lt}
+use Rattle.image_laws.proofs.AllNames.{all_names, all_names_are}
+use Rattle.image_laws.proofs.Decide.{dec_eq}
+use Rattle.image_laws.specs.Lookup.{Listed}
+use Rattle.image_laws.proofs.Paths.{three_cases}
+
+-- n values of f from a on
+tab : (ℕ → ℕ) → ℕ → ℕ → List ℕ
+tab f a zero = []
+tab f a (suc n) = f a ∷ tab f (a + 1) n
+
+length-tab : (f : ℕ → ℕ) (a n : ℕ) → length (tab f a n) ≡ n
+unfolding tab
+length-tab f a zero = refl
+length-tab f a (suc n) = ap suc (length-tab f (a + 1) n)
+
+get_or-tab : (f : ℕ → ℕ) (a n k : ℕ) → k < n → get_or (tab f a n) k 0 ≡ f (a + k)
+unfolding tab
+get_or-tab f a zero k lt = absurd (omega arith)
+get_or-tab f a (suc n) zero lt = ap f (sym (add-zero a))
+get_or-tab f a (suc n) (suc k) lt = get_or-tab f (a + 1) n k (omega arith) ∙ ap f (let e : a + 1 + k ≡ a + suc k = omega arith in e)
+
+module _ (P : ℕ) (I : List ℕ) (sound : Sound P I) where
+  -- the byte at o, where it is below the size
+  byte : (i : ℕ) → Reached P I i → inode_kind I i ≡ 1 → (o : ℕ) → (o < inode_size I i) ⊎ (inode_size I i ≤ o) → ℕ
+  byte i r k o (inl lt) = page_byte P I (sound Rule.all_pages i r k (o / 4096) (page_of_byte-lt o (inode_size I i) lt)).0 (o % 4096)
+  byte i r k o (inr ge) = 0
+
+  bytes : (i : ℕ) → Reached P I i → inode_kind I i ≡ 1 → List ℕ
+  bytes i r k = tab (λ o. byte i r k o (cases_lt o (inode_size I i))) 0 (inode_size I i)
+
+  pub one_page : (i k j h : ℕ) → Reached P I i → inode_kind I i ≡ 1 → k < pages_of_size (inode_size I i) → IsPageOf P I i k j → IsPageOf P I i k h → j ≡ h
+  one_page i k j h r file lt a b = elim (three_cases j h) [
+    | inl e ↦ e
+    | inr c ↦ elim c [
+      | inl l ↦ absurd (sound Rule.own_offsets h j i k l r file lt a b)
+      | inr l ↦ absurd (sound Rule.own_offsets j h i k l r file lt b a)
+    ]
+  ]
+
+  byte_is : (i : ℕ) (r : Reached P I i) (k : inode_kind I i ≡ 1) (o j : ℕ) (c : (o < inode_size I i) ⊎ (inode_size I i ≤ o)) → o < inode_size I i → IsPageOf P I i (o / 4096) j →
+      byte i r k o c ≡ page_byte P I j (o % 4096)
+  unfolding byte
+  byte_is i r k o j (inl lt) l g = let (h, f) = sound Rule.all_pages i r k (o / 4096) (page_of_byte-lt o (inode_size I i) lt) in
+      ap (λ z. page_byte P I z (o % 4096)) (one_page i (o / 4096) h j r k (page_of_byte-lt o (inode_size I i) lt) f g)
+  byte_is i r k o j (inr ge) l g = absurd (omega arith)
+
+  content : (i : ℕ) (r : Reached P I i) (k : inode_kind I i ≡ 1) → IsContent P I i (bytes i r k)
+  unfolding bytes
+  content i r k = record {
+    size = length-tab (λ o. byte i r k o (cases_lt o (inode_size I i))) 0 (inode_size I i);
+    bytes_at = λ o j lt g.
+        let e : 0 + o ≡ o = omega arith in
+        get_or-tab (λ x. byte i r k x (cases_lt x (inode_size I i))) 0 (inode_size I i) o lt
+        ∙ ap (λ x. byte i r k x (cases_lt x (inode_size I i))) e
+        ∙ byte_is i r k o j (cases_lt o (inode_size I i)) lt g;
+  }
+
+  node_in : (i : ℕ) (r : Reached P I i) → (inode_kind I i ≡ 1) ⊎ (inode_kind I i ≡ 2) → Node
+  node_in i r (inl k) = File (bytes i r k)
+  node_in i r (inr k) = Directory
+
+  node_in_is : (i : ℕ) (r : Reached P I i) (c : (inode_kind I i ≡ 1) ⊎ (inode_kind I i ≡ 2)) → IsNode P I i (node_in i r c)
+  unfolding node_in
+  node_in_is i r (inl k) = (k, content i r k)
+  node_in_is i r (inr k) = k
+
+  pub node_of : (i : ℕ) → Reached P I i → Node
+  node_of i r = node_in i r ((sound Rule.kinds i).kind r)
+
+  pub node_is : (i : ℕ) (r : Reached P I i) → IsNode P I i (node_of i r)
+  unfolding node_of
+  node_is i r = node_in_is i r ((sound Rule.kinds i).kind r)
+
+  -- a sound image determines the node
+  pub one_node : (i : ℕ) (x y : Node) → Reached P I i → IsNode P I i x → IsNode P I i y → x ≡ y
+  one_node i Directory Directory r a b = refl
+  one_node i Directory (File bs) r a (k, b) = absurd (omega (arith, a, k))
+  one_node i (File bs) Directory r (k, a) b = absurd (omega (arith, k, b))
+  one_node i (File bs) (File cs) r (k, a) (l, b) = ap File (ext_get_or 0 bs cs (a.size ∙ sym b.size) (λ o lt.
+      let lt' : o < inode_size I i = let e = a.size in omega (arith, lt, e) in
+      let (j, g) = sound Rule.all_pages i r k (o / 4096) (page_of_byte-lt o (inode_size I i) lt') in
+      a.bytes_at o j lt' g ∙ sym (b.bytes_at o j lt' g)))
+
+  find : (es : List (Route × ℕ)) (i : ℕ) → Dec ((p : Route) × Listed es p i)
+  find [] i = no (λ (p, h). h)
+  find (e ∷ es) i = elim (dec_eq e.1 i) [
+    | yes h ↦ yes (e.0, inl (refl, h))
+    | no n ↦ elim (find es i) [
+      | yes (p, h) ↦ yes (p, inr h)
+      | no f ↦ no (λ (p, h). elim h [ inl g ↦ n g.1 | inr g ↦ f (p, g) ])
+    ]
+  ]
+
+  pub dec_reached : (i : ℕ) → Dec (Reached P I i)
+  dec_reached i = elim (find (all_names P I sound) i) [
+    | yes (p, h) ↦ yes (p, (all_names_are P I sound p i).0 h)
+    | no f ↦ no (λ (p, b). f (p, (all_names_are P I sound p i).1 b))
+  ]
+
+  add_node : (n : ℕ) → Dec (Reached P I n) → List (ℕ × Node) → List (ℕ × Node)
+  add_node n (yes r) es = (n, node_of n r) ∷ es
+  add_node n (no f) es = es
+
+  pub nodes_below : ℕ → List (ℕ × Node)
+  unfolding add_node
+  nodes_below zero = []
+  nodes_below (suc n) = add_node n (dec_reached n) (nodes_below n)
+
+  in_add : (n : ℕ) (c : Dec (Reached P I n)) (es : List (ℕ × Node)) (i : ℕ) (x : Node) → Listed (add_node n c es) i x → (Reached P I i × IsNode P I i x) ⊎ Listed es i x
+  unfolding add_node
+  in_add n (yes r) es i x h = elim h [
+    | inl e ↦ inl (subst (Reached P I) e.0 r, subst (λ z. IsNode P I z x) e.0 (subst (IsNode P I n) e.1 (node_is n r)))
+    | inr g ↦ inr g
+  ]
+  in_add n (no f) es i x h = inr h
+
+  pub in_nodes : (n i : ℕ) (x : Node) → Listed (nodes_below n) i x → Reached P I i × IsNode P I i x
+  unfolding nodes_below
+  in_nodes zero i x h = absurd h
+  in_nodes (suc n) i x h = elim (in_add n (dec_reached n) (nodes_below n) i x h) [ inl r ↦ r | inr g ↦ in_nodes n i x g ]
+
+  add_has : (n : ℕ) (c : Dec (Reached P I n)) (es : List (ℕ × Node)) (i : ℕ) (x : Node) → Reached P I i → IsNode P I i x → (n ≡ i) ⊎ Listed es i x → Listed (add_node n c es) i x
+  unfolding add_node
+  add_has n (yes r) es i x m k h = elim h [
+    | inl e ↦ inl (e, one_node n (node_of n r) x r (node_is n r) (subst (λ z. IsNode P I z x) (sym e) k))
+    | inr g ↦ inr g
+  ]
+  add_has n (no f) es i x m k h = elim h [ inl e ↦ absurd (f (subst (Reached P I) (sym e) m)) | inr g ↦ g ]
+
+  pub nodes_has : (n i : ℕ) (x : Node) → i < n → Reached P I i → IsNode P I i x → Listed (nodes_below n) i x
+  unfolding nodes_below
+  nodes_has zero i x lt r k = absurd (omega arith)
+  nodes_has (suc n) i x lt r k = add_has n (dec_reached n) (nodes_below n) i x r k (elim (cases_eq n i) [ inl e ↦ inl e | inr ne ↦ inr (nodes_has n i x (omega arith) r k) ])

@@ -1,0 +1,76 @@
+-- Create and mkdir leave a state that the step allows.
+use Rattle.std.proofs.Common.{◌≡◌, ℕ, Bool, true, false, List, [], ◌∷◌, reverse, Option, Some, None, refl, sym, ap, subst, ◌∙◌}
+use Rattle.layout.specs.Name.{name_in_words}
+use Rattle.tree_model.specs.PathText.{Route}
+use Rattle.tree_model.specs.Step.{with_new, is_full, tree_after, room_after}
+use Rattle.tree_model.specs.Tree.{Node, Directory, File, Room, IsRoom, parent, last_name, node_at}
+use Rattle.tree_model.specs.Run.{State}
+use Rattle.image_reading.specs.Reading.{Names, ReadsAs}
+use Rattle.image_laws.specs.Add.{with_page, with_node}
+use Rattle.image_laws.specs.Create.{IsEmptyNode, CanName, CanMake, IsVacant, IsCreate, committed, owned}
+use Rattle.image_laws.specs.CreateStep.{making, CanBeMade, IsStepped, CreateStepLaw, NewPageStepLaw}
+use Rattle.image_laws.proofs.Creates.{create_law, room_here}
+use Rattle.image_laws.proofs.NamesCount.{full_law}
+use Rattle.image_laws.proofs.PageCreates.{new_page_law}
+use Rattle.image_laws.proofs.RoomAfter.{room_after_law, empty_node, tree_is}
+use Rattle.image_laws.proofs.States.{room_is}
+use Rattle.image_laws.proofs.Trees.{is_directory-reached, reverse_path, tree_formed}
+
+none_if : {X : Type 0} (o : Option X) → ((x : X) → o ≡ Some x → ⊥) → o ≡ None
+none_if None f = refl
+none_if (Some x) f = absurd (f x refl)
+
+is_empty_node : (node : Node) → IsEmptyNode node → node ≡ empty_node node
+is_empty_node Directory empty = refl
+is_empty_node (File bytes) empty = ap File empty
+
+-- where the last name stands first, the rest is the parent's path
+pub parent_is : (path p : Route) (n : List ℕ) → reverse path ≡ n ∷ p → reverse (parent path) ≡ p
+parent_is [] p n e = cc
+parent_is (name ∷ names) p n e =
+    let whole : last_name (name ∷ names) ∷ reverse (parent (name ∷ names)) ≡ n ∷ p = sym (reverse_path name names) ∙ e in cc
+
+module _ (P : ℕ) (W : List ℕ) (old : State) (p path : Route) (d i : ℕ) (name : List ℕ) (can : CanMake P W p d i name) (is : reverse path ≡ name_in_words name ∷ p) (reads : ReadsAs P W old) where
+  can_be_made : CanBeMade old.tree old.room path d i
+  can_be_made = record {
+    formed = tree_formed P W old.tree can.place.tidy.sound reads.tree;
+    fits = room_is P W old.tree old.room can.place.tidy.sound reads.tree reads.room;
+    above = (reads.tree.names (parent path) d).1 (subst (λ q. Names P W q d) (sym (parent_is path p (name_in_words name) is)) can.place.path);
+    directory = is_directory-reached P W old.tree can.place.tidy.sound reads.tree d (p, can.place.path) can.place.directory;
+    absent = none_if (node_at old.tree i) (λ x e. can.unreached ((reads.tree.nodes i x).0 e).0);
+  }
+
+  stepped : (B I J : List ℕ) (node : Node) (after : Room → Room) → IsEmptyNode node → IsCreate P W B I J path node i after
+      → after old.room ≡ room_after i old.tree old.room (making node path) false → IsStepped P J old (making node path) i
+  stepped B I J node after empty created room =
+      let tree : with_new old.tree path i node ≡ tree_after i old.tree (making node path) = ap (with_new old.tree path i) (is_empty_node node empty) ∙ sym (tree_is old.tree node path i) in
+      let read = created.reads old.tree reads.tree in
+      let has = created.room old.room reads.room in
+      record {
+        new = record { tree = with_new old.tree path i node; room = after old.room };
+        reads = record { tree = read; room = has };
+        tree = tree;
+        room = (false, room, subst (λ T. IsRoom T (after old.room)) tree (room_is P J (with_new old.tree path i node) (after old.room) created.tidy.sound read has));
+      }
+
+not_true : (b : Bool) → (b ≡ true → ⊥) → b ≡ false
+not_true true f = absurd (f refl)
+not_true false f = refl
+
+-- a directory with a vacant slot isn't full
+pub not_full : (P : ℕ) (W : List ℕ) (old : State) (p : Route) (d s : ℕ) (name : List ℕ) → CanName P W p d name → IsVacant P W d s → ReadsAs P W old → is_full old.tree old.room d ≡ false
+not_full P W old p d s name can vacant reads = not_true (is_full old.tree old.room d) (λ full.
+    let live = (full_law P W old.tree old.room d can.tidy.sound reads.tree reads.room (p, can.path) can.directory).0 full s (room_here P W p d s name can vacant) in
+    live.names vacant.free)
+
+pub create_step_law : CreateStepLaw
+create_step_law P W I old p path node d s i name can vacant empty makes is reads =
+    let created = create_law P W I p path node d s i name can vacant empty makes is in
+    stepped P W old p path d i name can is reads W I (committed P I s i) node (λ room. with_node room i node) empty created
+    (sym ((room_after_law old.tree old.room node path d i (can_be_made P W old p path d i name can is reads)).not_full false (not_full P W old p d s name can.place vacant reads)))
+
+pub new_page_step_law : NewPageStepLaw
+new_page_step_law P W A I old p path node d j s i name can page at empty made makes is reads full =
+    let (quiet, created) = new_page_law P W A I p path node d j s i name can page at empty made makes is in
+    stepped P W old p path d i name can is reads (owned P A j d) I (committed P I s i) node (λ room. with_node (with_page room d) i node) empty created
+    (sym ((room_after_law old.tree old.room node path d i (can_be_made P W old p path d i name can is reads)).full false full))

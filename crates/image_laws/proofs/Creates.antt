@@ -1,0 +1,155 @@
+-- Create and mkdir in a page that the directory has.
+use Rattle.std.proofs.Common.{◌≡◌, ◌≢◌, ◌⊎◌, inl, inr, ℕ, ◌<◌, List, ◌∷◌, length, reverse, refl, sym, ap, subst, ◌∙◌, arith}
+use Rattle.std.proofs.lemmas.List.{get_or-set_other}
+use Rattle.layout.specs.Fields.{word, page_owner}
+use Rattle.layout.specs.Geometry.{data_pages_of, page_of_slot, slot_word_of}
+use Rattle.layout.specs.GeometryLaws.{page_of_slot_below, slot_word_within}
+use Rattle.layout.specs.Name.{name_in_words}
+use Rattle.tree_model.specs.PathText.{Route}
+use Rattle.tree_model.specs.Tree.{Node, Tree, Room}
+use Rattle.tree_model.specs.Step.{with_new}
+use Rattle.image_reading.specs.Reading.{slot_owner, IsLive, Reached, IsRoomOf, Reads, HasRoom}
+use Rattle.image_reading.specs.Repairs.{IsLitterPage}
+use Rattle.image_reading.specs.Soundness.{Rule}
+use Rattle.image_reading.specs.Tidy.{Tidy}
+use Rattle.image_laws.specs.Add.{IsFreeSlot, with_node}
+use Rattle.image_laws.specs.Create.{IsEmptyNode, MakesNode, CanName, CanMake, IsVacant, committed, IsCreate, CreateLaw}
+use Rattle.image_laws.specs.Frame.{SameMeaning}
+use Rattle.image_laws.specs.Quiet.{IsMix}
+use Rattle.image_laws.proofs.Adds.{only, stored, add_law, add_tree_law, add_room_law}
+use Rattle.image_laws.proofs.Decide.{dec_eq}
+use Rattle.image_laws.proofs.Free.{mix_one}
+use Rattle.image_laws.proofs.Making as making
+use Rattle.image_laws.proofs.MakeTidy.{tidy_after}
+use Rattle.image_laws.proofs.Meaning.{same_itself, same_chained}
+use Rattle.image_laws.proofs.Ready.{IsReady, IsReadySlot, IsFreeInode, IsTidyBut, tidy_but, no_pointer, none_of}
+use Rattle.image_laws.proofs.Rooms.{dec_room}
+
+-- ---- from an image that is ready
+
+module _ (P : ℕ) (W B C : List ℕ) (p path : Route) (node : Node) (d s i : ℕ) (name : List ℕ) (start : SameMeaning P W B) (ready : IsReady P B p d s i name)
+    (empty : IsEmptyNode node) (makes : MakesNode P B C node d s i name) (is : reverse path ≡ name_in_words name ∷ p) where
+  in_image : slot_word_of P s 0 < length C
+  in_image = let below = slot_word_within P s 0 ready.place.slot.held.in_range (omega arith) in
+      let size = makes.size ∙ (ready.place.sound Rule.head 0).whole refl in omega (arith, below, size)
+
+  pub other_words : (a : ℕ) → a ≢ slot_word_of P s 0 → word (committed P C s i) a ≡ word C a
+  unfolding word
+  other_words a ne = get_or-set_other C (slot_word_of P s 0) a i 0 ne
+
+  same_made : SameMeaning P W C
+  same_made = same_chained P W B C start (making.same P B C p node d s i name ready makes)
+
+  commit : (M : List ℕ) → IsMix C (committed P C s i) M → SameMeaning P W M ⊎ (M ≡ committed P C s i)
+  commit M m = elim (mix_one C M (slot_word_of P s 0) i in_image m) [
+    | inl e ↦ inl (subst (SameMeaning P W) (sym e) same_made)
+    | inr e ↦ inr e
+  ]
+
+  tidy : Tidy P (committed P C s i)
+  tidy =
+      let can = making.can_add P B C p node d s i name ready makes in
+      tidy_after P B C (committed P C s i) p node d s i name ready makes can (only P C s i can.sound) (stored P C s i can.sound can.slot.held.in_range) other_words
+      (add_law P C p d s i can).sound
+
+  reads : (T : Tree) → Reads P W T → Reads P (committed P C s i) (with_new T path i node)
+  reads T h =
+      let can = making.can_add P B C p node d s i name ready makes in
+      let path_is = is ∙ ap (λ n. n ∷ p) (sym (making.name_is P B C p node d s i name ready makes)) in
+      (add_tree_law P C p path d s i can path_is).new_node T node (same_made.reads T h) (making.new_node P B C p node d s i name ready makes) (making.node_made P B C p node d s i name ready makes empty)
+
+  pub created : (after : Room → Room) → ((room : Room) → HasRoom P C room → HasRoom P (committed P C s i) (after room)) → IsCreate P W B C (committed P C s i) path node i after
+  created after room = record {
+    before = λ M m. same_chained P W B M start (making.mixes P B C p node d s i name ready makes M m);
+    commit = commit;
+    tidy = tidy;
+    reads = reads;
+    room = λ r h. room r (same_made.room r h);
+  }
+
+-- ---- a tidy image is ready
+
+-- a free inode of a tidy image owns no page
+pub free_inode : (P : ℕ) (W : List ℕ) (p : Route) (d i : ℕ) (name : List ℕ) → CanMake P W p d i name → IsFreeInode P W i
+unfolding page_owner
+free_inode P W p d i name can = record {
+  least = can.least;
+  most = can.most;
+  unreached = can.unreached;
+  no_pages = λ j lt e. none_of (IsLitterPage P W) j can.place.tidy.repaired.of_pages (record {
+    in_range = lt;
+    free = λ kept. elim kept [
+      | inl file ↦ can.unreached (subst (Reached P W) e file.owner)
+      | inr room ↦ can.unreached (subst (Reached P W) e room.reached)
+    ];
+    nonzero = (0, omega arith, λ z. (let least = can.least in omega (arith, e, z, least)));
+  });
+}
+
+module _ (P : ℕ) (W : List ℕ) (p : Route) (d s : ℕ) (name : List ℕ) (can : CanName P W p d name) (vacant : IsVacant P W d s) where
+  d_reached : Reached P W d
+  d_reached = (p, can.path)
+
+  -- the page of a held slot is kept
+  pub room_here : IsRoomOf P W d (page_of_slot s)
+  unfolding slot_owner page_owner
+  room_here = elim (dec_room P W d d_reached can.directory (page_of_slot s)) [
+    | yes room ↦ room
+    | no none ↦ absurd (none_of (IsLitterPage P W) (page_of_slot s) can.tidy.repaired.of_pages (record {
+      in_range = below;
+      free = λ kept. elim kept [
+        | inl file ↦ (let one = (can.tidy.sound Rule.page_kinds (page_of_slot s)).file below file.owner file.file in let two = vacant.held.kind in omega (arith, one, two))
+        | inr room ↦ none (subst (λ x. IsRoomOf P W x (page_of_slot s)) vacant.owner room)
+      ];
+      nonzero = (0, omega arith, vacant.held.owned);
+    }))
+  ]
+    where
+      below : page_of_slot s < data_pages_of P
+      below = page_of_slot_below P s vacant.held.in_range
+
+  but : IsTidyBut P W (page_of_slot s)
+  but = tidy_but P W (page_of_slot s) can.tidy
+
+  free_slot : IsFreeSlot P W p d s
+  free_slot = record {
+    path = can.path;
+    directory = can.directory;
+    held = vacant.held;
+    owner = vacant.owner;
+    free = vacant.free;
+    no_pointer = no_pointer P W (page_of_slot s) but s vacant.held;
+    no_target = λ t h e. (let none = no_pointer P W (page_of_slot s) but t h in omega (arith, none, e));
+  }
+
+  clean : (t f : ℕ) → page_of_slot t ≡ page_of_slot s → (IsLive P W t → ⊥) → f < 16 → word W (slot_word_of P t f) ≡ 0
+  unfolding slot_owner
+  clean t f at dead lt = elim (dec_eq (word W (slot_word_of P t f)) 0) [
+    | yes e ↦ e
+    | no ne ↦ absurd (but.slots t (record {
+      page = subst (λ j. IsRoomOf P W (page_owner P W j) j) (sym at) (subst (λ x. IsRoomOf P W x (page_of_slot s)) (sym vacant.owner) room_here);
+      dead = dead;
+      nonzero = (f, lt, ne);
+    }))
+  ]
+
+  pub ready_slot : IsReadySlot P W p d s name
+  ready_slot = record {
+    sound = can.tidy.sound;
+    slot = free_slot;
+    is_name = can.is_name;
+    new = can.new;
+    but = but;
+    clean = clean;
+  }
+
+pub is_ready : (P : ℕ) (W : List ℕ) (p : Route) (d s i : ℕ) (name : List ℕ) → CanMake P W p d i name → IsVacant P W d s → IsReady P W p d s i name
+is_ready P W p d s i name can vacant = record { place = ready_slot P W p d s name can.place vacant; inode = free_inode P W p d i name can }
+
+pub create_law : CreateLaw
+create_law P W I p path node d s i name can vacant empty makes is =
+    let ready = is_ready P W p d s i name can vacant in
+    let add = making.can_add P W I p node d s i name ready makes in
+    let room = ((making.shape_made P W I p node d s i name ready makes).directories d (page_of_slot s)).0 (room_here P W p d s name can.place vacant) in
+    created P W W I p path node d s i name (same_itself P W can.place.tidy.sound) ready empty makes is (λ r. with_node r i node)
+    (λ r h. (add_room_law P I p d s i add).old_page r node h (making.node_made P W I p node d s i name ready makes empty) room)

@@ -1,0 +1,158 @@
+-- Unlink and rmdir leave a state that the step allows.
+use Rattle.std.proofs.Common.{◌≡◌, ◌≢◌, inl, inr, ℕ, ◌+◌, ◌-◌, Bool, true, false, cond, ◌&&◌, List, ◌∷◌, reverse, Option, Some, None, unwrap_or, refl, sym, ap, subst, ◌∙◌, add-zero}
+use Rattle.std.proofs.lemmas.Bool.{cases_eq}
+use Rattle.layout.specs.Fields.{slot_inode, slot_name}
+use Rattle.layout.specs.Geometry.{page_of_slot}
+use Rattle.tree_model.specs.PathText.{Route}
+use Rattle.tree_model.specs.RoomLaws.{get-room_after}
+use Rattle.tree_model.specs.Run.{State}
+use Rattle.tree_model.specs.Step.{without_path, without_unnamed, room_after, tree_after, pages_after}
+use Rattle.tree_model.specs.Table.{get, remove}
+use Rattle.tree_model.specs.Tree.{Tree, Room, IsRoom, root_id, parent, id_at, is_directory, is_number, pages_in}
+use Rattle.tree_model.specs.TreeLaws.{same_room}
+use Rattle.image_reading.specs.Reading.{slot_owner, Names, Reads, HasRoom, ReadsAs}
+use Rattle.image_reading.specs.Soundness.{Sound}
+use Rattle.image_laws.specs.CreateStep.{IsStepped}
+use Rattle.image_laws.specs.Drop.{CanDrop, Drops}
+use Rattle.image_laws.specs.DropStep.{Removal, removing, DropStepLaw}
+use Rattle.image_laws.specs.Remove.{without_page}
+use Rattle.image_laws.proofs.AddRoom.{get-here, get-other}
+use Rattle.image_laws.proofs.CreateSteps.{parent_is}
+use Rattle.image_laws.proofs.DropTidy.{drop_law, owner_after}
+use Rattle.image_laws.proofs.RemoveRoom.{get-gone, get-left}
+use Rattle.image_laws.proofs.RemoveTree.{directory_before}
+use Rattle.image_laws.proofs.RoomAfter.{clash, room_at, is_same, not_same}
+use Rattle.image_laws.proofs.Rooms.{dec_room, pages_of_directory}
+use Rattle.image_laws.proofs.States.{room_is}
+use Rattle.image_laws.proofs.Trees.{directory_is, is_directory-reached}
+
+-- what both commands leave
+tree_is : (kind : Removal) (T : Tree) (path : Route) (n : ℕ) → tree_after n T (removing kind path) ≡ without_unnamed (without_path T path)
+tree_is Removal.file T path n = refl
+tree_is Removal.directory T path n = refl
+
+-- the pages of a directory after
+left_pages : Tree → Room → ℕ → Bool → ℕ → ℕ
+left_pages T room d gives x = cond (is_number (Some d) x && gives) (pages_in room x + 0 - 1) (pages_in room x + 0)
+
+pages_are : (kind : Removal) (T : Tree) (room : Room) (path : Route) (d : ℕ) (gives : Bool) (x : ℕ) → id_at T (parent path) ≡ Some d → pages_after T room (removing kind path) gives x ≡ left_pages T room d gives x
+unfolding left_pages
+pages_are Removal.file T room path d gives x e = ap (λ o. cond (is_number (Some (unwrap_or o root_id)) x && gives) (pages_in room x + 0 - 1) (pages_in room x + 0)) e
+pages_are Removal.directory T room path d gives x e = ap (λ o. cond (is_number (Some (unwrap_or o root_id)) x && gives) (pages_in room x + 0 - 1) (pages_in room x + 0)) e
+
+kept_pages : (T : Tree) (room : Room) (d x : ℕ) → left_pages T room d false x ≡ pages_in room x
+unfolding left_pages
+kept_pages T room d x = never (is_number (Some d) x) ∙ add-zero (pages_in room x)
+  where
+    never : (b : Bool) → cond (b && false) (pages_in room x + 0 - 1) (pages_in room x + 0) ≡ pages_in room x + 0
+    never true = refl
+    never false = refl
+
+given_other : (T : Tree) (room : Room) (d x : ℕ) → d ≢ x → left_pages T room d true x ≡ pages_in room x
+unfolding left_pages
+given_other T room d x ne = ap (λ b. cond (b && true) (pages_in room x + 0 - 1) (pages_in room x + 0)) (not_same d x ne) ∙ add-zero (pages_in room x)
+
+given_here : (T : Tree) (room : Room) (d : ℕ) → left_pages T room d true d ≡ pages_in room d - 1
+unfolding left_pages
+given_here T room d = ap (λ b. cond (b && true) (pages_in room d + 0 - 1) (pages_in room d + 0)) (is_same d) ∙ ap (λ n. n - 1) (add-zero (pages_in room d))
+
+module _ (P : ℕ) (W I J K : List ℕ) (old : State) (p path : Route) (s y n : ℕ) (kind : Removal) (can : CanDrop P W p s) (h : Drops P W I J K s y)
+    (is : reverse path ≡ slot_name P W s ∷ p) (reads : ReadsAs P W old) where
+  after : Tree
+  after = without_unnamed (without_path old.tree path)
+
+  read : Reads P K (without_unnamed (without_path old.tree path))
+  read = (drop_law P W I J K p s y can h).reads old.tree path is reads.tree
+
+  tidy_sound : Sound P K
+  tidy_sound = (drop_law P W I J K p s y can h).tidy.sound
+
+  above : id_at old.tree (parent path) ≡ Some (slot_owner P W s)
+  above = (reads.tree.names (parent path) (slot_owner P W s)).1 (subst (λ q. Names P W q (slot_owner P W s)) (sym (parent_is path p (slot_name P W s) is)) can.path)
+
+  old_fits : IsRoom old.tree old.room
+  old_fits = room_is P W old.tree old.room can.tidy.sound reads.tree reads.room
+
+  -- the room after, at each number
+  after_at : (gives : Bool) (x : ℕ) → get (room_after n old.tree old.room (removing kind path) gives) x
+      ≡ cond (is_directory (without_unnamed (without_path old.tree path)) x) (Some (left_pages old.tree old.room (slot_owner P W s) gives x)) None
+  after_at gives x =
+      get-room_after n old.tree old.room (removing kind path) gives x
+      ∙ ap (λ U. cond (is_directory U x) (Some (pages_after old.tree old.room (removing kind path) gives x)) None) (tree_is kind old.tree path n)
+      ∙ ap (λ k. cond (is_directory (without_unnamed (without_path old.tree path)) x) (Some k) None) (pages_are kind old.tree old.room path (slot_owner P W s) gives x above)
+
+  none_some : (k : ℕ) → ◌≡◌ {A = Option ℕ} None (Some k) → ⊥
+  none_some k e = cc
+
+  -- a room of the last image whose entries, but for the inode's, are these
+  same_after : (gives : Bool) (R : Room) → HasRoom P K (remove R (slot_inode P W s)) → ((x : ℕ) → is_directory old.tree x ≡ true → get R x ≡ Some (left_pages old.tree old.room (slot_owner P W s) gives x))
+      → remove R (slot_inode P W s) ≡ room_after n old.tree old.room (removing kind path) gives
+  same_after gives R has each = same_room (remove R (slot_inode P W s)) (room_after n old.tree old.room (removing kind path) gives) (λ x.
+      at x (is_directory (without_unnamed (without_path old.tree path)) x) refl ∙ sym (after_at gives x))
+    where
+      entry : (x : ℕ) → is_directory (without_unnamed (without_path old.tree path)) x ≡ true → (k : ℕ) × (get (remove R (slot_inode P W s)) x ≡ Some k)
+      entry x dir =
+          let (r, two) = directory_is P K (without_unnamed (without_path old.tree path)) tidy_sound read x dir in
+          let (k, pages) = pages_of_directory P K x r two in
+          (k, (has x k).1 (r, two, pages))
+
+      none : (x : ℕ) (o : Option ℕ) → get (remove R (slot_inode P W s)) x ≡ o → is_directory (without_unnamed (without_path old.tree path)) x ≡ false → o ≡ None
+      none x None e dir = refl
+      none x (Some k) e dir =
+          let (r, two, pages) = (has x k).0 e in
+          absurd (clash (sym (is_directory-reached P K (without_unnamed (without_path old.tree path)) tidy_sound read x r two) ∙ dir))
+
+      other : (x : ℕ) → is_directory (without_unnamed (without_path old.tree path)) x ≡ true → x ≢ slot_inode P W s
+      other x dir e =
+          let (k, there) = entry x dir in
+          none_some k (sym (ap (get (remove R (slot_inode P W s))) e ∙ get-gone R (slot_inode P W s)) ∙ there)
+
+      old_directory : (x : ℕ) → is_directory (without_unnamed (without_path old.tree path)) x ≡ true → is_directory old.tree x ≡ true
+      old_directory x dir = directory_before old.tree path x dir
+
+      at : (x : ℕ) (b : Bool) → is_directory (without_unnamed (without_path old.tree path)) x ≡ b → get (remove R (slot_inode P W s)) x
+          ≡ cond (is_directory (without_unnamed (without_path old.tree path)) x) (Some (left_pages old.tree old.room (slot_owner P W s) gives x)) None
+      at x true dir =
+          get-left R (slot_inode P W s) x (other x dir) ∙ each x (old_directory x dir)
+          ∙ sym (ap (λ c. cond c (Some (left_pages old.tree old.room (slot_owner P W s) gives x)) None) dir)
+      at x false dir =
+          none x (get (remove R (slot_inode P W s)) x) refl dir
+          ∙ sym (ap (λ c. cond c (Some (left_pages old.tree old.room (slot_owner P W s) gives x)) None) dir)
+
+  stepped : (gives : Bool) (R : Room) → HasRoom P K (remove R (slot_inode P W s)) → ((x : ℕ) → is_directory old.tree x ≡ true → get R x ≡ Some (left_pages old.tree old.room (slot_owner P W s) gives x))
+      → IsStepped P K old (removing kind path) n
+  stepped gives R has each =
+      let tree : without_unnamed (without_path old.tree path) ≡ tree_after n old.tree (removing kind path) = sym (tree_is kind old.tree path n) in
+      record {
+        new = record { tree = without_unnamed (without_path old.tree path); room = remove R (slot_inode P W s) };
+        reads = record { tree = read; room = has };
+        tree = tree;
+        room = (
+          gives,
+          same_after gives R has each,
+          subst (λ T. IsRoom T (remove R (slot_inode P W s))) tree (room_is P K (without_unnamed (without_path old.tree path)) (remove R (slot_inode P W s)) tidy_sound read has),
+        );
+      }
+
+  old_entry : (x : ℕ) → is_directory old.tree x ≡ true → get old.room x ≡ Some (pages_in old.room x)
+  old_entry x dir = room_at old.tree old.room x old_fits ∙ ap (λ b. cond b (Some (pages_in old.room x)) None) dir
+
+  less_entry : (x : ℕ) → is_directory old.tree x ≡ true → get (without_page old.room (slot_owner P W s)) x ≡ Some (left_pages old.tree old.room (slot_owner P W s) true x)
+  less_entry x dir = elim (cases_eq (slot_owner P W s) x) [
+    | inl e ↦ subst (λ z. get (without_page old.room (slot_owner P W s)) z ≡ Some (left_pages old.tree old.room (slot_owner P W s) true z)) e
+        (get-here old.room (slot_owner P W s) (pages_in old.room (slot_owner P W s) - 1) ∙ ap Some (sym (given_here old.tree old.room (slot_owner P W s))))
+    | inr ne ↦ get-other old.room (slot_owner P W s) (pages_in old.room (slot_owner P W s) - 1) x (λ z. ne (sym z)) ∙ old_entry x dir
+        ∙ ap Some (sym (given_other old.tree old.room (slot_owner P W s) x ne))
+  ]
+
+  pub drop_stepped : IsStepped P K old (removing kind path) n
+  drop_stepped =
+      let room = (drop_law P W I J K p s y can h).room in
+      let (reached, directory) = owner_after P W I J K p s y can h in
+      elim (dec_room P K (slot_owner P W s) reached directory (page_of_slot s)) [
+        | yes here ↦ stepped false old.room (room.kept old.room reads.room here) (λ x dir. old_entry x dir ∙ ap Some (sym (kept_pages old.tree old.room (slot_owner P W s) x)))
+        | no none ↦ stepped true (without_page old.room (slot_owner P W s)) (room.given old.room reads.room none) less_entry
+      ]
+
+pub drop_step_law : DropStepLaw
+drop_step_law P W I J K old p path s y n kind can h is reads = drop_stepped P W I J K old p path s y n kind can h is reads

@@ -1,0 +1,213 @@
+-- The words of a new name are stored and a file's link word is raised: nothing is meant by them yet.
+use Rattle.std.proofs.Common.{◌≡◌, ◌≢◌, ◌⊎◌, inl, inr, ℕ, ◌+◌, ◌<◌, ◌≤◌, List, refl, sym, ap, subst, ◌∙◌, arith}
+use Rattle.std.proofs.lemmas.Bool.{cases_eq}
+use Rattle.layout.specs.Fields.{word, inode_kind, inode_links, page_owner, page_kind, slot_inode, slot_pointer, slot_name}
+use Rattle.layout.specs.Geometry.{inodes_of, data_pages_of, slots_of, page_of_slot, inode_word_of, descriptor_word_of, slot_word_of}
+use Rattle.layout.specs.GeometryLaws.{page_of_slot_below}
+use Rattle.layout.specs.Name.{IsNameWords, name_in_words}
+use Rattle.tree_model.specs.PathText.{Route}
+use Rattle.image_reading.specs.Counts.{AtMost}
+use Rattle.image_reading.specs.Reading.{slot_owner, IsHeld, IsLive, Reached, IsNameOf}
+use Rattle.image_reading.specs.Soundness.{Rule, HasLinks}
+use Rattle.image_laws.specs.Add.{IsFreeSlot, IsOldFile, CanAdd}
+use Rattle.image_laws.specs.Frame.{Alike, SameMeaning, SameShape}
+use Rattle.image_laws.specs.Free.{IsFree, Stores}
+use Rattle.image_laws.specs.Link.{IsLinkedWord, MakesLink}
+use Rattle.image_laws.specs.Quiet.{IsMix}
+use Rattle.image_laws.proofs.Addresses.{descriptor-ne_inode, descriptor-ne_slot, inode-ne_inode, inode-ne_field, inode-ne_slot, slot-ne_slot, slot-ne_field}
+use Rattle.image_laws.proofs.Counts.{at_most}
+use Rattle.image_laws.proofs.Decide.{dec_eq}
+use Rattle.image_laws.proofs.Free.{stores_law}
+use Rattle.image_laws.proofs.Making.{mix_itself, links_more}
+use Rattle.image_laws.proofs.Meaning.{shape, reached_slot, slot_name_same}
+use Rattle.image_laws.proofs.NewPage.{alike_stores}
+use Rattle.image_laws.proofs.Paths.{reached_pos, reached-le}
+use Rattle.image_laws.proofs.Ready.{IsReadySlot, dec_among, dec_either}
+
+dec_linked : (P s i a : ℕ) → Dec (IsLinkedWord P s i a)
+dec_linked P s i a = dec_either _ _ (dec_among (λ k. slot_word_of P s (2 + k)) 14 a) (dec_eq a (inode_word_of i 1))
+
+not_linked : (P s i a : ℕ) → ((k : ℕ) → k < 14 → a ≢ slot_word_of P s (2 + k)) → a ≢ inode_word_of i 1 → IsLinkedWord P s i a → ⊥
+not_linked P s i a g h m = elim m [ inl (k, lt, e) ↦ g k lt e | inr e ↦ h e ]
+
+module _ (P : ℕ) (B C : List ℕ) (p : Route) (d s i : ℕ) (name : List ℕ) (place : IsReadySlot P B p d s name) (file : IsOldFile P B i) (makes : MakesLink P B C s i name) where
+  i_pos : 1 ≤ i
+  i_pos = let h = reached_pos P B i file.reached in omega (arith, h)
+
+  i_most : i ≤ inodes_of P
+  i_most = reached-le P B place.sound i file.reached
+
+  -- a file isn't the root
+  pub i_least : 2 ≤ i
+  i_least = elim (cases_eq i 1) [
+    | inl e ↦ (let two = (place.sound Rule.root i).directory e in let one = file.file in absurd (omega (arith, one, two)))
+    | inr ne ↦ let some = i_pos in omega (arith, some, ne)
+  ]
+
+  d_reached : Reached P B d
+  d_reached = (p, place.slot.path)
+
+  pos : (x : ℕ) → Reached P B x → 1 ≤ x
+  pos x r = let h = reached_pos P B x r in omega (arith, h)
+
+  range : (x : ℕ) → Reached P B x → x ≤ inodes_of P
+  range x r = reached-le P B place.sound x r
+
+  not_live : (t : ℕ) → IsLive P B t → t ≢ s
+  not_live t l e = l.names (ap (slot_inode P B) e ∙ place.slot.free)
+
+  -- ---- which words stay
+
+  same_word : (a : ℕ) → ((k : ℕ) → k < 14 → a ≢ slot_word_of P s (2 + k)) → a ≢ inode_word_of i 1 → word C a ≡ word B a
+  same_word a g h = makes.others a (not_linked P s i a g h)
+
+  pub descriptor_same : (j f : ℕ) → j < data_pages_of P → f < 8 → word C (descriptor_word_of P j f) ≡ word B (descriptor_word_of P j f)
+  descriptor_same j f lt l8 = same_word (descriptor_word_of P j f)
+      (λ k l. descriptor-ne_slot P j f s (2 + k) lt l8)
+      (descriptor-ne_inode P j f i 1 i_pos i_most (omega arith))
+
+  -- an inode's words, but the file's link word
+  pub inode_same : (x f : ℕ) → 1 ≤ x → x ≤ inodes_of P → f < 16 → (f ≢ 1) ⊎ (x ≢ i) → word C (inode_word_of x f) ≡ word B (inode_word_of x f)
+  inode_same x f some most lt other = same_word (inode_word_of x f)
+      (λ k l. inode-ne_slot P x f s (2 + k) some most lt)
+      (elim other [
+        | inl field ↦ inode-ne_field x f i 1 lt (omega arith) field
+        | inr ne ↦ inode-ne_inode x f i 1 some i_pos ne lt (omega arith)
+      ])
+
+  -- a slot's words, but name words of the slot
+  pub slot_same : (t f : ℕ) → f < 16 → (f < 2) ⊎ (t ≢ s) → word C (slot_word_of P t f) ≡ word B (slot_word_of P t f)
+  slot_same t f lt other = same_word (slot_word_of P t f)
+      (λ k l. elim other [
+        | inl low ↦ slot-ne_field P t f s (2 + k) lt (omega arith) (λ e. omega (arith, e, low))
+        | inr ne ↦ slot-ne_slot P t f s (2 + k) lt (omega arith) ne
+      ])
+      (λ e. inode-ne_slot P i 1 t f i_pos i_most (omega arith) (sym e))
+
+  pub owner_same : (j : ℕ) → j < data_pages_of P → page_owner P C j ≡ page_owner P B j
+  unfolding page_owner
+  owner_same j lt = descriptor_same j 0 lt (omega arith)
+
+  kind_same : (j : ℕ) → j < data_pages_of P → page_kind P C j ≡ page_kind P B j
+  unfolding page_kind
+  kind_same j lt = descriptor_same j 1 lt (omega arith)
+
+  slot_owner_same : (t : ℕ) → t < slots_of P → slot_owner P C t ≡ slot_owner P B t
+  unfolding slot_owner
+  slot_owner_same t lt = owner_same (page_of_slot t) (page_of_slot_below P t lt)
+
+  pub slot_inode_same : (t : ℕ) → slot_inode P C t ≡ slot_inode P B t
+  unfolding slot_inode
+  slot_inode_same t = slot_same t 0 (omega arith) (inl (omega arith))
+
+  pub pointer_same : (t : ℕ) → slot_pointer P C t ≡ slot_pointer P B t
+  unfolding slot_pointer
+  pointer_same t = slot_same t 1 (omega arith) (inl (omega arith))
+
+  links_same : (x : ℕ) → Reached P B x → x ≢ i → inode_links C x ≡ inode_links B x
+  unfolding inode_links
+  links_same x r ne = inode_same x 1 (pos x r) (range x r) (omega arith) (inr ne)
+
+  inode_kind_same : (x : ℕ) → Reached P B x → inode_kind C x ≡ inode_kind B x
+  unfolding inode_kind
+  inode_kind_same x r = inode_same x 0 (pos x r) (range x r) (omega arith) (inl (λ e. omega (arith, e)))
+
+  -- ---- the stores are free
+
+  free_linked : (a : ℕ) → IsLinkedWord P s i a → IsFree P B a
+  free_linked a m = elim m [
+    | inl (k, lt, e) ↦ subst (IsFree P B) (sym e) (IsFree.name s (2 + k) (omega arith) (omega arith) place.slot.held (λ r. not_live s r.live refl))
+    | inr e ↦ subst (IsFree P B) (sym e) (IsFree.link i i_pos i_most)
+  ]
+
+  enough_links : (x : ℕ) → Reached P B x → HasLinks P B x (inode_links C x)
+  enough_links x r = elim (cases_eq x i) [
+    | inl e ↦ subst (λ y. HasLinks P B y (inode_links C y)) (sym e) (subst (HasLinks P B i) (sym makes.links) (links_more P B i (inode_links B i) (place.sound Rule.links i file.reached)))
+    | inr ne ↦ subst (HasLinks P B x) (sym (links_same x r ne)) (place.sound Rule.links x r)
+  ]
+
+  stores : Stores P B C
+  stores = record {
+    size = makes.size;
+    words = λ a. elim (dec_linked P s i a) [ no n ↦ inl (makes.others a n) | yes m ↦ inr (free_linked a m) ];
+    owners = λ j lt. inl (owner_same j lt);
+    links = enough_links;
+  }
+
+  pub mixes : (M : List ℕ) → IsMix B C M → SameMeaning P B M
+  mixes M m = stores_law P B C M place.sound stores m
+
+  pub same : SameMeaning P B C
+  same = mixes C (mix_itself B C makes.size)
+
+  pub alike_linked : Alike P B C
+  alike_linked = alike_stores P B C place.sound stores
+
+  pub shape_linked : SameShape P B C
+  shape_linked = shape P B C place.sound alike_linked
+
+  -- ---- held and live slots
+
+  pub held_back : (t : ℕ) → IsHeld P C t → IsHeld P B t
+  held_back t h = record {
+    in_range = h.in_range;
+    kind = sym (kind_same (page_of_slot t) (page_of_slot_below P t h.in_range)) ∙ h.kind;
+    owned = λ z. h.owned (slot_owner_same t h.in_range ∙ z);
+  }
+
+  held_forward : (t : ℕ) → IsHeld P B t → IsHeld P C t
+  held_forward t h = record {
+    in_range = h.in_range;
+    kind = kind_same (page_of_slot t) (page_of_slot_below P t h.in_range) ∙ h.kind;
+    owned = λ z. h.owned (sym (slot_owner_same t h.in_range) ∙ z);
+  }
+
+  pub live_forward : (t : ℕ) → IsLive P B t → IsLive P C t
+  live_forward t l = record {
+    held = held_forward t l.held;
+    names = λ z. l.names (sym (slot_inode_same t) ∙ z);
+    stays = λ q h points same_number. l.stays q (held_back q h) (sym (pointer_same q) ∙ points) (sym (slot_inode_same q) ∙ same_number ∙ slot_inode_same t);
+  }
+
+  -- ---- the slot may take the inode
+
+  pub name_is : slot_name P C s ≡ name_in_words name
+  unfolding slot_name
+  name_is = ap name_in_words makes.words
+
+  pub old_file : IsOldFile P C i
+  old_file = record { reached = (file.reached.0, (same.names file.reached.0 i).0 file.reached.1); file = inode_kind_same i file.reached ∙ file.file }
+
+  free_slot : IsFreeSlot P C p d s
+  free_slot = record {
+    path = (same.names p d).0 place.slot.path;
+    directory = inode_kind_same d d_reached ∙ place.slot.directory;
+    held = held_forward s place.slot.held;
+    owner = slot_owner_same s place.slot.held.in_range ∙ place.slot.owner;
+    free = slot_inode_same s ∙ place.slot.free;
+    no_pointer = pointer_same s ∙ place.slot.no_pointer;
+    no_target = λ t h e. place.slot.no_target t (held_back t h) (sym (pointer_same t) ∙ e);
+  }
+
+  name_back : (t : ℕ) → IsNameOf P C i t → IsNameOf P B i t
+  name_back t n = let (k, m) = reached_slot P B C alike_linked t n.slot in record { slot = m; inode = sym (slot_inode_same t) ∙ n.inode }
+
+  name_room : AtMost 1 (IsNameOf P C i) (inode_links C i)
+  name_room xs distinct all =
+      let le = at_most 0 (inode_links B i) (IsNameOf P B i) (IsNameOf P C i) name_back ((place.sound Rule.links i file.reached).file file.file) xs distinct all in
+      let links = makes.links in omega (arith, le, links)
+
+  pub can_add : CanAdd P C p d s i
+  can_add = record {
+    sound = same.sound;
+    slot = free_slot;
+    name = subst IsNameWords (sym makes.words) place.is_name;
+    new = λ t r o e.
+        let (k, m) = reached_slot P B C alike_linked t r in
+        place.new t m (sym (slot_owner_same t r.live.held.in_range) ∙ o) (sym (slot_name_same P B C alike_linked t m) ∙ e ∙ name_is);
+    least = i_least;
+    most = i_most;
+    node = inr old_file;
+    name_link = λ _. name_room;
+    child_link = λ two. let one = old_file.file in absurd (omega (arith, one, two));
+  }

@@ -1,0 +1,317 @@
+-- Where the directory has taken a new page, a node can be made in it.
+use Rattle.std.proofs.Common.{◌≡◌, ◌≢◌, ◌↔◌, inl, inr, ℕ, ◌+◌, ◌<◌, ◌≤◌, List, sym, ap, subst, ◌∙◌, arith}
+use Rattle.std.proofs.lemmas.Bool.{cases_eq}
+use Rattle.layout.specs.Fields.{word, inode_kind, inode_links, inode_size, page_owner, page_kind, page_offset, slot_inode, slot_pointer, slot_name}
+use Rattle.layout.specs.Geometry.{inodes_of, data_pages_of, slots_of, page_of_slot, inode_word_of, descriptor_word_of, slot_word_of}
+use Rattle.layout.specs.GeometryLaws.{page_of_slot_below, slot_below}
+use Rattle.layout.specs.Name.{name_in_words}
+use Rattle.tree_model.specs.PathText.{Route}
+use Rattle.image_reading.specs.Reading.{HasBytes, slot_owner, IsHeld, IsLive, Reached, IsReachedSlot, IsNameOf, IsChildOf, IsLinkCount, IsRoomOf, pages_of_size, IsPageOf}
+use Rattle.image_reading.specs.Repairs.{IsKeptFilePage, IsKept, IsLitterSlot, IsLitterPage, IsLitterInode, IsLitterCount}
+use Rattle.image_reading.specs.Soundness.{Rule}
+use Rattle.image_laws.specs.Add.{IsFreeSlot}
+use Rattle.image_laws.specs.Space.{IsEntryOf}
+use Rattle.image_laws.specs.Create.{CanName, IsFreePage}
+use Rattle.image_laws.specs.Frame.{SameMeaning}
+use Rattle.image_laws.proofs.Meaning.{count_same}
+use Rattle.image_laws.proofs.Paths.{reached_pos, reached-le, reach}
+use Rattle.image_laws.proofs.Ready.{IsReadySlot, IsFreeInode, IsTidyBut, tidy_but, no_pointer}
+use Rattle.image_laws.proofs.Rooms.{room-lt}
+use Rattle.image_laws.proofs.Words.{slot_words-same}
+
+-- B is W but for page j, which directory d owns in B, and whose slots are zero there. The same slots are reached.
+pub record HasTaken (P : ℕ) (W B : List ℕ) (j d : ℕ) : Type 0 where
+  pub owner : page_owner P B j ≡ d
+  pub kind : page_kind P B j ≡ 2
+  pub zeros : (t f : ℕ) → page_of_slot t ≡ j → f < 16 → word B (slot_word_of P t f) ≡ 0
+  pub descriptors : (x f : ℕ) → x < data_pages_of P → f < 8 → x ≢ j → word B (descriptor_word_of P x f) ≡ word W (descriptor_word_of P x f)
+  pub inodes : (x f : ℕ) → 1 ≤ x → x ≤ inodes_of P → f < 16 → word B (inode_word_of x f) ≡ word W (inode_word_of x f)
+  pub slots : (t f : ℕ) → f < 16 → page_of_slot t ≢ j → word B (slot_word_of P t f) ≡ word W (slot_word_of P t f)
+  pub same : SameMeaning P W B
+  pub reached_slots : (t : ℕ) → IsReachedSlot P W t ↔ IsReachedSlot P B t
+  pub rooms : (x y : ℕ) → IsRoomOf P W x y ↔ IsRoomOf P B x y
+
+module _ (P : ℕ) (W B : List ℕ) (p : Route) (d j s : ℕ) (name : List ℕ) (can : CanName P W p d name) (page : IsFreePage P W j) (at_s : page_of_slot s ≡ j) (taken : HasTaken P W B j d) where
+  d_pos : 1 ≤ d
+  d_pos = let h = reached_pos P W d (p, can.path) in omega (arith, h)
+
+  pub forth : (x : ℕ) → Reached P W x → Reached P B x
+  forth x (q, b) = (q, (taken.same.names q x).0 b)
+
+  pub back : (x : ℕ) → Reached P B x → Reached P W x
+  back x (q, b) = (q, (taken.same.names q x).1 b)
+
+  pos : (x : ℕ) → Reached P W x → 1 ≤ x
+  pos x r = let h = reached_pos P W x r in omega (arith, h)
+
+  range : (x : ℕ) → Reached P W x → x ≤ inodes_of P
+  range x r = reached-le P W can.tidy.sound x r
+
+  -- ---- fields
+
+  inode_kind_same : (x : ℕ) → Reached P W x → inode_kind B x ≡ inode_kind W x
+  unfolding inode_kind
+  inode_kind_same x r = taken.inodes x 0 (pos x r) (range x r) (omega arith)
+
+  inode_size_same : (x : ℕ) → Reached P W x → inode_size B x ≡ inode_size W x
+  unfolding inode_size
+  inode_size_same x r = taken.inodes x 2 (pos x r) (range x r) (omega arith)
+
+  inode_links_same : (x : ℕ) → Reached P W x → inode_links B x ≡ inode_links W x
+  unfolding inode_links
+  inode_links_same x r = taken.inodes x 1 (pos x r) (range x r) (omega arith)
+
+  pub owner_same : (x : ℕ) → x < data_pages_of P → x ≢ j → page_owner P B x ≡ page_owner P W x
+  unfolding page_owner
+  owner_same x lt ne = taken.descriptors x 0 lt (omega arith) ne
+
+  kind_same : (x : ℕ) → x < data_pages_of P → x ≢ j → page_kind P B x ≡ page_kind P W x
+  unfolding page_kind
+  kind_same x lt ne = taken.descriptors x 1 lt (omega arith) ne
+
+  offset_same : (x : ℕ) → x < data_pages_of P → x ≢ j → page_offset P B x ≡ page_offset P W x
+  unfolding page_offset
+  offset_same x lt ne = taken.descriptors x 2 lt (omega arith) ne
+
+  slot_owner_same : (t : ℕ) → t < slots_of P → page_of_slot t ≢ j → slot_owner P B t ≡ slot_owner P W t
+  unfolding slot_owner
+  slot_owner_same t lt ne = owner_same (page_of_slot t) (page_of_slot_below P t lt) ne
+
+  slot_inode_same : (t : ℕ) → page_of_slot t ≢ j → slot_inode P B t ≡ slot_inode P W t
+  unfolding slot_inode
+  slot_inode_same t ne = taken.slots t 0 (omega arith) ne
+
+  pointer_same : (t : ℕ) → page_of_slot t ≢ j → slot_pointer P B t ≡ slot_pointer P W t
+  unfolding slot_pointer
+  pointer_same t ne = taken.slots t 1 (omega arith) ne
+
+  name_same : (t : ℕ) → page_of_slot t ≢ j → slot_name P B t ≡ slot_name P W t
+  unfolding slot_name
+  name_same t ne = ap name_in_words (slot_words-same P W B t (λ f lt. taken.slots t (2 + f) (omega arith) ne))
+
+  zero_inode : (t : ℕ) → page_of_slot t ≡ j → slot_inode P B t ≡ 0
+  unfolding slot_inode
+  zero_inode t at = taken.zeros t 0 at (omega arith)
+
+  zero_pointer : (t : ℕ) → page_of_slot t ≡ j → slot_pointer P B t ≡ 0
+  unfolding slot_pointer
+  zero_pointer t at = taken.zeros t 1 at (omega arith)
+
+  -- no live slot stands in the new page
+  elsewhere : (t : ℕ) → IsLive P B t → page_of_slot t ≢ j
+  elsewhere t l at = l.names (zero_inode t at)
+
+  unowned : (t : ℕ) → page_of_slot t ≡ j → IsHeld P W t → ⊥
+  unfolding slot_owner
+  unowned t at h = h.owned (ap (page_owner P W) at ∙ page.unowned)
+
+  before_elsewhere : (t : ℕ) → IsReachedSlot P W t → page_of_slot t ≢ j
+  before_elsewhere t r at = unowned t at r.live.held
+
+  held_before : (t : ℕ) → page_of_slot t ≢ j → IsHeld P B t → IsHeld P W t
+  held_before t ne h = record {
+    in_range = h.in_range;
+    kind = sym (kind_same (page_of_slot t) (page_of_slot_below P t h.in_range) ne) ∙ h.kind;
+    owned = λ z. h.owned (slot_owner_same t h.in_range ne ∙ z);
+  }
+
+  -- ---- what is to be repaired
+
+  no_pointers : (t : ℕ) → IsHeld P B t → slot_pointer P B t ≡ 0
+  no_pointers t h = elim (cases_eq (page_of_slot t) j) [
+    | inl at ↦ zero_pointer t at
+    | inr ne ↦ pointer_same t ne ∙ no_pointer P W j (tidy_but P W j can.tidy) t (held_before t ne h)
+  ]
+
+  no_slot : (t : ℕ) → IsLitterSlot P B t → ⊥
+  unfolding slot_owner
+  no_slot t l =
+      let (f, lt, nonzero) = l.nonzero in
+      let here = page_of_slot t in
+      let (u, at, o, live) = l.page.slot in
+      let ne : here ≢ j = λ e. elsewhere u live (at ∙ e) in
+      let below = room-lt P B (page_owner P B here) here l.page in
+      let page_before : IsRoomOf P W (page_owner P W here) here = subst (λ x. IsRoomOf P W x here) (owner_same here below ne) ((taken.rooms (page_owner P B here) here).1 l.page) in
+      (tidy_but P W j can.tidy).slots t (record {
+        page = page_before;
+        dead = λ live_before. l.dead (((taken.reached_slots t).0 (record { owner = page_before.reached; directory = page_before.directory; live = live_before })).live);
+        nonzero = (f, lt, λ z. nonzero (taken.slots t f lt ne ∙ z));
+      })
+
+  kept_file : (x : ℕ) → x ≢ j → IsKeptFilePage P W x → IsKeptFilePage P B x
+  kept_file x ne k =
+      let o = owner_same x k.in_range ne in
+      record {
+        in_range = k.in_range;
+        owner = subst (Reached P B) (sym o) (forth (page_owner P W x) k.owner);
+        file = ap (inode_kind B) o ∙ inode_kind_same (page_owner P W x) k.owner ∙ k.file;
+        below = let size = ap (inode_size B) o ∙ inode_size_same (page_owner P W x) k.owner in
+            subst (λ z. z < pages_of_size (inode_size B (page_owner P B x))) (sym (offset_same x k.in_range ne)) (subst (λ z. page_offset P W x < pages_of_size z) (sym size) k.below);
+      }
+
+  kept_forth : (x : ℕ) → x < data_pages_of P → x ≢ j → IsKept P W x → IsKept P B x
+  kept_forth x lt ne k = elim k [
+    | inl file ↦ inl (kept_file x ne file)
+    | inr room ↦ inr (subst (λ y. IsRoomOf P B y x) (sym (owner_same x lt ne)) ((taken.rooms (page_owner P W x) x).0 room))
+  ]
+
+  only_page : (x : ℕ) → IsLitterPage P B x → x ≡ j
+  only_page x l = elim (cases_eq x j) [
+    | inl e ↦ e
+    | inr ne ↦
+        let (f, lt, nonzero) = l.nonzero in
+        (tidy_but P W j can.tidy).pages x (record {
+          in_range = l.in_range;
+          free = λ k. l.free (kept_forth x l.in_range ne k);
+          nonzero = (f, lt, λ z. nonzero (taken.descriptors x f l.in_range (omega arith) ne ∙ z));
+        })
+  ]
+
+  no_inode : (x : ℕ) → IsLitterInode P B x → ⊥
+  no_inode x l =
+      let (f, lt, nonzero) = l.nonzero in
+      (tidy_but P W j can.tidy).inodes x (record {
+        least = l.least;
+        most = l.most;
+        unreached = λ r. l.unreached (forth x r);
+        nonzero = (f, lt, λ z. nonzero (taken.inodes x f l.least l.most (omega arith) ∙ z));
+      })
+
+  -- ---- links
+
+  name_forth : (x t : ℕ) → IsNameOf P W x t → IsNameOf P B x t
+  name_forth x t n = record { slot = (taken.reached_slots t).0 n.slot; inode = slot_inode_same t (before_elsewhere t n.slot) ∙ n.inode }
+
+  name_back : (x t : ℕ) → IsNameOf P B x t → IsNameOf P W x t
+  name_back x t n = record { slot = (taken.reached_slots t).1 n.slot; inode = sym (slot_inode_same t (elsewhere t n.slot.live)) ∙ n.inode }
+
+  named : (t : ℕ) → IsReachedSlot P W t → Reached P W (slot_inode P W t)
+  named t r = reach P W t r ((can.tidy.sound Rule.inodes t).most r)
+
+  child_forth : (x t : ℕ) → IsChildOf P W x t → IsChildOf P B x t
+  child_forth x t n = record {
+    slot = (taken.reached_slots t).0 n.slot;
+    owner = slot_owner_same t n.slot.live.held.in_range (before_elsewhere t n.slot) ∙ n.owner;
+    directory = ap (inode_kind B) (slot_inode_same t (before_elsewhere t n.slot)) ∙ inode_kind_same (slot_inode P W t) (named t n.slot) ∙ n.directory;
+  }
+
+  child_back : (x t : ℕ) → IsChildOf P B x t → IsChildOf P W x t
+  child_back x t n =
+      let old = (taken.reached_slots t).1 n.slot in
+      let ne = elsewhere t n.slot.live in
+      record {
+        slot = old;
+        owner = sym (slot_owner_same t n.slot.live.held.in_range ne) ∙ n.owner;
+        directory = sym (inode_kind_same (slot_inode P W t) (named t old)) ∙ ap (inode_kind B) (sym (slot_inode_same t ne)) ∙ n.directory;
+      }
+
+  links_forth : (x : ℕ) → Reached P W x → IsLinkCount P W x (inode_links W x) → IsLinkCount P B x (inode_links B x)
+  links_forth x r count = subst (IsLinkCount P B x) (sym (inode_links_same x r)) (record {
+    file = λ file. count_same (IsNameOf P W x) (IsNameOf P B x) (inode_links W x) (λ t. (name_forth x t, name_back x t)) (count.file (sym (inode_kind_same x r) ∙ file));
+    directory = λ dir.
+        let (m, children, e) = count.directory (sym (inode_kind_same x r) ∙ dir) in
+        (m, count_same (IsChildOf P W x) (IsChildOf P B x) m (λ t. (child_forth x t, child_back x t)) children, e);
+  })
+
+  no_count : (x : ℕ) → IsLitterCount P B x → ⊥
+  no_count x l =
+      let r = back x l.reached in
+      (tidy_but P W j can.tidy).counts x (record { reached = r; other = λ count. l.other (links_forth x r count) })
+
+  tidy_but_page : IsTidyBut P B (page_of_slot s)
+  tidy_but_page = subst (IsTidyBut P B) (sym at_s) (record {
+    pointers = λ t h. h.nonzero (no_pointers t h.held);
+    slots = no_slot;
+    pages = only_page;
+    inodes = no_inode;
+    counts = no_count;
+  })
+
+  -- ---- the slot
+
+  free_slot : IsFreeSlot P B p d s
+  unfolding slot_owner
+  free_slot = record {
+    path = (taken.same.names p d).0 can.path;
+    directory = inode_kind_same d (p, can.path) ∙ can.directory;
+    held = held;
+    owner = owner_is;
+    free = zero_inode s at_s;
+    no_pointer = zero_pointer s at_s;
+    no_target = λ t h e. (let none = no_pointers t h in omega (arith, none, e));
+  }
+    where
+      owner_is : page_owner P B (page_of_slot s) ≡ d
+      owner_is = ap (page_owner P B) at_s ∙ taken.owner
+
+      held : IsHeld P B s
+      held = record {
+        in_range = slot_below P s (subst (λ x. x < data_pages_of P) (sym at_s) page.in_range);
+        kind = ap (page_kind P B) at_s ∙ taken.kind;
+        owned = λ z. (let some = d_pos in omega (arith, some, owner_is, z));
+      }
+
+  pub page_ready : IsReadySlot P B p d s name
+  page_ready = record {
+    sound = taken.same.sound;
+    slot = free_slot;
+    is_name = can.is_name;
+    new = λ t r o e.
+        let old = (taken.reached_slots t).1 r in
+        let ne = elsewhere t r.live in
+        can.new t old (sym (slot_owner_same t r.live.held.in_range ne) ∙ o) (sym (name_same t ne) ∙ e);
+    but = tidy_but_page;
+    clean = λ t f at dead lt. taken.zeros t f (at ∙ at_s) lt;
+  }
+
+  -- what is free stays free
+  pub inode_ready : (i : ℕ) → IsFreeInode P W i → IsFreeInode P B i
+  inode_ready i free = record {
+    least = free.least;
+    most = free.most;
+    unreached = λ r. free.unreached (back i r);
+    no_pages = λ x lt e. elim (cases_eq x j) [
+      | inl at ↦ free.unreached (subst (Reached P W) (sym taken.owner ∙ ap (page_owner P B) (sym at) ∙ e) (p, can.path))
+      | inr ne ↦ free.no_pages x lt (sym (owner_same x lt ne) ∙ e)
+    ];
+  }
+
+  -- the page has no live slot yet
+  pub no_room : IsRoomOf P B d (page_of_slot s) → ⊥
+  no_room room = let (u, at, o, live) = room.slot in elsewhere u live (at ∙ at_s)
+
+  -- ---- what an index holds is as before
+
+  pub entry_same : (x t : ℕ) → IsEntryOf P B x t ↔ IsEntryOf P W x t
+  entry_same x t = (
+    (λ h. record { slot = (taken.reached_slots t).1 h.slot; owner = sym (slot_owner_same t h.slot.live.held.in_range (elsewhere t h.slot.live)) ∙ h.owner }),
+    (λ h. record { slot = (taken.reached_slots t).0 h.slot; owner = slot_owner_same t h.slot.live.held.in_range (before_elsewhere t h.slot) ∙ h.owner }),
+  )
+
+  pub slot_same : (t : ℕ) → IsReachedSlot P W t → (slot_name P B t ≡ slot_name P W t) × (slot_inode P B t ≡ slot_inode P W t)
+  slot_same t r = (name_same t (before_elsewhere t r), slot_inode_same t (before_elsewhere t r))
+
+  page_elsewhere : (x k y : ℕ) → Reached P W x → IsPageOf P W x k y → y ≢ j
+  page_elsewhere x k y r g e = reached_pos P W x r (sym g.owner ∙ ap (page_owner P W) e ∙ page.unowned)
+
+  file_elsewhere : (x k y : ℕ) → IsPageOf P B x k y → y ≢ j
+  file_elsewhere x k y g e = let one = g.kind in let two = ap (page_kind P B) e ∙ taken.kind in omega (arith, one, two)
+
+  pub file_page_same : (x k y : ℕ) → Reached P W x → IsPageOf P B x k y ↔ IsPageOf P W x k y
+  file_page_same x k y r = (
+    (λ g. let ne = file_elsewhere x k y g in record {
+      in_range = g.in_range;
+      owner = sym (owner_same y g.in_range ne) ∙ g.owner;
+      kind = sym (kind_same y g.in_range ne) ∙ g.kind;
+      offset = sym (offset_same y g.in_range ne) ∙ g.offset;
+    }),
+    (λ g. let ne = page_elsewhere x k y r g in record {
+      in_range = g.in_range;
+      owner = owner_same y g.in_range ne ∙ g.owner;
+      kind = kind_same y g.in_range ne ∙ g.kind;
+      offset = offset_same y g.in_range ne ∙ g.offset;
+    }),
+  )
+
+  pub kind_as_before : (x : ℕ) → Reached P W x → HasBytes W x → HasBytes B x
+  kind_as_before x r file = inode_kind_same x r ∙ file

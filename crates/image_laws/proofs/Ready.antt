@@ -1,0 +1,116 @@
+-- What create and mkdir need of the image in which they make a node, and that words are or aren't among those stored.
+use Rattle.std.proofs.Common.{◌≡◌, ◌≢◌, ◌⊎◌, inl, inr, ℕ, ◌+◌, ◌<◌, ◌≤◌, List, [], ◌∷◌, subst, arith}
+use Rattle.std.proofs.lemmas.Bool.{cases_eq, cases_lt}
+use Rattle.layout.specs.Fields.{word, page_owner, slot_pointer, slot_name}
+use Rattle.layout.specs.Geometry.{inodes_of, data_pages_of, page_of_slot, inode_word_of, slot_word_of}
+use Rattle.layout.specs.Name.{IsNameWords, name_in_words}
+use Rattle.tree_model.specs.PathText.{Route}
+use Rattle.tree_model.specs.Tree.{Node, Directory, File}
+use Rattle.image_reading.specs.Counts.{Count}
+use Rattle.image_reading.specs.Reading.{slot_owner, IsHeld, IsLive, Reached, IsReachedSlot}
+use Rattle.image_reading.specs.Repairs.{IsPointer, IsLitterSlot, IsLitterPage, IsLitterInode, IsLitterCount}
+use Rattle.image_reading.specs.Soundness.{Sound}
+use Rattle.image_reading.specs.Tidy.{Tidy}
+use Rattle.image_reading.proofs.Counts.{count_none}
+use Rattle.image_laws.specs.Add.{IsFreeSlot}
+use Rattle.image_laws.specs.Create.{IsAmong, IsMadeWord}
+use Rattle.image_laws.proofs.Decide.{dec_eq}
+use Rattle.image_laws.proofs.Rooms.{dec_some}
+
+-- ---- tidy, and tidy but for one page
+
+-- none has what is counted 0
+pub none_of : (Q : ℕ → Type 0) (x : ℕ) → Count Q 0 → Q x → ⊥
+none_of Q x ([], d, f, e) q = (f x).1 q
+none_of Q x (y ∷ ys, d, f, e) q = omega arith
+
+-- nothing is to be repaired, but page j may be litter
+pub record IsTidyBut (P : ℕ) (I : List ℕ) (j : ℕ) : Type 0 where
+  pub pointers : (s : ℕ) → IsPointer P I s → ⊥
+  pub slots : (s : ℕ) → IsLitterSlot P I s → ⊥
+  pub pages : (x : ℕ) → IsLitterPage P I x → x ≡ j
+  pub inodes : (i : ℕ) → IsLitterInode P I i → ⊥
+  pub counts : (i : ℕ) → IsLitterCount P I i → ⊥
+
+pub tidy_but : (P : ℕ) (I : List ℕ) (j : ℕ) → Tidy P I → IsTidyBut P I j
+tidy_but P I j t = record {
+  pointers = λ s. none_of (IsPointer P I) s t.repaired.of_pointers;
+  slots = λ s. none_of (IsLitterSlot P I) s t.repaired.of_slots;
+  pages = λ x h. absurd (none_of (IsLitterPage P I) x t.repaired.of_pages h);
+  inodes = λ i. none_of (IsLitterInode P I) i t.repaired.of_inodes;
+  counts = λ i. none_of (IsLitterCount P I) i t.repaired.of_counts;
+}
+
+pub tidy_from : (P : ℕ) (I : List ℕ) (j : ℕ) → Sound P I → IsTidyBut P I j → (IsLitterPage P I j → ⊥) → Tidy P I
+tidy_from P I j sound t none = record {
+  sound = sound;
+  repaired = record {
+    of_pointers = count_none (IsPointer P I) t.pointers;
+    of_slots = count_none (IsLitterSlot P I) t.slots;
+    of_pages = count_none (IsLitterPage P I) (λ x h. none (subst (IsLitterPage P I) (t.pages x h) h));
+    of_inodes = count_none (IsLitterInode P I) t.inodes;
+    of_counts = count_none (IsLitterCount P I) t.counts;
+  };
+}
+
+pub no_pointer : (P : ℕ) (I : List ℕ) (j : ℕ) → IsTidyBut P I j → (s : ℕ) → IsHeld P I s → slot_pointer P I s ≡ 0
+no_pointer P I j t s h = elim (cases_eq (slot_pointer P I s) 0) [ inl e ↦ e | inr n ↦ absurd (t.pointers s (record { held = h; nonzero = n })) ]
+
+-- ---- ready for a new node
+
+-- inode i is free
+pub record IsFreeInode (P : ℕ) (I : List ℕ) (i : ℕ) : Type 0 where
+  pub least : 2 ≤ i
+  pub most : i ≤ inodes_of P
+  pub unreached : Reached P I i → ⊥
+  pub no_pages : (j : ℕ) → j < data_pages_of P → page_owner P I j ≢ i
+
+-- Slot s may be taken, the page of the slot is clean, and it alone may be litter.
+pub record IsReadySlot (P : ℕ) (I : List ℕ) (p : Route) (d s : ℕ) (name : List ℕ) : Type 0 where
+  pub sound : Sound P I
+  pub slot : IsFreeSlot P I p d s
+  pub is_name : IsNameWords name
+  pub new : (t : ℕ) → IsReachedSlot P I t → slot_owner P I t ≡ d → slot_name P I t ≢ name_in_words name
+  pub but : IsTidyBut P I (page_of_slot s)
+  pub clean : (t f : ℕ) → page_of_slot t ≡ page_of_slot s → (IsLive P I t → ⊥) → f < 16 → word I (slot_word_of P t f) ≡ 0
+
+-- and inode i
+pub record IsReady (P : ℕ) (I : List ℕ) (p : Route) (d s i : ℕ) (name : List ℕ) : Type 0 where
+  pub place : IsReadySlot P I p d s name
+  pub inode : IsFreeInode P I i
+
+-- ---- which words are stored
+
+record IsFound (f : ℕ → ℕ) (n a k : ℕ) : Type 0 where
+  below : k < n
+  is : a ≡ f k
+
+dec_found : (f : ℕ → ℕ) (n a k : ℕ) → Dec (IsFound f n a k)
+dec_found f n a k = elim (cases_lt_dec k n) [
+  | no m ↦ no (λ h. m h.below)
+  | yes lt ↦ elim (dec_eq a (f k)) [ no m ↦ no (λ h. m h.is) | yes e ↦ yes (record { below = lt; is = e }) ]
+]
+  where
+    cases_lt_dec : (k n : ℕ) → Dec (k < n)
+    cases_lt_dec k n = elim (cases_lt k n) [ inl lt ↦ yes lt | inr ge ↦ no (λ lt. omega arith) ]
+
+pub dec_among : (f : ℕ → ℕ) (n a : ℕ) → Dec (IsAmong f n a)
+dec_among f n a = elim (dec_some (IsFound f n a) (dec_found f n a) n (λ k h. h.below)) [
+  | yes (k, h) ↦ yes (k, h.below, h.is)
+  | no m ↦ no (λ (k, lt, e). m (k, record { below = lt; is = e }))
+]
+
+pub dec_either : (A B : Type 0) → Dec A → Dec B → Dec (A ⊎ B)
+dec_either A B (yes a) b = yes (inl a)
+dec_either A B (no n) (yes b) = yes (inr b)
+dec_either A B (no n) (no m) = no (λ h. elim h [ inl a ↦ n a | inr b ↦ m b ])
+
+pub dec_made : (P : ℕ) (node : Node) (d s i a : ℕ) → Dec (IsMadeWord P node d s i a)
+dec_made P Directory d s i a =
+    dec_either _ _ (dec_among (inode_word_of i) 4 a) (dec_either _ _ (dec_among (λ k. slot_word_of P s (2 + k)) 14 a) (dec_eq a (inode_word_of d 1)))
+dec_made P (File bytes) d s i a = dec_either _ _ (dec_among (inode_word_of i) 4 a) (dec_among (λ k. slot_word_of P s (2 + k)) 14 a)
+
+pub not_made : (P : ℕ) (node : Node) (d s i a : ℕ) → ((f : ℕ) → f < 4 → a ≢ inode_word_of i f) → ((k : ℕ) → k < 14 → a ≢ slot_word_of P s (2 + k)) → a ≢ inode_word_of d 1
+    → IsMadeWord P node d s i a → ⊥
+not_made P Directory d s i a f g h m = elim m [ inl (k, lt, e) ↦ f k lt e | inr n ↦ elim n [ inl (k, lt, e) ↦ g k lt e | inr e ↦ h e ] ]
+not_made P (File bytes) d s i a f g h m = elim m [ inl (k, lt, e) ↦ f k lt e | inr (k, lt, e) ↦ g k lt e ]

@@ -1,0 +1,130 @@
+-- The intervals of create and mkdir: a new page of the directory where it needs one, the node's and the name's words,
+-- and the slot's inode number.
+use Rattle.std.specs.Prelude.{◌≡◌, ◌≢◌, ◌⊎◌, ℕ, ◌+◌, ◌<◌, ◌≤◌, List, [], ◌∷◌, length, reverse, set, slice_index}
+use Rattle.layout.specs.Fields.{word, inode_links, page_owner, page_kind, page_offset, slot_inode, slot_name, slot_words}
+use Rattle.layout.specs.Geometry.{inodes_of, data_pages_of, page_of_slot, inode_word_of, descriptor_word_of, slot_word_of, page_word_of}
+use Rattle.layout.specs.Name.{IsNameWords, name_in_words}
+use Rattle.tree_model.specs.PathText.{Route}
+use Rattle.tree_model.specs.Tree.{Node, Directory, File, Tree, Room}
+use Rattle.tree_model.specs.Step.{with_new}
+use Rattle.image_reading.specs.Reading.{IsDirectory, slot_owner, IsHeld, Names, Reached, IsReachedSlot, Reads, HasRoom}
+use Rattle.image_reading.specs.Soundness.{Sound}
+use Rattle.image_reading.specs.Tidy.{Tidy}
+use Rattle.image_laws.specs.Frame.{SameMeaning}
+use Rattle.image_laws.specs.Quiet.{IsMix}
+use Rattle.image_laws.specs.Add.{with_page, with_node}
+
+-- a is one of the first n values of f
+abbrev pub IsAmong : (ℕ → ℕ) → ℕ → ℕ → Type 0
+IsAmong f n a = (k : ℕ) × (k < n) × (a ≡ f k)
+
+-- ---- the node and its name
+
+-- a directory, or a file without bytes
+abbrev pub IsEmptyNode : Node → Type 0
+IsEmptyNode Directory = Unit {0}
+IsEmptyNode (File bytes) = bytes ≡ []
+
+-- the first words of such a node's inode
+abbrev pub node_words : Node → ℕ → List ℕ
+node_words Directory i = 2 ∷ 2 ∷ 0 ∷ i ∷ []
+node_words (File bytes) i = 1 ∷ 1 ∷ 0 ∷ i ∷ []
+
+-- the links of the directory that it is made in
+abbrev pub parent_links : Node → ℕ → ℕ
+parent_links Directory links = links + 1
+parent_links (File bytes) links = links
+
+-- a word of inode i, a name word of slot s, or with a directory the link word of its parent d
+abbrev pub IsMadeWord : ℕ → Node → ℕ → ℕ → ℕ → ℕ → Type 0
+IsMadeWord P Directory d s i a = IsAmong (inode_word_of i) 4 a ⊎ (IsAmong (λ k. slot_word_of P s (2 + k)) 14 a ⊎ (a ≡ inode_word_of d 1))
+IsMadeWord P (File bytes) d s i a = IsAmong (inode_word_of i) 4 a ⊎ IsAmong (λ k. slot_word_of P s (2 + k)) 14 a
+
+-- From I to J those words become the node's, the name's and the parent's, and no other word changes.
+pub record MakesNode (P : ℕ) (I J : List ℕ) (node : Node) (d s i : ℕ) (name : List ℕ) : Type 0 where
+  pub size : length J ≡ length I
+  pub inode : (f : ℕ) → f < 4 → word J (inode_word_of i f) ≡ slice_index (node_words node i) f
+  pub words : slot_words P J s ≡ name
+  pub parent : inode_links J d ≡ parent_links node (inode_links I d)
+  pub others : (a : ℕ) → (IsMadeWord P node d s i a → ⊥) → word J a ≡ word I a
+
+-- ---- what a call needs of a tidy image
+
+-- The image is tidy, and p names directory d, which has no name like these name words.
+pub record CanName (P : ℕ) (I : List ℕ) (p : Route) (d : ℕ) (name : List ℕ) : Type 0 where
+  pub tidy : Tidy P I
+  pub path : Names P I p d
+  pub directory : IsDirectory I d
+  pub is_name : IsNameWords name
+  pub new : (t : ℕ) → IsReachedSlot P I t → slot_owner P I t ≡ d → slot_name P I t ≢ name_in_words name
+
+-- and inode i is free
+pub record CanMake (P : ℕ) (I : List ℕ) (p : Route) (d i : ℕ) (name : List ℕ) : Type 0 where
+  pub place : CanName P I p d name
+  pub least : 2 ≤ i
+  pub most : i ≤ inodes_of P
+  pub unreached : Reached P I i → ⊥
+
+-- a slot of the directory that names nothing
+pub record IsVacant (P : ℕ) (I : List ℕ) (d s : ℕ) : Type 0 where
+  pub held : IsHeld P I s
+  pub owner : slot_owner P I s ≡ d
+  pub free : slot_inode P I s ≡ 0
+
+-- ---- the two intervals
+
+-- slot s takes inode i
+abbrev pub committed : ℕ → List ℕ → ℕ → ℕ → List ℕ
+committed P I s i = set I (slot_word_of P s 0) i
+
+-- From B over I to J: a stop leaves what means W, or J. J is tidy, its tree is that of W with the new node, and its room is made of that of W.
+pub record IsCreate (P : ℕ) (W B I J : List ℕ) (path : Route) (node : Node) (i : ℕ) (after : Room → Room) : Type 0 where
+  pub before : (M : List ℕ) → IsMix B I M → SameMeaning P W M
+  pub commit : (M : List ℕ) → IsMix I J M → SameMeaning P W M ⊎ (M ≡ J)
+  pub tidy : Tidy P J
+  pub reads : (T : Tree) → Reads P W T → Reads P J (with_new T path i node)
+  pub room : (room : Room) → HasRoom P W room → HasRoom P J (after room)
+
+-- The directory has a vacant slot.
+abbrev pub CreateLaw : Type 0
+CreateLaw = (P : ℕ) (W I : List ℕ) (p path : Route) (node : Node) (d s i : ℕ) (name : List ℕ) → CanMake P W p d i name → IsVacant P W d s
+    → IsEmptyNode node → MakesNode P W I node d s i name → reverse path ≡ name_in_words name ∷ p
+    → IsCreate P W W I (committed P I s i) path node i (λ room. with_node room i node)
+
+-- ---- a new page
+
+-- the words of page j, and its descriptor's kind and offset
+abbrev pub IsPageMadeWord : ℕ → ℕ → ℕ → Type 0
+IsPageMadeWord P j a = IsAmong (page_word_of P j) 512 a ⊎ ((a ≡ descriptor_word_of P j 1) ⊎ (a ≡ descriptor_word_of P j 2))
+
+-- From I to J page j becomes a directory page of zeros, still without an owner.
+pub record MakesPage (P : ℕ) (I J : List ℕ) (j : ℕ) : Type 0 where
+  pub size : length J ≡ length I
+  pub zeros : (w : ℕ) → w < 512 → word J (page_word_of P j w) ≡ 0
+  pub kind : page_kind P J j ≡ 2
+  pub offset : page_offset P J j ≡ 0
+  pub others : (a : ℕ) → (IsPageMadeWord P j a → ⊥) → word J a ≡ word I a
+
+-- a data page that nobody owns
+pub record IsFreePage (P : ℕ) (I : List ℕ) (j : ℕ) : Type 0 where
+  pub in_range : j < data_pages_of P
+  pub unowned : page_owner P I j ≡ 0
+
+-- directory d owns page j
+abbrev pub owned : ℕ → List ℕ → ℕ → ℕ → List ℕ
+owned P I j d = set I (descriptor_word_of P j 0) d
+
+-- From W over A to B: a stop leaves what means W.
+pub record IsPageQuiet (P : ℕ) (W A B : List ℕ) : Type 0 where
+  pub making : (M : List ℕ) → IsMix W A M → SameMeaning P W M
+  pub owning : (M : List ℕ) → IsMix A B M → SameMeaning P W M
+
+-- The directory takes page j, and then slot s of it.
+abbrev pub NewPageLaw : Type 0
+NewPageLaw = (P : ℕ) (W A I : List ℕ) (p path : Route) (node : Node) (d j s i : ℕ) (name : List ℕ) → CanMake P W p d i name → IsFreePage P W j → page_of_slot s ≡ j
+    → IsEmptyNode node → MakesPage P W A j → MakesNode P (owned P A j d) I node d s i name → reverse path ≡ name_in_words name ∷ p
+    → IsPageQuiet P W A (owned P A j d) × IsCreate P W (owned P A j d) I (committed P I s i) path node i (λ room. with_node (with_page room d) i node)
+
+-- That much holds as soon as the page is made, whatever is made in it.
+abbrev pub PageQuietLaw : Type 0
+PageQuietLaw = (P : ℕ) (W A : List ℕ) (p : Route) (d j : ℕ) → Sound P W → Names P W p d → IsDirectory W d → IsFreePage P W j → MakesPage P W A j → IsPageQuiet P W A (owned P A j d)

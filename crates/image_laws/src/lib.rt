@@ -1,0 +1,144 @@
+//! Laws of images: which stores change no meaning, and what a store that commits a call changes.
+#![tactic(auto)]
+
+ghost use Rattle.image_laws.specs.Frame.{FrameLaw, ShapeLaw, NodeLaw, MeaningsChain};
+ghost use Rattle.image_laws.specs.Words.{WordLaw};
+ghost use Rattle.image_laws.specs.Exempt.{ExemptLaw};
+ghost use Rattle.image_laws.specs.Quiet.{MixLaw, WriteLaw};
+ghost use Rattle.image_laws.specs.Free.{FreeLaw, StoresLaw};
+ghost use Rattle.image_laws.specs.Add.{AddLaw, AddTreeLaw, AddRoomLaw};
+ghost use Rattle.image_laws.specs.Create.{CreateLaw, NewPageLaw, PageQuietLaw};
+ghost use Rattle.image_laws.specs.CreateStep.{RoomAfterLaw, CreateStepLaw, NewPageStepLaw};
+ghost use Rattle.image_laws.specs.Drop.{DropLaw};
+ghost use Rattle.image_laws.specs.DropStep.{DropStepLaw};
+ghost use Rattle.image_laws.specs.Grown.{GrownLaw, NewPageGrownLaw};
+ghost use Rattle.image_laws.specs.Link.{LinkLaw, NewPageLinkLaw};
+ghost use Rattle.image_laws.specs.LinkStep.{LinkRoomLaw, LinkStepLaw, NewPageLinkStepLaw};
+ghost use Rattle.image_laws.specs.Shrunk.{ShrunkLaw};
+ghost use Rattle.image_laws.specs.Lookup.{LookupLaw, LinksLaw, ListLaw};
+ghost use Rattle.image_laws.specs.Move.{MoveLaw};
+ghost use Rattle.image_laws.specs.Pointers.{PointerLaw, LeaveLaw};
+ghost use Rattle.image_laws.specs.Remove.{RemoveLaw, RemoveTreeLaw, RemoveRoomLaw};
+ghost use Rattle.image_laws.specs.Resize.{ResizeLaw};
+ghost use Rattle.image_laws.specs.Unlink.{UnlinkLaw};
+ghost use Rattle.image_laws.specs.Space.{InodesLaw, NamesLaw, FullLaw, PagesLaw, StateLaw};
+ghost use Rattle.image_laws.specs.Trees.{TreeLaw, FormLaw, RoomLaw};
+
+/// An image that agrees with a sound one on what is used means the same.
+pub fn frame_law()
+    ensures shape { ShapeLaw }
+    ensures node { NodeLaw }
+    ensures fields { FrameLaw }
+    ensures words { WordLaw }
+    ensures chain { MeaningsChain }
+{}
+
+/// An owner that changes in a page that isn't needed changes nothing.
+pub fn owner_law()
+    ensures { ExemptLaw }
+{}
+
+/// A mix of the words before and after an interval that changes no used word means the same.
+pub fn mix_law()
+    ensures quiet { MixLaw }
+    ensures write { WriteLaw }
+    ensures free { FreeLaw }
+    ensures stored { StoresLaw }
+{}
+
+/// A sound image reads as a tree, what it reads as is well formed, and it has a room.
+pub fn tree_law()
+    ensures tree { TreeLaw }
+    ensures form { FormLaw }
+    ensures room { RoomLaw }
+{}
+
+/// The word that commits create, mkdir and link: one more path, and the tree and the room after it.
+pub fn add_law()
+    ensures paths { AddLaw }
+    ensures tree { AddTreeLaw }
+    ensures room { AddRoomLaw }
+{}
+
+/// While a node is made, each mix of old and new words means what the words before mean, or the last word is stored and
+/// they are tidy, with the node.
+pub fn create_law()
+    ensures old_page { CreateLaw }
+    ensures new_page { NewPageLaw }
+    ensures page { PageQuietLaw }
+{}
+
+/// What each of the other words that commit a call changes, and the tree and the room after one that removes.
+pub fn commit_law()
+    ensures remove { RemoveLaw }
+    ensures remove_tree { RemoveTreeLaw }
+    ensures remove_room { RemoveRoomLaw }
+    ensures shift { MoveLaw }
+    ensures resize { ResizeLaw }
+{}
+
+/// The words of a rename beside its commit change no meaning, and nor do the first two of a recovery.
+pub fn pointer_law()
+    ensures pointer { PointerLaw }
+    ensures leave { LeaveLaw }
+{}
+
+/// Each mix of old and new words while a file is unlinked reads as the tree before, or from its first store on as the tree after.
+pub fn unlink_law()
+    ensures { UnlinkLaw }
+{}
+
+/// How many inodes, slots and pages the tree and the room of an image take, and that a tidy image has a state of the volume.
+pub fn space_law()
+    ensures inodes { InodesLaw }
+    ensures names { NamesLaw }
+    ensures full { FullLaw }
+    ensures pages { PagesLaw }
+    ensures state { StateLaw }
+{}
+
+/// What create and mkdir leave reads as a state that the step allows.
+pub fn create_step_law()
+    ensures room { RoomAfterLaw }
+    ensures old_page { CreateStepLaw }
+    ensures new_page { NewPageStepLaw }
+{}
+
+/// What is looked up by a name, what a directory lists, and that link words are counts.
+pub fn lookup_law()
+    ensures lookup { LookupLaw }
+    ensures links { LinksLaw }
+    ensures list { ListLaw }
+{}
+
+/// What an index of the image holds after create and mkdir, and after unlink and rmdir.
+pub fn index_law()
+    ensures old_page { GrownLaw }
+    ensures new_page { NewPageGrownLaw }
+    ensures shrunk { ShrunkLaw }
+{}
+
+/// While a file gets one more name, each mix of old and new words means what the words before mean, or the last word is
+/// stored and they are tidy, with the name.
+pub fn link_law()
+    ensures old_page { LinkLaw }
+    ensures new_page { NewPageLinkLaw }
+{}
+
+/// What link leaves reads as a state that the step allows.
+pub fn link_step_law()
+    ensures room { LinkRoomLaw }
+    ensures old_page { LinkStepLaw }
+    ensures new_page { NewPageLinkStepLaw }
+{}
+
+/// While a name is unlinked or a directory removed, each mix of old and new words is the words before, or means what the
+/// first store leaves; the end is tidy, without the path.
+pub fn drop_law()
+    ensures { DropLaw }
+{}
+
+/// What unlink and rmdir leave reads as a state that the step allows.
+pub fn drop_step_law()
+    ensures { DropStepLaw }
+{}

@@ -1,0 +1,44 @@
+use Rattle.std.proofs.Common.{refl}
+use Rattle.image_reading.specs.Soundness.{Rule}
+use Rattle.image_reading.proofs.Chained as lemmas
+use Rattle.image_reading.proofs.chain.fault_of_head.Goals as goal
+
+pub returns-in-Some : goal.returns-in-Some
+returns-in-Some c =
+    let P = c.args.geometry.now.pages in
+    let I = c.args.words.now in
+    lemmas.fault_at P I Rule.head _ refl (lemmas.keeps_none P I) c.in-Some.ensures
+
+pub returns-in-Some-bad_root : goal.returns-in-Some-bad_root
+returns-in-Some-bad_root c =
+    let P = c.args.geometry.now.pages in
+    let I = c.args.words.now in
+    let after_head = lemmas.keeps_more P I Rule.head (lemmas.keeps_none P I) c.in_default.ensures in
+    lemmas.fault_at P I Rule.root _ refl after_head c.in-Some-bad_root.ensures
+
+pub returns-in-Some-bad_pointer : goal.returns-in-Some-bad_pointer
+returns-in-Some-bad_pointer c =
+    let P = c.args.geometry.now.pages in
+    let I = c.args.words.now in
+    let after_head = lemmas.keeps_more P I Rule.head (lemmas.keeps_none P I) c.in_default.ensures in
+    let after_root = lemmas.keeps_more P I Rule.root after_head c.in_default-bad_root.ensures in
+    lemmas.fault_at P I Rule.pointers _ refl after_root c.in-Some-bad_pointer.ensures
+
+pub returns-in-Some-second_pointer : goal.returns-in-Some-second_pointer
+returns-in-Some-second_pointer c =
+    let P = c.args.geometry.now.pages in
+    let I = c.args.words.now in
+    let after_head = lemmas.keeps_more P I Rule.head (lemmas.keeps_none P I) c.in_default.ensures in
+    let after_root = lemmas.keeps_more P I Rule.root after_head c.in_default-bad_root.ensures in
+    let after_pointers = lemmas.keeps_more P I Rule.pointers after_root c.in_default-bad_pointer.ensures in
+    lemmas.fault_at P I Rule.one_pointer _ refl after_pointers c.in-Some-second_pointer.ensures
+
+pub returns : goal.returns
+returns c =
+    let P = c.args.geometry.now.pages in
+    let I = c.args.words.now in
+    let after_head = lemmas.keeps_more P I Rule.head (lemmas.keeps_none P I) c.in_default.ensures in
+    let after_root = lemmas.keeps_more P I Rule.root after_head c.in_default-bad_root.ensures in
+    let after_pointers = lemmas.keeps_more P I Rule.pointers after_root c.in_default-bad_pointer.ensures in
+    let after_one_pointer = lemmas.keeps_more P I Rule.one_pointer after_pointers c.in_default-second_pointer.ensures in
+    after_one_pointer

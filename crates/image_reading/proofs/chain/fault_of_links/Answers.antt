@@ -1,0 +1,20 @@
+use Rattle.std.proofs.Common.{refl, arith}
+use Rattle.image_reading.specs.Soundness.{Rule}
+use Rattle.image_reading.proofs.Chained as lemmas
+use Rattle.image_reading.proofs.chain.fault_of_links.Goals as goal
+
+pub returns-in-Some : goal.returns-in-Some
+returns-in-Some c =
+    let P = c.args.geometry.now.pages in
+    let I = c.args.words.now in
+    lemmas.fault_at P I Rule.links _ refl c.requires.kept c.in-Some.ensures
+
+pub returns : goal.returns
+returns c =
+    let P = c.args.geometry.now.pages in
+    let I = c.args.words.now in
+    let after_links = lemmas.keeps_more P I Rule.links c.requires.kept c.in_default.ensures in
+    after_links
+
+pub too_few_links-requires-clause-numbers : goal.too_few_links-requires-clause-numbers
+too_few_links-requires-clause-numbers c = λ s. c.requires.kept Rule.inodes s (omega arith)

@@ -1,0 +1,44 @@
+use Rattle.std.proofs.Common.{refl}
+use Rattle.image_reading.specs.Soundness.{Rule}
+use Rattle.image_reading.proofs.Chained as lemmas
+use Rattle.image_reading.proofs.chain.fault_of_pages.Goals as goal
+
+pub returns-in-Some : goal.returns-in-Some
+returns-in-Some c =
+    let P = c.args.geometry.now.pages in
+    let I = c.args.words.now in
+    lemmas.fault_at P I Rule.page_kinds _ refl c.requires.kept c.in-Some.ensures
+
+pub returns-in-Some-bad_size : goal.returns-in-Some-bad_size
+returns-in-Some-bad_size c =
+    let P = c.args.geometry.now.pages in
+    let I = c.args.words.now in
+    let after_page_kinds = lemmas.keeps_more P I Rule.page_kinds c.requires.kept c.in_default.ensures in
+    lemmas.fault_at P I Rule.sizes _ refl after_page_kinds c.in-Some-bad_size.ensures
+
+pub returns-in-Some-missing_page : goal.returns-in-Some-missing_page
+returns-in-Some-missing_page c =
+    let P = c.args.geometry.now.pages in
+    let I = c.args.words.now in
+    let after_page_kinds = lemmas.keeps_more P I Rule.page_kinds c.requires.kept c.in_default.ensures in
+    let after_sizes = lemmas.keeps_more P I Rule.sizes after_page_kinds c.in_default-bad_size.ensures in
+    lemmas.fault_at P I Rule.all_pages _ refl after_sizes c.in-Some-missing_page.ensures
+
+pub returns-in-Some-doubled_page : goal.returns-in-Some-doubled_page
+returns-in-Some-doubled_page c =
+    let P = c.args.geometry.now.pages in
+    let I = c.args.words.now in
+    let after_page_kinds = lemmas.keeps_more P I Rule.page_kinds c.requires.kept c.in_default.ensures in
+    let after_sizes = lemmas.keeps_more P I Rule.sizes after_page_kinds c.in_default-bad_size.ensures in
+    let after_all_pages = lemmas.keeps_more P I Rule.all_pages after_sizes c.in_default-missing_page.ensures in
+    lemmas.fault_at P I Rule.own_offsets _ refl after_all_pages c.in-Some-doubled_page.ensures
+
+pub returns : goal.returns
+returns c =
+    let P = c.args.geometry.now.pages in
+    let I = c.args.words.now in
+    let after_page_kinds = lemmas.keeps_more P I Rule.page_kinds c.requires.kept c.in_default.ensures in
+    let after_sizes = lemmas.keeps_more P I Rule.sizes after_page_kinds c.in_default-bad_size.ensures in
+    let after_all_pages = lemmas.keeps_more P I Rule.all_pages after_sizes c.in_default-missing_page.ensures in
+    let after_own_offsets = lemmas.keeps_more P I Rule.own_offsets after_all_pages c.in_default-doubled_page.ensures in
+    after_own_offsets

@@ -1,0 +1,10 @@
+use Rattle.image_reading.specs.Soundness.{HasOwnOffset}
+use Rattle.image_reading.proofs.Linked.{pages_left}
+use Rattle.image_reading.proofs.Stamped.{FileWalk}
+use Rattle.image_reading.proofs.faults.files.doubled_page_of.Given as goal
+
+abbrev pub invariant-loop-link : goal.invariant-loop-link
+invariant-loop-link l = FileWalk l.geometry.pages l.words l.inode l.limit (HasOwnOffset l.geometry.pages l.words) l.stamps l.link
+
+abbrev pub decreases-loop-link : goal.decreases-loop-link
+decreases-loop-link l = pages_left l.geometry.data_pages l.link

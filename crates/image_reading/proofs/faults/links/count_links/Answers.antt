@@ -1,0 +1,71 @@
+use Rattle.std.proofs.Common.{◌+◌, ◌<◌, length, sym, subst, arith, rules}
+use Rattle.layout.specs.GeometryLaws.{inodes_below}
+use Rattle.std.proofs.lemmas.Bool.{iff_false}
+use Rattle.image_reading.specs.Reading.{slot_owner}
+use Rattle.image_reading.proofs.Places.{one_inode}
+use Rattle.image_reading.proofs.Walked.{reached_range}
+use Rattle.image_reading.proofs.Credits as lemmas
+use Rattle.image_reading.proofs.faults.links.count_links.Goals as goal
+use Rattle.image_reading.proofs.faults.links.count_links.Goals.{then-is_reached_slot, else-is_reached_slot}
+
+pub credited-inode-requires-clause-most : goal.credited-inode-requires-clause-most
+credited-inode-requires-clause-most c = (c.requires.numbers c.loop-slot.slot).most (c.is_reached_slot.ensures.0 c.if-is_reached_slot.true)
+
+pub offset_bounds-tally-inode : goal.offset_bounds-tally-inode
+offset_bounds-tally-inode c =
+    let g = c.args.geometry.now in
+    let P = g.pages in
+    let I = c.args.words.now in
+    let s = c.loop-slot.slot in
+    let slot = c.is_reached_slot.ensures.0 c.if-is_reached_slot.true in
+    let owner = (reached_range P I (slot_owner P I s) (one_inode P g.volume_size) slot.owner).1 in
+    let within = lemmas.credited_within P I s g.inodes (g.inodes + 1) slot (c.requires.numbers s) g.inodes_exact (omega arith) owner in
+    let few = inodes_below P g.volume_size in
+    let small : c.credited-inode.result < 65537 = omega (arith, within, few, c.credited-inode.ensures, g.inodes_exact, g.volume_size) in
+    search (rules, small)
+
+pub bounds-tally-inode : goal.bounds-tally-inode
+bounds-tally-inode c =
+    let g = c.args.geometry.now in
+    let P = g.pages in
+    let I = c.args.words.now in
+    let s = c.loop-slot.slot in
+    let slot = c.is_reached_slot.ensures.0 c.if-is_reached_slot.true in
+    let owner = (reached_range P I (slot_owner P I s) (one_inode P g.volume_size) slot.owner).1 in
+    let within = lemmas.credited_within P I s g.inodes (length c.loop-slot.tally) slot (c.requires.numbers s) g.inodes_exact
+    (omega (arith, c.loop-slot.auto.tally, c.fill.ensures.len, c.requires.inodes)) owner in
+    omega (arith, within, c.credited-inode.ensures)
+
+pub bounds-tally-inode-then-is_reached_slot : goal.bounds-tally-inode-then-is_reached_slot
+bounds-tally-inode-then-is_reached_slot c =
+    let g = c.args.geometry.now in
+    let P = g.pages in
+    let I = c.args.words.now in
+    let s = c.loop-slot.slot in
+    let slot = c.is_reached_slot.ensures.0 c.if-is_reached_slot.true in
+    let owner = (reached_range P I (slot_owner P I s) (one_inode P g.volume_size) slot.owner).1 in
+    let within = lemmas.credited_within P I s g.inodes (length c.loop-slot.tally) slot (c.requires.numbers s) g.inodes_exact
+    (omega (arith, c.loop-slot.auto.tally, c.fill.ensures.len, c.requires.inodes)) owner in
+    omega (arith, within, c.credited-inode.ensures)
+
+pub returns : goal.returns
+returns c = lemmas.tallied_all c.args.geometry.now.pages c.args.words.now c.loop-slot.slot c.loop-slot.tally (omega (arith, c.loop-slot-test.false, c.slots-slot-end.ensures)) c.loop-slot.invariant
+
+pub loop-slot-preserved : goal.loop-slot-preserved
+loop-slot-preserved c =
+    let g = c.args.geometry.now in
+    let P = g.pages in
+    let I = c.args.words.now in
+    let s = c.loop-slot.slot in
+    let t = c.loop-slot.invariant in
+    elim c.if-is_reached_slot.branch [
+      | then-is_reached_slot w ↦
+          let slot = c.is_reached_slot.ensures.0 w.if-is_reached_slot.true in
+          let owner = (reached_range P I (slot_owner P I s) (one_inode P g.volume_size) slot.owner).1 in
+          let within = lemmas.credited_within P I s g.inodes (length c.loop-slot.tally) slot (c.requires.numbers s) g.inodes_exact
+          (omega (arith, c.loop-slot.auto.tally, c.fill.ensures.len, c.requires.inodes)) owner in
+          subst (lemmas.AreTallied P I (s + 1)) (sym w.tally-is)
+          (lemmas.tallied_more P I s c.loop-slot.tally w.credited-inode.result slot w.credited-inode.ensures (omega (arith, within, w.credited-inode.ensures)) t)
+      | else-is_reached_slot w ↦ subst (lemmas.AreTallied P I (s + 1)) (sym w.tally-is)
+          (lemmas.tallied_same P I s c.loop-slot.tally (iff_false c.is_reached_slot.ensures w.if-is_reached_slot.false) t)
+    ]

@@ -1,0 +1,80 @@
+-- What a scan of the words finds, and what its tables say.
+use Rattle.std.specs.Prelude.{◌≡◌, ◌≢◌, ℕ, ◌+◌, ◌-◌, ◌<◌, ◌≤◌, List, length, slice_index, Option, MatchOption, ◌==◌, if◌then◌else◌}
+use Rattle.layout.specs.Geometry.{inodes_of, data_pages_of}
+use Rattle.layout.specs.Fields.{inode_kind, page_owner, slot_inode, slot_pointer, slot_words}
+use Rattle.image_reading.specs.Reading.{IsDirectory, IsHeld, IsReachedSlot, slot_owner}
+use Rattle.image_reading.specs.Repairs.{IsPointer}
+use Rattle.image_reading.specs.Counts.{Count}
+use Rattle.image_reading.specs.Soundness.{Rule, number, Obeys, IsFirstFault}
+use Rattle.image_reading.specs.declared.Violation.{Violation}
+
+-- None where Q holds at each place, and else the least place at which it doesn't
+abbrev pub Finds : (ℕ → Type 0) → Option ℕ → Type 0
+Finds Q found = MatchOption found ((x : ℕ) → Q x) (λ place. ((x : ℕ) → x < place → Q x) × ¬ Q place)
+
+-- ---- the rename pointer
+
+-- The held slots' one rename pointer, if there is one, is target, and stands with that inode number. 0 is none.
+pub record IsRename (P : ℕ) (I : List ℕ) (target inode : ℕ) : Type 0 where
+  pub all : (d : ℕ) → IsPointer P I d → (slot_pointer P I d ≡ target) × (slot_inode P I d ≡ inode)
+  pub some : target ≢ 0 → (d : ℕ) × IsHeld P I d × (slot_pointer P I d ≡ target) × (slot_inode P I d ≡ inode)
+
+-- ---- the pages of an owner
+
+-- From page n on the first page of owner i is v - 1; there is none where v is 0.
+pub record IsNextPage (P : ℕ) (I : List ℕ) (i n v : ℕ) : Type 0 where
+  pub there : v ≢ 0 → (n < v) × (v ≤ data_pages_of P) × (page_owner P I (v - 1) ≡ i)
+  pub least : (j : ℕ) → n ≤ j → j < data_pages_of P → page_owner P I j ≡ i → (v ≢ 0) × (v ≤ j + 1)
+
+-- Each inode has its first page, and each page the next of the same owner.
+pub record IsLinked (P : ℕ) (I first next : List ℕ) : Type 0 where
+  pub inodes : length first ≡ inodes_of P + 1
+  pub pages : length next ≡ data_pages_of P
+  pub firsts : (i : ℕ) → i ≤ inodes_of P → IsNextPage P I i 0 (slice_index first i)
+  pub nexts : (j : ℕ) → j < data_pages_of P → page_owner P I j ≤ inodes_of P → IsNextPage P I (page_owner P I j) (j + 1) (slice_index next j)
+
+-- ---- names of directories
+
+-- a reached slot that names a directory
+pub record IsNaming (P : ℕ) (I : List ℕ) (s : ℕ) : Type 0 where
+  pub slot : IsReachedSlot P I s
+  pub directory : IsDirectory I (slot_inode P I s)
+
+-- ---- links
+
+-- the inode that a reached slot counts for: the directory that it stands in where it names a directory, and else what it names
+abbrev pub credited : ℕ → List ℕ → ℕ → ℕ
+credited P I s = if inode_kind I (slot_inode P I s) == 2 then slot_owner P I s else slot_inode P I s
+
+-- a reached slot that counts for inode i
+pub record IsCredit (P : ℕ) (I : List ℕ) (i s : ℕ) : Type 0 where
+  pub slot : IsReachedSlot P I s
+  pub inode : credited P I s ≡ i
+
+-- For each inode the number of the slots that count for it.
+abbrev pub AreCounted : ℕ → List ℕ → List ℕ → Type 0
+AreCounted P I tally = (i : ℕ) → i ≤ inodes_of P → Count (IsCredit P I i) (slice_index tally i)
+
+-- ---- names
+
+-- a reached slot before slot s, with the same name
+pub record IsTwin (P : ℕ) (I : List ℕ) (s r : ℕ) : Type 0 where
+  pub earlier : r < s
+  pub slot : IsReachedSlot P I r
+  pub words : slot_words P I r ≡ slot_words P I s
+
+-- ---- the rules, one after another
+
+-- the rules below this number hold at each place
+abbrev pub KeepsBelow : ℕ → List ℕ → ℕ → Type 0
+KeepsBelow P I n = (rule : Rule) (x : ℕ) → number rule < n → Obeys P I rule x
+
+-- the first violation of an image of P pages
+pub record IsFault (P : ℕ) (I : List ℕ) (violation : Violation) : Type 0 where
+  pub rule : Rule
+  pub numbered : number rule ≡ violation.rule
+  pub first : IsFirstFault P I rule violation.place
+
+-- no violation so far: the rules below this number hold
+abbrev pub FindsFault : ℕ → List ℕ → ℕ → Option Violation → Type 0
+FindsFault P I n found = MatchOption found (KeepsBelow P I n) (λ violation. IsFault P I violation)

@@ -1,0 +1,89 @@
+// Which inodes are reached.
+ghost use Rattle.std.specs.Prelude.{◌≡◌, ◌+◌, vec_len};
+ghost use Rattle.image_reading.specs.Marks.{marked};
+
+use crate::held::Rename;
+use pm_trait::NoMemory;
+use std::alloc::Global;
+
+/// The rename pointer, and the inodes that a walk has found.
+#[derive(Drop)]
+pub struct Reach {
+    pub rename: Rename,
+    /// Whether each inode number has been found.
+    pub reached: Vec<bool>,
+    /// The numbers in the order in which they were found, up to `seen` of them.
+    pub order: Vec<u64>,
+    pub seen: usize,
+    pub ghost counted: { marked reached.items ≡ seen },
+    pub ghost room: { vec_len order ≡ vec_len reached },
+}
+
+impl Reach {
+    ghost use Rattle.std.specs.Prelude.{◌≡◌, ◌↔◌, ◌⊎◌, ℕ, ◌<◌, IsTrue, IfOk, vec_len, slice_index};
+    ghost use Rattle.image_reading.specs.Walk.{IsFound, Extends};
+
+    /// Marks for so many inode numbers.
+    pub fn new(alloc: Global, numbers: usize) -> Result<Reach, NoMemory>
+        ensures { IfOk result (λ reach. vec_len reach.reached ≡ numbers) }
+    {
+        let Ok(reached) = vec![in alloc; false; numbers] else {
+            return Err(NoMemory);
+        };
+        let Ok(order) = vec![in alloc; 0; numbers] else {
+            return Err(NoMemory);
+        };
+        let rename = Rename {
+            target: 0,
+            inode: 0,
+        };
+        Ok(Reach {
+            rename,
+            reached,
+            order,
+            seen: 0,
+        })
+    }
+
+    /// Whether the inode has been found.
+    pub fn has(&self, inode: u64) -> bool
+        ensures { IsTrue result ↔ IsFound self.now inode }
+    {
+        if inode >= self.reached.len() as u64 {
+            return false;
+        }
+        self.reached[inode as usize]
+    }
+
+    /// Forgets all, and takes this rename pointer.
+    pub fn clear(&mut self, rename: Rename)
+        ensures pointer { self.new.rename ≡ rename }
+        ensures none { (i : ℕ) → IsFound self.new i → ⊥ }
+        ensures start { self.new.seen ≡ 0 }
+        ensures size { vec_len self.new.reached ≡ vec_len self.old.reached }
+    {
+        self.reached.as_mut_slice().fill(false);
+        self.seen = 0;
+        self.rename = rename;
+    }
+
+    /// Adds an inode, at the end of the order if it is new.
+    pub fn mark(&mut self, inode: u64)
+        requires { inode < vec_len self.old.reached }
+        ensures found { IsFound self.new inode }
+        ensures only { (i : ℕ) → IsFound self.new i → IsFound self.old i ⊎ (i ≡ inode) }
+        ensures pointer { self.new.rename ≡ self.old.rename }
+        ensures extends { Extends self.old self.new }
+        ensures size { vec_len self.new.reached ≡ vec_len self.old.reached }
+        ensures ordered { ((m : ℕ) → m < self.old.seen → IsFound self.old (slice_index self.old.order.items m)) → (m : ℕ) → m < self.new.seen → IsFound self.new (slice_index self.new.order.items m) }
+    {
+        let place = inode as usize;
+        if self.reached[place] {
+            return;
+        }
+        let end = self.seen;
+        self.reached[place] = true;
+        self.order[end] = inode;
+        self.seen = end + 1;
+    }
+}

@@ -1,0 +1,118 @@
+// The search for the first violation, and its tables.
+ghost use Rattle.std.specs.Prelude.{◌≡◌, ◌*◌, ◌+◌, IfSome, length, vec_len};
+ghost use Rattle.image_reading.specs.Soundness.{IsFirstViolation, Sound, pages_in_image};
+
+use crate::Violation;
+use crate::chain::{fault_of_head, fault_of_links, fault_of_names, fault_of_pages};
+use crate::held::rename_of;
+use crate::pages::{Lists, link_pages};
+use crate::reach::Reach;
+use crate::walk::walk_tree;
+use layout::Geometry;
+use pm_trait::NoMemory;
+use std::alloc::Global;
+
+/// Working tables for the images of volumes of one size.
+#[derive(Drop)]
+pub struct Scan {
+    /// The volumes that it is for.
+    pub geometry: Geometry,
+    // The links to each inode's first page, and to each page's next.
+    first: Vec<u64>,
+    next: Vec<u64>,
+    reach: Reach,
+    // For each inode whether a directory's name has been seen, and its counted links.
+    named: Vec<bool>,
+    tally: Vec<u64>,
+    // For each offset the last file that has a page there.
+    stamps: Vec<u64>,
+    ghost room_for_first: { vec_len first ≡ geometry.inodes + 1 },
+    ghost room_for_next: { vec_len next ≡ geometry.data_pages },
+    ghost room_for_reached: { vec_len reach.reached ≡ geometry.inodes + 1 },
+    ghost room_for_named: { vec_len named ≡ geometry.inodes + 1 },
+    ghost room_for_tally: { vec_len tally ≡ geometry.inodes + 1 },
+    ghost room_for_stamps: { vec_len stamps ≡ geometry.data_pages },
+}
+
+impl Scan {
+    ghost use Rattle.std.specs.Prelude.{◌≡◌, ◌*◌, IfOk, length};
+    ghost use Rattle.image_reading.specs.Scan.{FindsFault, KeepsBelow};
+
+    /// Tables for volumes of this size. Fails where there is no memory for them.
+    pub fn new(alloc: Global, geometry: &Geometry) -> Result<Scan, NoMemory>
+        ensures { IfOk result (λ scan. scan.geometry ≡ geometry.now) }
+    {
+        let inodes = geometry.inodes as usize + 1;
+        let pages = geometry.data_pages as usize;
+        let reach = Reach::new(alloc, inodes)?;
+        let Ok(first) = vec![in alloc; 0; inodes] else {
+            return Err(NoMemory);
+        };
+        let Ok(next) = vec![in alloc; 0; pages] else {
+            return Err(NoMemory);
+        };
+        let Ok(named) = vec![in alloc; false; inodes] else {
+            return Err(NoMemory);
+        };
+        let Ok(tally) = vec![in alloc; 0; inodes] else {
+            return Err(NoMemory);
+        };
+        let Ok(stamps) = vec![in alloc; 0; pages] else {
+            return Err(NoMemory);
+        };
+        Ok(Scan {
+            geometry: *geometry,
+            first,
+            next,
+            reach,
+            named,
+            tally,
+            stamps,
+        })
+    }
+
+    // Rules 5 to 14, where those before hold.
+    fn fault_of_tree(&mut self, words: &[u64]) -> Option<Violation>
+        requires whole { length words.now ≡ 512 * self.old.geometry.pages }
+        requires kept { KeepsBelow self.old.geometry.pages words.now 5 }
+        ensures found { FindsFault self.old.geometry.pages words.now 15 result }
+        ensures made_for { self.new.geometry ≡ self.old.geometry }
+    {
+        let geometry = self.geometry;
+        let rename = rename_of(words, &geometry);
+        link_pages(
+            words,
+            &geometry,
+            self.first.as_mut_slice(),
+            self.next.as_mut_slice(),
+        );
+        let lists = Lists {
+            first: self.first.as_slice(),
+            next: self.next.as_slice(),
+        };
+        walk_tree(words, &geometry, rename, lists, &mut self.reach);
+        let named = self.named.as_mut_slice();
+        if let Some(fault) = fault_of_names(words, &geometry, &self.reach, lists, named) {
+            return Some(fault);
+        }
+        let stamps = self.stamps.as_mut_slice();
+        if let Some(fault) = fault_of_pages(words, &geometry, &self.reach, lists, stamps) {
+            return Some(fault);
+        }
+        fault_of_links(words, &geometry, &self.reach, self.tally.as_mut_slice())
+    }
+}
+
+/// The first place at which the words break a rule, by rule and then by place. `None` where the image is sound.
+pub fn first_fault(words: &[u64], scan: &mut Scan) -> Option<Violation>
+    requires made_for { length words.now ≡ 512 * scan.old.geometry.pages }
+    ensures sound { result ≡ None → Sound (pages_in_image words.now) words.now }
+    ensures first { IfSome result (IsFirstViolation words.now) }
+    ensures made_for { scan.new.geometry ≡ scan.old.geometry }
+{
+    let geometry = scan.geometry;
+    if let Some(fault) = fault_of_head(words, &geometry) {
+        return Some(fault);
+    }
+    scan.fault_of_tree(words)
+}

@@ -1,0 +1,162 @@
+// Each rule once, at places worked out by hand, on 16 pages: inode 1 begins at word 512, inode 2 at 528, the descriptors
+// at 1,024, eight words each, and data page 0 at 1,536, with sixteen words a slot.
+ghost use Rattle.std.specs.Prelude.{◌≡◌, vec_len};
+
+use super::*;
+use layout::Geometry;
+use std::alloc::Global;
+use std::process::Abort;
+use std::test::Fail;
+
+type Stores<'a> = &'a [(u64, u64)];
+
+// The words of a formatted volume that aren't 0: the head, and the root's kind, links and own number.
+const FORMATTED: [(u64, u64); 8] = [
+    (0, 0x3130_4D50_4C52_5153),
+    (1, 1),
+    (2, 16),
+    (3, 4),
+    (4, 13),
+    (512, 2),
+    (513, 2),
+    (515, 1),
+];
+
+// Page 0 is the root's, and its slot 0 names inode 2, an empty file, by `a`.
+const ONE_FILE: [(u64, u64); 7] = [
+    (528, 1),
+    (529, 1),
+    (531, 2),
+    (1_024, 1),
+    (1_025, 2),
+    (1_536, 2),
+    (1_538, 0x61_0001),
+];
+
+fn store(words: &mut Vec<u64>, stores: Stores<'_>)
+    ensures { vec_len words.new ≡ vec_len words.old }
+{
+    for (address, value) in stores {
+        if *address < words.len() as u64 {
+            words[*address as usize] = *value;
+        }
+    }
+}
+
+// The first violation of a formatted volume with this tree, after these stores.
+fn fault_after(
+    rt: &impl Abort,
+    alloc: Global,
+    tree: Stores<'_>,
+    stores: Stores<'_>,
+) -> Result<Option<(u64, u64)>, Fail> {
+    let geometry = Geometry::of(16).ok_or("no volume")?;
+    let mut scan = Scan::new(alloc, &geometry)?;
+    let mut words = vec![in alloc; 0u64; 8_192]?;
+    store(&mut words, FORMATTED.as_slice());
+    store(&mut words, tree);
+    store(&mut words, stores);
+    assert_eq!(rt; geometry.pages, 16);
+    assert_eq!(rt; words.len(), 8_192);
+    Ok(first_fault(words.as_slice(), &mut scan).map(|fault| (fault.rule, fault.place)))
+}
+
+#[test]
+fn faults_of_a_formatted_volume(rt: HostRuntime) -> Result<(), Fail> {
+    for (stores, fault) in [
+        ([].as_slice(), None),
+        ([(0, 0)].as_slice(), Some((1, 0))),
+        ([(4, 12)].as_slice(), Some((1, 4))),
+        ([(4, 12), (2, 17)].as_slice(), Some((1, 2))),
+        ([(512, 1)].as_slice(), Some((2, 1))),
+        ([(515, 2)].as_slice(), Some((2, 1))),
+        ([(513, 1)].as_slice(), Some((14, 1))),
+    ] {
+        assert_eq!(rt; fault_after(&rt, rt.alloc(), [].as_slice(), stores)?, fault);
+    }
+    Ok(())
+}
+
+#[test]
+fn faults_of_names(rt: HostRuntime) -> Result<(), Fail> {
+    for (stores, fault) in [
+        // as it is
+        ([].as_slice(), None),
+        // slot 0's rename pointer names itself, or a slot of a page that isn't held
+        ([(1_537, 1)].as_slice(), Some((3, 0))),
+        ([(1_537, 33)].as_slice(), Some((3, 0))),
+        // slots 0 and 5 both have one
+        ([(1_537, 2), (1_617, 2)].as_slice(), Some((4, 5))),
+        // slot 0 names the root, or no inode of the volume
+        ([(1_536, 1)].as_slice(), Some((5, 0))),
+        ([(1_536, 5)].as_slice(), Some((5, 0))),
+        // its name is empty
+        ([(1_538, 0)].as_slice(), Some((6, 0))),
+        // inode 2 is free, or says another number
+        ([(528, 0)].as_slice(), Some((7, 2))),
+        ([(531, 3)].as_slice(), Some((7, 2))),
+        // slot 1 names it too, by the same name, or by `b`
+        (
+            [(529, 2), (1_552, 2), (1_554, 0x61_0001)].as_slice(),
+            Some((8, 1)),
+        ),
+        ([(529, 2), (1_552, 2), (1_554, 0x62_0001)].as_slice(), None),
+        ([(1_552, 2), (1_554, 0x62_0001)].as_slice(), Some((14, 2))),
+        // as it does in mid-rename, where slot 1 points at slot 0, which is dead
+        (
+            [(1_552, 2), (1_553, 1), (1_554, 0x62_0001)].as_slice(),
+            None,
+        ),
+        // it is a directory with two names
+        (
+            [(513, 4), (528, 2), (529, 2), (1_552, 2), (1_554, 0x62_0001)].as_slice(),
+            Some((9, 1)),
+        ),
+    ] {
+        assert_eq!(rt;
+            fault_after(&rt, rt.alloc(), ONE_FILE.as_slice(), stores)?,
+            fault
+        );
+    }
+    Ok(())
+}
+
+#[test]
+fn faults_of_files(rt: HostRuntime) -> Result<(), Fail> {
+    for (stores, fault) in [
+        // page 1 is the file's, with the kind of a directory's
+        ([(1_032, 2), (1_033, 2)].as_slice(), Some((10, 1))),
+        // the file is too big by a byte
+        ([(530, 1_099_511_627_777)].as_slice(), Some((11, 2))),
+        // it has a byte, and no page or one
+        ([(530, 1)].as_slice(), Some((12, 2))),
+        ([(530, 1), (1_032, 2), (1_033, 1)].as_slice(), None),
+        // it has two pages, and both at offset 0
+        (
+            [(530, 4_097), (1_032, 2), (1_033, 1), (1_040, 2), (1_041, 1)].as_slice(),
+            Some((12, 2)),
+        ),
+        // pages 1, 4 and 5 are at offset 0
+        (
+            [
+                (530, 1),
+                (1_032, 2),
+                (1_033, 1),
+                (1_056, 2),
+                (1_057, 1),
+                (1_064, 2),
+                (1_065, 1),
+            ]
+            .as_slice(),
+            Some((13, 4)),
+        ),
+        // it has no links
+        ([(529, 0)].as_slice(), Some((14, 2))),
+    ] {
+        assert_eq!(rt;
+            fault_after(&rt, rt.alloc(), ONE_FILE.as_slice(), stores)?,
+            fault
+        );
+    }
+    Ok(())
+}
