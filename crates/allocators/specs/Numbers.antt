@@ -1,0 +1,15 @@
+-- A set of free numbers: at each number from 0 on, whether it is free.
+use Rattle.std.specs.Prelude.{◌≡◌, ℕ, ◌≤◌, Bool, true, List, count_by, Some, slice_get}
+
+-- the number is one of the list's and free
+abbrev pub IsFree : List Bool → ℕ → Type 0
+IsFree numbers k = slice_get numbers k ≡ Some true
+
+-- the number is free and no smaller one is
+pub record IsLowest (numbers : List Bool) (k : ℕ) : Type 0 where
+  pub free : IsFree numbers k
+  pub least : (other : ℕ) → IsFree numbers other → k ≤ other
+
+-- how many numbers are free
+abbrev pub free_in : List Bool → ℕ
+free_in numbers = count_by (λ is_free. is_free) numbers

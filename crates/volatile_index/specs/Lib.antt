@@ -1,0 +1,4 @@
+pub mod Entries
+pub mod EntryLaws
+pub mod Index
+pub mod Place

@@ -1,0 +1,199 @@
+ghost use Rattle.std.specs.Prelude.{◌≡◌, ◌≢◌, ◌+◌, ◌-◌, ◌<◌, ◌≤◌, ℕ, [], ◌∷◌, ◌++◌, length, take, slice_get, slice_set, Contains, MatchOption, IfOk, IsOk, OnOk, OnErr, Some};
+ghost use Rattle.volatile_index.specs.Entries.{IsSorted, IsAbsent, IsPresent, IsWithEntry};
+ghost use Rattle.volatile_index.specs.Index.{inodes_of_index, entries_of, places_of, pages_of, page_places_of, IsSameElsewhere};
+
+use crate::entry::Entry;
+use crate::node::Node;
+use layout::{Geometry, Name};
+use pm_trait::NoMemory;
+use std::alloc::Global;
+use std::marker::Model;
+
+/// For each inode, numbered from 1, the entries of the directory and the pages of the file or the directory.
+#[derive(Drop)]
+pub struct Index {
+    nodes: Vec<Node>,
+}
+
+impl Model for Index {
+    ghost use Rattle.std.specs.Prelude.{List};
+    ghost use Rattle.volatile_index.specs.Index.{Held};
+
+    ghost Value = { List Held };
+
+    ghost view = { λ index. index.nodes.items };
+}
+
+impl Index {
+    /// An index of all inodes of the volume, of each of which nothing is held.
+    pub fn new(alloc: Global, geometry: &Geometry) -> Result<Index, NoMemory>
+        ensures inodes { IfOk result (λ index. inodes_of_index index ≡ geometry.now.inodes) }
+        ensures entries { IfOk result (λ index. (inode : ℕ) → entries_of index inode ≡ []) }
+        ensures pages { IfOk result (λ index. (inode : ℕ) → pages_of index inode ≡ []) }
+    {
+        let mut nodes = Vec::new(alloc);
+        for _ in 0..geometry.inodes {
+            if nodes.push(Node::new(alloc)).is_err() {
+                return Err(NoMemory);
+            }
+        }
+        Ok(Index { nodes })
+    }
+
+    /// How many entries a directory has.
+    pub fn count(&self, directory: u64) -> u64
+        requires from_one { 1 ≤ directory }
+        requires in_range { directory ≤ inodes_of_index self.now }
+        ensures count { result ≡ length (entries_of self.now directory) }
+        ensures sorted { IsSorted (entries_of self.now directory) }
+    {
+        self.nodes[place_of(directory)].count()
+    }
+
+    /// One entry of a directory, counted from 0 in the order of names.
+    pub fn nth(&self, directory: u64, k: u64) -> &Entry
+        requires from_one { 1 ≤ directory }
+        requires in_range { directory ≤ inodes_of_index self.now }
+        requires place { k < length (entries_of self.now directory) }
+        ensures entry { slice_get (entries_of self.now directory) k ≡ Some result.now }
+        ensures sorted { IsSorted (entries_of self.now directory) }
+    {
+        self.nodes[place_of(directory)].nth(k)
+    }
+
+    /// The slot of a name in a directory, or `None` where the name isn't there.
+    pub fn find(&self, directory: u64, name: &Name) -> Option<u64>
+        requires from_one { 1 ≤ directory }
+        requires in_range { directory ≤ inodes_of_index self.now }
+        ensures slot { MatchOption result (IsAbsent (entries_of self.now directory) name.now) (λ slot. Contains (entries_of self.now directory) (record { name = name.now; slot = slot })) }
+        ensures sorted { IsSorted (entries_of self.now directory) }
+    {
+        self.nodes[place_of(directory)].find(name)
+    }
+
+    /// Takes memory for one more entry of a directory. Whether there is any or not, what is held stays.
+    ///
+    /// Fails for want of memory, and never where the place is there already.
+    pub fn reserve_one(&mut self, directory: u64) -> Result<(), NoMemory>
+        requires from_one { 1 ≤ directory }
+        requires in_range { directory ≤ inodes_of_index self.old }
+        ensures ok { OnOk result (length (entries_of self.new directory) < places_of self.new directory) }
+        ensures err { OnErr result (places_of self.new directory ≡ places_of self.old directory) }
+        ensures enough { length (entries_of self.old directory) < places_of self.old directory → IsOk result }
+        ensures places { places_of self.old directory ≤ places_of self.new directory }
+        ensures entries { entries_of self.new directory ≡ entries_of self.old directory }
+        ensures pages { pages_of self.new directory ≡ pages_of self.old directory }
+        ensures page_places { page_places_of self.new directory ≡ page_places_of self.old directory }
+        ensures elsewhere { IsSameElsewhere directory self.old self.new }
+    {
+        self.nodes[place_of(directory)].reserve_one()
+    }
+
+    /// Puts an entry into a directory. Its place is reserved before, so that it takes no memory.
+    pub fn put(&mut self, directory: u64, name: Name, slot: u64)
+        requires from_one { 1 ≤ directory }
+        requires in_range { directory ≤ inodes_of_index self.old }
+        requires absent { IsAbsent (entries_of self.old directory) name }
+        requires room { length (entries_of self.old directory) < places_of self.old directory }
+        ensures entries { IsWithEntry (entries_of self.old directory) (entries_of self.new directory) (record { name = name; slot = slot }) }
+        ensures sorted { IsSorted (entries_of self.new directory) }
+        ensures places { places_of self.new directory ≡ places_of self.old directory }
+        ensures pages { pages_of self.new directory ≡ pages_of self.old directory }
+        ensures page_places { page_places_of self.new directory ≡ page_places_of self.old directory }
+        ensures elsewhere { IsSameElsewhere directory self.old self.new }
+    {
+        self.nodes[place_of(directory)].put(name, slot);
+    }
+
+    /// Removes the entry of a name from a directory.
+    pub fn remove(&mut self, directory: u64, name: &Name)
+        requires from_one { 1 ≤ directory }
+        requires in_range { directory ≤ inodes_of_index self.old }
+        requires present { IsPresent (entries_of self.old directory) name.now }
+        ensures entries { (slot : ℕ) × IsWithEntry (entries_of self.new directory) (entries_of self.old directory) (record { name = name.now; slot = slot }) }
+        ensures sorted { IsSorted (entries_of self.new directory) }
+        ensures places { places_of self.new directory ≡ places_of self.old directory }
+        ensures pages { pages_of self.new directory ≡ pages_of self.old directory }
+        ensures page_places { page_places_of self.new directory ≡ page_places_of self.old directory }
+        ensures elsewhere { IsSameElsewhere directory self.old self.new }
+    {
+        self.nodes[place_of(directory)].remove(name);
+    }
+
+    /// The pages of an inode: a file's by offset, a directory's in the order in which they were added.
+    pub fn pages(&self, inode: u64) -> &[u64]
+        requires from_one { 1 ≤ inode }
+        requires in_range { inode ≤ inodes_of_index self.now }
+        ensures { result.now ≡ pages_of self.now inode }
+    {
+        self.nodes[place_of(inode)].pages()
+    }
+
+    /// Takes memory for `n` more pages of an inode. Whether there is any or not, what is held stays.
+    ///
+    /// Fails for want of memory, and never where the places are there already.
+    pub fn reserve_pages(&mut self, inode: u64, n: u64) -> Result<(), NoMemory>
+        requires from_one { 1 ≤ inode }
+        requires in_range { inode ≤ inodes_of_index self.old }
+        ensures ok { OnOk result (length (pages_of self.new inode) + n ≤ page_places_of self.new inode) }
+        ensures err { OnErr result (page_places_of self.new inode ≡ page_places_of self.old inode) }
+        ensures enough { length (pages_of self.old inode) + n ≤ page_places_of self.old inode → IsOk result }
+        ensures page_places { page_places_of self.old inode ≤ page_places_of self.new inode }
+        ensures pages { pages_of self.new inode ≡ pages_of self.old inode }
+        ensures entries { entries_of self.new inode ≡ entries_of self.old inode }
+        ensures places { places_of self.new inode ≡ places_of self.old inode }
+        ensures elsewhere { IsSameElsewhere inode self.old self.new }
+    {
+        self.nodes[place_of(inode)].reserve_pages(n)
+    }
+
+    /// Adds a page at the end of an inode's pages. Its place is reserved before, so that it takes no memory.
+    pub fn push_page(&mut self, inode: u64, page: u64)
+        requires from_one { 1 ≤ inode }
+        requires in_range { inode ≤ inodes_of_index self.old }
+        requires room { length (pages_of self.old inode) < page_places_of self.old inode }
+        ensures pages { pages_of self.new inode ≡ pages_of self.old inode ++ page ∷ [] }
+        ensures page_places { page_places_of self.old inode ≤ page_places_of self.new inode }
+        ensures entries { entries_of self.new inode ≡ entries_of self.old inode }
+        ensures places { places_of self.new inode ≡ places_of self.old inode }
+        ensures elsewhere { IsSameElsewhere inode self.old self.new }
+    {
+        self.nodes[place_of(inode)].push_page(page);
+    }
+
+    /// Puts a page in the place of the one that stands there among an inode's pages, counted from 0.
+    pub fn set_page(&mut self, inode: u64, place: u64, page: u64)
+        requires from_one { 1 ≤ inode }
+        requires in_range { inode ≤ inodes_of_index self.old }
+        requires place { place < length (pages_of self.old inode) }
+        ensures pages { pages_of self.new inode ≡ slice_set (pages_of self.old inode) place page }
+        ensures page_places { page_places_of self.new inode ≡ page_places_of self.old inode }
+        ensures entries { entries_of self.new inode ≡ entries_of self.old inode }
+        ensures places { places_of self.new inode ≡ places_of self.old inode }
+        ensures elsewhere { IsSameElsewhere inode self.old self.new }
+    {
+        self.nodes[place_of(inode)].set_page(place, page);
+    }
+
+    /// Drops the last `n` of an inode's pages.
+    pub fn cut_pages(&mut self, inode: u64, n: u64)
+        requires from_one { 1 ≤ inode }
+        requires in_range { inode ≤ inodes_of_index self.old }
+        requires count { n ≤ length (pages_of self.old inode) }
+        ensures pages { pages_of self.new inode ≡ take (length (pages_of self.old inode) - n) (pages_of self.old inode) }
+        ensures page_places { page_places_of self.new inode ≡ page_places_of self.old inode }
+        ensures entries { entries_of self.new inode ≡ entries_of self.old inode }
+        ensures places { places_of self.new inode ≡ places_of self.old inode }
+        ensures elsewhere { IsSameElsewhere inode self.old self.new }
+    {
+        self.nodes[place_of(inode)].cut_pages(n);
+    }
+}
+
+// Where an inode stands in the list.
+fn place_of(inode: u64) -> usize
+    requires { 1 ≤ inode }
+    ensures { result + 1 ≡ inode }
+{
+    (inode - 1) as usize
+}

@@ -1,0 +1,179 @@
+// What is held of one inode.
+ghost use Rattle.std.specs.Prelude.{◌≡◌, ◌+◌, ◌-◌, ◌<◌, ◌≤◌, ℕ, [], ◌∷◌, ◌++◌, length, take, slice_get, slice_set, Contains, IsSomeAnd, MatchOption, IfOk, IfErr, IsOk, OnOk, OnErr, Some};
+ghost use Rattle.volatile_index.specs.Entries.{IsSorted, IsAbsent, IsPresent, IsWithEntry};
+ghost use Rattle.volatile_index.specs.Place.{IsGap};
+
+use crate::entry::Entry;
+use layout::Name;
+use pm_trait::NoMemory;
+use std::alloc::Global;
+use std::marker::Model;
+
+/// The entries of a directory, sorted by name, and the pages of a file or a directory.
+#[derive(Drop)]
+pub struct Node {
+    entries: Vec<Entry>,
+    pages: Vec<u64>,
+}
+
+impl Model for Node {
+    ghost use Rattle.std.specs.Vec.{vec_capacity};
+    ghost use Rattle.volatile_index.specs.Entries.{IsSorted};
+    ghost use Rattle.volatile_index.specs.Index.{Held};
+
+    ghost Value = { Held };
+
+    ghost view = { λ node. record { entries = node.entries.items; places = vec_capacity node.entries; pages = node.pages.items; page_places = vec_capacity node.pages } };
+
+    ghost invariant = { λ node. IsSorted node.entries.items };
+}
+
+impl Node {
+    /// Nothing is held.
+    pub fn new(alloc: Global) -> Node
+        ensures entries { result.entries ≡ [] }
+        ensures pages { result.pages ≡ [] }
+    {
+        Node {
+            entries: Vec::new(alloc),
+            pages: Vec::new(alloc),
+        }
+    }
+
+    /// How many entries there are.
+    pub fn count(&self) -> u64
+        ensures count { result ≡ length self.now.entries }
+        ensures sorted { IsSorted self.now.entries }
+    {
+        self.entries.len() as u64
+    }
+
+    /// One entry, counted from 0 in the order of names.
+    pub fn nth(&self, k: u64) -> &Entry
+        requires { k < length self.now.entries }
+        ensures entry { slice_get self.now.entries k ≡ Some result.now }
+        ensures sorted { IsSorted self.now.entries }
+    {
+        &self.entries[k as usize]
+    }
+
+    /// The slot of a name.
+    pub fn find(&self, name: &Name) -> Option<u64>
+        ensures slot { MatchOption result (IsAbsent self.now.entries name.now) (λ slot. Contains self.now.entries (record { name = name.now; slot = slot })) }
+        ensures sorted { IsSorted self.now.entries }
+    {
+        match self.search(name) {
+            Ok(place) => Some(self.entries[place].slot),
+            Err(_) => None,
+        }
+    }
+
+    // Where the entry of a name stands, or would stand.
+    fn search(&self, name: &Name) -> Result<usize, usize>
+        ensures found { IfOk result (λ place. IsSomeAnd (slice_get self.now.entries place) (λ entry. entry.name ≡ name.now)) }
+        ensures gap { IfErr result (λ place. IsGap self.now.entries place name.now) }
+    {
+        self.entries.binary_search_by(|entry| entry.name.cmp(name))
+    }
+
+    /// Takes memory for one more entry.
+    pub fn reserve_one(&mut self) -> Result<(), NoMemory>
+        ensures ok { OnOk result (length self.new.entries < self.new.places) }
+        ensures err { OnErr result (self.new.places ≡ self.old.places) }
+        ensures enough { length self.old.entries < self.old.places → IsOk result }
+        ensures places { self.old.places ≤ self.new.places }
+        ensures entries { self.new.entries ≡ self.old.entries }
+        ensures pages { self.new.pages ≡ self.old.pages }
+        ensures page_places { self.new.page_places ≡ self.old.page_places }
+    {
+        if self.entries.reserve(1).is_err() {
+            return Err(NoMemory);
+        }
+        Ok(())
+    }
+
+    /// Puts an entry in its place.
+    pub fn put(&mut self, name: Name, slot: u64)
+        requires absent { IsAbsent self.old.entries name }
+        requires room { length self.old.entries < self.old.places }
+        ensures entries { IsWithEntry self.old.entries self.new.entries (record { name = name; slot = slot }) }
+        ensures sorted { IsSorted self.new.entries }
+        ensures places { self.new.places ≡ self.old.places }
+        ensures pages { self.new.pages ≡ self.old.pages }
+        ensures page_places { self.new.page_places ≡ self.old.page_places }
+    {
+        if let Err(place) = self.search(&name) {
+            let _ = self.entries.insert(place, Entry { name, slot });
+        }
+    }
+
+    /// Removes the entry of a name.
+    pub fn remove(&mut self, name: &Name)
+        requires { IsPresent self.old.entries name.now }
+        ensures entries { (slot : ℕ) × IsWithEntry self.new.entries self.old.entries (record { name = name.now; slot = slot }) }
+        ensures sorted { IsSorted self.new.entries }
+        ensures places { self.new.places ≡ self.old.places }
+        ensures pages { self.new.pages ≡ self.old.pages }
+        ensures page_places { self.new.page_places ≡ self.old.page_places }
+    {
+        if let Ok(place) = self.search(name) {
+            let _ = self.entries.remove(place);
+        }
+    }
+
+    /// The pages.
+    pub fn pages(&self) -> &[u64]
+        ensures { result.now ≡ self.now.pages }
+    {
+        &self.pages
+    }
+
+    /// Takes memory for `n` more pages.
+    pub fn reserve_pages(&mut self, n: u64) -> Result<(), NoMemory>
+        ensures ok { OnOk result (length self.new.pages + n ≤ self.new.page_places) }
+        ensures err { OnErr result (self.new.page_places ≡ self.old.page_places) }
+        ensures enough { length self.old.pages + n ≤ self.old.page_places → IsOk result }
+        ensures page_places { self.old.page_places ≤ self.new.page_places }
+        ensures pages { self.new.pages ≡ self.old.pages }
+        ensures entries { self.new.entries ≡ self.old.entries }
+        ensures places { self.new.places ≡ self.old.places }
+    {
+        if self.pages.reserve(n as usize).is_err() {
+            return Err(NoMemory);
+        }
+        Ok(())
+    }
+
+    /// Adds a page at the end.
+    pub fn push_page(&mut self, page: u64)
+        requires { length self.old.pages < self.old.page_places }
+        ensures pages { self.new.pages ≡ self.old.pages ++ page ∷ [] }
+        ensures page_places { self.old.page_places ≤ self.new.page_places }
+        ensures entries { self.new.entries ≡ self.old.entries }
+        ensures places { self.new.places ≡ self.old.places }
+    {
+        let _ = self.pages.push(page);
+    }
+
+    /// Puts a page in the place of the one that stands there.
+    pub fn set_page(&mut self, place: u64, page: u64)
+        requires { place < length self.old.pages }
+        ensures pages { self.new.pages ≡ slice_set self.old.pages place page }
+        ensures page_places { self.new.page_places ≡ self.old.page_places }
+        ensures entries { self.new.entries ≡ self.old.entries }
+        ensures places { self.new.places ≡ self.old.places }
+    {
+        self.pages[place as usize] = page;
+    }
+
+    /// Drops the last `n` pages.
+    pub fn cut_pages(&mut self, n: u64)
+        requires { n ≤ length self.old.pages }
+        ensures pages { self.new.pages ≡ take (length self.old.pages - n) self.old.pages }
+        ensures page_places { self.new.page_places ≡ self.old.page_places }
+        ensures entries { self.new.entries ≡ self.old.entries }
+        ensures places { self.new.places ≡ self.old.places }
+    {
+        self.pages.truncate(self.pages.len() - n as usize);
+    }
+}

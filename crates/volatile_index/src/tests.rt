@@ -1,0 +1,107 @@
+// What no clause says: that calls which need memory succeed, and the order of names in examples.
+ghost use Rattle.std.specs.Prelude.{◌≡◌, ◌≤◌, IfOk};
+ghost use Rattle.volatile_index.specs.Index.{inodes_of_index};
+
+use crate::Index;
+use layout::{Geometry, Name};
+use std::alloc::Global;
+use std::process::Abort;
+use std::test::Fail;
+
+fn name(text: &str) -> Result<Name, Fail> {
+    Ok(Name::new(text.as_bytes()).ok().ok_or("no name")?)
+}
+
+// An index of the least volume, whose inodes are 1 to 4.
+fn least_index(alloc: Global) -> Result<Index, Fail>
+    ensures { IfOk result (λ index. inodes_of_index index ≡ 4) }
+{
+    let geometry = Geometry::of(16).ok_or("no volume")?;
+    if geometry.inodes != 4 {
+        return Err("another number of inodes".into());
+    }
+    Ok(Index::new(alloc, &geometry)?)
+}
+
+// Puts an entry into the directory 2.
+fn add(index: &mut Index, text: &str, slot: u64) -> Result<(), Fail>
+    requires { inodes_of_index index.old ≡ 4 }
+    ensures { inodes_of_index index.new ≡ 4 }
+{
+    let name = name(text)?;
+    index.reserve_one(2)?;
+    match index.find(2, &name) {
+        None => index.put(2, name, slot),
+        Some(_) => return Err("the name is there".into()),
+    }
+    Ok(())
+}
+
+// Removes an entry of the directory 2.
+fn take(index: &mut Index, text: &str) -> Result<(), Fail>
+    requires { inodes_of_index index.old ≡ 4 }
+    ensures { inodes_of_index index.new ≡ 4 }
+{
+    let name = name(text)?;
+    match index.find(2, &name) {
+        Some(_) => index.remove(2, &name),
+        None => return Err("the name is not there".into()),
+    }
+    Ok(())
+}
+
+// Asserts which entry of the directory 2 stands at a place.
+fn assert_nth(rt: &impl Abort, index: &Index, k: u64, text: &str, slot: u64)
+    requires { inodes_of_index index.now ≡ 4 }
+{
+    assert!(rt; k < index.count(2));
+    let entry = index.nth(2, k);
+    assert_eq!(rt; entry.name.as_slice(), text.as_bytes());
+    assert_eq!(rt; entry.slot, slot);
+}
+
+#[test]
+fn names_stand_in_the_order_of_their_bytes(rt: HostRuntime) -> Result<(), Fail> {
+    let mut index = least_index(rt.alloc())?;
+    add(&mut index, "ab", 0)?;
+    add(&mut index, "b", 1)?;
+    add(&mut index, "A", 2)?;
+    add(&mut index, "a b", 3)?;
+    add(&mut index, "a", 4)?;
+    assert_eq!(rt; (index.count(2), index.count(1), index.count(4)), (5, 0, 0));
+    assert_nth(&rt, &index, 0, "A", 2);
+    assert_nth(&rt, &index, 1, "a", 4);
+    assert_nth(&rt, &index, 2, "a b", 3);
+    assert_nth(&rt, &index, 3, "ab", 0);
+    assert_nth(&rt, &index, 4, "b", 1);
+    Ok(())
+}
+
+#[test]
+fn finds_what_is_there(rt: HostRuntime) -> Result<(), Fail> {
+    let mut index = least_index(rt.alloc())?;
+    add(&mut index, "a", 7)?;
+    add(&mut index, "b", 8)?;
+    assert_eq!(rt; index.find(2, &name("a")?), Some(7));
+    assert_eq!(rt; index.find(2, &name("b")?), Some(8));
+    assert_eq!(rt; index.find(2, &name("ab")?), None);
+    assert_eq!(rt; index.find(3, &name("a")?), None);
+    take(&mut index, "a")?;
+    assert_eq!(rt; index.find(2, &name("a")?), None);
+    assert_eq!(rt; index.find(2, &name("b")?), Some(8));
+    Ok(())
+}
+
+#[test]
+fn pages_stand_in_the_order_of_their_coming(rt: HostRuntime) -> Result<(), Fail> {
+    let mut index = least_index(rt.alloc())?;
+    index.reserve_pages(4, 3)?;
+    index.push_page(4, 9);
+    index.push_page(4, 7);
+    index.push_page(4, 8);
+    assert_eq!(rt; index.pages(4), [9, 7, 8].as_slice());
+    assert_eq!(rt; index.pages(1).len(), 0);
+    index.cut_pages(4, 2);
+    assert_eq!(rt; index.pages(4), [9].as_slice());
+    Ok(())
+}

@@ -1,0 +1,10 @@
+pub mod Statuses
+pub mod Walked
+pub mod Ways
+pub mod Places
+pub mod Reserved
+pub mod Frees
+pub mod Rows
+pub mod Readings
+pub mod Plans
+pub mod Listed

@@ -1,0 +1,46 @@
+-- What a plan says of its entry.
+use Rattle.std.proofs.Common.{◌≡◌, ℕ, List, Option, Some, sym, ap, ◌∙◌, arith}
+use Rattle.pm_trait.specs.Trail.{Trail}
+use Rattle.tree_model.specs.PathText.{Route}
+use Rattle.tree_model.specs.Tree.{parent, id_at}
+use Rattle.tree_model.specs.Run.{State}
+use Rattle.tree_model.specs.declared.command.Command.{Command}
+use Rattle.tree_model.specs.declared.command.Command.TheVariants.{Create, Mkdir, Link, Unlink, Rmdir, Rename, Write, Truncate, Read, Stat as Tell, List as Show, Df}
+use Rattle.image_counts.specs.Laws.{InodeCountLaw}
+use Rattle.volatile_index.specs.Index.{inodes_of_index}
+use Rattle.volume.specs.Volume.{VolumeView}
+use Rattle.volume.specs.Stands.{StandsFor}
+use Rattle.volume.specs.Planned.{IsPlanOf, IsPlanned}
+use Rattle.volume.specs.Prepared.{IsMadeIn}
+use Rattle.volume.specs.declared.plan.NewEntry.{NewEntry}
+use Rattle.volume.specs.declared.plan.Action.{Action}
+use Rattle.volume.specs.declared.plan.Action.TheVariants.{Make, Status, Names, Space}
+use Rattle.volume.proofs.Walked.{reached_at, in_table}
+
+same_directory : (entry other : NewEntry) → Make entry ≡ Make other → other.directory ≡ entry.directory
+same_directory entry other is = let same : entry ≡ other = cc in ap (λ (e : NewEntry). e.directory) (sym same)
+
+-- the directory of the entry has a path
+directory_named : (P : ℕ) (I : List ℕ) (state : State) (entry : NewEntry) (command : Command) → IsPlanOf P I state command (Make entry) → (path : Route) × (id_at state.tree path ≡ Some entry.directory)
+directory_named P I state entry (Create path) (other, is, made) = (parent path, made.directory_is ∙ ap Some (same_directory entry other is))
+directory_named P I state entry (Mkdir path) (other, is, made) = (parent path, made.directory_is ∙ ap Some (same_directory entry other is))
+directory_named P I state entry (Link from to) plan = absurd plan
+directory_named P I state entry (Unlink path) plan = absurd plan
+directory_named P I state entry (Rmdir path) plan = absurd plan
+directory_named P I state entry (Rename from to) plan = absurd plan
+directory_named P I state entry (Write path offset bytes) plan = absurd plan
+directory_named P I state entry (Truncate path size) plan = absurd plan
+directory_named P I state entry (Read path offset count) plan = absurd plan
+directory_named P I state entry (Tell path) plan = cc
+directory_named P I state entry (Show path) plan = cc
+directory_named P I state entry Df plan = cc
+
+module _ (volume : VolumeView) (now : List ℕ) (trail : Option Trail) (state : State) (stands : StandsFor volume now trail state) (law : InodeCountLaw) (command : Command) where
+  pub made_within : (action : Action) → IsPlanned volume.size now state command action → IsMadeIn (inodes_of_index volume.index) action
+  made_within (Make entry) planned =
+      let (path, named) = directory_named volume.size now state entry command planned.plan_is in
+      let within = in_table volume now trail entry.directory law (state, stands) (reached_at volume now trail state path entry.directory stands named) in
+      (within.0, omega (arith, within.1, stands.knows.nodes.each_inode))
+  made_within (Status inode) planned = tt
+  made_within (Names inode) planned = tt
+  made_within Space planned = tt

@@ -1,0 +1,49 @@
+-- The rows of commands that read.
+use Rattle.std.proofs.Common.{◌≡◌, ℕ, true, false, List, [], ◌∷◌, Option, Some, None, is_some, unwrap_or, Ok, refl, sym, ap, ◌∙◌}
+use Rattle.pm_trait.specs.Trail.{Trail}
+use Rattle.tree_model.specs.PathText.{Route}
+use Rattle.tree_model.specs.Tree.{Node, Directory, File, root_id, id_at, node_at, is_directory, is_file, is_directory_node, is_file_node}
+use Rattle.tree_model.specs.Walk.{walk}
+use Rattle.tree_model.specs.WalkLaws.{id_at-from_walk}
+use Rattle.tree_model.specs.Step.{first, at, fault_of, id_of, refusal_of}
+use Rattle.tree_model.specs.Run.{State}
+use Rattle.tree_model.specs.declared.command.Command.TheVariants.{Stat as Tell, List as Show}
+use Rattle.tree_model.specs.declared.reply.Refusal.TheVariants.{NotDir}
+use Rattle.image_counts.specs.Laws.{StateLaw}
+use Rattle.volume.specs.Volume.{VolumeView}
+use Rattle.volume.specs.Stands.{StandsFor}
+use Rattle.volume.specs.Planned.{IsPlanned}
+use Rattle.volume.specs.declared.plan.Action.TheVariants.{Status, Names}
+use Rattle.volume.proofs.Walked.{stands_tree}
+
+no_file : (o : Option Node) → is_directory_node o ≡ true → is_file_node o ≡ false
+no_file None e = refl
+no_file (Some Directory) e = refl
+no_file (Some (File bytes)) e = cc
+
+a_file : (o : Option Node) → is_some o ≡ true → is_directory_node o ≡ false → is_file_node o ≡ true
+a_file None there e = cc
+a_file (Some Directory) there e = cc
+a_file (Some (File bytes)) there e = refl
+
+module _ (volume : VolumeView) (now : List ℕ) (trail : Option Trail) (state : State) (stands : StandsFor volume now trail state) (law : StateLaw)
+    (path : Route) (inode : ℕ) (walked : walk state.tree path ≡ Ok (record { path = path; id = inode })) where
+  named : id_at state.tree path ≡ Some inode
+  named = id_at-from_walk state.tree path (record { path = path; id = inode }) (stands_tree volume now trail state law stands) walked
+
+  pub its_id : id_of state.tree path ≡ inode
+  its_id = ap (λ o. unwrap_or o root_id) named
+
+  pub told_planned : IsPlanned volume.size now state (Tell path) (Status inode)
+  told_planned = record { accepted = ap (λ w. first (fault_of w ∷ [])) walked; plan_is = ap Status (sym its_id) }
+
+  pub listed_planned : is_directory state.tree inode ≡ true → IsPlanned volume.size now state (Show path) (Names inode)
+  listed_planned directory =
+      let test = ap (is_file state.tree) its_id ∙ no_file (node_at state.tree inode) directory in
+      record { accepted = λ i. first (fault_of (walked i) ∷ at NotDir (test i) ∷ []); plan_is = ap Names (sym its_id) }
+
+  pub listed_file : is_directory state.tree inode ≡ false → refusal_of volume.size state.tree state.room (Show path) ≡ Some NotDir
+  listed_file other =
+      let there = (stands_tree volume now trail state law stands).present path inode named in
+      let test = ap (is_file state.tree) its_id ∙ a_file (node_at state.tree inode) there other in
+      λ i. first (fault_of (walked i) ∷ at NotDir (test i) ∷ [])

@@ -1,0 +1,61 @@
+-- How far a walk has come.
+use Rattle.std.proofs.Common.{◌≡◌, ℕ, Bool, true, false, cond, List, [], ◌∷◌, ◌++◌, Option, Some, None, Result, Ok, Err, refl, sym, ap, ◌∙◌, append_assoc, append-nil}
+use Rattle.tree_model.specs.PathText.{Route}
+use Rattle.tree_model.specs.Tree.{Tree, IsTree, root_id, id_at, is_directory, parent}
+use Rattle.tree_model.specs.Walk.{Place, place_at, walk, walk_on, walk_to_parent, step_into, only_directory}
+use Rattle.tree_model.specs.declared.reply.Refusal.{Refusal}
+use Rattle.tree_model.specs.declared.reply.Refusal.TheVariants.{NotDir}
+
+-- The walk along the path stands at an inode, with these names left.
+pub record IsOnWay (T : Tree) (path names : Route) (here : ℕ) : Type 0 where
+  pub front : Route
+  pub named : id_at T front ≡ Some here
+  pub left : walk T path ≡ walk_on T (Ok (record { path = front; id = here })) names
+  pub whole : front ++ names ≡ path
+
+pub way_starts : (T : Tree) (path : Route) → IsTree T → IsOnWay T path path root_id
+way_starts T path tree = record { front = []; named = tree.root; left = refl; whole = refl }
+
+placed : (path : Route) (o : Option ℕ) (id : ℕ) → place_at path o ≡ Ok (record { path = path; id = id }) → o ≡ Some id
+placed path None id e = cc
+placed path (Some other) id e =
+    let same : record { path = path; id = other } ≡ record { path = path; id = id } = cc in ap (λ (p : Place). Some p.id) same
+
+entered : (t : Bool) (x : Result Place Refusal) (here : Place) → cond t x (Err NotDir) ≡ Ok here → x ≡ Ok here
+entered true x here e = e
+entered false x here e = cc
+
+pub way_goes_on : (T : Tree) (path names : Route) (name : List ℕ) (here next : ℕ) (way : IsOnWay T path (name ∷ names) here)
+    → step_into T (Ok (record { path = way.front; id = here })) name ≡ Ok (record { path = way.front ++ name ∷ []; id = next }) → IsOnWay T path names next
+way_goes_on T path names name here next way step = record {
+  front = way.front ++ name ∷ [];
+  named = placed (way.front ++ name ∷ []) (id_at T (way.front ++ name ∷ [])) next (entered (is_directory T here) _ _ step);
+  left = way.left ∙ ap (λ r. walk_on T r names) step;
+  whole = append_assoc way.front (name ∷ []) names ∙ way.whole;
+}
+
+walk_on-fault : (T : Tree) (fault : Refusal) (names : Route) → walk_on T (Err fault) names ≡ Err fault
+walk_on-fault T fault [] = refl
+walk_on-fault T fault (name ∷ names) = walk_on-fault T fault names
+
+pub way_fails : (T : Tree) (path names : Route) (name : List ℕ) (here : ℕ) (fault : Refusal) (way : IsOnWay T path (name ∷ names) here)
+    → step_into T (Ok (record { path = way.front; id = here })) name ≡ Err fault → walk T path ≡ Err fault
+way_fails T path names name here fault way step = way.left ∙ ap (λ r. walk_on T r names) step ∙ walk_on-fault T fault names
+
+pub way_ends : (T : Tree) (path : Route) (here : ℕ) → IsOnWay T path [] here → walk T path ≡ Ok (record { path = path; id = here })
+way_ends T path here way = way.left ∙ ap (λ p. Ok (record { path = p; id = here })) (sym (append-nil way.front) ∙ way.whole)
+
+-- ---- to the directory for the last name
+
+pub parent_fails : (T : Tree) (path : Route) (fault : Refusal) → walk T (parent path) ≡ Err fault → walk_to_parent T path ≡ Err fault
+parent_fails T path fault e = ap (only_directory T) e
+
+pub parent_found : (T : Tree) (path : Route) (here : ℕ) → walk T (parent path) ≡ Ok (record { path = parent path; id = here }) → is_directory T here ≡ true
+    → walk_to_parent T path ≡ Ok (record { path = parent path; id = here })
+parent_found T path here e directory =
+    ap (only_directory T) e ∙ ap (λ b. cond b (Ok (record { path = parent path; id = here })) (Err NotDir)) directory
+
+pub parent_no_directory : (T : Tree) (path : Route) (here : ℕ) → walk T (parent path) ≡ Ok (record { path = parent path; id = here }) → is_directory T here ≡ false
+    → walk_to_parent T path ≡ Err NotDir
+parent_no_directory T path here e file =
+    ap (only_directory T) e ∙ ap (λ b. cond b (Ok (record { path = parent path; id = here })) (Err NotDir)) file

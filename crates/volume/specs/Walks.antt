@@ -1,0 +1,30 @@
+-- Where a path leads.
+use Rattle.std.specs.Prelude.{◌≡◌, ℕ, [], false, Option, Some, None, Result, Ok, Err}
+use Rattle.tree_model.specs.PathText.{Route}
+use Rattle.tree_model.specs.Tree.{is_root, parent, last_name}
+use Rattle.tree_model.specs.Walk.{Place, root_place}
+use Rattle.tree_model.specs.declared.reply.Refusal.{Refusal}
+use Rattle.tree_model.specs.declared.reply.Refusal.TheVariants.{NotFound as IsMissing, NotDir as IsNoDirectory}
+use Rattle.volume.specs.declared.resolve.Walk.{Walk}
+use Rattle.volume.specs.declared.resolve.Walk.TheVariants.{NotFound, NotDir}
+use Rattle.volume.specs.declared.resolve.LastName.{LastName}
+
+abbrev pub refusal_of_walk : Walk → Refusal
+refusal_of_walk NotFound = IsMissing
+refusal_of_walk NotDir = IsNoDirectory
+
+-- the place that the path leads to, or why there is none
+abbrev pub place_of : Route → Result ℕ Walk → Result Place Refusal
+place_of path (Ok inode) = Ok (record { path = path; id = inode })
+place_of path (Err fault) = Err (refusal_of_walk fault)
+
+-- the place of the directory that would hold the path's last name; for the root, which has no name, the root itself
+abbrev pub place_of_parent : Route → Result (Option LastName) Walk → Result Place Refusal
+place_of_parent path (Ok None) = Ok root_place
+place_of_parent path (Ok (Some last)) = Ok (record { path = parent path; id = last.directory })
+place_of_parent path (Err fault) = Err (refusal_of_walk fault)
+
+-- the last name of a path; the root has none
+abbrev pub IsLastName : Route → Option LastName → Type 0
+IsLastName path None = path ≡ []
+IsLastName path (Some last) = (is_root path ≡ false) × (last.name ≡ last_name path)

@@ -1,0 +1,19 @@
+//! A mounted volume: what it stands for, and the plans of commands on it.
+#![tactic(auto)]
+
+mod image_laws;
+mod names;
+mod place;
+mod plan;
+mod prepare;
+mod resolve;
+mod stat;
+mod volume;
+
+pub use plan::{Action, NewEntry, NodeKind, Plan};
+pub use prepare::{ENTRY_EVENTS, PAGE_EVENTS};
+pub use resolve::{ROOT, Walk};
+pub use volume::Volume;
+
+#[cfg(test)]
+mod tests;

@@ -1,0 +1,71 @@
+// Plans of accepted commands. A plan can't be copied, and none is made but by `prepare`.
+ghost use Rattle.std.specs.Prelude.{◌≡◌};
+
+use layout::Name;
+use std::marker::Model;
+
+/// What a new entry names.
+#[derive(Clone, Copy, Debug, PartialEq, Eq)]
+pub enum NodeKind {
+    File,
+    Directory,
+}
+
+/// An entry that is to be made, and the node that it names.
+#[derive(Drop)]
+pub struct NewEntry {
+    pub kind: NodeKind,
+    /// The inode of the directory that it is made in.
+    pub directory: u64,
+    pub name: Name,
+    /// A free inode, for the node.
+    pub inode: u64,
+    /// The slot for the name.
+    pub slot: u64,
+    /// The page that the directory takes for the slot, where its pages are full.
+    pub new_page: Option<u64>,
+}
+
+/// What an accepted command does.
+#[derive(Drop)]
+pub enum Action {
+    /// Makes an entry and its node.
+    Make(NewEntry),
+    /// Tells what the node of an inode is.
+    Status(u64),
+    /// Gives the names of the directory of an inode.
+    Names(u64),
+    /// Tells what is free.
+    Space,
+}
+
+/// The plan of an accepted command, for which all is found and reserved. It is of one volume, as this stands now, and is
+/// spent by the call that carries it out.
+#[derive(Drop)]
+pub struct Plan {
+    action: Action,
+}
+
+impl Model for Plan {
+    ghost use Rattle.volume.specs.declared.plan.Action.{Action};
+
+    ghost Value = { Action };
+
+    ghost view = { λ plan. plan.action };
+}
+
+impl Plan {
+    // The plan of an action.
+    pub(crate) fn of(action: Action) -> Plan
+        ensures { result ≡ action }
+    {
+        Plan { action }
+    }
+
+    /// What the command does. The plan is spent.
+    pub fn into_action(self) -> Action
+        ensures { result ≡ self }
+    {
+        self.action
+    }
+}
