@@ -1,0 +1,173 @@
+-- What a stop leaves while an entry is made, from the laws of images.
+use Rattle.std.proofs.Common.{◌≡◌, ◌≢◌, ◌⊎◌, inl, inr, ℕ, ◌+◌, ◌*◌, ◌<◌, ◌≤◌, List, length, reverse, slice_index, set, Option, Some, None, refl, sym, ap, subst, ◌∙◌, arith}
+use Rattle.pm_trait.specs.Device.{Mix}
+use Rattle.layout.specs.Geometry.{IsVolumeSize, inodes_of, page_of_slot, slot_word_of}
+use Rattle.layout.specs.GeometryLaws.{page_of_entry}
+use Rattle.layout.specs.Fields.{word}
+use Rattle.layout.specs.Name.{IsName, IsBytes, words_of_name}
+use Rattle.tree_model.specs.PathText.{Route}
+use Rattle.tree_model.specs.Tree.{Tree, id_at, parent}
+use Rattle.tree_model.specs.Capacity.{untaken}
+use Rattle.tree_model.specs.Step.{Done, step, refusal_of, outcome_of, least_free_id, with_new}
+use Rattle.tree_model.specs.Run.{State}
+use Rattle.tree_model.specs.TreeLaws.{id_at-with_new_here}
+use Rattle.tree_model.specs.declared.reply.Refusal.{Refusal}
+use Rattle.image_reading.specs.Reading.{Reads}
+use Rattle.image_laws.specs.Create.{IsEmptyNode, MakesNode, IsFreePage, IsCreate, owned, committed}
+use Rattle.image_laws.specs.Frame.{SameMeaning}
+use Rattle.image_laws.specs.Quiet.{IsMix}
+use Rattle.inode_state.specs.Inode.{fields_at}
+use Rattle.inode_state.specs.InodeLaws.{same_fields_at}
+use Rattle.layout.specs.declared.fields.InodeFields.{InodeFields}
+use Rattle.volume.specs.declared.plan.NodeKind.{NodeKind}
+use Rattle.volume.specs.declared.plan.NodeKind.TheVariants.{File as AFile, Directory as ADirectory}
+use Rattle.volume.specs.declared.plan.NewEntry.{NewEntry}
+use Rattle.volume.specs.Planned.{IsPlace}
+use Rattle.volume.specs.Stops.{MayReadAs}
+use Rattle.create_ops.specs.Making.{node_of, command_of, room_of, MayTake, IsParent, IsReady, IsOpened, IsPlannedAt}
+use Rattle.create_ops.specs.Laws.{ImageLaws}
+use Rattle.create_ops.proofs.Moments.{is_mix}
+use Rattle.create_ops.proofs.Plans
+use Rattle.create_ops.proofs.Opened
+
+empty_node : (kind : NodeKind) → IsEmptyNode (node_of kind)
+empty_node AFile = refl
+empty_node ADirectory = tt
+
+-- what was committed, by the numbers that the entry has
+pub committed_is : (P : ℕ) (I J : List ℕ) (slot inode pages s i : ℕ) → pages ≡ P → s ≡ slot → i ≡ inode → J ≡ set I (slot_word_of pages s 0) i → J ≡ committed P I slot inode
+committed_is P I J slot inode pages s i volume same number is =
+    is ∙ ap (λ (p : ℕ). set I (slot_word_of p s 0) i) volume ∙ ap (λ (t : ℕ). set I (slot_word_of P t 0) i) same ∙ ap (λ (n : ℕ). set I (slot_word_of P slot 0) n) number
+
+-- the step of an accepted command makes the node
+tree_by : (P : ℕ) (state : State) (path : Route) (kind : NodeKind) → refusal_of P state.tree state.room (command_of kind path) ≡ None
+    → (step P state.tree state.room (command_of kind path)).tree ≡ with_new state.tree path (least_free_id state.tree) (node_of kind)
+tree_by P state path AFile accepted = ap (λ (o : Option Refusal). (outcome_of o (untaken P) (least_free_id state.tree) state.tree state.room (command_of AFile path)).tree) accepted
+tree_by P state path ADirectory accepted = ap (λ (o : Option Refusal). (outcome_of o (untaken P) (least_free_id state.tree) state.tree state.room (command_of ADirectory path)).tree) accepted
+
+answer_by : (P : ℕ) (state : State) (path : Route) (kind : NodeKind) → refusal_of P state.tree state.room (command_of kind path) ≡ None
+    → (step P state.tree state.room (command_of kind path)).answer ≡ Done
+answer_by P state path AFile accepted = ap (λ (o : Option Refusal). (outcome_of o (untaken P) (least_free_id state.tree) state.tree state.room (command_of AFile path)).answer) accepted
+answer_by P state path ADirectory accepted = ap (λ (o : Option Refusal). (outcome_of o (untaken P) (least_free_id state.tree) state.tree state.room (command_of ADirectory path)).answer) accepted
+
+module _ (laws : ImageLaws) (P : ℕ) (W : List ℕ) (state : State) (path : Route) (entry : NewEntry) (at : IsPlannedAt P W state path entry) where
+  pub tree_is : (step P state.tree state.room (command_of entry.kind path)).tree ≡ with_new state.tree path entry.inode (node_of entry.kind)
+  tree_is =
+      let for_entry = Plans.for_entry laws P W state path entry at in
+      tree_by P state path entry.kind at.planned.accepted ∙ ap (λ (i : ℕ). with_new state.tree path i (node_of entry.kind)) (sym for_entry.inode_is)
+
+  pub answer_is : (step P state.tree state.room (command_of entry.kind path)).answer ≡ Done
+  answer_is = answer_by P state path entry.kind at.planned.accepted
+
+  -- the path is new in it
+  pub differ : state.tree ≢ (step P state.tree state.room (command_of entry.kind path)).tree
+  differ same =
+      let may = Plans.may laws P W state path entry at in
+      let there = ap (λ (tree : Tree). id_at tree path) (same ∙ tree_is) ∙ id_at-with_new_here state.tree path entry.inode (node_of entry.kind) in
+      let clash : ◌≡◌ {A = Option ℕ} None (Some entry.inode) = sym may.absent ∙ there in
+      cc
+
+  -- what means the same may be left
+  pub may_same : (image : List ℕ) → SameMeaning P W image → MayReadAs P state (Some (command_of entry.kind path)) image
+  may_same image same = record { sound = same.sound; tree = state.tree; reads = same.reads state.tree at.reads.tree; allowed = inl refl }
+
+  module _ (B : List ℕ) (opened : IsOpened P W B entry.directory entry.new_page) where
+    may_take : MayTake P W entry.new_page
+    may_take = Plans.takes laws P W state path entry at
+
+    size : IsVolumeSize P
+    size = Plans.size laws P W state path entry at
+
+    whole : length W ≡ 512 * P
+    whole = Plans.whole laws P W state path entry at
+
+    inode_words : (x : ℕ) → 1 ≤ x → x ≤ inodes_of P → fields_at B x ≡ fields_at W x
+    unfolding word
+    inode_words x some most = same_fields_at x W B (λ a is.
+        let lt = is.is_field in
+        ap (λ (k : ℕ). slice_index B k) is.at
+        ∙ Opened.opened_inode P W B entry.directory size whole entry.new_page may_take opened x is.field some most (omega (arith, lt))
+        ∙ ap (λ (k : ℕ). slice_index W k) (sym is.at))
+
+    parent_ready : IsParent P B entry.directory
+    parent_ready =
+        let parent = Plans.parent_ready laws P W state path entry at in
+        let same = inode_words entry.directory parent.least parent.most in
+        let links = ap (λ (f : InodeFields). f.links) same in
+        let room = parent.countable in
+        record {
+          least = parent.least;
+          most = parent.most;
+          live = subst (λ (f : InodeFields). ((f.kind ≡ 1) ⊎ (f.kind ≡ 2)) × (f.own ≡ entry.directory)) (sym same) parent.live;
+          countable = omega (arith, links, room);
+        }
+
+    slot_zero : (new_page : Option ℕ) → entry.new_page ≡ new_page → IsPlace P W entry.directory entry.slot new_page → (f : ℕ) → f < 16 → word B (slot_word_of P entry.slot f) ≡ 0
+    slot_zero None is place f lt =
+        Opened.opened_slot P W B entry.directory size whole entry.new_page may_take opened entry.slot f lt (λ e. let clash : ◌≡◌ {A = Option ℕ} None (Some (page_of_slot entry.slot)) = sym is ∙ e in cc)
+        ∙ Plans.vacant_zero laws P W state path entry at place.vacant f lt
+    slot_zero (Some page) is place f lt =
+        Opened.opened_zero P W B entry.directory size whole entry.new_page may_take opened entry.slot f lt (is ∙ ap (λ (j : ℕ). Some j) (sym (slot_page page entry.slot place.slot_is)))
+      where
+        slot_page : (page slot : ℕ) → slot ≡ 32 * page → page_of_slot slot ≡ page
+        slot_page page slot e = let plain : slot ≡ 32 * page + 0 = omega (arith, e) in ap (λ (s : ℕ). page_of_slot s) plain ∙ page_of_entry page 0 (omega arith)
+
+    pub ready : IsReady P B entry
+    ready =
+        let for_entry = Plans.for_entry laws P W state path entry at in
+        let two = Plans.from_two laws P W state path entry at in
+        record {
+          whole = Opened.opened_long P W B entry.directory size whole entry.new_page may_take opened ∙ whole;
+          least = omega (arith, two);
+          most = for_entry.inode_within;
+          inode = inode_words entry.inode (omega (arith, two)) for_entry.inode_within ∙ Plans.inode_free laws P W state path entry at;
+          slot_in_range = Plans.slot_within laws P W state path entry at;
+          slot = Plans.zero_slot P B entry.slot (slot_zero entry.new_page refl for_entry.place);
+          parent = parent_ready;
+          other = Plans.other laws P W state path entry at;
+        }
+
+    module _ (is_name : IsName entry.name) (of_bytes : IsBytes entry.name) (I : List ℕ) (made : MakesNode P B I (node_of entry.kind) entry.directory entry.slot entry.inode (words_of_name entry.name)) where
+      created_by : (new_page : Option ℕ) → IsPlace P W entry.directory entry.slot new_page → IsOpened P W B entry.directory new_page
+          → IsCreate P W B I (committed P I entry.slot entry.inode) path (node_of entry.kind) entry.inode (room_of entry new_page)
+      created_by None place is =
+          let node = node_of entry.kind in
+          let made_here : MakesNode P W I node entry.directory entry.slot entry.inode (words_of_name entry.name)
+          = subst (λ (l : List ℕ). MakesNode P l I node entry.directory entry.slot entry.inode (words_of_name entry.name)) is made in
+          subst (λ (l : List ℕ). IsCreate P W l I (committed P I entry.slot entry.inode) path node entry.inode (room_of entry None)) (sym is)
+          (laws.create P W I (reverse (parent path)) path node entry.directory entry.slot entry.inode (words_of_name entry.name)
+          (Plans.can laws P W state path entry at is_name of_bytes) (Plans.vacant laws P W state path entry at place.vacant) (empty_node entry.kind) made_here
+          (Plans.path_reversed laws P W state path entry at is_name of_bytes))
+      created_by (Some page) place (A, page_made, is) =
+          let node = node_of entry.kind in
+          let made_here : MakesNode P (owned P A page entry.directory) I node entry.directory entry.slot entry.inode (words_of_name entry.name)
+          = subst (λ (l : List ℕ). MakesNode P l I node entry.directory entry.slot entry.inode (words_of_name entry.name)) is made in
+          let free : IsFreePage P W page = record { in_range = place.page_is.free.0; unowned = place.page_is.free.1 } in
+          let plain : entry.slot ≡ 32 * page + 0 = omega (arith, place.slot_is) in
+          subst (λ (l : List ℕ). IsCreate P W l I (committed P I entry.slot entry.inode) path node entry.inode (room_of entry (Some page))) (sym is)
+          ((laws.new_page P W A I (reverse (parent path)) path node entry.directory page entry.slot entry.inode (words_of_name entry.name)
+          (Plans.can laws P W state path entry at is_name of_bytes) free (ap (λ (s : ℕ). page_of_slot s) plain ∙ page_of_entry page 0 (omega arith)) (empty_node entry.kind) page_made made_here
+          (Plans.path_reversed laws P W state path entry at is_name of_bytes)).1)
+
+      pub created : IsCreate P W B I (committed P I entry.slot entry.inode) path (node_of entry.kind) entry.inode (room_of entry entry.new_page)
+      created = created_by entry.new_page (Plans.for_entry laws P W state path entry at).place opened
+
+      pub writing : (image : List ℕ) → Mix B I image → MayReadAs P state (Some (command_of entry.kind path)) image
+      writing image mix = may_same image (created.before image (is_mix B I image mix))
+
+      pub opened_reads : Reads P B state.tree
+      opened_reads = (created.before B (record { size = refl; words = λ x. inl refl })).reads state.tree at.reads.tree
+
+      pub written_reads : Reads P I state.tree
+      written_reads = (created.before I (record { size = made.size; words = λ x. inr refl })).reads state.tree at.reads.tree
+
+      -- the words with the commit read as the step's tree
+      pub new_reads : Reads P (committed P I entry.slot entry.inode) (step P state.tree state.room (command_of entry.kind path)).tree
+      new_reads = subst (λ (tree : Tree). Reads P (committed P I entry.slot entry.inode) tree) (sym tree_is) (created.reads state.tree at.reads.tree)
+
+      pub committing : (J : List ℕ) → J ≡ committed P I entry.slot entry.inode → (image : List ℕ) → Mix I J image → MayReadAs P state (Some (command_of entry.kind path)) image
+      committing J is image mix = elim (created.commit image (subst (λ (l : List ℕ). IsMix I l image) is (is_mix I J image mix))) [
+        | inl same ↦ may_same image same
+        | inr new ↦ subst (λ (l : List ℕ). MayReadAs P state (Some (command_of entry.kind path)) l) (sym new)
+            (record { sound = created.tidy.sound; tree = (step P state.tree state.room (command_of entry.kind path)).tree; reads = new_reads; allowed = inr (inl refl) })
+      ]

@@ -1,0 +1,16 @@
+pub mod Pages
+pub mod Nodes
+pub mod Moments
+pub mod Opening
+pub mod Counts
+pub mod Plans
+pub mod Opened
+pub mod Created
+pub mod Rooms
+pub mod Placed
+pub mod Lists
+pub mod After
+pub mod Knowing
+pub mod Made
+pub mod Called
+pub mod Zeros

@@ -1,0 +1,55 @@
+-- What is left at each moment of a call that acknowledges nothing.
+use Rattle.std.proofs.Common.{◌≡◌, ◌≢◌, inr, ℕ, List, length, refl, arith}
+use Rattle.std.specs.Prelude.{Option, Result, Ok, Err, OnOk}
+use Rattle.pm_trait.specs.Trail.{Trail}
+use Rattle.pm_trait.specs.Device.{LeavesOnly, StaysOnce, Mix, IsFenced, IsSettledAt, acks_from, moment_of}
+use Rattle.pm_trait.specs.ContinuesLaws.{acks_from-then, continues_then}
+use Rattle.pm_trait.specs.DeviceLaws.{fenced_leaves, fenced_stays, leaves_next, leaves_weaker, interval_empty, interval_stays}
+use Rattle.layout.specs.Fields.{word}
+use Rattle.tree_model.specs.Tree.{Tree}
+use Rattle.image_reading.specs.Reading.{Reads}
+use Rattle.image_reading.specs.Laws.{OneTree}
+use Rattle.image_laws.specs.Quiet.{IsMix}
+
+-- nothing is acknowledged, and what is left has Q
+abbrev pub Quietly : (List ℕ → Type 0) → ℕ → List ℕ → Type 0
+Quietly Q acks image = (acks ≡ 0) × Q image
+
+pub quiet_fenced : {T E : Type 0} {a b : List ℕ} {ta tb : Option Trail} {result : Result T E} (Q : List ℕ → Type 0) → IsFenced a ta b tb result → ((image : List ℕ) → Mix a b image → Q image) → LeavesOnly ta tb (Quietly Q)
+quiet_fenced Q fenced implies = fenced_leaves {P = Quietly Q} fenced (λ image mix. (refl, implies image mix))
+
+pub quiet_then : {a b c : Option Trail} (Q : List ℕ → Type 0) → acks_from a b (moment_of b) ≡ 0 → LeavesOnly a b (Quietly Q) → LeavesOnly b c (Quietly Q) → LeavesOnly a c (Quietly Q)
+quiet_then Q none one two = leaves_next {P = Quietly Q} none one two
+
+pub quiet_weaker : {a b : Option Trail} (Q R : List ℕ → Type 0) → ((image : List ℕ) → Q image → R image) → LeavesOnly a b (Quietly Q) → LeavesOnly a b (Quietly R)
+quiet_weaker Q R implies run = leaves_weaker {P = Quietly Q} {Q = Quietly R} (λ k image both. (both.0, implies image both.1)) run
+
+pub no_ack_then : {a b c : Option Trail} {P Q : ℕ → List ℕ → Type 0} → LeavesOnly a b P → LeavesOnly b c Q → acks_from a b (moment_of b) ≡ 0 → acks_from b c (moment_of c) ≡ 0 → acks_from a c (moment_of c) ≡ 0
+no_ack_then one two none also = let joined = acks_from-then one.continues two.continues in omega (arith, joined, none, also)
+
+pub acks_none_then : {a b c d : Option Trail} {P Q R : ℕ → List ℕ → Type 0} → LeavesOnly a b P → LeavesOnly b c Q → LeavesOnly c d R → acks_from a b (moment_of b) ≡ 0 → acks_from b c (moment_of c) ≡ 0 → acks_from c d (moment_of d) ≡ 0
+    → acks_from a d (moment_of d) ≡ 0
+acks_none_then one two three none also last =
+    let joined = acks_from-then (continues_then one.continues two.continues) three.continues in
+    let first = no_ack_then one two none also in
+    omega (arith, joined, first, last)
+
+pub on_ok : {T E F : Type 0} (result : Result T E) → F → OnOk result F
+on_ok (Ok done) holds = holds
+on_ok (Err fault) holds = tt
+
+-- a mix as the laws of images say it
+pub is_mix : (a b image : List ℕ) → Mix a b image → IsMix a b image
+unfolding word
+is_mix a b image mix = record { size = mix.long; words = mix.each }
+
+pub mix_of_new : (a b : List ℕ) → length b ≡ length a → IsMix a b b
+unfolding word
+mix_of_new a b long = record { size = long; words = λ x. inr refl }
+
+-- Words that read as another tree don't stay in an interval that begins with words of this one.
+pub reads_stay : {T E : Type 0} {a b : List ℕ} {ta tb : Option Trail} {result : Result T E} (P : ℕ) (before after : Tree) → OneTree → IsFenced a ta b tb result → Reads P a before → before ≢ after → StaysOnce ta tb (λ image. Reads P image after)
+reads_stay {a = a} P before after one fenced reads differ = fenced_stays (λ image. Reads P image after) fenced (λ has image mix. absurd (differ (one P a before after reads has)))
+
+pub reads_stay_here : {now : List ℕ} {trail : Option Trail} (P : ℕ) (before after : Tree) → OneTree → IsSettledAt now trail → Reads P now before → before ≢ after → StaysOnce trail trail (λ image. Reads P image after)
+reads_stay_here {now} {trail} P before after one settled reads differ = interval_stays (λ image. Reads P image after) settled (interval_empty now trail) (λ has image mix. absurd (differ (one P now before after reads has)))

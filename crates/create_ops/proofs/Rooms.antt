@@ -1,0 +1,67 @@
+-- The room after an entry is the one that the step of its command leaves.
+use Rattle.std.proofs.Common.{◌≡◌, ◌≢◌, ℕ, ◌*◌, ◌==◌, true, false, Option, Some, None, is_some, refl, sym, ap, subst, ◌∙◌, List, arith}
+use Rattle.std.proofs.lemmas.Bool.Decides.{nat_tests}
+use Rattle.tree_model.specs.PathText.{Route}
+use Rattle.tree_model.specs.Tree.{Tree, IsRoom, name_count, pages_in}
+use Rattle.tree_model.specs.Step.{is_full, room_after, tree_after, with_new, least_free_id, refusal_of, RoomAfter}
+use Rattle.tree_model.specs.Run.{State}
+use Rattle.tree_model.specs.declared.command.Command.{Command}
+use Rattle.tree_model.specs.declared.reply.Refusal.{Refusal}
+use Rattle.image_laws.specs.CreateStep.{making, HasRoomAfter}
+use Rattle.volume.specs.declared.plan.NodeKind.{NodeKind}
+use Rattle.volume.specs.declared.plan.NodeKind.TheVariants.{File as AFile, Directory as ADirectory}
+use Rattle.volume.specs.declared.plan.NewEntry.{NewEntry}
+use Rattle.volume.specs.Planned.{IsPlace}
+use Rattle.create_ops.specs.Making.{node_of, command_of, room_of, IsPlannedAt}
+use Rattle.create_ops.specs.Laws.{ImageLaws}
+use Rattle.create_ops.proofs.Plans
+
+-- a row for each kind
+after_is : (kind : NodeKind) (id : ℕ) (T : Tree) (path : Route) → tree_after id T (command_of kind path) ≡ with_new T path id (node_of kind)
+after_is AFile id T path = refl
+after_is ADirectory id T path = refl
+
+command_is : (kind : NodeKind) (path : Route) → making (node_of kind) path ≡ command_of kind path
+command_is AFile path = refl
+command_is ADirectory path = refl
+
+is_same : (n m : ℕ) → n ≡ m → n == m ≡ true
+is_same n m e = grind (arith, nat_tests)
+
+not_equal : (n m : ℕ) → (n ≡ m → ⊥) → n == m ≡ false
+not_equal n m e = let apart : n ≢ m = e in grind (arith, nat_tests)
+
+module _ (laws : ImageLaws) (P : ℕ) (W : List ℕ) (state : State) (path : Route) (entry : NewEntry) (at : IsPlannedAt P W state path entry) where
+  -- the directory is full where the name needs a new page, and only there
+  full_by : (new_page : Option ℕ) → IsPlace P W entry.directory entry.slot new_page → is_full state.tree state.room entry.directory ≡ is_some new_page
+  full_by None place =
+      let rooms = Plans.room_words laws P W state path entry at in
+      not_equal (name_count state.tree entry.directory) (32 * pages_in state.room entry.directory) (λ full. rooms.full.0 full entry.slot place.vacant.page place.vacant.vacant)
+  full_by (Some page) place =
+      let rooms = Plans.room_words laws P W state path entry at in
+      is_same (name_count state.tree entry.directory) (32 * pages_in state.room entry.directory) (rooms.full.1 (λ s is none. place.full s (record { page = is; vacant = none })))
+
+  after_command : HasRoomAfter state.tree state.room (node_of entry.kind) path entry.directory entry.inode
+  after_command = laws.room_after state.tree state.room (node_of entry.kind) path entry.directory entry.inode (record {
+    formed = (Plans.volume_state laws P W state path entry at).tree;
+    fits = (Plans.volume_state laws P W state path entry at).room;
+    above = (Plans.for_entry laws P W state path entry at).directory_is;
+    directory = Plans.is_holder laws P W state path entry at;
+    absent = Plans.not_there laws P W state path entry at;
+  })
+
+  room_by : (new_page : Option ℕ) → IsPlace P W entry.directory entry.slot new_page → room_after entry.inode state.tree state.room (making (node_of entry.kind) path) false ≡ room_of entry new_page state.room
+  room_by None place = after_command.not_full false (full_by None place)
+  room_by (Some page) place = after_command.full false (full_by (Some page) place)
+
+  pub room_is : room_of entry entry.new_page state.room ≡ room_after (least_free_id state.tree) state.tree state.room (command_of entry.kind path) false
+  room_is =
+      let for_entry = Plans.for_entry laws P W state path entry at in
+      sym (room_by entry.new_page for_entry.place) ∙ ap (λ (c : Command). room_after entry.inode state.tree state.room c false) (command_is entry.kind path)
+      ∙ ap (λ (i : ℕ). room_after i state.tree state.room (command_of entry.kind path) false) for_entry.inode_is
+
+  -- so it is the room after an accepted command
+  pub room_follows : IsRoom (with_new state.tree path (least_free_id state.tree) (node_of entry.kind)) (room_of entry entry.new_page state.room)
+      → RoomAfter (refusal_of P state.tree state.room (command_of entry.kind path)) state.tree state.room (command_of entry.kind path) (room_of entry entry.new_page state.room)
+  room_follows fits = subst (λ (o : Option Refusal). RoomAfter o state.tree state.room (command_of entry.kind path) (room_of entry entry.new_page state.room)) (sym at.planned.accepted)
+      (false, room_is, subst (λ (tree : Tree). IsRoom tree (room_of entry entry.new_page state.room)) (sym (after_is entry.kind (least_free_id state.tree) state.tree path)) fits)

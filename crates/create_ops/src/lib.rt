@@ -1,0 +1,10 @@
+//! The calls that make a file or a directory on a mounted volume, each step of them settled by a fence of its own.
+#![tactic(auto)]
+
+mod calls;
+mod laws;
+mod make;
+mod node;
+mod page;
+
+pub use calls::{apply_create, apply_mkdir};

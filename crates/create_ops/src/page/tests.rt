@@ -1,0 +1,35 @@
+// A page of slots made and given to an inode, on a volume of 16 pages.
+use super::*;
+use pm_memory::RamPm;
+use std::test::Fail;
+
+#[test]
+fn a_page_of_slots(rt: HostRuntime) -> Result<(), Fail> {
+    let alloc = rt.alloc();
+    let mut old = vec![in alloc; 0; 1_536]?;
+    let data_pages = vec![in alloc; 7; 6_656]?;
+    old.extend_from_slice(data_pages.as_slice())?;
+    let mut pm = RamPm::new(alloc, old.as_slice())?;
+    pm.reserve(583)?;
+    let geometry = Geometry::of(16).ok_or("no volume")?;
+    assert_eq!(rt; geometry.data_pages, 13);
+    let page = [2];
+    let filled = fill_page(&mut pm, &geometry, page.as_slice())?;
+    claim_page(&mut pm, filled, 3)?;
+    let table = [
+        (1_039, 0),
+        (1_040, 3),
+        (1_041, 2),
+        (1_042, 0),
+        (2_559, 7),
+        (2_560, 0),
+        (3_071, 0),
+        (3_072, 7),
+    ];
+    for (word, value) in table {
+        assert_eq!(rt; pm.image().get(word).copied(), Some(value), "at {word}");
+    }
+    assert_eq!(rt; pm.fences(), 2);
+    assert_eq!(rt; pm.events(), 583);
+    Ok(())
+}

@@ -1,0 +1,9 @@
+mod Lists
+mod Frees
+mod Facts
+mod Places
+mod Holding
+mod Marking
+mod Tidying
+mod Heads
+mod Mounts

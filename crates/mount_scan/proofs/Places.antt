@@ -1,0 +1,66 @@
+-- Places for the pages of files.
+use Rattle.std.proofs.Common.{◌≡◌, ◌≢◌, inl, inr, ℕ, ◌+◌, List, [], length, sym, ap, subst, ◌∙◌, arith}
+use Rattle.std.proofs.lemmas.Bool.{cases_eq}
+use Rattle.std.specs.Int.{div_ceil}
+use Rattle.layout.specs.Geometry.{inodes_of}
+use Rattle.layout.specs.Fields.{inode_kind, inode_size}
+use Rattle.image_reading.specs.Reading.{pages_of_size}
+use Rattle.volatile_index.specs.Index.{Held, held_of, inodes_of_index, IsSameElsewhere}
+use Rattle.mount_scan.specs.Building.{HasPlacesOf, HasPlaces}
+
+module _ (P : ℕ) (I : List ℕ) where
+  pub no_places : (index : List Held) → inodes_of_index index ≡ inodes_of P → ((i : ℕ) → (held_of index i).entries ≡ []) → ((i : ℕ) → (held_of index i).pages ≡ []) → HasPlaces P I 0 index
+  no_places index size entries pages = record {
+    each_inode = size;
+    made = λ i least most. absurd (omega (arith, least, most));
+    entries = λ i low. entries i;
+    pages = λ i low. pages i;
+  }
+
+  pub place_skipped : (n : ℕ) (index : List Held) → inode_kind I (n + 1) ≢ 1 → HasPlaces P I n index → HasPlaces P I (n + 1) index
+  place_skipped n index other has = record {
+    each_inode = has.each_inode;
+    made = λ i least most. elim (cases_eq i (n + 1)) [
+      | inl same ↦ record {
+        entries = has.entries i (omega (arith, same));
+        of_file = λ file. absurd (other (subst (λ (k : ℕ). inode_kind I k ≡ 1) same file));
+        of_others = λ none. has.pages i (omega (arith, same));
+      }
+      | inr apart ↦ has.made i least (omega (arith, most, apart))
+    ];
+    entries = λ i low. has.entries i (omega (arith, low));
+    pages = λ i low. has.pages i (omega (arith, low));
+  }
+
+  pub places_added : (n count : ℕ) (old new : List Held) → inode_kind I (n + 1) ≡ 1 → count ≡ pages_of_size (inode_size I (n + 1)) → IsSameElsewhere (n + 1) old new
+      → length (held_of new (n + 1)).pages ≡ length (held_of old (n + 1)).pages + count → (held_of new (n + 1)).entries ≡ (held_of old (n + 1)).entries
+      → HasPlaces P I n old → HasPlaces P I (n + 1) new
+  places_added n count old new file size elsewhere long entries has = record {
+    each_inode = elsewhere.inodes ∙ has.each_inode;
+    made = λ i least most. elim (cases_eq i (n + 1)) [
+      | inl same ↦ subst (λ (k : ℕ). HasPlacesOf I k (held_of new k)) (sym same) here
+      | inr apart ↦ subst (HasPlacesOf I i) (sym (elsewhere.others i apart)) (has.made i least (omega (arith, most, apart)))
+    ];
+    entries = λ i low. ap (λ (held : Held). held.entries) (elsewhere.others i (λ same. omega (arith, low, same))) ∙ has.entries i (omega (arith, low));
+    pages = λ i low. ap (λ (held : Held). held.pages) (elsewhere.others i (λ same. omega (arith, low, same))) ∙ has.pages i (omega (arith, low));
+  }
+    where
+      here : HasPlacesOf I (n + 1) (held_of new (n + 1))
+      here =
+          let none = ap length (has.pages (n + 1) (omega arith)) in
+          record {
+            entries = entries ∙ has.entries (n + 1) (omega arith);
+            of_file = λ is. omega (arith, long, none, size);
+            of_others = λ other. absurd (other file);
+          }
+
+pub same_twice : (inode : ℕ) (first second third : List Held) → IsSameElsewhere inode first second → IsSameElsewhere inode second third → IsSameElsewhere inode first third
+same_twice inode first second third one two = record {
+  inodes = two.inodes ∙ one.inodes;
+  others = λ other apart. two.others other apart ∙ one.others other apart;
+}
+
+-- as many pages as bytes of a size take
+pub pages_counted : (count size : ℕ) → count ≡ div_ceil size 4096 → count ≡ pages_of_size size
+unfolding pages_of_size
+pages_counted count size is = omega (arith, is)

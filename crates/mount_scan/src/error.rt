@@ -1,0 +1,32 @@
+// How a mount is refused.
+ghost use Rattle.std.specs.Prelude.{◌≡◌};
+ghost use Rattle.mount_scan.specs.declared.error.MountError.TheVariants.{NoMemory};
+
+use image_reading::Violation;
+use pm_trait::NoMemory;
+use thiserror::Error;
+
+/// Why a device was not mounted.
+#[derive(Clone, Copy, Debug, PartialEq, Eq, Error)]
+pub enum MountError {
+    /// Its length or its first words are no volume's.
+    #[error("not a volume")]
+    NotVolume,
+    /// It breaks a rule, the first of them at this place. Rule 0 is none: the volume is sound and needs recovery.
+    #[error("a damaged volume")]
+    Damaged(Violation),
+    /// The device failed.
+    #[error("the device failed")]
+    PmFault,
+    /// There is no memory for the volume.
+    #[error("out of memory")]
+    NoMemory,
+}
+
+impl From<NoMemory> for MountError {
+    ghost from_gives = { λ _ error. error ≡ NoMemory };
+
+    fn from(_refused: NoMemory) -> MountError {
+        MountError::NoMemory
+    }
+}

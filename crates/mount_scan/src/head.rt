@@ -1,0 +1,17 @@
+// Whether words are a volume's.
+ghost use Rattle.std.specs.Prelude.{◌≡◌, ◌*◌, ℕ, MatchOption};
+ghost use Rattle.image_reading.specs.Soundness.{KeepsRule1};
+
+use layout::Geometry;
+
+/// The geometry of a device whose length and first words are a volume's.
+pub fn geometry_of(words: &[u64]) -> Option<Geometry>
+    ensures { MatchOption result ((P : ℕ) → ¬ KeepsRule1 P words.now) (λ geometry. KeepsRule1 geometry.pages words.now) }
+{
+    let geometry = Geometry::of(words.len() as u64 / 512)?;
+    if words.len() as u64 == 512 * geometry.pages && words.starts_with(geometry.head().as_slice()) {
+        Some(geometry)
+    } else {
+        None
+    }
+}
