@@ -1,36 +1,58 @@
--- The sixteen words of a slot stand in two lines.
-use Rattle.std.proofs.Common.{◌≡◌, ℕ, ◌+◌, ◌-◌, ◌/◌, ◌≤◌, [], ◌∷◌, ◌∙◌, ap, arith}
+-- The lines of a slot that were stored to.
+use Rattle.std.proofs.Common.{◌≡◌, ℕ, ◌+◌, ◌-◌, ◌/◌, ◌<◌, ◌≤◌, inl, inr, List, [], ◌∷◌, sym, ◌∙◌, ap, subst, arith}
 use Rattle.std.specs.Prelude.{Option}
+use Rattle.std.proofs.lemmas.Bool.{cases_lt}
 use Rattle.pm_trait.specs.declared.event.Event.TheVariants.{Flush}
 use Rattle.pm_trait.specs.Trail.{Trail}
-use Rattle.pm_trait.specs.Device.{with_events, IsFlushed}
+use Rattle.pm_trait.specs.Device.{with_events, IsInterval, IsClean, IsFlushed}
+use Rattle.pm_trait.specs.DeviceLaws.{flushed_stays, flushed_if_clean}
 use Rattle.layout.specs.Geometry.{first_data_word_of, slot_word_of}
 use Rattle.fence_token.specs.Ticket.{flushes_of}
-use Rattle.dentry_state.specs.Dentry.{IsSlotWord, slot_flushes}
-use Rattle.dentry_state.specs.DentryLaws.{slot_lines}
+use Rattle.dentry_state.specs.declared.dentry.Touched.{Touched}
+use Rattle.dentry_state.specs.declared.dentry.Touched.TheVariants.{FirstLine, BothLines}
+use Rattle.dentry_state.specs.Dentry.{IsSlotWord, last_touched, touched_lines, slot_flushes}
 
-pub two_lines : (p s first last : ℕ) → first ≡ slot_word_of p s 0 → last ≡ slot_word_of p s 15 → last / 8 - first / 8 + 1 ≡ 2
-unfolding slot_word_of first_data_word_of
-two_lines p s first last at_first at_last = omega (arith, at_first, at_last)
-
-pub in_order : (p s first last : ℕ) → first ≡ slot_word_of p s 0 → last ≡ slot_word_of p s 15 → first ≤ last
+in_order_from : (p s field first last : ℕ) → first ≡ slot_word_of p s 0 → last ≡ slot_word_of p s field → first ≤ last
 unfolding slot_word_of
-in_order p s first last at_first at_last = omega (arith, at_first, at_last)
+in_order_from p s field first last at_first at_last = omega (arith, at_first, at_last)
+
+pub in_order : (touched : Touched) (p s first last : ℕ) → first ≡ slot_word_of p s 0 → last ≡ slot_word_of p s (last_touched touched) → first ≤ last
+in_order touched p s first last at_first at_last = in_order_from p s (last_touched touched) first last at_first at_last
+
+pub lines : (touched : Touched) (p s first last : ℕ) → first ≡ slot_word_of p s 0 → last ≡ slot_word_of p s (last_touched touched) → last / 8 - first / 8 + 1 ≡ touched_lines touched
+unfolding slot_word_of first_data_word_of
+lines FirstLine p s first last at_first at_last = omega (arith, at_first, at_last)
+lines BothLines p s first last at_first at_last = omega (arith, at_first, at_last)
 
 second_line : (p s first : ℕ) → first ≡ slot_word_of p s 0 → first / 8 + 1 ≡ slot_word_of p s 8 / 8
 unfolding slot_word_of first_data_word_of
 second_line p s first at = omega (arith, at)
 
--- the flushes of a span in two lines
-pub two_flushes : (trail : Option Trail) (p s first last : ℕ) → first ≡ slot_word_of p s 0 → last ≡ slot_word_of p s 15 → with_events trail (flushes_of (first / 8) (last / 8 - first / 8 + 1)) ≡ with_events trail (slot_flushes p s)
-two_flushes trail p s first last at_first at_last =
-    let start : first / 8 + 0 ≡ slot_word_of p s 0 / 8 = omega (arith, at_first) in
-    ap (λ (k : ℕ). with_events trail (flushes_of (first / 8) k)) (two_lines p s first last at_first at_last)
-    ∙ ap (λ (line : ℕ). with_events trail (Flush line ∷ Flush (first / 8 + 1) ∷ [])) start
-    ∙ ap (λ (line : ℕ). with_events trail (Flush (slot_word_of p s 0 / 8) ∷ Flush line ∷ [])) (second_line p s first at_first)
+flushes_are : (trail : Option Trail) (touched : Touched) (p s first : ℕ) → first ≡ slot_word_of p s 0 → with_events trail (flushes_of (first / 8) (touched_lines touched)) ≡ with_events trail (slot_flushes touched p s)
+flushes_are trail FirstLine p s first at =
+    let start : first / 8 + 0 ≡ slot_word_of p s 0 / 8 = omega (arith, at) in
+    ap (λ (line : ℕ). with_events trail (Flush line ∷ [])) start
+flushes_are trail BothLines p s first at =
+    let start : first / 8 + 0 ≡ slot_word_of p s 0 / 8 = omega (arith, at) in
+    ap (λ (line : ℕ). with_events trail (Flush line ∷ Flush (first / 8 + 1) ∷ [])) start
+    ∙ ap (λ (line : ℕ). with_events trail (Flush (slot_word_of p s 0 / 8) ∷ Flush line ∷ [])) (second_line p s first at)
 
--- a word from the first to the last is flushed
-pub word_flushed : {trail : Option Trail} (p s first last word : ℕ) → first ≡ slot_word_of p s 0 → last ≡ slot_word_of p s 15 → ((other : ℕ) → first ≤ other → other ≤ last → IsFlushed trail other) → IsSlotWord p s word → IsFlushed trail word
-word_flushed p s first last word at_first at_last flushed is =
-    let between = slot_lines p s word is in
-    flushed word (omega (arith, between.0, at_first)) (omega (arith, between.1, at_last))
+-- the flushes of their span
+pub flushes_told : (trail : Option Trail) (touched : Touched) (p s first last : ℕ) → first ≡ slot_word_of p s 0 → last ≡ slot_word_of p s (last_touched touched)
+    → with_events trail (flushes_of (first / 8) (last / 8 - first / 8 + 1)) ≡ with_events trail (slot_flushes touched p s)
+flushes_told trail touched p s first last at_first at_last =
+    ap (λ (count : ℕ). with_events trail (flushes_of (first / 8) count)) (lines touched p s first last at_first at_last) ∙ flushes_are trail touched p s first at_first
+
+-- a field up to the last one stands in their span
+in_span : (p s field last_field first last word : ℕ) → field ≤ last_field → first ≡ slot_word_of p s 0 → last ≡ slot_word_of p s last_field → word ≡ slot_word_of p s field → (first ≤ word) × (word ≤ last)
+unfolding slot_word_of
+in_span p s field last_field first last word few at_first at_last at = (omega (arith, at_first, at), omega (arith, few, at_last, at))
+
+-- once it is flushed, all words of the slot are
+pub all_flushed : {a b : List ℕ} {ta tb : Option Trail} (touched : Touched) (p s first last : ℕ) → first ≡ slot_word_of p s 0 → last ≡ slot_word_of p s (last_touched touched)
+    → ((field : ℕ) → last_touched touched < field → field < 16 → IsClean a ta (slot_word_of p s field)) → IsInterval (λ _. ⊥) a ta b tb
+    → ((other : ℕ) → first ≤ other → other ≤ last → IsFlushed tb other) → (word : ℕ) → IsSlotWord p s word → IsFlushed tb word
+all_flushed {a} {b} {ta} {tb} touched p s first last at_first at_last untouched none flushed word is = elim (cases_lt (last_touched touched) is.field) [
+  | inl past ↦ flushed_stays word none (λ stored. stored) (flushed_if_clean (subst (λ (w : ℕ). IsClean a ta w) (sym is.at) (untouched is.field past is.is_field)))
+  | inr few ↦ let span = in_span p s is.field (last_touched touched) first last word few at_first at_last is.at in flushed word span.0 span.1
+]

@@ -7,10 +7,13 @@ use Rattle.pm_trait.specs.Trail.{Trail}
 use Rattle.pm_trait.specs.Device.{IsInterval, with_event}
 use Rattle.pm_trait.specs.DeviceLaws.{interval_empty, interval_weaker, interval_keeps, interval_length, then_store}
 use Rattle.layout.specs.declared.fields.SlotFields.{SlotFields}
-use Rattle.layout.specs.Geometry.{slot_word_of}
-use Rattle.layout.specs.Fields.{word, words_from, slot_inode, slot_pointer, slot_words}
+use Rattle.layout.specs.declared.fields.InodeFields.{InodeFields}
+use Rattle.layout.specs.Geometry.{first_data_word_of, inode_word_of, slot_word_of}
+use Rattle.layout.specs.Fields.{word, words_from, inode_kind, slot_inode, slot_pointer, slot_words}
 use Rattle.layout.specs.FieldLaws.{same_words_from}
 use Rattle.fence_token.specs.Objects.{Stands, StandsClean}
+use Rattle.inode_state.specs.States.{IsInit}
+use Rattle.inode_state.specs.Inode.{IsInodeWord, fields_at}
 use Rattle.dentry_state.specs.States.{committed_fields}
 use Rattle.dentry_state.specs.Dentry.{IsSlotWord, IsNameWord, slot_fields_at}
 use Rattle.dentry_state.specs.DentryLaws.{same_fields, next_fields}
@@ -36,7 +39,7 @@ clean_as p q s t f g pages slot fields clean = record {
 }
 
 -- two fields have two words
-differs : (p s f g w : ℕ) → w ≡ slot_word_of p s g → f ≢ g → slot_word_of p s f ≢ w
+pub differs : (p s f g w : ℕ) → w ≡ slot_word_of p s g → f ≢ g → slot_word_of p s f ≢ w
 unfolding slot_word_of
 differs p s f g w at other same = other (omega (arith, at, same))
 
@@ -140,3 +143,23 @@ number_stored p s fields a b w number at is stands =
           (same_words_from b a (slot_word_of p s 2) 14 (λ k below. let next = next_fields p s 2 k in
           ap (λ (x : ℕ). slice_index b x) next ∙ same (2 + k) (λ none. omega (arith, none)) ∙ ap (λ (x : ℕ). slice_index a x) (sym next)) ∙ ap (λ (f : SlotFields). f.name) stands.reads);
     }
+
+-- ---- the inode of a commit
+
+-- a word of an inode that is the first of a slot is the first of the inode
+first_of_both : (p s n word : ℕ) → IsInodeWord n word → word ≡ slot_word_of p s 0 → inode_word_of n 0 ≡ slot_word_of p s 0
+unfolding inode_word_of slot_word_of first_data_word_of
+first_of_both p s n word is at =
+    let few = is.is_field in
+    let own = is.at in
+    omega (arith, few, own, at)
+
+new_kind : (n : ℕ) (fields : InodeFields) → IsInit n fields → fields.kind ≢ 0
+new_kind n fields (inl file) none = let kind = ap (λ (f : InodeFields). f.kind) file in omega (arith, kind, none)
+new_kind n fields (inr directory) none = let kind = ap (λ (f : InodeFields). f.kind) directory in omega (arith, kind, none)
+
+-- so no word of a new inode is the first of a slot that names none: its kind is not 0
+pub new_inode_apart : (p s n word : ℕ) (now : List ℕ) (fields : InodeFields) → IsInit n fields → fields_at now n ≡ fields → slot_inode p now s ≡ 0 → IsInodeWord n word → word ≢ slot_word_of p s 0
+unfolding inode_kind slot_inode word
+new_inode_apart p s n w now fields new reads none is at =
+    new_kind n fields new (sym (ap (λ (f : InodeFields). f.kind) reads) ∙ ap (λ (a : ℕ). slice_index now a) (first_of_both p s n w is at) ∙ none)

@@ -1,13 +1,19 @@
 -- Laws of slots: what one says hangs on its own words, which no other slot and no inode has.
 use Rattle.std.proofs.Common.{◌≡◌, ◌≢◌, ℕ, ◌+◌, ◌*◌, ◌<◌, ◌≤◌, List, slice_index, refl, sym, ◌∙◌, ap, arith}
+use Rattle.std.specs.Prelude.{Option}
+use Rattle.pm_trait.specs.declared.event.Event.{Event}
+use Rattle.pm_trait.specs.Trail.{Trail, after_stores}
+use Rattle.pm_trait.specs.Device.{with_events, IsInterval}
+use Rattle.pm_trait.specs.DeviceLaws.{clean_stays}
 use Rattle.layout.specs.declared.fields.SlotFields.{SlotFields}
 use Rattle.layout.specs.Geometry.{inodes_of, slots_of, slot_word_of}
 use Rattle.layout.specs.GeometryLaws.{same_slot_word, inode_word_not_slot_word, slot_word_within}
 use Rattle.layout.specs.Fields.{word, slot_inode, slot_pointer, slot_words}
 use Rattle.layout.specs.FieldLaws.{same_words_from}
-use Rattle.fence_token.specs.Objects.{IsLocal}
+use Rattle.fence_token.specs.Objects.{IsLocal, StoreNoneOf}
+use Rattle.fence_token.specs.ObjectLaws.{stands_stays, stands_events, clean_events}
 use Rattle.inode_state.specs.Inode.{IsInodeWord}
-use Rattle.dentry_state.specs.Dentry.{DentryView, IsSlotWord, IsNameWord, slot_fields_at}
+use Rattle.dentry_state.specs.Dentry.{DentryView, IsSlotWord, IsNameWord, slot_fields_at, DentryIsDirty}
 
 pub same_fields : (one two : SlotFields) → one.inode ≡ two.inode → one.pointer ≡ two.pointer → one.name ≡ two.name → one ≡ two
 same_fields one two inode pointer name = rw (inode, pointer, name) refl
@@ -40,6 +46,20 @@ same_fields_at pages slot old new same =
 pub dentry_is_local : (dentry : DentryView) → IsLocal (IsSlotWord dentry.pages dentry.slot) (λ words. slot_fields_at dentry.pages words dentry.slot ≡ dentry.fields)
 dentry_is_local dentry = record {
   carries = λ old new same reads. same_fields_at dentry.pages dentry.slot old new same ∙ reads;
+}
+
+-- a slot that was stored to stays so while others are stored
+pub dirty_stays : {W : ℕ → Type 0} {a b : List ℕ} {ta tb : Option Trail} (dentry : DentryView) → IsInterval W a ta b tb → ((word : ℕ) → IsSlotWord dentry.pages dentry.slot word → ¬ W word) → DentryIsDirty dentry a ta → DentryIsDirty dentry b tb
+dirty_stays dentry run apart dirty = record {
+  stands = stands_stays (dentry_is_local dentry) run apart dirty.stands;
+  untouched = λ field past few. clean_stays (slot_word_of dentry.pages dentry.slot field) run (apart (slot_word_of dentry.pages dentry.slot field) (slot_word_is dentry.pages dentry.slot field few)) (dirty.untouched field past few);
+}
+
+-- and over all events that store none of its words
+pub dirty_events : (dentry : DentryView) (now : List ℕ) (trail : Option Trail) (events : List Event) → StoreNoneOf (IsSlotWord dentry.pages dentry.slot) events → DentryIsDirty dentry now trail → DentryIsDirty dentry (after_stores now events) (with_events trail events)
+dirty_events dentry now trail events none dirty = record {
+  stands = stands_events now events (dentry_is_local dentry) none dirty.stands;
+  untouched = λ field past few. clean_events trail events (slot_word_of dentry.pages dentry.slot field) (none.each (slot_word_of dentry.pages dentry.slot field) (slot_word_is dentry.pages dentry.slot field few)) (dirty.untouched field past few);
 }
 
 -- no word is of two slots

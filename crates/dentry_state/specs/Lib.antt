@@ -1,3 +1,4 @@
 pub mod States
 pub mod Dentry
 pub mod DentryLaws
+pub mod Laws

@@ -2,9 +2,11 @@
 #![tactic(auto)]
 
 mod dentry;
+mod laws;
 mod states;
 
-pub use dentry::DentryH;
+pub use dentry::{DentryH, Touched};
+pub use laws::dentry_law;
 pub use states::{DentryState, Free, Live, Named};
 
 #[cfg(test)]

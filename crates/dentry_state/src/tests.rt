@@ -12,7 +12,7 @@ fn a_file_with_a_name(rt: HostRuntime) -> Result<(), Fail> {
     let alloc = rt.alloc();
     let old = vec![in alloc; 0; 8_192]?;
     let mut pm = RamPm::new(alloc, old.as_slice())?;
-    pm.reserve(26)?;
+    pm.reserve(25)?;
     let geometry = Geometry::of(16).ok_or("no volume")?;
     let slots = geometry.slots();
     assert_eq!(rt; geometry.pages, 16);
@@ -46,6 +46,6 @@ fn a_file_with_a_name(rt: HostRuntime) -> Result<(), Fail> {
         assert_eq!(rt; pm.image().get(word).copied(), Some(value), "at {word}");
     }
     assert_eq!(rt; pm.fences(), 2);
-    assert_eq!(rt; pm.events(), 26);
+    assert_eq!(rt; pm.events(), 25);
     Ok(())
 }

@@ -1,15 +1,16 @@
 -- Laws of objects, once for all of them: they go on standing while other words are stored, and a token settles them.
 use Rattle.std.proofs.Common.{◌≡◌, ℕ, ◌<◌, List, [], ◌∷◌, length, refl, sym, subst, arith}
-use Rattle.std.specs.Prelude.{Option, Some, None, IsSomeAnd}
+use Rattle.std.specs.Prelude.{Option, Some, None, IsSomeAnd, slice_index}
 use Rattle.std.specs.Option.{ForSome}
 use Rattle.pm_trait.specs.declared.event.Event.{Event}
 use Rattle.pm_trait.specs.declared.event.Event.TheVariants.{Flush, Fence, BadFence, Ack}
-use Rattle.pm_trait.specs.Trail.{Trail, stores_to}
-use Rattle.pm_trait.specs.Device.{with_event, IsClean, IsFlushed, IsInFlight, IsSettledAt, IsHonest, IsInterval}
-use Rattle.pm_trait.specs.DeviceLaws.{interval_keeps, interval_length, clean_stays, in_flight_stays, in_flight_event, in_flight_now}
+use Rattle.pm_trait.specs.Trail.{Trail, stores_to, settled_value, unsettled_stores, after_stores}
+use Rattle.pm_trait.specs.TrailLaws.{after_stores-none, length-after_stores, settled_value-later, unsettled_stores-later}
+use Rattle.pm_trait.specs.Device.{with_event, with_events, IsClean, IsFlushed, IsInFlight, IsSettledAt, IsHonest, IsInterval}
+use Rattle.pm_trait.specs.DeviceLaws.{interval_keeps, interval_length, clean_stays, in_flight_more, in_flight_stays, in_flight_event, in_flight_now}
 use Rattle.pm_trait.specs.AckLaws.{clean_event}
 use Rattle.fence_token.specs.Ticket.{Settles, clean_by_token}
-use Rattle.fence_token.specs.Objects.{IsLocal, Stands, StandsClean, StandsInFlight, GoesOn}
+use Rattle.fence_token.specs.Objects.{IsLocal, Stands, StandsClean, StandsInFlight, GoesOn, StoreNoneOf}
 
 -- a ticket whose words are on their way still has them so where each of them goes on so
 flight_goes_on : {Owns : ℕ → Type 0} {old new : Option Trail} (ticket : Option ℕ) → ((fences word : ℕ) → Owns word → IsInFlight old fences word → IsInFlight new fences word) → IsSomeAnd ticket (λ fences. (word : ℕ) → Owns word → IsInFlight old fences word) → IsSomeAnd ticket (λ fences. (word : ℕ) → Owns word → IsInFlight new fences word)
@@ -118,4 +119,32 @@ goes_on_fence same appended = record {
   stands = stands_same same;
   clean = stands_clean_fence same appended;
   in_flight = λ ticket. stands_in_flight_fence same appended;
+}
+
+-- ---- over any events that store none of its words
+
+pub clean_events : {now : List ℕ} (trail : Option Trail) (events : List Event) (word : ℕ) → stores_to word events ≡ [] → IsClean now trail word → IsClean (after_stores now events) (with_events trail events) word
+clean_events None events word none clean = record { told = tt }
+clean_events {now} (Some trail) events word none clean =
+    let stores : unsettled_stores word trail.events ≡ [] = cc (clean.told) in
+    let value : settled_value word (slice_index trail.base word) trail.events ≡ slice_index now word = cc (clean.told) in
+    record { told = cc (unsettled_stores-later word trail.events events stores none, settled_value-later word (slice_index trail.base word) trail.events events stores none, value, after_stores-none word now events none) }
+
+pub stands_events : {Owns : ℕ → Type 0} {Reads : List ℕ → Type 0} (now : List ℕ) (events : List Event) → IsLocal Owns Reads → StoreNoneOf Owns events → Stands Owns Reads now → Stands Owns Reads (after_stores now events)
+stands_events now events local none stands = record {
+  inside = λ word own. let before = stands.inside word own in omega (arith, before, length-after_stores now events);
+  reads = local.carries now (after_stores now events) (λ word own. after_stores-none word now events (none.each word own)) stands.reads;
+}
+
+pub goes_on_events : {Owns : ℕ → Type 0} {Reads : List ℕ → Type 0} (now : List ℕ) (trail : Option Trail) (events : List Event) → IsLocal Owns Reads → StoreNoneOf Owns events → GoesOn Owns Reads now trail (after_stores now events) (with_events trail events)
+goes_on_events {Owns} now trail events local none = record {
+  stands = stands_events now events local none;
+  clean = λ clean. record {
+    stands = stands_events now events local none clean.stands;
+    clean = λ word own. clean_events trail events word (none.each word own) (clean.clean word own);
+  };
+  in_flight = λ ticket flying. record {
+    stands = stands_events now events local none flying.stands;
+    flight = flight_goes_on {Owns = Owns} {old = trail} {new = with_events trail events} ticket (λ fences word own flight. in_flight_more trail events word flight (none.each word own)) flying.flight;
+  };
 }

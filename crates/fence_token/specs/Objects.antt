@@ -1,9 +1,10 @@
 -- Objects: values that stand for words of a device. An object owns some words, and reads some of a device's words as its own say.
-use Rattle.std.specs.Prelude.{◌≡◌, ℕ, ◌<◌, Bool, true, List, length, slice_index, Option, IsSomeAnd}
+use Rattle.std.specs.Prelude.{◌≡◌, ℕ, ◌<◌, Bool, true, List, [], length, slice_index, Option, IsSomeAnd}
 use Rattle.std.specs.Option.{ForSome}
+use Rattle.pm_trait.specs.declared.event.Event.{Event}
 use Rattle.pm_trait.specs.declared.event.Event.TheVariants.{Fence}
-use Rattle.pm_trait.specs.Trail.{Trail}
-use Rattle.pm_trait.specs.Device.{with_event, IsClean, IsInFlight, IsHonest, IsInterval}
+use Rattle.pm_trait.specs.Trail.{Trail, stores_to, after_stores}
+use Rattle.pm_trait.specs.Device.{with_event, with_events, IsClean, IsInFlight, IsHonest, IsInterval}
 use Rattle.fence_token.specs.Ticket.{Settles}
 
 -- what the object says hangs on its own words alone
@@ -36,6 +37,16 @@ abbrev pub OthersLaw : Type 0
 OthersLaw = (is_own is_stored : ℕ → Bool) (reads : List ℕ → Bool) (a b : List ℕ) (ta tb : Option Trail) → IsLocal (λ word. is_own word ≡ true) (λ now. reads now ≡ true) →
     IsInterval (λ word. is_stored word ≡ true) a ta b tb → ((word : ℕ) → is_own word ≡ true → ¬ (is_stored word ≡ true)) →
     GoesOn (λ word. is_own word ≡ true) (λ now. reads now ≡ true) a ta b tb
+
+-- none of the events stores a word that the object owns
+pub record StoreNoneOf (Owns : ℕ → Type 0) (events : List Event) : Type 0 where
+  pub each : (word : ℕ) → Owns word → stores_to word events ≡ []
+
+-- over any such events: others' stores, flushes, fences that succeed or fail, acknowledgements
+abbrev pub EventsLaw : Type 0
+EventsLaw = (is_own : ℕ → Bool) (reads : List ℕ → Bool) (now : List ℕ) (trail : Option Trail) (events : List Event) → IsLocal (λ word. is_own word ≡ true) (λ now. reads now ≡ true) →
+    StoreNoneOf (λ word. is_own word ≡ true) events →
+    GoesOn (λ word. is_own word ≡ true) (λ now. reads now ≡ true) now trail (after_stores now events) (with_events trail events)
 
 -- over a fence
 abbrev pub FenceLaw : Type 0

@@ -8,8 +8,9 @@ use Rattle.layout.specs.Geometry.{inode_word_of}
 use Rattle.layout.specs.Fields.{inode_kind, inode_links, inode_size, inode_own}
 use Rattle.fence_token.specs.Objects.{Stands, StandsClean, StandsInFlight}
 
--- the inode's number, what it says of its words, and the ticket of their flush
+-- the pages of the inode's volume, its number, what it says of its words, and the ticket of their flush
 pub record InodeView : Type 0 where
+  pub pages : ℕ
   pub number : ℕ
   pub fields : InodeFields
   pub ticket : Option ℕ

@@ -4,7 +4,7 @@ ghost use Rattle.std.specs.Option.{ForSome};
 ghost use Rattle.pm_trait.specs.declared.event.Event.TheVariants.{Store, Flush};
 ghost use Rattle.pm_trait.specs.Trail.{Trail};
 ghost use Rattle.pm_trait.specs.Device.{IsInterval, IsFlushed, IsClean, with_event, with_events};
-ghost use Rattle.layout.specs.Geometry.{inode_word_of};
+ghost use Rattle.layout.specs.Geometry.{inodes_of, inode_word_of};
 ghost use Rattle.fence_token.specs.Ticket.{Settles};
 ghost use Rattle.fence_token.specs.Objects.{Stands};
 ghost use Rattle.inode_state.specs.States.{file_fields, directory_fields, linked_fields};
@@ -33,7 +33,7 @@ impl<F, S: InodeState> Model for InodeH<F, S> {
 
     ghost Value = { InodeView };
 
-    ghost view = { λ inode. record { number = inode.number; fields = inode.fields; ticket = inode.ticket } };
+    ghost view = { λ inode. record { pages = inode.geometry.pages; number = inode.number; fields = inode.fields; ticket = inode.ticket } };
 
     ghost invariant = { λ inode. (1 ≤ inode.number) × (inode.number ≤ inode.geometry.inodes) × S.Reads inode.number inode.fields };
 }
@@ -44,7 +44,7 @@ impl<F, S: InodeState> InodeH<F, S> {
         requires from_one { 1 ≤ number }
         requires in_range { number ≤ geometry.inodes }
         requires reads { S.Reads number fields }
-        ensures { result ≡ record { number = number; fields = fields; ticket = ticket } }
+        ensures { result ≡ record { pages = geometry.pages; number = number; fields = fields; ticket = ticket } }
     {
         InodeH {
             geometry,
@@ -60,6 +60,7 @@ impl<F, S: InodeState> InodeH<F, S> {
     pub fn number(&self) -> u64
         ensures number { result ≡ self.now.number }
         ensures from_one { 1 ≤ result }
+        ensures in_range { result ≤ inodes_of self.now.pages }
         ensures reads { S.Reads self.now.number self.now.fields }
     {
         self.number
@@ -75,8 +76,10 @@ impl<S: InodeState> InodeH<Clean, S> {
         requires settled { (word : ℕ) → IsInodeWord inode word → IsClean (P.now pm.now) (P.trail pm.now) word }
         requires reads { S.Reads inode (fields_at (P.now pm.now) inode) }
 
+        ensures pages { result.pages ≡ geometry.now.pages }
         ensures number { result.number ≡ inode }
         ensures fields { result.fields ≡ fields_at (P.now pm.now) inode }
+        ensures ticket { result.ticket ≡ None }
         ensures clean { InodeIsClean result (P.now pm.now) (P.trail pm.now) }
     {
         let fields = geometry.inode_at(pm.image(), inode);
@@ -90,8 +93,10 @@ impl InodeH<Clean, Free> {
         requires clean { InodeIsClean self (P.now pm.old) (P.trail pm.old) }
         requires room { 4 ≤ P.spare pm.old }
 
+        ensures pages { result.pages ≡ self.pages }
         ensures number { result.number ≡ self.number }
         ensures fields { result.fields ≡ file_fields self.number }
+        ensures ticket { result.ticket ≡ None }
         ensures stands { InodeStands result (P.now pm.new) }
         ensures stores { IsInterval (IsInodeWord self.number) (P.now pm.old) (P.trail pm.old) (P.now pm.new) (P.trail pm.new) }
 
@@ -117,8 +122,10 @@ impl InodeH<Clean, Free> {
         requires clean { InodeIsClean self (P.now pm.old) (P.trail pm.old) }
         requires room { 4 ≤ P.spare pm.old }
 
+        ensures pages { result.pages ≡ self.pages }
         ensures number { result.number ≡ self.number }
         ensures fields { result.fields ≡ directory_fields self.number }
+        ensures ticket { result.ticket ≡ None }
         ensures stands { InodeStands result (P.now pm.new) }
         ensures stores { IsInterval (IsInodeWord self.number) (P.now pm.old) (P.trail pm.old) (P.now pm.new) (P.trail pm.new) }
 
@@ -147,8 +154,10 @@ impl InodeH<Clean, Live> {
         requires countable { self.fields.links < 2 ^ 64 - 1 }
         requires room { 1 ≤ P.spare pm.old }
 
+        ensures pages { result.pages ≡ self.pages }
         ensures number { result.number ≡ self.number }
         ensures fields { result.fields ≡ linked_fields self.fields }
+        ensures ticket { result.ticket ≡ None }
         ensures stands { InodeStands result (P.now pm.new) }
         ensures stores { IsInterval (λ word. word ≡ inode_word_of self.number 1) (P.now pm.old) (P.trail pm.old) (P.now pm.new) (P.trail pm.new) }
 
@@ -172,6 +181,7 @@ impl InodeH<Clean, Live> {
 impl InodeH<Clean, Init> {
     /// Takes the settled new inode as a file or a directory. It stores nothing.
     pub fn live(self) -> InodeH<Clean, Live>
+        ensures pages { result.pages ≡ self.pages }
         ensures number { result.number ≡ self.number }
         ensures fields { result.fields ≡ self.fields }
         ensures ticket { result.ticket ≡ self.ticket }
@@ -184,6 +194,7 @@ impl InodeH<Clean, Init> {
 impl InodeH<Clean, Linked> {
     /// Takes the inode with its settled link count as a file or a directory. It stores nothing.
     pub fn live(self) -> InodeH<Clean, Live>
+        ensures pages { result.pages ≡ self.pages }
         ensures number { result.number ≡ self.number }
         ensures fields { result.fields ≡ self.fields }
         ensures ticket { result.ticket ≡ self.ticket }
@@ -200,6 +211,7 @@ impl<S: InodeState> InodeH<Dirty, S> {
         requires stands { InodeStands self (P.now pm.old) }
         requires room { 1 ≤ P.spare pm.old }
 
+        ensures pages { result.pages ≡ self.pages }
         ensures number { result.number ≡ self.number }
         ensures fields { result.fields ≡ self.fields }
         ensures ticket { result.ticket ≡ Some (P.fences pm.new) }
@@ -228,8 +240,10 @@ impl<S: InodeState> InodeH<InFlight, S> {
         requires in_flight { InodeIsInFlight self (P.now pm.now) (P.trail pm.now) }
         requires settles { ForSome self.ticket (λ ticket. Settles ticket token.now (P.fences pm.now)) }
 
+        ensures pages { result.pages ≡ self.pages }
         ensures number { result.number ≡ self.number }
         ensures fields { result.fields ≡ self.fields }
+        ensures ticket { result.ticket ≡ None }
         ensures clean { InodeIsClean result (P.now pm.now) (P.trail pm.now) }
     {
         InodeH::of(self.geometry, self.number, self.fields, None)

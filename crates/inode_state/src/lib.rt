@@ -2,9 +2,11 @@
 #![tactic(auto)]
 
 mod inode;
+mod laws;
 mod states;
 
 pub use inode::InodeH;
+pub use laws::inode_law;
 pub use states::{Free, Init, InodeState, Linked, Live};
 
 #[cfg(test)]

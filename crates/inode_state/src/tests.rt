@@ -1,4 +1,4 @@
-// One inode made a file and settled, then one link more, on a volume of 16 pages.
+// Inodes made and settled, on a volume of 16 pages: a file, which then gets one link more, and a directory.
 use crate::{Free, InodeH};
 use fence_token::{Clean, fence};
 use layout::Geometry;
@@ -28,5 +28,26 @@ fn a_file_with_two_links(rt: HostRuntime) -> Result<(), Fail> {
     }
     assert_eq!(rt; pm.fences(), 2);
     assert_eq!(rt; pm.events(), 9);
+    Ok(())
+}
+
+#[test]
+fn an_empty_directory(rt: HostRuntime) -> Result<(), Fail> {
+    let alloc = rt.alloc();
+    let old = vec![in alloc; 0; 8_192]?;
+    let mut pm = RamPm::new(alloc, old.as_slice())?;
+    pm.reserve(6)?;
+    let geometry = Geometry::of(16).ok_or("no volume")?;
+    assert_eq!(rt; geometry.inodes, 4);
+    let free: InodeH<Clean, Free> = InodeH::at(&pm, &geometry, 3);
+    let directory = free.init_dir(&mut pm).flush(&mut pm);
+    let token = fence(&mut pm)?;
+    let directory = directory.settle(&pm, &token).live();
+    assert_eq!(rt; directory.number(), 3);
+    for (word, value) in [(543, 0), (544, 2), (545, 2), (546, 0), (547, 3), (548, 0)] {
+        assert_eq!(rt; pm.image().get(word).copied(), Some(value), "at {word}");
+    }
+    assert_eq!(rt; pm.fences(), 1);
+    assert_eq!(rt; pm.events(), 6);
     Ok(())
 }

@@ -1,5 +1,5 @@
 -- What the pages say after a change of them.
-use Rattle.std.proofs.Common.{◌≡◌, ◌≢◌, ◌⊎◌, inl, inr, ⊎_elim, ℕ, ◌<◌, List, length, slice_index, sym, ◌∙◌, ap, subst, arith}
+use Rattle.std.proofs.Common.{◌≡◌, ◌≢◌, ◌⊎◌, inl, inr, ⊎_elim, ℕ, ◌<◌, List, length, slice_index, refl, sym, ◌∙◌, ap, arith}
 use Rattle.std.specs.Prelude.{Option}
 use Rattle.pm_trait.specs.Trail.{Trail}
 use Rattle.pm_trait.specs.Device.{IsInterval, IsFlushed}
@@ -10,8 +10,9 @@ use Rattle.layout.specs.GeometryLaws.{same_descriptor_word, descriptor_word_not_
 use Rattle.layout.specs.Fields.{word, page_owner, page_kind, page_offset}
 use Rattle.page_state.specs.declared.page.Touched.{Touched}
 use Rattle.page_state.specs.declared.page.Touched.TheVariants.{Descriptors, Whole}
-use Rattle.page_state.specs.States.{IsFree, IsFilled, IsLive}
-use Rattle.page_state.specs.Page.{EachPage, AreDataPages, OfSome, IsOwnWord, IsFilledWord, IsOwnerWord, IsTouched, IsSlotPage, PageIsDirty, PageIsClean}
+use Rattle.page_state.specs.States.{slots_fields, owned_fields, IsFree, IsFilled, IsLive}
+use Rattle.page_state.specs.Page.{EachPage, AreDataPages, OfSome, IsOwnWord, IsFilledWord, IsOwnerWord, IsTouched, IsSlotPage, descriptor_of, fields_of_page, HaveMeaning, PageIsDirty, PageIsClean}
+use Rattle.page_state.specs.PageLaws.{same_descriptor_fields}
 
 -- a fill stores no owner
 not_filled : (volume_pages : ℕ) (pages : List ℕ) (index : ℕ) → AreDataPages (data_pages_of volume_pages) pages → index < length pages → ¬ OfSome pages (IsFilledWord volume_pages) (descriptor_word_of volume_pages (slice_index pages index) 0)
@@ -43,53 +44,77 @@ pub claim_keeps_offsets : {a b : List ℕ} {ta tb : Option Trail} (volume_pages 
 unfolding page_offset word
 claim_keeps_offsets volume_pages pages run page = interval_keeps (descriptor_word_of volume_pages page 2) run (not_claimed volume_pages pages page 2 (omega arith) (λ same. omega (arith, same)))
 
+-- ---- what the fields mean
+
+-- what was read of a page
+pub descriptor_read : (volume_pages page : ℕ) (words now : List ℕ) (fields : DescriptorFields) → fields.owner ≡ page_owner volume_pages words page → fields.kind ≡ page_kind volume_pages words page → fields.offset ≡ page_offset volume_pages words page → words ≡ now
+    → fields ≡ descriptor_of volume_pages now page
+descriptor_read volume_pages page words now fields owner kind offset same =
+    same_descriptor_fields fields (descriptor_of volume_pages words page) owner kind offset ∙ ap (λ (l : List ℕ). descriptor_of volume_pages l page) same
+
+pub slots_mean : (pages : List ℕ) → HaveMeaning IsFilled pages slots_fields
+slots_mean pages = record { each = λ index inside. (refl, inr (refl, refl)) }
+
+filled_kind : (fields : DescriptorFields) → (fields.kind ≡ 1) ⊎ ((fields.kind ≡ 2) × (fields.offset ≡ 0)) → (fields.kind ≡ 1) ⊎ (fields.kind ≡ 2)
+filled_kind fields (inl bytes) = inl bytes
+filled_kind fields (inr slots) = inr slots.0
+
+pub owned_mean : (pages : List ℕ) (fields : DescriptorFields) (owner : ℕ) → owner ≢ 0 → HaveMeaning IsFilled pages fields → HaveMeaning IsLive pages (owned_fields fields owner)
+owned_mean pages fields owner some filled = record { each = λ index inside. (some, filled_kind (fields_of_page fields index) (filled.each index inside).1) }
+
+-- ---- the objects
+
+-- free pages have no owner once they are filled
+pub filled_owners : {a b : List ℕ} {ta tb : Option Trail} (volume_pages : ℕ) (pages : List ℕ) (fields : DescriptorFields) (touched : Touched) (ticket : Option ℕ) → AreDataPages (data_pages_of volume_pages) pages → HaveMeaning IsFree pages fields
+    → PageIsClean (record { volume_pages = volume_pages; pages = pages; fields = fields; touched = touched; ticket = ticket }) a ta → IsInterval (OfSome pages (IsFilledWord volume_pages)) a ta b tb → EachPage pages (λ page. page_owner volume_pages b page ≡ 0)
+filled_owners volume_pages pages fields touched ticket valid free clean run = record {
+  each = λ index inside. fill_keeps_owners volume_pages pages valid run index inside ∙ ap (λ (said : DescriptorFields). said.owner) (clean.stands.reads.each index inside ∙ free.each index inside);
+}
+
 -- free pages that were filled
-pub filled_dirty : {a b : List ℕ} {ta tb : Option Trail} (volume_pages : ℕ) (pages : List ℕ) (touched : Touched) (ticket later : Option ℕ) → AreDataPages (data_pages_of volume_pages) pages
-    → PageIsClean IsFree (record { volume_pages = volume_pages; pages = pages; touched = touched; ticket = ticket }) a ta → IsInterval (OfSome pages (IsFilledWord volume_pages)) a ta b tb → EachPage pages (IsSlotPage volume_pages b)
-    → PageIsDirty IsFilled (record { volume_pages = volume_pages; pages = pages; touched = Whole; ticket = later }) b tb
-filled_dirty volume_pages pages touched ticket later valid clean run filled = record {
+pub filled_dirty : {a b : List ℕ} {ta tb : Option Trail} (volume_pages : ℕ) (pages : List ℕ) (fields : DescriptorFields) (touched : Touched) (ticket later : Option ℕ) → AreDataPages (data_pages_of volume_pages) pages → HaveMeaning IsFree pages fields
+    → PageIsClean (record { volume_pages = volume_pages; pages = pages; fields = fields; touched = touched; ticket = ticket }) a ta → IsInterval (OfSome pages (IsFilledWord volume_pages)) a ta b tb → EachPage pages (IsSlotPage volume_pages b)
+    → PageIsDirty (record { volume_pages = volume_pages; pages = pages; fields = slots_fields; touched = Whole; ticket = later }) b tb
+filled_dirty {b = b} volume_pages pages fields touched ticket later valid free clean run filled = record {
   stands = record {
     inside = λ word own. let before = clean.stands.inside word own in omega (arith, before, interval_length run);
     reads = record {
-      each = λ index inside. (fill_keeps_owners volume_pages pages valid run index inside ∙ ap (λ (fields : DescriptorFields). fields.owner) (clean.stands.reads.each index inside), inr ((filled.each index inside).kind));
+      each = λ index inside.
+          same_descriptor_fields (descriptor_of volume_pages b (slice_index pages index)) (fields_of_page slots_fields index)
+          ((filled_owners volume_pages pages fields touched ticket valid free clean run).each index inside) (filled.each index inside).kind (filled.each index inside).offset;
     };
   };
   untouched = λ word own kept. absurd (kept own);
 }
 
 -- filled pages that got an owner
-pub claimed_dirty : {a b : List ℕ} {ta tb : Option Trail} (volume_pages : ℕ) (pages : List ℕ) (touched : Touched) (ticket later : Option ℕ) (owner : ℕ) → owner ≢ 0
-    → PageIsClean IsFilled (record { volume_pages = volume_pages; pages = pages; touched = touched; ticket = ticket }) a ta → IsInterval (OfSome pages (IsOwnerWord volume_pages)) a ta b tb → EachPage pages (λ page. page_owner volume_pages b page ≡ owner)
-    → PageIsDirty IsLive (record { volume_pages = volume_pages; pages = pages; touched = Descriptors; ticket = later }) b tb
-claimed_dirty volume_pages pages touched ticket later owner some clean run claimed = record {
+pub claimed_dirty : {a b : List ℕ} {ta tb : Option Trail} (volume_pages : ℕ) (pages : List ℕ) (fields : DescriptorFields) (touched : Touched) (ticket later : Option ℕ) (owner : ℕ)
+    → PageIsClean (record { volume_pages = volume_pages; pages = pages; fields = fields; touched = touched; ticket = ticket }) a ta → IsInterval (OfSome pages (IsOwnerWord volume_pages)) a ta b tb → EachPage pages (λ page. page_owner volume_pages b page ≡ owner)
+    → PageIsDirty (record { volume_pages = volume_pages; pages = pages; fields = owned_fields fields owner; touched = Descriptors; ticket = later }) b tb
+claimed_dirty {b = b} volume_pages pages fields touched ticket later owner clean run claimed = record {
   stands = record {
     inside = λ word own. let before = clean.stands.inside word own in omega (arith, before, interval_length run);
     reads = record {
-      each = λ index inside. (
-        λ none. some (sym (claimed.each index inside) ∙ none),
-        subst (λ (kind : ℕ). (kind ≡ 1) ⊎ (kind ≡ 2)) (sym (claim_keeps_kinds volume_pages pages run (slice_index pages index))) ((clean.stands.reads.each index inside).1),
-      );
+      each = λ index inside.
+          let page = slice_index pages index in
+          let said = clean.stands.reads.each index inside in
+          same_descriptor_fields (descriptor_of volume_pages b page) (fields_of_page (owned_fields fields owner) index) (claimed.each index inside)
+          (claim_keeps_kinds volume_pages pages run page ∙ ap (λ (said : DescriptorFields). said.kind) said)
+          (claim_keeps_offsets volume_pages pages run page ∙ ap (λ (said : DescriptorFields). said.offset) said);
     };
   };
   untouched = λ word own kept. clean_stays word run (λ stored. kept (record { index = stored.index; before = stored.before; is = record { field = 0; is_field = omega arith; at = stored.is } })) (clean.clean word own);
 }
 
--- once the lines that may have been stored are flushed, all words are
-pub all_flushed : {reads : DescriptorFields → Type 0} {a b : List ℕ} {ta tb : Option Trail} (touched : Touched) (volume_pages : ℕ) (pages : List ℕ) (ticket : Option ℕ) → AreDataPages (data_pages_of volume_pages) pages
-    → PageIsDirty reads (record { volume_pages = volume_pages; pages = pages; touched = touched; ticket = ticket }) a ta → IsInterval (λ _. ⊥) a ta b tb
+-- once the lines that were stored to are flushed, all words are
+pub all_flushed : {a b : List ℕ} {ta tb : Option Trail} (touched : Touched) (volume_pages : ℕ) (pages : List ℕ) (fields : DescriptorFields) (ticket : Option ℕ) → AreDataPages (data_pages_of volume_pages) pages
+    → PageIsDirty (record { volume_pages = volume_pages; pages = pages; fields = fields; touched = touched; ticket = ticket }) a ta → IsInterval (λ _. ⊥) a ta b tb
     → ((word : ℕ) → OfSome pages (IsTouched touched volume_pages) word → IsFlushed tb word) → (word : ℕ) → OfSome pages (IsOwnWord volume_pages) word → IsFlushed tb word
-all_flushed Whole volume_pages pages ticket valid dirty none flushed word own = flushed word own
-all_flushed Descriptors volume_pages pages ticket valid dirty none flushed word own = elim own.is [
+all_flushed Whole volume_pages pages fields ticket valid dirty none flushed word own = flushed word own
+all_flushed Descriptors volume_pages pages fields ticket valid dirty none flushed word own = elim own.is [
   | inr field ↦ flushed word (record { index = own.index; before = own.before; is = field })
   | inl content ↦
       flushed_stays word none (λ stored. stored) (flushed_if_clean (dirty.untouched word own (λ touched.
       let few = touched.is.is_field in
       descriptor_word_not_page_word volume_pages (slice_index pages touched.index) (slice_index pages own.index) touched.is.field content.place (valid.in_range.each touched.index touched.before) (omega (arith, few)) (sym touched.is.at ∙ content.at))))
 ]
-
--- free pages have no owner once they are filled
-pub filled_owners : {a b : List ℕ} {ta tb : Option Trail} (volume_pages : ℕ) (pages : List ℕ) (touched : Touched) (ticket : Option ℕ) → AreDataPages (data_pages_of volume_pages) pages
-    → PageIsClean IsFree (record { volume_pages = volume_pages; pages = pages; touched = touched; ticket = ticket }) a ta → IsInterval (OfSome pages (IsFilledWord volume_pages)) a ta b tb → EachPage pages (λ page. page_owner volume_pages b page ≡ 0)
-filled_owners volume_pages pages touched ticket valid clean run = record {
-  each = λ index inside. fill_keeps_owners volume_pages pages valid run index inside ∙ ap (λ (fields : DescriptorFields). fields.owner) (clean.stands.reads.each index inside);
-}

@@ -1,11 +1,11 @@
 -- The words of one page after stores to them.
-use Rattle.std.proofs.Common.{◌≡◌, ◌≢◌, inl, inr, ⊎_elim, ℕ, ◌+◌, ◌<◌, List, length, slice_index, slice_set, refl, sym, ◌∙◌, ap, arith, get_or-set_same, get_or-set_other, length-set}
+use Rattle.std.proofs.Common.{◌≡◌, ◌≢◌, inl, inr, ⊎_elim, ℕ, ◌+◌, ◌<◌, ◌≤◌, List, length, slice_index, slice_set, refl, sym, ◌∙◌, ap, arith, get_or-set_same, get_or-set_other, length-set}
 use Rattle.std.specs.Prelude.{Option}
 use Rattle.std.proofs.lemmas.Bool.{cases_eq}
 use Rattle.pm_trait.specs.declared.event.Event.TheVariants.{Store}
 use Rattle.pm_trait.specs.Trail.{Trail}
 use Rattle.pm_trait.specs.Device.{IsInterval, with_event}
-use Rattle.pm_trait.specs.DeviceLaws.{interval_store, then_store, interval_weaker}
+use Rattle.pm_trait.specs.DeviceLaws.{interval_empty, interval_store, then_store, interval_weaker}
 use Rattle.layout.specs.Geometry.{data_pages_of, page_word_of, descriptor_word_of}
 use Rattle.layout.specs.GeometryLaws.{same_page_word, descriptor_word_not_page_word, same_descriptor_word}
 use Rattle.layout.specs.Fields.{word, page_owner, page_kind, page_offset}
@@ -36,6 +36,9 @@ not_earlier volume_pages page place w inside at earlier =
     let same = (same_page_word volume_pages page page place earlier.place inside (omega (arith, before)) (sym at ∙ earlier.at)).1 in
     omega (arith, before, same)
 
+pub none_stored : (volume_pages page : ℕ) (now : List ℕ) (trail : Option Trail) → IsInterval (IsEarlierWord volume_pages page 0) now trail now trail
+none_stored volume_pages page now trail = interval_weaker (λ word none. absurd none) (interval_empty now trail)
+
 -- one more word of the page is stored
 pub stores_more : {a b c : List ℕ} {ta tb tc : Option Trail} (volume_pages page place w v : ℕ) → place < 512 → w ≡ page_word_of volume_pages page place
     → IsInterval (IsEarlierWord volume_pages page place) a ta b tb → c ≡ slice_set b w v → tc ≡ with_event tb (Store w v) → IsInterval (IsEarlierWord volume_pages page (place + 1)) a ta c tc
@@ -44,6 +47,10 @@ stores_more volume_pages page place w v inside at so_far is told =
       | inl earlier ↦ let before = earlier.before in record { place = earlier.place; before = omega (arith, before); at = earlier.at }
       | inr here ↦ record { place = place; before = omega arith; at = here ∙ at }
     ]) (then_store w v so_far (not_earlier volume_pages page place w inside at) is told)
+
+-- all of them
+pub all_stored : {a b : List ℕ} {ta tb : Option Trail} (volume_pages page count : ℕ) → count ≤ 512 → IsInterval (IsEarlierWord volume_pages page count) a ta b tb → IsInterval (IsContentWord volume_pages page) a ta b tb
+all_stored volume_pages page count few run = interval_weaker (λ word earlier. let before = earlier.before in record { place = earlier.place; in_page = omega (arith, before, few); at = earlier.at }) run
 
 -- and is zero
 pub zero_more : (b c : List ℕ) (volume_pages page place w : ℕ) → place < 512 → w ≡ page_word_of volume_pages page place → w < length b → c ≡ slice_set b w 0

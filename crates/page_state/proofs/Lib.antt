@@ -1,5 +1,6 @@
 pub mod Contents
 pub mod Lines
+pub mod Told
 pub mod Pages
 pub mod Changes
 pub mod Zeros

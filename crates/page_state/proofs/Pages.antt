@@ -4,7 +4,7 @@ use Rattle.std.specs.Prelude.{Option}
 use Rattle.std.proofs.lemmas.Bool.{cases_eq}
 use Rattle.pm_trait.specs.Trail.{Trail}
 use Rattle.pm_trait.specs.Device.{IsInterval}
-use Rattle.pm_trait.specs.DeviceLaws.{interval_joined, interval_weaker, interval_keeps}
+use Rattle.pm_trait.specs.DeviceLaws.{interval_empty, interval_joined, interval_weaker, interval_keeps}
 use Rattle.layout.specs.Geometry.{data_pages_of}
 use Rattle.page_state.specs.Page.{AreDataPages, OfFirst, IsOwnWord}
 use Rattle.page_state.specs.PageLaws.{own_words_apart}
@@ -20,6 +20,10 @@ earlier_apart : (volume_pages : ℕ) (pages : List ℕ) (index count word : ℕ)
 earlier_apart volume_pages pages index count word valid before inside =
     own_words_apart volume_pages (slice_index pages index) (slice_index pages count) word (valid.in_range.each index (omega (arith, before, inside))) (valid.in_range.each count inside)
     (pages_differ pages index count valid before inside)
+
+-- no page yet
+pub no_pages : (Q : ℕ → ℕ → Type 0) (pages now : List ℕ) (trail : Option Trail) → IsInterval (OfFirst pages 0 Q) now trail now trail
+no_pages Q pages now trail = interval_weaker (λ word none. absurd none) (interval_empty now trail)
 
 -- one more page is stored
 pub pages_more : {a b c : List ℕ} {ta tb tc : Option Trail} (Q : ℕ → ℕ → Type 0) (volume_pages count : ℕ) (pages : List ℕ) → ((page word : ℕ) → Q page word → IsOwnWord volume_pages page word) → AreDataPages (data_pages_of volume_pages) pages → count < length pages

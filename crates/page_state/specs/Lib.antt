@@ -1,3 +1,5 @@
 pub mod States
 pub mod Page
+pub mod Events
 pub mod PageLaws
+pub mod Laws

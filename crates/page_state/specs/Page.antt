@@ -1,5 +1,5 @@
 -- One or more data pages as a value that stands for their words and for those of their descriptors.
-use Rattle.std.specs.Prelude.{◌≡◌, ◌⊎◌, ℕ, ◌<◌, List, length, slice_index, Option}
+use Rattle.std.specs.Prelude.{◌≡◌, ◌⊎◌, ℕ, ◌+◌, ◌==◌, ◌<◌, if◌then◌else◌, List, length, slice_index, Option}
 use Rattle.pm_trait.specs.Trail.{Trail}
 use Rattle.pm_trait.specs.Device.{IsClean}
 use Rattle.layout.specs.declared.fields.DescriptorFields.{DescriptorFields}
@@ -9,10 +9,11 @@ use Rattle.fence_token.specs.Objects.{Stands, StandsClean, StandsInFlight}
 use Rattle.page_state.specs.declared.page.Touched.{Touched}
 use Rattle.page_state.specs.declared.page.Touched.TheVariants.{Descriptors, Whole}
 
--- the volume's number of pages, the data pages, what may have been stored since they were clean, and the ticket of their flush
+-- the volume's number of pages, the data pages, what the first one's descriptor says, what was stored since they were clean, and the ticket of their flush
 pub record PageView : Type 0 where
   pub volume_pages : ℕ
   pub pages : List ℕ
+  pub fields : DescriptorFields
   pub touched : Touched
   pub ticket : Option ℕ
 
@@ -67,12 +68,12 @@ IsFilledWord volume_pages page word = IsContentWord volume_pages page word ⊎ (
 abbrev pub IsOwnerWord : ℕ → ℕ → ℕ → Type 0
 IsOwnerWord volume_pages page word = word ≡ descriptor_word_of volume_pages page 0
 
--- those that may have been stored
+-- those of the lines that were stored to
 abbrev pub IsTouched : Touched → ℕ → ℕ → ℕ → Type 0
 IsTouched Descriptors volume_pages page word = IsDescriptorWord volume_pages page word
 IsTouched Whole volume_pages page word = IsOwnWord volume_pages page word
 
--- the number of a page's lines that hold such words
+-- the number of those lines
 abbrev pub touched_lines : Touched → ℕ
 touched_lines Descriptors = 1
 touched_lines Whole = 65
@@ -87,33 +88,47 @@ pub record IsSlotPage (volume_pages : ℕ) (words : List ℕ) (page : ℕ) : Typ
   pub kind : page_kind volume_pages words page ≡ 2
   pub offset : page_offset volume_pages words page ≡ 0
 
--- ---- the object
+-- ---- what descriptors say
 
--- what the descriptor's words say
 abbrev pub descriptor_of : ℕ → List ℕ → ℕ → DescriptorFields
 descriptor_of volume_pages words page = record { owner = page_owner volume_pages words page; kind = page_kind volume_pages words page; offset = page_offset volume_pages words page }
+
+-- What the descriptor of the page at this place of a list says, where that of the first page says `first`: the offsets of pages
+-- of bytes follow one another.
+abbrev pub fields_of_page : DescriptorFields → ℕ → DescriptorFields
+fields_of_page first index = record { owner = first.owner; kind = first.kind; offset = (if first.kind == 1 then first.offset + index else first.offset) }
+
+-- the pages' descriptors say so
+pub record SayFields (volume_pages : ℕ) (pages : List ℕ) (fields : DescriptorFields) (words : List ℕ) : Type 0 where
+  pub each : (index : ℕ) → index < length pages → descriptor_of volume_pages words (slice_index pages index) ≡ fields_of_page fields index
+
+-- and what they say has the meaning
+pub record HaveMeaning (means : DescriptorFields → Type 0) (pages : List ℕ) (fields : DescriptorFields) : Type 0 where
+  pub each : (index : ℕ) → index < length pages → means (fields_of_page fields index)
+
+-- ---- the object
 
 -- the word is one of the object's
 abbrev pub IsWordOf : PageView → ℕ → Type 0
 IsWordOf view word = OfSome view.pages (IsOwnWord view.volume_pages) word
 
--- each page's descriptor has the meaning
-abbrev pub ReadAs : (DescriptorFields → Type 0) → PageView → List ℕ → Type 0
-ReadAs reads view words = EachPage view.pages (λ page. reads (descriptor_of view.volume_pages words page))
+-- each page's descriptor says what the object says of it
+abbrev pub ReadAs : PageView → List ℕ → Type 0
+ReadAs view words = SayFields view.volume_pages view.pages view.fields words
 
--- its words are the device's, and its descriptors have the meaning
-abbrev pub PageStands : (DescriptorFields → Type 0) → PageView → List ℕ → Type 0
-PageStands reads view now = Stands (IsWordOf view) (ReadAs reads view) now
+-- its words are the device's, and its descriptors say its fields
+abbrev pub PageStands : PageView → List ℕ → Type 0
+PageStands view now = Stands (IsWordOf view) (ReadAs view) now
 
--- and a stop leaves all of its words so but those that may have been stored
-pub record PageIsDirty (reads : DescriptorFields → Type 0) (view : PageView) (now : List ℕ) (trail : Option Trail) : Type 0 where
-  pub stands : PageStands reads view now
+-- and a stop leaves all of its words so but those of the lines that were stored to
+pub record PageIsDirty (view : PageView) (now : List ℕ) (trail : Option Trail) : Type 0 where
+  pub stands : PageStands view now
   pub untouched : (word : ℕ) → IsWordOf view word → ¬ OfSome view.pages (IsTouched view.touched view.volume_pages) word → IsClean now trail word
 
 -- and a stop leaves all of its words so
-abbrev pub PageIsClean : (DescriptorFields → Type 0) → PageView → List ℕ → Option Trail → Type 0
-PageIsClean reads view now trail = StandsClean (IsWordOf view) (ReadAs reads view) now trail
+abbrev pub PageIsClean : PageView → List ℕ → Option Trail → Type 0
+PageIsClean view now trail = StandsClean (IsWordOf view) (ReadAs view) now trail
 
 -- and they were flushed since their last store, at the time that the ticket says
-abbrev pub PageIsInFlight : (DescriptorFields → Type 0) → PageView → List ℕ → Option Trail → Type 0
-PageIsInFlight reads view now trail = StandsInFlight (IsWordOf view) (ReadAs reads view) view.ticket now trail
+abbrev pub PageIsInFlight : PageView → List ℕ → Option Trail → Type 0
+PageIsInFlight view now trail = StandsInFlight (IsWordOf view) (ReadAs view) view.ticket now trail

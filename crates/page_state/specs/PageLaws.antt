@@ -1,16 +1,18 @@
 -- Laws of pages: what they say hangs on their own words alone, which no other page has, and they go on standing while others are stored.
-use Rattle.std.proofs.Common.{◌≡◌, ◌≢◌, inl, inr, ℕ, ◌*◌, ◌+◌, ◌<◌, ◌≤◌, List, slice_index, refl, sym, ◌∙◌, subst, arith, ◌%◌}
+use Rattle.std.proofs.Common.{◌≡◌, ◌≢◌, inl, inr, ℕ, ◌*◌, ◌+◌, ◌<◌, ◌≤◌, Bool, true, false, ◌==◌, cond, List, length, slice_index, refl, sym, ◌∙◌, ap, subst, arith, add-zero, ◌%◌}
 use Rattle.std.specs.Prelude.{Option}
-use Rattle.pm_trait.specs.Trail.{Trail}
-use Rattle.pm_trait.specs.Device.{IsInterval}
+use Rattle.pm_trait.specs.declared.event.Event.{Event}
+use Rattle.pm_trait.specs.Trail.{Trail, after_stores}
+use Rattle.pm_trait.specs.Device.{with_events, IsInterval}
 use Rattle.pm_trait.specs.DeviceLaws.{clean_stays}
 use Rattle.layout.specs.declared.fields.DescriptorFields.{DescriptorFields}
 use Rattle.layout.specs.Geometry.{IsVolumeSize, data_pages_of, descriptor_word_of, inodes_of, inode_word_of, slot_word_of, page_of_slot}
 use Rattle.layout.specs.GeometryLaws.{same_descriptor_word, same_page_word, descriptor_word_within, page_word_within, descriptor_word_not_page_word, slot_word_in_page, descriptor_word_not_slot_word, inode_word_not_descriptor_word, inode_word_not_page_word}
 use Rattle.layout.specs.Fields.{word, page_owner, page_kind, page_offset}
-use Rattle.fence_token.specs.Objects.{IsLocal}
-use Rattle.fence_token.specs.ObjectLaws.{stands_stays}
-use Rattle.page_state.specs.Page.{PageView, EachPage, IsDescriptorWord, IsOwnWord, descriptor_of, IsWordOf, ReadAs, PageIsDirty}
+use Rattle.fence_token.specs.Objects.{IsLocal, StoreNoneOf}
+use Rattle.fence_token.specs.ObjectLaws.{stands_stays, stands_events, clean_events}
+use Rattle.page_state.specs.States.{IsFree}
+use Rattle.page_state.specs.Page.{PageView, EachPage, IsDescriptorWord, IsOwnWord, descriptor_of, fields_of_page, SayFields, HaveMeaning, IsWordOf, ReadAs, PageIsDirty}
 
 -- the word of a field is the descriptor's
 pub descriptor_word_is : (volume_pages page field : ℕ) → field < 3 → IsDescriptorWord volume_pages page (descriptor_word_of volume_pages page field)
@@ -55,19 +57,55 @@ same_descriptor_of volume_pages page old new same =
     at : (field : ℕ) → field < 3 → slice_index new (descriptor_word_of volume_pages page field) ≡ slice_index old (descriptor_word_of volume_pages page field)
     at field is_field = same (descriptor_word_of volume_pages page field) (descriptor_word_is volume_pages page field is_field)
 
+-- ---- what the descriptors of a list of pages say
+
+same_offset : (of_bytes : Bool) (offset : ℕ) → offset ≡ cond of_bytes (offset + 0) offset
+same_offset true offset = sym (add-zero offset)
+same_offset false offset = refl
+
+-- the first page's says the fields themselves
+pub first_page_fields : (fields : DescriptorFields) → fields ≡ fields_of_page fields 0
+first_page_fields fields = same_descriptor_fields fields (fields_of_page fields 0) refl refl (same_offset (fields.kind == 1) fields.offset)
+
+-- one page is alike
+pub one_page_alike : (volume_pages : ℕ) (pages words : List ℕ) → length pages ≡ 1 → SayFields volume_pages pages (descriptor_of volume_pages words (slice_index pages 0)) words
+one_page_alike volume_pages pages words one = record {
+  each = λ index inside.
+      let first = descriptor_of volume_pages words (slice_index pages 0) in
+      let here : index ≡ 0 = omega (arith, one, inside) in
+      ap (λ (k : ℕ). descriptor_of volume_pages words (slice_index pages k)) here ∙ first_page_fields first ∙ ap (λ (k : ℕ). fields_of_page first k) (sym here);
+}
+
+-- and so are free ones
+pub free_pages_alike : (volume_pages : ℕ) (pages words : List ℕ) → EachPage pages (λ page. IsFree (descriptor_of volume_pages words page)) → SayFields volume_pages pages (descriptor_of volume_pages words (slice_index pages 0)) words
+free_pages_alike volume_pages pages words free = record {
+  each = λ index inside. free.each index inside ∙ sym (ap (λ (first : DescriptorFields). fields_of_page first index) (free.each 0 (omega (arith, inside))));
+}
+
+-- what each of some alike pages means, the object's fields mean
+pub alike_mean : (means : DescriptorFields → Type 0) (volume_pages : ℕ) (pages words : List ℕ) (fields : DescriptorFields) → EachPage pages (λ page. means (descriptor_of volume_pages words page)) → SayFields volume_pages pages fields words → HaveMeaning means pages fields
+alike_mean means volume_pages pages words fields meant say = record { each = λ index inside. subst means (say.each index inside) (meant.each index inside) }
+
 -- what the pages say hangs on their own words alone
-pub pages_are_local : (reads : DescriptorFields → Type 0) (view : PageView) → IsLocal (IsWordOf view) (ReadAs reads view)
-pages_are_local reads view = record {
+pub pages_are_local : (view : PageView) → IsLocal (IsWordOf view) (ReadAs view)
+pages_are_local view = record {
   carries = λ old new same read. record {
-    each = λ index inside. subst reads (sym (same_descriptor_of view.volume_pages (slice_index view.pages index) old new (λ word is. same word (record { index = index; before = inside; is = inr is })))) (read.each index inside);
+    each = λ index inside. same_descriptor_of view.volume_pages (slice_index view.pages index) old new (λ word is. same word (record { index = index; before = inside; is = inr is })) ∙ read.each index inside;
   };
 }
 
--- pages that may have been stored stay so while others are stored
-pub dirty_stays : {W : ℕ → Type 0} {a b : List ℕ} {ta tb : Option Trail} (reads : DescriptorFields → Type 0) (view : PageView) → IsInterval W a ta b tb → ((word : ℕ) → IsWordOf view word → ¬ W word) → PageIsDirty reads view a ta → PageIsDirty reads view b tb
-dirty_stays reads view run apart dirty = record {
-  stands = stands_stays (pages_are_local reads view) run apart dirty.stands;
+-- pages that were stored to stay so while others are stored
+pub dirty_stays : {W : ℕ → Type 0} {a b : List ℕ} {ta tb : Option Trail} (view : PageView) → IsInterval W a ta b tb → ((word : ℕ) → IsWordOf view word → ¬ W word) → PageIsDirty view a ta → PageIsDirty view b tb
+dirty_stays view run apart dirty = record {
+  stands = stands_stays (pages_are_local view) run apart dirty.stands;
   untouched = λ word own kept. clean_stays word run (apart word own) (dirty.untouched word own kept);
+}
+
+-- and over all events that store none of their words
+pub dirty_events : (view : PageView) (now : List ℕ) (trail : Option Trail) (events : List Event) → StoreNoneOf (IsWordOf view) events → PageIsDirty view now trail → PageIsDirty view (after_stores now events) (with_events trail events)
+dirty_events view now trail events none dirty = record {
+  stands = stands_events now events (pages_are_local view) none dirty.stands;
+  untouched = λ word own kept. clean_events trail events word (none.each word own) (dirty.untouched word own kept);
 }
 
 -- two objects over lists with no page in common have no word in common

@@ -1,17 +1,26 @@
 -- What a page's descriptor means, from its fields.
-use Rattle.std.specs.Prelude.{◌≡◌, ◌≢◌, ◌⊎◌}
+use Rattle.std.specs.Prelude.{◌≡◌, ◌≢◌, ◌⊎◌, ℕ}
 use Rattle.layout.specs.declared.fields.DescriptorFields.{DescriptorFields}
 
--- a page of a file's bytes (1) or of slots (2)
-abbrev pub IsOfAKind : DescriptorFields → Type 0
-IsOfAKind fields = (fields.kind ≡ 1) ⊎ (fields.kind ≡ 2)
-
 -- all words are 0
+abbrev pub free_fields : DescriptorFields
+free_fields = record { owner = 0; kind = 0; offset = 0 }
+
+-- a page of slots, and no owner yet
+abbrev pub slots_fields : DescriptorFields
+slots_fields = record { owner = 0; kind = 2; offset = 0 }
+
+-- the fields with this owner
+abbrev pub owned_fields : DescriptorFields → ℕ → DescriptorFields
+owned_fields fields owner = record { owner = owner; kind = fields.kind; offset = fields.offset }
+
 abbrev pub IsFree : DescriptorFields → Type 0
-IsFree fields = fields ≡ record { owner = 0; kind = 0; offset = 0 }
+IsFree fields = fields ≡ free_fields
 
+-- a page of a file's bytes (1), or one of slots (2), which has offset 0
 abbrev pub IsFilled : DescriptorFields → Type 0
-IsFilled fields = (fields.owner ≡ 0) × IsOfAKind fields
+IsFilled fields = (fields.owner ≡ 0) × ((fields.kind ≡ 1) ⊎ ((fields.kind ≡ 2) × (fields.offset ≡ 0)))
 
+-- one of either kind; the offset of one of slots is not read
 abbrev pub IsLive : DescriptorFields → Type 0
-IsLive fields = (fields.owner ≢ 0) × IsOfAKind fields
+IsLive fields = (fields.owner ≢ 0) × ((fields.kind ≡ 1) ⊎ (fields.kind ≡ 2))

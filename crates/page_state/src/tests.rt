@@ -3,7 +3,7 @@ use crate::{Free, PageH};
 use fence_token::{Clean, fence};
 use layout::Geometry;
 use pm_memory::RamPm;
-use pm_trait::Pm;
+use pm_trait::{Event, Pm};
 use std::test::Fail;
 
 #[test]
@@ -48,5 +48,29 @@ fn two_pages_of_slots(rt: HostRuntime) -> Result<(), Fail> {
     }
     assert_eq!(rt; pm.fences(), 2);
     assert_eq!(rt; pm.events(), 1_164);
+    assert_eq!(rt;
+        pm.event(511),
+        Event::Store {
+            word: 4_095,
+            value: 0
+        }
+    );
+    assert_eq!(rt;
+        pm.event(512),
+        Event::Store {
+            word: 1_057,
+            value: 2
+        }
+    );
+    assert_eq!(rt; pm.event(1_028), Event::Flush { line: 448 });
+    assert_eq!(rt; pm.event(1_157), Event::Flush { line: 130 });
+    assert_eq!(rt;
+        pm.event(1_160),
+        Event::Store {
+            word: 1_040,
+            value: 3
+        }
+    );
+    assert_eq!(rt; pm.event(1_161), Event::Flush { line: 132 });
     Ok(())
 }

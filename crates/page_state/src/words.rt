@@ -1,9 +1,12 @@
 // Stores to the words of pages, and flushes of their lines.
-ghost use Rattle.std.specs.Prelude.{◌≡◌, ◌⊎◌, ℕ, ◌+◌, ◌*◌, ◌<◌, ◌≤◌, Some, length};
-ghost use Rattle.pm_trait.specs.Device.{IsInterval, IsFlushed};
-ghost use Rattle.layout.specs.Geometry.{page_word_of};
+ghost use Rattle.std.specs.Prelude.{◌≡◌, ◌⊎◌, ℕ, ◌+◌, ◌*◌, ◌/◌, ◌<◌, ◌≤◌, Some, length};
+ghost use Rattle.std.specs.List.{flat_map};
+ghost use Rattle.pm_trait.specs.declared.event.Event.TheVariants.{Flush};
+ghost use Rattle.pm_trait.specs.Device.{IsInterval, IsFlushed, with_event, with_events};
+ghost use Rattle.layout.specs.Geometry.{descriptor_word_of, page_word_of};
 ghost use Rattle.layout.specs.Fields.{page_owner};
 ghost use Rattle.page_state.specs.Page.{EachPage, AreDataPages, OfSome, IsContentWord, IsDescriptorWord, IsOwnWord, IsFilledWord, IsOwnerWord, IsTouched, touched_lines, IsZeroPage, IsSlotPage};
+ghost use Rattle.page_state.specs.Events.{page_zeros, fill_of_page, claim_of_page, content_flushes, flushes_of_page};
 
 use crate::page::Touched;
 use fence_token::{FlushTicket, flush_span};
@@ -20,7 +23,7 @@ const KIND: u64 = 1;
 const OFFSET: u64 = 2;
 
 /// The kind of a page of slots.
-const SLOTS: u64 = 2;
+pub const SLOTS: u64 = 2;
 
 // Makes every word of a page zero.
 fn zero_page<P: Pm>(pm: &mut P, geometry: &Geometry, page: u64)
@@ -30,6 +33,7 @@ fn zero_page<P: Pm>(pm: &mut P, geometry: &Geometry, page: u64)
 
     ensures zero { IsZeroPage geometry.now.pages (P.now pm.new) page }
     ensures stores { IsInterval (IsContentWord geometry.now.pages page) (P.now pm.old) (P.trail pm.old) (P.now pm.new) (P.trail pm.new) }
+    ensures trail { P.trail pm.new ≡ with_events (P.trail pm.old) (page_zeros geometry.now.pages page) }
     ensures room { P.spare pm.old ≤ P.spare pm.new + 512 }
     ensures faults { P.faults pm.new ≡ P.faults pm.old }
     ensures refused { P.refused pm.new ≡ P.refused pm.old }
@@ -49,6 +53,7 @@ fn fill_page<P: Pm>(pm: &mut P, geometry: &Geometry, page: u64)
 
     ensures filled { IsSlotPage geometry.now.pages (P.now pm.new) page }
     ensures stores { IsInterval (IsFilledWord geometry.now.pages page) (P.now pm.old) (P.trail pm.old) (P.now pm.new) (P.trail pm.new) }
+    ensures trail { P.trail pm.new ≡ with_events (P.trail pm.old) (fill_of_page geometry.now.pages page) }
     ensures room { P.spare pm.old ≤ P.spare pm.new + 514 }
     ensures faults { P.faults pm.new ≡ P.faults pm.old }
     ensures refused { P.refused pm.new ≡ P.refused pm.old }
@@ -68,6 +73,7 @@ pub fn fill_pages<P: Pm>(pm: &mut P, geometry: &Geometry, pages: &[u64])
 
     ensures filled { EachPage pages.now (IsSlotPage geometry.now.pages (P.now pm.new)) }
     ensures stores { IsInterval (OfSome pages.now (IsFilledWord geometry.now.pages)) (P.now pm.old) (P.trail pm.old) (P.now pm.new) (P.trail pm.new) }
+    ensures trail { P.trail pm.new ≡ with_events (P.trail pm.old) (flat_map (fill_of_page geometry.now.pages) pages.now) }
     ensures room { P.spare pm.old ≤ P.spare pm.new + 514 * length pages.now }
     ensures faults { P.faults pm.new ≡ P.faults pm.old }
     ensures refused { P.refused pm.new ≡ P.refused pm.old }
@@ -87,6 +93,7 @@ pub fn claim_pages<P: Pm>(pm: &mut P, geometry: &Geometry, pages: &[u64], owner:
 
     ensures owner { EachPage pages.now (λ page. page_owner geometry.now.pages (P.now pm.new) page ≡ owner) }
     ensures stores { IsInterval (OfSome pages.now (IsOwnerWord geometry.now.pages)) (P.now pm.old) (P.trail pm.old) (P.now pm.new) (P.trail pm.new) }
+    ensures trail { P.trail pm.new ≡ with_events (P.trail pm.old) (flat_map (claim_of_page geometry.now.pages owner) pages.now) }
     ensures room { P.spare pm.old ≤ P.spare pm.new + length pages.now }
     ensures faults { P.faults pm.new ≡ P.faults pm.old }
     ensures refused { P.refused pm.new ≡ P.refused pm.old }
@@ -108,6 +115,7 @@ fn flush_descriptor<P: Pm>(pm: &mut P, geometry: &Geometry, page: u64) -> FlushT
     ensures flushed { (word : ℕ) → IsDescriptorWord geometry.now.pages page word → IsFlushed (P.trail pm.new) word }
     ensures stores_none { IsInterval (λ _. ⊥) (P.now pm.old) (P.trail pm.old) (P.now pm.new) (P.trail pm.new) }
     ensures words { P.now pm.new ≡ P.now pm.old }
+    ensures trail { P.trail pm.new ≡ with_event (P.trail pm.old) (Flush (descriptor_word_of geometry.now.pages page 0 / 8)) }
     ensures room { P.spare pm.old ≤ P.spare pm.new + 1 }
     ensures faults { P.faults pm.new ≡ P.faults pm.old }
     ensures refused { P.refused pm.new ≡ P.refused pm.old }
@@ -129,6 +137,7 @@ fn flush_contents<P: Pm>(pm: &mut P, geometry: &Geometry, page: u64) -> FlushTic
     ensures flushed { (word : ℕ) → IsContentWord geometry.now.pages page word → IsFlushed (P.trail pm.new) word }
     ensures stores_none { IsInterval (λ _. ⊥) (P.now pm.old) (P.trail pm.old) (P.now pm.new) (P.trail pm.new) }
     ensures words { P.now pm.new ≡ P.now pm.old }
+    ensures trail { P.trail pm.new ≡ with_events (P.trail pm.old) (content_flushes geometry.now.pages page) }
     ensures room { P.spare pm.old ≤ P.spare pm.new + 64 }
     ensures faults { P.faults pm.new ≡ P.faults pm.old }
     ensures refused { P.refused pm.new ≡ P.refused pm.old }
@@ -140,7 +149,7 @@ fn flush_contents<P: Pm>(pm: &mut P, geometry: &Geometry, page: u64) -> FlushTic
     flush_span(pm, first, last)
 }
 
-// Flushes the line of a page's descriptor and, where they may have been stored, the page's own.
+// Flushes the line of a page's descriptor and, where they were stored to, the page's own.
 fn flush_page<P: Pm>(pm: &mut P, geometry: &Geometry, page: u64, touched: Touched) -> FlushTicket
     requires in_range { page < geometry.now.data_pages }
     requires inside { (word : ℕ) → IsOwnWord geometry.now.pages page word → word < length (P.now pm.old) }
@@ -150,6 +159,7 @@ fn flush_page<P: Pm>(pm: &mut P, geometry: &Geometry, page: u64, touched: Touche
     ensures flushed { (word : ℕ) → IsTouched touched geometry.now.pages page word → IsFlushed (P.trail pm.new) word }
     ensures stores_none { IsInterval (λ _. ⊥) (P.now pm.old) (P.trail pm.old) (P.now pm.new) (P.trail pm.new) }
     ensures words { P.now pm.new ≡ P.now pm.old }
+    ensures trail { P.trail pm.new ≡ with_events (P.trail pm.old) (flushes_of_page touched geometry.now.pages page) }
     ensures room { P.spare pm.old ≤ P.spare pm.new + touched_lines touched }
     ensures faults { P.faults pm.new ≡ P.faults pm.old }
     ensures refused { P.refused pm.new ≡ P.refused pm.old }
@@ -165,7 +175,7 @@ fn flush_page<P: Pm>(pm: &mut P, geometry: &Geometry, page: u64, touched: Touche
     }
 }
 
-// Flushes the lines of each page that may have been stored.
+// Flushes the lines of each page that were stored to.
 pub fn flush_pages<P: Pm>(
     pm: &mut P,
     geometry: &Geometry,
@@ -180,6 +190,7 @@ pub fn flush_pages<P: Pm>(
     ensures flushed { (word : ℕ) → OfSome pages.now (IsTouched touched geometry.now.pages) word → IsFlushed (P.trail pm.new) word }
     ensures stores_none { IsInterval (λ _. ⊥) (P.now pm.old) (P.trail pm.old) (P.now pm.new) (P.trail pm.new) }
     ensures words { P.now pm.new ≡ P.now pm.old }
+    ensures trail { P.trail pm.new ≡ with_events (P.trail pm.old) (flat_map (flushes_of_page touched geometry.now.pages) pages.now) }
     ensures room { P.spare pm.old ≤ P.spare pm.new + touched_lines touched * length pages.now }
     ensures faults { P.faults pm.new ≡ P.faults pm.old }
     ensures refused { P.refused pm.new ≡ P.refused pm.old }

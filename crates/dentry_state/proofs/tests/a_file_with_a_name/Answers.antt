@@ -2,7 +2,7 @@ use Rattle.std.proofs.Common.{◌≡◌, ◌*◌, ◌<◌, ◌≤◌, ◌∙◌,
 use Rattle.layout.specs.Geometry.{inodes_of, slots_of}
 use Rattle.fence_token.specs.ObjectLaws.{stands_stays, stands_clean_stays, stands_in_flight_stays, stands_in_flight_fence}
 use Rattle.inode_state.specs.InodeLaws.{inode_is_local}
-use Rattle.dentry_state.specs.DentryLaws.{dentry_is_local, name_word_is_slot_word, slot_word_is_no_inode_word}
+use Rattle.dentry_state.specs.DentryLaws.{dentry_is_local, dirty_stays, name_word_is_slot_word, slot_word_is_no_inode_word}
 use Rattle.dentry_state.proofs.Zeros.{zero_inode, zero_slot}
 use Rattle.dentry_state.proofs.tests.a_file_with_a_name.Goals as goal
 
@@ -41,6 +41,9 @@ flush-inode-requires-clause-stands g c =
     let in_range : file.number ≤ inodes_of slot.pages = omega (arith, number, inodes, c.in_ok-geometry.geometry.inodes_exact) in
     stands_stays (inode_is_local file) c.set_name-named.ensures.stores
     (λ word own is_name. slot_word_is_no_inode_word slot.pages slot.slot file.number word some in_range (name_word_is_slot_word slot.pages slot.slot word is_name) own) c.init_file-inode.ensures.stands
+
+pub flush-named-requires-clause-dirty : goal.flush-named-requires-clause-dirty
+flush-named-requires-clause-dirty g c = dirty_stays c.set_name-named.result c.flush-inode.ensures.stores_none (λ word own none. none) c.set_name-named.ensures.dirty
 
 pub settle-inode-requires-clause-in_flight : goal.settle-inode-requires-clause-in_flight
 settle-inode-requires-clause-in_flight g c =

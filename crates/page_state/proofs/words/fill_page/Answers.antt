@@ -1,6 +1,7 @@
 use Rattle.std.proofs.Common.{inl, inr, ℕ, ◌<◌, subst, arith}
 use Rattle.pm_trait.specs.DeviceLaws.{interval_length}
 use Rattle.page_state.proofs.Contents.{same_length, fill_stores, fill_reads}
+use Rattle.page_state.proofs.Told.{fill_told}
 use Rattle.page_state.proofs.words.fill_page.Goals as goal
 
 pub zero_page-requires-clause-inside : goal.zero_page-requires-clause-inside
@@ -31,3 +32,8 @@ returns-clause-stores g c =
     let geometry = c.args.geometry.now in
     fill_stores geometry.pages c.args.page c.descriptor_word.result c.descriptor_word-2.result 2 0 (subst (λ (d : ℕ). c.args.page < d) geometry.data_pages_exact c.requires.in_range)
     c.descriptor_word.ensures.value c.descriptor_word-2.ensures.value c.zero_page.ensures.stores c.store.ensures.words c.store.ensures.trail c.store-2.ensures.words c.store-2.ensures.trail
+
+pub returns-clause-trail : goal.returns-clause-trail
+returns-clause-trail g c =
+    fill_told (g.P.Pm.trail c.args.pm.now) c.args.geometry.now.pages c.args.page c.descriptor_word.result c.descriptor_word-2.result c.descriptor_word.ensures.value c.descriptor_word-2.ensures.value
+    c.zero_page.ensures.trail c.store.ensures.trail c.store-2.ensures.trail

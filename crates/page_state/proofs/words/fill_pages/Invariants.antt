@@ -1,12 +1,15 @@
-use Rattle.std.proofs.Common.{◌≡◌, ℕ, ◌+◌, ◌*◌, ◌<◌, ◌≤◌, slice_index}
-use Rattle.pm_trait.specs.Device.{IsInterval}
+use Rattle.std.proofs.Common.{◌≡◌, ℕ, ◌+◌, ◌*◌, ◌<◌, ◌≤◌, slice_index, take}
+use Rattle.std.specs.List.{flat_map}
+use Rattle.pm_trait.specs.Device.{IsInterval, with_events}
 use Rattle.page_state.specs.Page.{OfFirst, IsFilledWord, IsSlotPage}
+use Rattle.page_state.specs.Events.{fill_of_page}
 use Rattle.page_state.proofs.words.fill_pages.Given as goal
 
 abbrev pub invariant-loop-page : goal.invariant-loop-page
 invariant-loop-page g l = record {
   stores : IsInterval (OfFirst l.pages l.page-index (IsFilledWord l.geometry.pages)) (g.P.Pm.now l.initial.pm) (g.P.Pm.trail l.initial.pm) (g.P.Pm.now l.pm) (g.P.Pm.trail l.pm);
   filled : (index : ℕ) → index < l.page-index → IsSlotPage l.geometry.pages (g.P.Pm.now l.pm) (slice_index l.pages index);
+  trail : g.P.Pm.trail l.pm ≡ with_events (g.P.Pm.trail l.initial.pm) (flat_map (fill_of_page l.geometry.pages) (take l.page-index l.pages));
   room : g.P.Pm.spare l.initial.pm ≤ g.P.Pm.spare l.pm + 514 * l.page-index;
   faults : g.P.Pm.faults l.pm ≡ g.P.Pm.faults l.initial.pm;
   refused : g.P.Pm.refused l.pm ≡ g.P.Pm.refused l.initial.pm;

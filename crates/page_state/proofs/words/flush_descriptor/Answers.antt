@@ -1,5 +1,6 @@
 use Rattle.std.proofs.Common.{arith}
 use Rattle.page_state.proofs.Lines.{descriptor_line, descriptor_order, descriptor_between}
+use Rattle.page_state.proofs.Told.{descriptor_flushed}
 use Rattle.page_state.proofs.words.flush_descriptor.Goals as goal
 
 pub flush_span-requires-clause-order : goal.flush_span-requires-clause-order
@@ -22,3 +23,7 @@ pub returns-clause-room : goal.returns-clause-room
 returns-clause-room g c =
     let one = descriptor_line c.args.geometry.now.pages c.args.page _ _ c.descriptor_word-first.ensures.value c.descriptor_word-last.ensures.value in
     omega (arith, one, c.flush_span.ensures.room)
+
+pub returns-clause-trail : goal.returns-clause-trail
+returns-clause-trail g c =
+    descriptor_flushed (g.P.Pm.trail c.args.pm.now) c.args.geometry.now.pages c.args.page c.descriptor_word-first.result c.descriptor_word-last.result c.descriptor_word-first.ensures.value c.descriptor_word-last.ensures.value c.flush_span.ensures.lines

@@ -1,7 +1,21 @@
-use Rattle.std.proofs.Common.{◌∙◌, arith}
+use Rattle.std.proofs.Common.{refl, ◌∙◌, arith}
+use Rattle.pm_trait.specs.ContinuesLaws.{with_events-nil}
 use Rattle.pm_trait.specs.DeviceLaws.{interval_length}
-use Rattle.page_state.proofs.Contents.{content_word_is, stores_more, zero_more}
+use Rattle.page_state.proofs.Contents.{content_word_is, none_stored, all_stored, stores_more, zero_more}
+use Rattle.page_state.proofs.Told.{one_more_zero, all_zeros}
 use Rattle.page_state.proofs.words.zero_page.Goals as goal
+
+pub loop-place-init : goal.loop-place-init
+loop-place-init g c = record {
+  stores = none_stored c.args.geometry.now.pages c.args.page (g.P.Pm.now c.args.pm.now) (g.P.Pm.trail c.args.pm.now);
+  zero = λ place below. absurd (omega (arith, below));
+  trail = with_events-nil (g.P.Pm.trail c.args.pm.now);
+  room = omega arith;
+  faults = refl;
+  refused = refl;
+  fences = refl;
+  acks = refl;
+}
 
 pub store-requires-clause-in_range : goal.store-requires-clause-in_range
 store-requires-clause-in_range g c =
@@ -18,9 +32,16 @@ loop-place-preserved g c =
     record {
       stores = stores_more volume_pages c.args.page place c.page_word.result 0 (omega arith) at so_far.stores c.store.ensures.words c.store.ensures.trail;
       zero = zero_more (g.P.Pm.now c.loop-place.pm) (g.P.Pm.now c.store.new.self) volume_pages c.args.page place c.page_word.result (omega arith) at (omega (arith, inside, interval_length so_far.stores)) c.store.ensures.words so_far.zero;
+      trail = one_more_zero (g.P.Pm.trail c.args.pm.now) volume_pages c.args.page place c.page_word.result at so_far.trail c.store.ensures.trail;
       room = omega arith;
       faults = c.store.ensures.faults ∙ so_far.faults;
       refused = c.store.ensures.refused ∙ so_far.refused;
       fences = c.store.ensures.fences ∙ so_far.fences;
       acks = c.store.ensures.acks ∙ so_far.acks;
     }
+
+pub returns-clause-stores : goal.returns-clause-stores
+returns-clause-stores g c = all_stored c.args.geometry.now.pages c.args.page c.loop-place.place (omega arith) c.loop-place.invariant.stores
+
+pub returns-clause-trail : goal.returns-clause-trail
+returns-clause-trail g c = all_zeros (g.P.Pm.trail c.args.pm.now) c.args.geometry.now.pages c.args.page c.loop-place.place (omega arith) c.loop-place.invariant.trail

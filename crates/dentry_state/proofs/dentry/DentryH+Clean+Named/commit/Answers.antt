@@ -1,26 +1,40 @@
-use Rattle.std.proofs.Common.{◌∙◌, ap, arith}
+use Rattle.std.proofs.Common.{sym, ◌∙◌, ap, subst, arith}
+use Rattle.pm_trait.specs.DeviceLaws.{interval_store, clean_stays}
 use Rattle.layout.specs.declared.fields.SlotFields.{SlotFields}
-use Rattle.dentry_state.specs.States.{committed_fields}
-use Rattle.dentry_state.specs.Dentry.{DentryView}
-use Rattle.dentry_state.proofs.Stored.{address_as, stands_as, word_inside, number_stored}
+use Rattle.fence_token.specs.ObjectLaws.{stands_clean_stays}
+use Rattle.inode_state.specs.InodeLaws.{inode_is_local}
+use Rattle.dentry_state.specs.Dentry.{DentryView, DentryIsDirty, DentryIsClean}
+use Rattle.dentry_state.specs.DentryLaws.{slot_word_is}
+use Rattle.dentry_state.proofs.Stored.{word_inside, differs, number_stored, new_inode_apart}
 use Rattle.dentry_state.proofs.dentry.DentryH+Clean+Named.commit.Goals as goal
 
 pub store-requires-clause-in_range : goal.store-requires-clause-in_range
 store-requires-clause-in_range g c =
-    let pages = ap (λ (dentry : DentryView). dentry.pages) c.self.view_is in
-    let slot = ap (λ (dentry : DentryView). dentry.slot) c.self.view_is in
-    word_inside c.args.self.pages c.args.self.slot 0 c.slot_word.result (g.P.Pm.now c.args.pm.now)
-    (address_as c.self.inside.geometry.pages c.args.self.pages c.self.inside.slot c.args.self.slot 0 c.slot_word.result c.slot_word.ensures.value pages slot) (omega arith) c.requires.clean.stands.inside
+    let inside = c.self.inside in
+    let clean = subst (λ (view : DentryView). DentryIsClean view (g.P.Pm.now c.args.pm.now) (g.P.Pm.trail c.args.pm.now)) (sym c.self.view_is) c.requires.clean in
+    word_inside inside.geometry.pages inside.slot 0 c.slot_word.result (g.P.Pm.now c.args.pm.now) c.slot_word.ensures.value (omega arith) clean.stands.inside
 
-pub returns-clause-stands : goal.returns-clause-stands
-returns-clause-stands g c =
-    let pages = ap (λ (dentry : DentryView). dentry.pages) c.self.view_is in
-    let slot = ap (λ (dentry : DentryView). dentry.slot) c.self.view_is in
-    let fields = ap (λ (dentry : DentryView). dentry.fields) c.self.view_is in
+pub returns-clause-dirty : goal.returns-clause-dirty
+returns-clause-dirty g c =
+    let inside = c.self.inside in
+    let clean = subst (λ (view : DentryView). DentryIsClean view (g.P.Pm.now c.args.pm.now) (g.P.Pm.trail c.args.pm.now)) (sym c.self.view_is) c.requires.clean in
+    let word = c.slot_word.result in
     let number = c.number-number.result in
-    stands_as c.args.self.pages c.of.result.pages c.args.self.slot c.of.result.slot (committed_fields c.args.self.fields number) c.of.result.fields
-    (ap (λ (dentry : DentryView). dentry.pages) c.of.ensures ∙ pages)
-    (ap (λ (dentry : DentryView). dentry.slot) c.of.ensures ∙ slot)
-    (ap (λ (dentry : DentryView). dentry.fields) c.of.ensures ∙ ap (λ (f : SlotFields). committed_fields f number) fields)
-    (number_stored c.args.self.pages c.args.self.slot c.args.self.fields (g.P.Pm.now c.args.pm.now) (g.P.Pm.now c.store.new.self) c.slot_word.result number
-    (address_as c.self.inside.geometry.pages c.args.self.pages c.self.inside.slot c.args.self.slot 0 c.slot_word.result c.slot_word.ensures.value pages slot) c.store.ensures.words c.requires.clean.stands)
+    subst (λ (view : DentryView). DentryIsDirty view (g.P.Pm.now c.store.new.self) (g.P.Pm.trail c.store.new.self)) (sym c.of.ensures)
+    (record {
+      stands = number_stored inside.geometry.pages inside.slot inside.fields (g.P.Pm.now c.args.pm.now) (g.P.Pm.now c.store.new.self) word number c.slot_word.ensures.value c.store.ensures.words clean.stands;
+      untouched = λ field past few.
+          clean_stays _ (interval_store word number c.store.ensures.words c.store.ensures.trail)
+          (differs inside.geometry.pages inside.slot field 0 word c.slot_word.ensures.value (λ none. omega (arith, past, none)))
+          (clean.clean _ (slot_word_is inside.geometry.pages inside.slot field few));
+    })
+
+pub returns-clause-inode_clean : goal.returns-clause-inode_clean
+returns-clause-inode_clean g c =
+    let inside = c.self.inside in
+    let inode = c.args.inode.now in
+    let now = g.P.Pm.now c.args.pm.now in
+    let clean = subst (λ (view : DentryView). DentryIsClean view now (g.P.Pm.trail c.args.pm.now)) (sym c.self.view_is) c.requires.clean in
+    stands_clean_stays (inode_is_local inode) (interval_store c.slot_word.result c.number-number.result c.store.ensures.words c.store.ensures.trail)
+    (λ word own is. new_inode_apart inside.geometry.pages inside.slot inode.number word now inode.fields c.number-number.ensures.reads c.requires.inode_clean.stands.reads
+    (ap (λ (f : SlotFields). f.inode) clean.stands.reads ∙ c.self.invariant.1.0) own (is ∙ c.slot_word.ensures.value)) c.requires.inode_clean

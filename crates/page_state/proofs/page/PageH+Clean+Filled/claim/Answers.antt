@@ -1,22 +1,24 @@
 use Rattle.std.proofs.Common.{◌≡◌, sym, subst}
 use Rattle.std.specs.Prelude.{None}
 use Rattle.layout.specs.Fields.{page_kind, page_offset}
-use Rattle.page_state.specs.States.{IsFilled, IsLive}
 use Rattle.page_state.specs.Page.{PageView, EachPage, PageIsClean, PageIsDirty}
-use Rattle.page_state.proofs.Changes.{claimed_dirty, claim_keeps_kinds, claim_keeps_offsets}
+use Rattle.page_state.proofs.Changes.{owned_mean, claimed_dirty, claim_keeps_kinds, claim_keeps_offsets}
 use Rattle.page_state.proofs.page.PageH+Clean+Filled.claim.Goals as goal
 
 pub claim_pages-requires-clause-inside : goal.claim_pages-requires-clause-inside
 claim_pages-requires-clause-inside g c =
-    let clean = subst (λ (view : PageView). PageIsClean IsFilled view (g.P.Pm.now c.args.pm.now) (g.P.Pm.trail c.args.pm.now)) (sym c.self.view_is) c.requires.clean in
+    let clean = subst (λ (view : PageView). PageIsClean view (g.P.Pm.now c.args.pm.now) (g.P.Pm.trail c.args.pm.now)) (sym c.self.view_is) c.requires.clean in
     clean.stands.inside
+
+pub of-requires-clause-reads : goal.of-requires-clause-reads
+of-requires-clause-reads g c = owned_mean c.self.inside.pages.now c.self.inside.fields c.args.owner c.requires.some_owner c.self.invariant.1
 
 pub returns-clause-dirty : goal.returns-clause-dirty
 returns-clause-dirty g c =
     let inside = c.self.inside in
-    let clean = subst (λ (view : PageView). PageIsClean IsFilled view (g.P.Pm.now c.args.pm.now) (g.P.Pm.trail c.args.pm.now)) (sym c.self.view_is) c.requires.clean in
-    subst (λ (view : PageView). PageIsDirty IsLive view (g.P.Pm.now c.claim_pages.new.pm) (g.P.Pm.trail c.claim_pages.new.pm)) (sym c.of.ensures)
-    (claimed_dirty inside.geometry.pages inside.pages.now inside.touched inside.ticket None c.args.owner c.requires.some_owner clean c.claim_pages.ensures.stores c.claim_pages.ensures.owner)
+    let clean = subst (λ (view : PageView). PageIsClean view (g.P.Pm.now c.args.pm.now) (g.P.Pm.trail c.args.pm.now)) (sym c.self.view_is) c.requires.clean in
+    subst (λ (view : PageView). PageIsDirty view (g.P.Pm.now c.claim_pages.new.pm) (g.P.Pm.trail c.claim_pages.new.pm)) (sym c.of.ensures)
+    (claimed_dirty inside.geometry.pages inside.pages.now inside.fields inside.touched inside.ticket None c.args.owner clean c.claim_pages.ensures.stores c.claim_pages.ensures.owner)
 
 pub returns-clause-kind : goal.returns-clause-kind
 returns-clause-kind g c =

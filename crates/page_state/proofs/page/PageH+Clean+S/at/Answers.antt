@@ -1,6 +1,8 @@
-use Rattle.std.proofs.Common.{ℕ, ◌<◌, sym, subst, arith}
-use Rattle.page_state.specs.Page.{PageView, EachPage, PageIsClean}
+use Rattle.std.proofs.Common.{ℕ, ◌<◌, slice_index, sym, subst, arith}
+use Rattle.layout.specs.declared.fields.DescriptorFields.{DescriptorFields}
+use Rattle.page_state.specs.Page.{PageView, EachPage, SayFields, PageIsClean}
 use Rattle.page_state.specs.PageLaws.{own_word_within}
+use Rattle.page_state.proofs.Changes.{descriptor_read}
 use Rattle.page_state.proofs.page.PageH+Clean+S.at.Goals as goal
 
 pub returns-clause-clean : goal.returns-clause-clean
@@ -8,12 +10,15 @@ returns-clause-clean g c =
     let now = g.P.Pm.now c.args.pm.now in
     let trail = g.P.Pm.trail c.args.pm.now in
     let geometry = c.args.geometry.now in
-    let in_range = subst (λ (d : ℕ). EachPage c.args.pages.now (λ page. page < d)) geometry.data_pages_exact c.requires.in_range in
-    subst (λ (view : PageView). PageIsClean g.S.PageState.Reads view now trail) (sym c.of.ensures)
+    let pages = c.args.pages.now in
+    let read = c.descriptor_at-fields.ensures in
+    let fields = descriptor_read geometry.pages (slice_index pages 0) c.image.result.now now c.descriptor_at-fields.result read.owner read.kind read.offset c.image.ensures in
+    let in_range = subst (λ (d : ℕ). EachPage pages (λ page. page < d)) geometry.data_pages_exact c.requires.in_range in
+    subst (λ (view : PageView). PageIsClean view now trail) (sym c.of.ensures)
     (record {
       stands = record {
         inside = λ word own. let within = own_word_within geometry.pages _ word geometry.volume_size (in_range.each own.index own.before) own.is in omega (arith, within, c.requires.whole);
-        reads = c.requires.reads;
+        reads = subst (λ (said : DescriptorFields). SayFields geometry.pages pages said now) (sym fields) c.requires.alike;
       };
       clean = c.requires.settled;
     })

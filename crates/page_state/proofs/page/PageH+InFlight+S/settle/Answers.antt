@@ -8,5 +8,5 @@ returns-clause-clean g c =
     let now = g.P.Pm.now c.args.pm.now in
     let trail = g.P.Pm.trail c.args.pm.now in
     let clean = stands_clean_by_token trail (g.met.P.Pm.honest c.args.pm.now) c.requires.in_flight c.requires.settles in
-    subst (λ (view : PageView). PageIsClean g.S.PageState.Reads view now trail) (sym c.of.ensures)
-    (subst (λ (view : PageView). PageIsClean g.S.PageState.Reads view now trail) (sym c.self.view_is) clean)
+    subst (λ (view : PageView). PageIsClean view now trail) (sym c.of.ensures)
+    (subst (λ (view : PageView). PageIsClean view now trail) (sym c.self.view_is) clean)
