@@ -56,7 +56,7 @@ impl Numbers {
 
     /// Takes a free number.
     pub fn take(&mut self, k: u64)
-        requires { IsFree self.old k }
+        requires free { IsFree self.old k }
         ensures numbers { self.new ≡ slice_set self.old k false }
         ensures taken { ¬ IsFree self.new k }
         ensures count { free_in self.new + 1 ≡ free_in self.old }
@@ -95,7 +95,7 @@ impl Numbers {
 
 // The least free number from one on, or how many numbers there are.
 fn next_free(is_free: &[bool], from: usize) -> usize
-    requires { from ≤ length is_free.now }
+    requires start { from ≤ length is_free.now }
     ensures from { from ≤ result }
     ensures within { result ≤ length is_free.now }
     ensures passed { (k : ℕ) → from ≤ k → IsFree is_free.now k → result ≤ k }

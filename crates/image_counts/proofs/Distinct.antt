@@ -1,24 +1,8 @@
 -- Lists of numbers in which none stands twice.
-use Rattle.std.proofs.Common.{◌≡◌, ◌≢◌, ◌⊎◌, inl, inr, ℕ, zero, suc, ◌+◌, ◌<◌, ◌≤◌, List, [], ◌∷◌, ◌++◌, length, refl, sym, subst, ap, ◌∙◌, arith}
+use Rattle.std.proofs.Common.{◌≡◌, ◌⊎◌, inl, inr, ℕ, zero, suc, ◌+◌, ◌<◌, ◌≤◌, List, [], ◌∷◌, ◌++◌, length, refl, ap, arith}
 use Rattle.std.proofs.lemmas.Bool.{cases_eq}
 use Rattle.image_reading.specs.Counts.{IsIn, IsDistinct}
-
-strip : (s : ℕ) (xs : List ℕ) → IsDistinct xs → (ys : List ℕ) × IsDistinct ys × ((x : ℕ) → IsIn x ys → IsIn x xs × (x ≢ s)) × (length xs ≤ length ys + 1)
-strip s [] d = ([], tt, (λ x h. absurd h), omega arith)
-strip s (x ∷ xs) d =
-    let (ys, dy, f, l) = strip s xs d.1 in
-    elim (cases_eq x s) [
-      | inl e ↦ (xs, d.1, (λ y h. (inr h, λ z. d.0 (subst (λ w. IsIn w xs) (z ∙ sym e) h))), omega arith)
-      | inr ne ↦ (
-        x ∷ ys,
-        ((λ h. d.0 (f x h).0), dy),
-        (λ y h. elim h [
-          | inl e ↦ (inl e, λ z. ne (sym e ∙ z))
-          | inr g ↦ (inr (f y g).0, (f y g).1)
-        ]),
-        omega (arith, l),
-      )
-    ]
+use Rattle.image_reading.proofs.Counts.{strip}
 
 none_in : (xs : List ℕ) → ((x : ℕ) → IsIn x xs → ⊥) → length xs ≤ 0
 none_in [] f = omega arith

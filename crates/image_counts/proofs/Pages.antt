@@ -93,6 +93,16 @@ module _ (P : ℕ) (I : List ℕ) (sound : Sound P I) where
         record { in_range = kept.in_range; owner = owner; kind = (sound Rule.page_kinds j).file kept.in_range kept.owner kept.file; offset = refl },
       )
 
+module _ (P : ℕ) (I : List ℕ) (room : Room) (rooms : HasRoom P I room) where
+  -- the room of a directory
+  pub room_at : (d : ℕ) → Reached P I d → IsDirectory I d → (k : ℕ) × (get room d ≡ Some k) × Count (IsRoomOf P I d) k
+  room_at d reached directory = let (k, count) = room_counted P I d reached directory in (k, (rooms d k).1 (reached, directory, count), count)
+
+  pub count_room : (d : ℕ) → Reached P I d → IsDirectory I d → Count (IsRoomOf P I d) (pages_in room d)
+  count_room d reached directory =
+      let (k, is, count) = room_at d reached directory in
+      subst (Count (IsRoomOf P I d)) (sym (ap (λ o. unwrap_or o 0) is)) count
+
 module _ (P : ℕ) (I : List ℕ) (T : Tree) (room : Room) (sound : Sound P I) (reads : Reads P I T) (rooms : HasRoom P I room) where
   -- ---- the pages of files
 
@@ -124,15 +134,6 @@ module _ (P : ℕ) (I : List ℕ) (T : Tree) (room : Room) (sound : Sound P I) (
 
   -- ---- the pages of directories
 
-  -- the room of a directory
-  pub room_at : (d : ℕ) → Reached P I d → IsDirectory I d → (k : ℕ) × (get room d ≡ Some k) × Count (IsRoomOf P I d) k
-  room_at d reached directory = let (k, count) = room_counted P I d reached directory in (k, (rooms d k).1 (reached, directory, count), count)
-
-  pub count_room : (d : ℕ) → Reached P I d → IsDirectory I d → Count (IsRoomOf P I d) (pages_in room d)
-  count_room d reached directory =
-      let (k, is, count) = room_at d reached directory in
-      subst (Count (IsRoomOf P I d)) (sym (ap (λ o. unwrap_or o 0) is)) count
-
   abbrev IsPageOfRoom : ℕ × ℕ → ℕ → Type 0
   IsPageOfRoom e j = IsRoomOf P I e.0 j
 
@@ -145,7 +146,7 @@ module _ (P : ℕ) (I : List ℕ) (T : Tree) (room : Room) (sound : Sound P I) (
 
   room_entry : (j : ℕ) → IsKeptDirectoryPage P I j → IsMatched IsPageOfRoom room.entries j
   room_entry j kept =
-      let (k, is, count) = room_at (page_owner P I j) kept.reached kept.directory in
+      let (k, is, count) = room_at P I room rooms (page_owner P I j) kept.reached kept.directory in
       ((page_owner P I j, k), among_find nat_cmp nat_cmp_total nat_cmp-IsAntisymmetric room.entries (page_owner P I j) k is, kept)
 
   count_in_rooms : Count (IsKeptDirectoryPage P I) (sum_by (λ e. e.1) room.entries)

@@ -96,7 +96,7 @@ module _ (P : ℕ) (I : List ℕ) (T : Tree) (sound : Sound P I) (reads : Reads 
     pub is_room : IsRoom T room
     is_room = IsRoom-from T room
         (λ d k is. let (reached, directory, count) = (rooms d k).0 is in (directory_is d reached directory, page_count d k reached directory count))
-        (λ d is. let (reached, directory) = is_directory_is d is in ap is_some (room_at P I T room sound reads rooms d reached directory).1)
+        (λ d is. let (reached, directory) = is_directory_is d is in ap is_some (room_at P I room rooms d reached directory).1)
 
     -- ---- what the volume has
 

@@ -134,7 +134,7 @@ module _ (P : ℕ) (I : List ℕ) (state : State) (tidy : Tidy P I) (reads : Rea
 
     count_pages : Count (IsPageIn P I d) (pages_in state.room d)
     count_pages = count_alike (IsRoomOf P I d) (IsPageIn P I d) (pages_in state.room d) kept_page page_kept
-        (count_room P I state.tree state.room sound reads.tree reads.room d reached directory)
+        (count_room P I state.room reads.room d reached directory)
 
     slot_page : (s : ℕ) → IsSlotIn P I d s → IsPageIn P I d (page_of_slot s)
     unfolding slot_owner

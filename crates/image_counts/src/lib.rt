@@ -48,7 +48,7 @@ pub fn kept_page_law()
     ensures { KeptPageLaw }
 {}
 
-/// A directory's room is the number of its pages, and it is full where each slot of them has an inode number.
+/// In a tidy image a directory's room is the number of its pages, and it is full where each slot of them has an inode number.
 pub fn room_law()
     ensures { RoomLaw }
 {}

@@ -9,25 +9,14 @@ use Rattle.tree_model.specs.Table.{get, insert, get-insert}
 use Rattle.tree_model.specs.Tree.{Node, Directory, File, Room, pages_in}
 use Rattle.tree_model.specs.TreeLaws.{same_id_itself, other_id}
 use Rattle.image_reading.specs.Counts.{Count}
-use Rattle.image_reading.specs.Reading.{IsDirectory, slot_owner, Reached, IsNode, IsRoomOf, HasRoom}
+use Rattle.image_reading.specs.Reading.{slot_owner, Reached, IsNode, IsRoomOf, HasRoom}
 use Rattle.image_reading.proofs.Counts.{count_none, count_one}
+use Rattle.image_reading.proofs.Credits.{count_same, count_more}
+use Rattle.image_counts.proofs.Decided.{room_counted}
 use Rattle.image_laws.specs.Add.{CanAdd, HasRoomAdded, with_page, with_node}
 use Rattle.image_laws.proofs.AddSlot.{same_owner, live_forward, live_new, live_cases, leaf, kind_reached, reached_forward, reached_cases, names_new}
-use Rattle.image_laws.proofs.Meaning.{count_same}
 use Rattle.image_laws.proofs.OnlySlot.{OnlySlot}
-use Rattle.image_laws.proofs.Rooms.{pages_of_directory}
-
--- one more has Q
-pub count_more : (Q R : ℕ → Type 0) (n s : ℕ) → (Q s → ⊥) → ((x : ℕ) → R x ↔ ((x ≡ s) ⊎ Q x)) → Count Q n → Count R (n + 1)
-count_more Q R n s none more (xs, distinct, all, len) = (
-  s ∷ xs,
-  ((λ c. none ((all s).0 c)), distinct),
-  (λ x. (
-    (λ c. elim c [ inl e ↦ (more x).1 (inl e) | inr g ↦ (more x).1 (inr ((all x).0 g)) ]),
-    (λ r. elim ((more x).0 r) [ inl e ↦ inl e | inr q ↦ inr ((all x).1 q) ]),
-  )),
-  omega (arith, len),
-)
+use Rattle.image_laws.proofs.Rooms.{IsEntry}
 
 -- ---- a room after an insertion
 
@@ -36,10 +25,6 @@ get-here room k v = get-insert nat_cmp_total room k v k ∙ ap (λ b. cond b (So
 
 pub get-other : (room : Room) (k v x : ℕ) → x ≢ k → get (insert nat_cmp_total room k v) x ≡ get room x
 get-other room k v x other = get-insert nat_cmp_total room k v x ∙ ap (λ b. cond b (Some v) (get room x)) (other_id x k other)
-
--- what the entries of a room mean in an image
-abbrev pub IsEntry : ℕ → List ℕ → ℕ → ℕ → Type 0
-IsEntry P I d k = Reached P I d × IsDirectory I d × Count (IsRoomOf P I d) k
 
 some_same : (x y : ℕ) → ◌≡◌ {A = Option ℕ} (Some x) (Some y) → x ≡ y
 some_same x y e = cc
@@ -146,7 +131,7 @@ module _ (P : ℕ) (I J : List ℕ) (p : Route) (d s i : ℕ) (c : CanAdd P I p 
 
   directory_entry : (room : Room) → HasRoom P I room → IsEntry P I d (pages_in room d)
   directory_entry room has =
-      let (n, count) = pages_of_directory P I d (p, c.slot.path) c.slot.directory in
+      let (n, count) = room_counted P I d (p, c.slot.path) c.slot.directory in
       let e = (has d n).1 ((p, c.slot.path), c.slot.directory, count) in
       ((p, c.slot.path), c.slot.directory, subst (Count (IsRoomOf P I d)) (sym (ap (λ o. unwrap_or o 0) e)) count)
 

@@ -10,13 +10,14 @@ use Rattle.tree_model.specs.Tree.{Node}
 use Rattle.image_reading.specs.Counts.{AtMost}
 use Rattle.image_reading.specs.Reading.{slot_owner, IsHeld, IsLive, Names, Reached, IsReachedSlot, IsPageOf, IsNode, pages_of_size, IsNameOf, IsChildOf}
 use Rattle.image_reading.specs.Soundness.{Rule, Obeys, Sound, HasLinks}
+use Rattle.image_counts.proofs.Paths.{one_path}
 use Rattle.image_laws.specs.Add.{IsNewNode, CanAdd}
 use Rattle.image_laws.proofs.Counts.{at_most, at_most_more}
 use Rattle.image_reading.proofs.Counts.{at_most_none}
 use Rattle.image_laws.proofs.Meaning.{same_head, page_kind_is}
 use Rattle.image_laws.proofs.OnlySlot.{OnlySlot}
 use Rattle.image_laws.proofs.OnlySlot as slots
-use Rattle.image_laws.proofs.Paths.{reach, one_path, reached-le}
+use Rattle.image_laws.proofs.Paths.{reach, reached-le}
 
 module _ (P : ℕ) (I J : List ℕ) (p : Route) (d s i : ℕ) (c : CanAdd P I p d s i) (only : OnlySlot P I J s) (stored : slot_inode P J s ≡ i) where
   pub same_owner : (t : ℕ) → t < slots_of P → slot_owner P J t ≡ slot_owner P I t
@@ -115,7 +116,7 @@ module _ (P : ℕ) (I J : List ℕ) (p : Route) (d s i : ℕ) (c : CanAdd P I p 
             let directory : inode_kind I (slot_owner P I t) ≡ 2 = sym (kind_reached (slot_owner P I t) (q, old)) ∙ ap (inode_kind J) (sym o) ∙ l.directory in
             elim (live_cases t l.live) [
               | inl e ↦
-                  let path : q ≡ p = one_path P I c.sound q p d (subst (Names P I q) (ap (slot_owner P I) e ∙ c.slot.owner) old) c.slot.path c.slot.directory in
+                  let path : q ≡ p = one_path P I c.sound q p d c.slot.directory (subst (Names P I q) (ap (slot_owner P I) e ∙ c.slot.owner) old) c.slot.path in
                   let name : n ≡ slot_name P I s = sym l.name ∙ same_name t ∙ ap (slot_name P I) e in
                   inr (cc, sym l.inode ∙ ap (slot_inode P J) e ∙ stored)
               | inr live ↦ inl (
@@ -373,15 +374,6 @@ module _ (P : ℕ) (I J : List ℕ) (p : Route) (d s i : ℕ) (c : CanAdd P I p 
     λ h. elim h [
       | inl old ↦ names_forward q x old
       | inr new ↦ subst (λ z. Names P J z x) (sym new.0) (subst (Names P J (slot_name P I s ∷ p)) (sym new.1) names_new)
-    ],
-  )
-
-  pub added_reached : (x : ℕ) → Reached P J x ↔ (Reached P I x ⊎ (x ≡ i))
-  added_reached x = (
-    reached_cases x,
-    λ h. elim h [
-      | inl old ↦ reached_forward x old
-      | inr e ↦ subst (Reached P J) (sym e) (slot_name P I s ∷ p, names_new)
     ],
   )
 

@@ -7,10 +7,11 @@ use Rattle.tree_model.specs.Tree.{Node, Tree, id_at, node_at}
 use Rattle.tree_model.specs.Step.{with_new, with_path}
 use Rattle.tree_model.specs.TreeLaws.{is_same, same_route, is_same_itself, id_at-with_new, id_at-with_path, node_at-with_new_here, node_at-with_new_other}
 use Rattle.image_reading.specs.Reading.{slot_owner, Names, Reached, IsNode, Reads}
+use Rattle.image_counts.proofs.Paths.{one_inode}
+use Rattle.image_counts.proofs.Slots.{same_reverse}
 use Rattle.image_laws.specs.Add.{CanAdd, HasAdded, IsOldFile, ReadsAdded}
 use Rattle.image_laws.proofs.Contents.{one_node}
-use Rattle.image_laws.proofs.Paths.{one_inode, slot_of, reached-le}
-use Rattle.image_laws.proofs.Trees.{same_reversed}
+use Rattle.image_laws.proofs.Paths.{slot_of, reached-le}
 
 some_same : {X : Type 0} (x y : X) → ◌≡◌ {A = Option X} (Some x) (Some y) → x ≡ y
 some_same x y e = cc
@@ -36,7 +37,7 @@ module _ (P : ℕ) (I J : List ℕ) (p path : Route) (d s i : ℕ) (can : CanAdd
       (λ e. (added.names (reverse q) x).1 (inl ((reads.names q x).0 e))),
       (λ b. elim ((added.names (reverse q) x).0 b) [
         | inl old ↦ (reads.names q x).1 old
-        | inr new ↦ absurd (clash (sym other ∙ is_same_itself q path (same_reversed q path (new.0 ∙ sym is))))
+        | inr new ↦ absurd (clash (sym other ∙ is_same_itself q path (same_reverse q path (new.0 ∙ sym is))))
       ]),
     )
   ] refl

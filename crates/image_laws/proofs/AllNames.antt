@@ -7,11 +7,11 @@ use Rattle.tree_model.specs.PathText.{Route}
 use Rattle.image_reading.specs.Counts.{IsIn, IsDistinct}
 use Rattle.image_reading.specs.Reading.{slot_owner, Names}
 use Rattle.image_reading.specs.Soundness.{Sound}
+use Rattle.image_counts.proofs.Paths.{one_path}
 use Rattle.image_laws.proofs.Counts.{at_most_below}
 use Rattle.image_laws.proofs.Decide.{IsStep, dec_step}
-use Rattle.image_laws.specs.Lookup.{Listed}
-use Rattle.image_laws.proofs.Entries.{has_left, has_right, has_cases}
-use Rattle.image_laws.proofs.Paths.{one_path, reached-le}
+use Rattle.image_laws.proofs.Entries.{Listed, has_left, has_right, has_cases}
+use Rattle.image_laws.proofs.Paths.{reached-le}
 
 module _ (P : ℕ) (I : List ℕ) where
   -- what `children` has
@@ -161,7 +161,7 @@ module _ (P : ℕ) (I : List ℕ) where
     through_distinct [] x e = tt
     through_distinct (n ∷ q) x (s, b, l) = (
       (λ h. let (p, c, k, lt) = through_path q (slot_owner P I s) b (slot_owner P I s) h in
-          let e = ap length (one_path P I sound p q (slot_owner P I s) c b k) in omega (arith, e, lt)),
+          let e = ap length (one_path P I sound p q (slot_owner P I s) k c b) in omega (arith, e, lt)),
       through_distinct q (slot_owner P I s) b,
     )
 

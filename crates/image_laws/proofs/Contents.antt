@@ -1,77 +1,26 @@
 -- The nodes of a sound image.
-use Rattle.std.proofs.Common.{◌≡◌, ◌⊎◌, inl, inr, ℕ, zero, suc, ◌+◌, ◌/◌, ◌%◌, ◌<◌, ◌≤◌, List, [], ◌∷◌, length, get_or, refl, sym, ap, subst, ◌∙◌, arith, add-zero}
-use Rattle.std.proofs.lemmas.Bool.{cases_eq, cases_lt}
+use Rattle.std.proofs.Common.{◌≡◌, ◌⊎◌, inl, inr, ℕ, zero, suc, ◌/◌, ◌<◌, List, [], ◌∷◌, refl, sym, ap, subst, ◌∙◌, arith}
+use Rattle.std.proofs.lemmas.Bool.{cases_eq}
 use Rattle.std.proofs.lemmas.List.{ext_get_or}
-use Rattle.layout.specs.Fields.{inode_kind, inode_size, page_byte}
+use Rattle.layout.specs.Fields.{inode_kind, inode_size}
 use Rattle.tree_model.specs.PathText.{Route}
 use Rattle.tree_model.specs.Tree.{Node, Directory, File}
-use Rattle.image_reading.specs.Reading.{Reached, IsPageOf, IsContent, IsNode, pages_of_size}
+use Rattle.image_reading.specs.Reading.{Reached, IsNode}
 use Rattle.image_reading.specs.Soundness.{Rule, Sound}
+use Rattle.image_counts.proofs.Nodes.{some_content}
 use Rattle.image_laws.proofs.Addresses.{page_of_byte-lt}
 use Rattle.image_laws.proofs.AllNames.{all_names, all_names_are}
 use Rattle.image_laws.proofs.Decide.{dec_eq}
-use Rattle.image_laws.specs.Lookup.{Listed}
-use Rattle.image_laws.proofs.Paths.{three_cases}
-
--- n values of f from a on
-tab : (ℕ → ℕ) → ℕ → ℕ → List ℕ
-tab f a zero = []
-tab f a (suc n) = f a ∷ tab f (a + 1) n
-
-length-tab : (f : ℕ → ℕ) (a n : ℕ) → length (tab f a n) ≡ n
-unfolding tab
-length-tab f a zero = refl
-length-tab f a (suc n) = ap suc (length-tab f (a + 1) n)
-
-get_or-tab : (f : ℕ → ℕ) (a n k : ℕ) → k < n → get_or (tab f a n) k 0 ≡ f (a + k)
-unfolding tab
-get_or-tab f a zero k lt = absurd (omega arith)
-get_or-tab f a (suc n) zero lt = ap f (sym (add-zero a))
-get_or-tab f a (suc n) (suc k) lt = get_or-tab f (a + 1) n k (omega arith) ∙ ap f (let e : a + 1 + k ≡ a + suc k = omega arith in e)
+use Rattle.image_laws.proofs.Entries.{Listed}
 
 module _ (P : ℕ) (I : List ℕ) (sound : Sound P I) where
-  -- the byte at o, where it is below the size
-  byte : (i : ℕ) → Reached P I i → inode_kind I i ≡ 1 → (o : ℕ) → (o < inode_size I i) ⊎ (inode_size I i ≤ o) → ℕ
-  byte i r k o (inl lt) = page_byte P I (sound Rule.all_pages i r k (o / 4096) (page_of_byte-lt o (inode_size I i) lt)).0 (o % 4096)
-  byte i r k o (inr ge) = 0
-
-  bytes : (i : ℕ) → Reached P I i → inode_kind I i ≡ 1 → List ℕ
-  bytes i r k = tab (λ o. byte i r k o (cases_lt o (inode_size I i))) 0 (inode_size I i)
-
-  pub one_page : (i k j h : ℕ) → Reached P I i → inode_kind I i ≡ 1 → k < pages_of_size (inode_size I i) → IsPageOf P I i k j → IsPageOf P I i k h → j ≡ h
-  one_page i k j h r file lt a b = elim (three_cases j h) [
-    | inl e ↦ e
-    | inr c ↦ elim c [
-      | inl l ↦ absurd (sound Rule.own_offsets h j i k l r file lt a b)
-      | inr l ↦ absurd (sound Rule.own_offsets j h i k l r file lt b a)
-    ]
-  ]
-
-  byte_is : (i : ℕ) (r : Reached P I i) (k : inode_kind I i ≡ 1) (o j : ℕ) (c : (o < inode_size I i) ⊎ (inode_size I i ≤ o)) → o < inode_size I i → IsPageOf P I i (o / 4096) j →
-      byte i r k o c ≡ page_byte P I j (o % 4096)
-  unfolding byte
-  byte_is i r k o j (inl lt) l g = let (h, f) = sound Rule.all_pages i r k (o / 4096) (page_of_byte-lt o (inode_size I i) lt) in
-      ap (λ z. page_byte P I z (o % 4096)) (one_page i (o / 4096) h j r k (page_of_byte-lt o (inode_size I i) lt) f g)
-  byte_is i r k o j (inr ge) l g = absurd (omega arith)
-
-  content : (i : ℕ) (r : Reached P I i) (k : inode_kind I i ≡ 1) → IsContent P I i (bytes i r k)
-  unfolding bytes
-  content i r k = record {
-    size = length-tab (λ o. byte i r k o (cases_lt o (inode_size I i))) 0 (inode_size I i);
-    bytes_at = λ o j lt g.
-        let e : 0 + o ≡ o = omega arith in
-        get_or-tab (λ x. byte i r k x (cases_lt x (inode_size I i))) 0 (inode_size I i) o lt
-        ∙ ap (λ x. byte i r k x (cases_lt x (inode_size I i))) e
-        ∙ byte_is i r k o j (cases_lt o (inode_size I i)) lt g;
-  }
-
   node_in : (i : ℕ) (r : Reached P I i) → (inode_kind I i ≡ 1) ⊎ (inode_kind I i ≡ 2) → Node
-  node_in i r (inl k) = File (bytes i r k)
+  node_in i r (inl k) = File (some_content P I sound i r k).0
   node_in i r (inr k) = Directory
 
   node_in_is : (i : ℕ) (r : Reached P I i) (c : (inode_kind I i ≡ 1) ⊎ (inode_kind I i ≡ 2)) → IsNode P I i (node_in i r c)
   unfolding node_in
-  node_in_is i r (inl k) = (k, content i r k)
+  node_in_is i r (inl k) = (k, (some_content P I sound i r k).1)
   node_in_is i r (inr k) = k
 
   pub node_of : (i : ℕ) → Reached P I i → Node

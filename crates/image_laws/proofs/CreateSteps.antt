@@ -1,20 +1,21 @@
 -- Create and mkdir leave a state that the step allows.
-use Rattle.std.proofs.Common.{◌≡◌, ℕ, Bool, true, false, List, [], ◌∷◌, reverse, Option, Some, None, refl, sym, ap, subst, ◌∙◌}
+use Rattle.std.proofs.Common.{◌≡◌, ℕ, ◌*◌, Bool, true, false, List, [], ◌∷◌, reverse, Option, Some, None, refl, sym, ap, subst, ◌∙◌}
 use Rattle.layout.specs.Name.{name_in_words}
 use Rattle.tree_model.specs.PathText.{Route}
 use Rattle.tree_model.specs.Step.{with_new, is_full, tree_after, room_after}
-use Rattle.tree_model.specs.Tree.{Node, Directory, File, Room, IsRoom, parent, last_name, node_at}
+use Rattle.tree_model.specs.Tree.{Node, Directory, File, Room, IsRoom, parent, last_name, node_at, name_count, pages_in}
 use Rattle.tree_model.specs.Run.{State}
 use Rattle.image_reading.specs.Reading.{Names, ReadsAs}
+use Rattle.image_counts.proofs.Slots.{equal_numbers}
+use Rattle.image_counts.proofs.States.{is_tree, is_room}
+use Rattle.image_counts.proofs.Tidied.{has_room_words}
 use Rattle.image_laws.specs.Add.{with_page, with_node}
 use Rattle.image_laws.specs.Create.{IsEmptyNode, CanName, CanMake, IsVacant, IsCreate, committed, owned}
 use Rattle.image_laws.specs.CreateStep.{making, CanBeMade, IsStepped, CreateStepLaw, NewPageStepLaw}
-use Rattle.image_laws.proofs.Creates.{create_law, room_here}
-use Rattle.image_laws.proofs.NamesCount.{full_law}
+use Rattle.image_laws.proofs.Creates.{create_law}
 use Rattle.image_laws.proofs.PageCreates.{new_page_law}
 use Rattle.image_laws.proofs.RoomAfter.{room_after_law, empty_node, tree_is}
-use Rattle.image_laws.proofs.States.{room_is}
-use Rattle.image_laws.proofs.Trees.{is_directory-reached, reverse_path, tree_formed}
+use Rattle.image_laws.proofs.Trees.{is_directory-reached, reverse_path}
 
 none_if : {X : Type 0} (o : Option X) → ((x : X) → o ≡ Some x → ⊥) → o ≡ None
 none_if None f = refl
@@ -33,8 +34,8 @@ parent_is (name ∷ names) p n e =
 module _ (P : ℕ) (W : List ℕ) (old : State) (p path : Route) (d i : ℕ) (name : List ℕ) (can : CanMake P W p d i name) (is : reverse path ≡ name_in_words name ∷ p) (reads : ReadsAs P W old) where
   can_be_made : CanBeMade old.tree old.room path d i
   can_be_made = record {
-    formed = tree_formed P W old.tree can.place.tidy.sound reads.tree;
-    fits = room_is P W old.tree old.room can.place.tidy.sound reads.tree reads.room;
+    formed = is_tree P W old.tree can.place.tidy.sound reads.tree;
+    fits = is_room P W old.tree can.place.tidy.sound reads.tree old.room reads.room;
     above = (reads.tree.names (parent path) d).1 (subst (λ q. Names P W q d) (sym (parent_is path p (name_in_words name) is)) can.place.path);
     directory = is_directory-reached P W old.tree can.place.tidy.sound reads.tree d (p, can.place.path) can.place.directory;
     absent = none_if (node_at old.tree i) (λ x e. can.unreached ((reads.tree.nodes i x).0 e).0);
@@ -50,7 +51,7 @@ module _ (P : ℕ) (W : List ℕ) (old : State) (p path : Route) (d i : ℕ) (na
         new = record { tree = with_new old.tree path i node; room = after old.room };
         reads = record { tree = read; room = has };
         tree = tree;
-        room = (false, room, subst (λ T. IsRoom T (after old.room)) tree (room_is P J (with_new old.tree path i node) (after old.room) created.tidy.sound read has));
+        room = (false, room, subst (λ T. IsRoom T (after old.room)) tree (is_room P J (with_new old.tree path i node) created.tidy.sound read (after old.room) has));
       }
 
 not_true : (b : Bool) → (b ≡ true → ⊥) → b ≡ false
@@ -60,8 +61,8 @@ not_true false f = refl
 -- a directory with a vacant slot isn't full
 pub not_full : (P : ℕ) (W : List ℕ) (old : State) (p : Route) (d s : ℕ) (name : List ℕ) → CanName P W p d name → IsVacant P W d s → ReadsAs P W old → is_full old.tree old.room d ≡ false
 not_full P W old p d s name can vacant reads = not_true (is_full old.tree old.room d) (λ full.
-    let live = (full_law P W old.tree old.room d can.tidy.sound reads.tree reads.room (p, can.path) can.directory).0 full s (room_here P W p d s name can vacant) in
-    live.names vacant.free)
+    let words = has_room_words P W old can.tidy reads d (p, can.path) can.directory in
+    words.full.0 (equal_numbers (name_count old.tree d) (32 * pages_in old.room d) full) s (record { in_range = vacant.held.in_range; owner = vacant.owner }) vacant.free)
 
 pub create_step_law : CreateStepLaw
 create_step_law P W I old p path node d s i name can vacant empty makes is reads =

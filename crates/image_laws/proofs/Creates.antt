@@ -12,6 +12,7 @@ use Rattle.image_reading.specs.Reading.{slot_owner, IsLive, Reached, IsRoomOf, R
 use Rattle.image_reading.specs.Repairs.{IsLitterPage}
 use Rattle.image_reading.specs.Soundness.{Rule}
 use Rattle.image_reading.specs.Tidy.{Tidy}
+use Rattle.image_counts.proofs.Counting.{none_counted}
 use Rattle.image_laws.specs.Add.{IsFreeSlot, with_node}
 use Rattle.image_laws.specs.Create.{IsEmptyNode, MakesNode, CanName, CanMake, IsVacant, committed, IsCreate, CreateLaw}
 use Rattle.image_laws.specs.Frame.{SameMeaning}
@@ -22,7 +23,7 @@ use Rattle.image_laws.proofs.Free.{mix_one}
 use Rattle.image_laws.proofs.Making as making
 use Rattle.image_laws.proofs.MakeTidy.{tidy_after}
 use Rattle.image_laws.proofs.Meaning.{same_itself, same_chained}
-use Rattle.image_laws.proofs.Ready.{IsReady, IsReadySlot, IsFreeInode, IsTidyBut, tidy_but, no_pointer, none_of}
+use Rattle.image_laws.proofs.Ready.{IsReady, IsReadySlot, IsFreeInode, IsTidyBut, tidy_but, no_pointer}
 use Rattle.image_laws.proofs.Rooms.{dec_room}
 
 -- ---- from an image that is ready
@@ -76,7 +77,7 @@ free_inode P W p d i name can = record {
   least = can.least;
   most = can.most;
   unreached = can.unreached;
-  no_pages = λ j lt e. none_of (IsLitterPage P W) j can.place.tidy.repaired.of_pages (record {
+  no_pages = λ j lt e. none_counted (IsLitterPage P W) can.place.tidy.repaired.of_pages j (record {
     in_range = lt;
     free = λ kept. elim kept [
       | inl file ↦ can.unreached (subst (Reached P W) e file.owner)
@@ -95,7 +96,7 @@ module _ (P : ℕ) (W : List ℕ) (p : Route) (d s : ℕ) (name : List ℕ) (can
   unfolding slot_owner page_owner
   room_here = elim (dec_room P W d d_reached can.directory (page_of_slot s)) [
     | yes room ↦ room
-    | no none ↦ absurd (none_of (IsLitterPage P W) (page_of_slot s) can.tidy.repaired.of_pages (record {
+    | no none ↦ absurd (none_counted (IsLitterPage P W) can.tidy.repaired.of_pages (page_of_slot s) (record {
       in_range = below;
       free = λ kept. elim kept [
         | inl file ↦ (let one = (can.tidy.sound Rule.page_kinds (page_of_slot s)).file below file.owner file.file in let two = vacant.held.kind in omega (arith, one, two))

@@ -6,7 +6,9 @@ use Rattle.layout.specs.Geometry.{inodes_of, data_pages_of, page_of_slot, inode_
 use Rattle.layout.specs.GeometryLaws.{page_of_slot_below, slot_below}
 use Rattle.tree_model.specs.PathText.{Route}
 use Rattle.image_reading.specs.Reading.{IsDirectory, slot_owner, IsHeld, Reached, IsReachedSlot, IsRoomOf}
+use Rattle.image_reading.specs.Repairs.{IsKept, IsLitterPage}
 use Rattle.image_reading.specs.Soundness.{Rule, Sound}
+use Rattle.image_counts.proofs.Counting.{none_counted}
 use Rattle.image_laws.specs.Drop.{CanDrop, dropped, IsGiven, Drops}
 use Rattle.image_laws.specs.Exempt.{IsExempt}
 use Rattle.image_laws.specs.Free.{IsFree, Stores}
@@ -19,7 +21,6 @@ use Rattle.image_laws.proofs.DropSteps as steps
 use Rattle.image_laws.proofs.DropSteps.{can_remove}
 use Rattle.image_laws.proofs.NewPage.{same_stores, links_kept}
 use Rattle.image_laws.proofs.OnlySlot.{OnlySlot}
-use Rattle.image_laws.proofs.PagesCount.{litter}
 use Rattle.image_laws.proofs.Paths.{reached_pos, reached-le}
 use Rattle.image_laws.proofs.Ready.{dec_among, tidy_but, no_pointer}
 use Rattle.image_laws.proofs.RemoveFacts as facts
@@ -29,9 +30,6 @@ use Rattle.image_laws.proofs.Rooms.{dec_room, dec_some}
 module _ (P : ℕ) (W I J K : List ℕ) (p : Route) (s y : ℕ) (can : CanDrop P W p s) (h : Drops P W I J K s y) where
   only : OnlySlot P W (dropped P W s) s
   only = (removes P W p s (can_remove P W p s can)).only
-
-  Given : ℕ → Type 0
-  Given j = IsGiven P (dropped P W s) (slot_owner P W s) s (slot_inode P W s) j
 
   d_directory : IsDirectory (dropped P W s) (slot_owner P W s)
   d_directory = facts.kind_same P W p s (can_remove P W p s can) (slot_owner P W s) (p, can.path) ∙ can.slot.directory
@@ -59,6 +57,11 @@ module _ (P : ℕ) (W I J K : List ℕ) (p : Route) (s y : ℕ) (can : CanDrop P
 
   -- ---- the pages that are given back
 
+  -- a page with an owner is kept
+  litter : (j : ℕ) → j < data_pages_of P → page_owner P W j ≢ 0 → ¬ IsKept P W j → ⊥
+  unfolding page_owner
+  litter j lt owned free = none_counted (IsLitterPage P W) can.tidy.repaired.of_pages j (record { in_range = lt; free = free; nonzero = (0, omega arith, owned) })
+
   -- a page of the inode that is gone is a file's
   file_page : (j : ℕ) → j < data_pages_of P → page_owner P (dropped P W s) j ≡ slot_inode P W s → page_kind P (dropped P W s) j ≡ 1
   file_page j lt o =
@@ -66,14 +69,14 @@ module _ (P : ℕ) (W I J K : List ℕ) (p : Route) (s y : ℕ) (can : CanDrop P
       let reached : Reached P W (page_owner P W j) = subst (Reached P W) (sym before) (steps.i_reached P W I J K p s y can h) in
       only.kind j lt ∙ elim ((can.tidy.sound Rule.kinds (page_owner P W j)).kind reached) [
         | inl file ↦ (can.tidy.sound Rule.page_kinds j).file lt reached file
-        | inr two ↦ absurd (litter P W can.tidy j (record { in_range = lt; owner = reached_pos P W (page_owner P W j) reached }) (λ kept. elim kept [
+        | inr two ↦ absurd (litter j lt (reached_pos P W (page_owner P W j) reached) (λ kept. elim kept [
           | inl file ↦ (let one = file.file in omega (arith, one, two))
           | inr room ↦
               let (t, at, owner, live) = room.slot in
-              can.empty (ap (inode_kind W) (sym before) ∙ two) t (record {
-                slot = record { owner = subst (Reached P W) (sym owner) room.reached; directory = ap (inode_kind W) owner ∙ room.directory; live = live };
-                owner = owner ∙ before;
-              })
+              can.empty (ap (inode_kind W) (sym before) ∙ two) t (
+                record { owner = subst (Reached P W) (sym owner) room.reached; directory = ap (inode_kind W) owner ∙ room.directory; live = live },
+                owner ∙ before,
+              )
         ]))
       ]
 

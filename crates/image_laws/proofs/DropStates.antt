@@ -12,6 +12,8 @@ use Rattle.tree_model.specs.Tree.{Tree, Room, IsRoom, root_id, parent, id_at, is
 use Rattle.tree_model.specs.TreeLaws.{same_room}
 use Rattle.image_reading.specs.Reading.{slot_owner, Names, Reads, HasRoom, ReadsAs}
 use Rattle.image_reading.specs.Soundness.{Sound}
+use Rattle.image_counts.proofs.Decided.{room_counted}
+use Rattle.image_counts.proofs.States.{is_room}
 use Rattle.image_laws.specs.CreateStep.{IsStepped}
 use Rattle.image_laws.specs.Drop.{CanDrop, Drops}
 use Rattle.image_laws.specs.DropStep.{Removal, removing, DropStepLaw}
@@ -22,8 +24,7 @@ use Rattle.image_laws.proofs.DropTidy.{drop_law, owner_after}
 use Rattle.image_laws.proofs.RemoveRoom.{get-gone, get-left}
 use Rattle.image_laws.proofs.RemoveTree.{directory_before}
 use Rattle.image_laws.proofs.RoomAfter.{clash, room_at, is_same, not_same}
-use Rattle.image_laws.proofs.Rooms.{dec_room, pages_of_directory}
-use Rattle.image_laws.proofs.States.{room_is}
+use Rattle.image_laws.proofs.Rooms.{dec_room}
 use Rattle.image_laws.proofs.Trees.{directory_is, is_directory-reached}
 
 -- what both commands leave
@@ -71,7 +72,7 @@ module _ (P : ℕ) (W I J K : List ℕ) (old : State) (p path : Route) (s y n : 
   above = (reads.tree.names (parent path) (slot_owner P W s)).1 (subst (λ q. Names P W q (slot_owner P W s)) (sym (parent_is path p (slot_name P W s) is)) can.path)
 
   old_fits : IsRoom old.tree old.room
-  old_fits = room_is P W old.tree old.room can.tidy.sound reads.tree reads.room
+  old_fits = is_room P W old.tree can.tidy.sound reads.tree old.room reads.room
 
   -- the room after, at each number
   after_at : (gives : Bool) (x : ℕ) → get (room_after n old.tree old.room (removing kind path) gives) x
@@ -93,7 +94,7 @@ module _ (P : ℕ) (W I J K : List ℕ) (old : State) (p path : Route) (s y n : 
       entry : (x : ℕ) → is_directory (without_unnamed (without_path old.tree path)) x ≡ true → (k : ℕ) × (get (remove R (slot_inode P W s)) x ≡ Some k)
       entry x dir =
           let (r, two) = directory_is P K (without_unnamed (without_path old.tree path)) tidy_sound read x dir in
-          let (k, pages) = pages_of_directory P K x r two in
+          let (k, pages) = room_counted P K x r two in
           (k, (has x k).1 (r, two, pages))
 
       none : (x : ℕ) (o : Option ℕ) → get (remove R (slot_inode P W s)) x ≡ o → is_directory (without_unnamed (without_path old.tree path)) x ≡ false → o ≡ None
@@ -130,7 +131,7 @@ module _ (P : ℕ) (W I J K : List ℕ) (old : State) (p path : Route) (s y n : 
         room = (
           gives,
           same_after gives R has each,
-          subst (λ T. IsRoom T (remove R (slot_inode P W s))) tree (room_is P K (without_unnamed (without_path old.tree path)) (remove R (slot_inode P W s)) tidy_sound read has),
+          subst (λ T. IsRoom T (remove R (slot_inode P W s))) tree (is_room P K (without_unnamed (without_path old.tree path)) tidy_sound read (remove R (slot_inode P W s)) has),
         );
       }
 

@@ -29,14 +29,14 @@ can_remove P W p s can = record {
   directory = can.slot.directory;
   live = can.slot.live;
   no_pointer = no_pointer P W 0 (tidy_but P W 0 can.tidy) s can.slot.live.held;
-  leaf = λ two t live e. can.empty two t (record {
-    slot = record {
+  leaf = λ two t live e. can.empty two t (
+    record {
       owner = subst (Reached P W) (sym e) (slot_names P W s can.slot can.tidy.sound);
       directory = ap (inode_kind W) e ∙ two;
       live = live;
-    };
-    owner = e;
-  });
+    },
+    e,
+  );
 }
   where
     slot_names : (P : ℕ) (W : List ℕ) (s : ℕ) → IsReachedSlot P W s → Sound P W → Reached P W (slot_inode P W s)

@@ -13,10 +13,12 @@ use Rattle.image_reading.specs.Reading.{HasBytes, IsDirectory, slot_owner, IsHel
 use Rattle.image_reading.specs.Repairs.{IsKeptFilePage, IsPointer, IsLitterSlot, IsLitterPage, IsLitterInode, IsLitterCount}
 use Rattle.image_reading.specs.Soundness.{Rule}
 use Rattle.image_reading.specs.Tidy.{Tidy}
+use Rattle.image_reading.proofs.Credits.{count_same}
+use Rattle.image_counts.specs.Entries.{IsSlotOf}
+use Rattle.image_counts.proofs.Decided.{room_below}
 use Rattle.image_laws.specs.Drop.{CanDrop, dropped, IsGiven, Drops, IsDrop, DropLaw}
 use Rattle.image_laws.specs.Frame.{SameMeaning, Alike}
 use Rattle.image_laws.specs.Shrunk.{HasShrunk, ShrunkLaw}
-use Rattle.image_laws.specs.Space.{IsEntryOf}
 use Rattle.image_laws.specs.Remove.{HasRoomRemoved, without_page}
 use Rattle.image_laws.proofs.Addresses.{descriptor-ne_slot, inode-ne_slot, slot-ne_slot}
 use Rattle.image_laws.proofs.Adds.{stored}
@@ -25,7 +27,7 @@ use Rattle.image_laws.proofs.DropSteps as steps
 use Rattle.image_laws.proofs.DropSteps.{can_remove}
 use Rattle.image_laws.proofs.DropGives as gives
 use Rattle.image_laws.proofs.Free.{stores_law, mix_one}
-use Rattle.image_laws.proofs.Meaning.{shape, count_same, reached_slot, reached_slot_forward, same_chained}
+use Rattle.image_laws.proofs.Meaning.{shape, reached_slot, reached_slot_forward, same_chained}
 use Rattle.image_laws.proofs.NewPage.{alike_stores, same_stores}
 use Rattle.image_laws.proofs.OnlySlot.{OnlySlot}
 use Rattle.image_laws.proofs.Paths.{reached_pos, reached-le, reach, slot_of}
@@ -35,7 +37,7 @@ use Rattle.image_laws.proofs.RemoveFacts as facts
 use Rattle.image_laws.proofs.RemoveRoom.{count_less, remove_room_law}
 use Rattle.image_laws.proofs.RemoveTree.{remove_tree_law}
 use Rattle.image_laws.proofs.Removes.{removes}
-use Rattle.image_laws.proofs.Rooms.{dec_room, room-lt}
+use Rattle.image_laws.proofs.Rooms.{dec_room}
 
 -- what one has is counted
 count_some : (Q : ℕ → Type 0) (n s : ℕ) → Q s → Count Q n → 1 ≤ n
@@ -212,7 +214,7 @@ module _ (P : ℕ) (W I J K : List ℕ) (p : Route) (s y : ℕ) (can : CanDrop P
             let (u, at, o, live) = l.page.slot in
             let owned : page_owner P K here ≢ 0 = λ z. live.held.owned (ap (page_owner P K) at ∙ z) in
             let none = not_given here owned in
-            let below = room-lt P K (page_owner P K here) here l.page in
+            let below = room_below P K (page_owner P K here) here l.page in
             let page = subst (λ x. IsRoomOf P W x here) (owner_same here below none) (facts.room_back P W p s (can_remove P W p s can) (page_owner P K here) here ((rooms (page_owner P K here) here).1 l.page)) in
             (tidy_but P W 0 can.tidy).slots t (record {
               page = page;
@@ -401,10 +403,10 @@ module _ (P : ℕ) (W I J K : List ℕ) (p : Route) (s y : ℕ) (can : CanDrop P
 
   -- ---- what an index holds
 
-  entries_left : (x t : ℕ) → IsEntryOf P K x t ↔ (IsEntryOf P W x t × (t ≢ s))
+  entries_left : (x t : ℕ) → IsSlotOf P K x t ↔ (IsSlotOf P W x t × (t ≢ s))
   entries_left x t = (
-    (λ e. let (r, ne) = reached_before t e.slot in (record { slot = r; owner = sym (slot_owner_same t e.slot.live.held) ∙ e.owner }, ne)),
-    (λ (e, ne). let after = reached_after t ne e.slot in record { slot = after; owner = slot_owner_same t after.live.held ∙ e.owner }),
+    (λ e. let (r, ne) = reached_before t e.0 in ((r, sym (slot_owner_same t e.0.live.held) ∙ e.1), ne)),
+    (λ (e, ne). let after = reached_after t ne e.0 in (after, slot_owner_same t after.live.held ∙ e.1)),
   )
 
   -- what has another name stays

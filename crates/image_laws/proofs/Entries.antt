@@ -5,7 +5,11 @@ use Rattle.std.specs.Cmp.{IsTotalOrder, tied_itself}
 use Rattle.std.specs.FinMap.{IsAntisymmetric}
 use Rattle.std.specs.FinMap.Entries.{find}
 use Rattle.tree_model.specs.TreeLaws.{tied}
-use Rattle.image_laws.specs.Lookup.{Listed}
+
+-- a list of pairs has this pair
+abbrev pub Listed : {K V : Type 0} → List (K × V) → K → V → Type 0
+Listed [] k v = ⊥
+Listed (e ∷ es) k v = ((e.0 ≡ k) × (e.1 ≡ v)) ⊎ Listed es k v
 
 module _ {K V : Type 0} where
   pub has_left : (xs ys : List (K × V)) (k : K) (v : V) → Listed xs k v → Listed (xs ++ ys) k v

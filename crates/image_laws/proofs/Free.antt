@@ -133,15 +133,6 @@ free_law P I J sound t = (
 pub stores_law : StoresLaw
 stores_law P I J M sound t m = let (quiet, bytes) = free_law P I J sound t in mix_law P I J M sound quiet bytes m
 
--- one more store to a free word
-pub free_set : (P : ℕ) (I J : List ℕ) (x v : ℕ) → ((a : ℕ) → (word J a ≡ word I a) ⊎ IsFree P I a) → IsFree P I x →
-    (a : ℕ) → (word (set J x v) a ≡ word I a) ⊎ IsFree P I a
-unfolding word
-free_set P I J x v h free a = elim (cases_eq a x) [
-  | inl e ↦ inr (subst (IsFree P I) (sym e) free)
-  | inr ne ↦ elim (h a) [ inl e ↦ inl (get_or-set_other J x a v 0 ne ∙ e) | inr f ↦ inr f ]
-]
-
 -- a mix of a list and the list with one word stored is one of the two
 pub mix_one : (A M : List ℕ) (x v : ℕ) → x < length A → IsMix A (set A x v) M → (M ≡ A) ⊎ (M ≡ set A x v)
 unfolding word

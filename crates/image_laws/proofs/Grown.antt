@@ -5,7 +5,8 @@ use Rattle.layout.specs.Fields.{word}
 use Rattle.layout.specs.Geometry.{page_of_slot, slot_word_of}
 use Rattle.tree_model.specs.PathText.{Route}
 use Rattle.tree_model.specs.Tree.{Node}
-use Rattle.image_laws.specs.Create.{CanName, IsFreePage, MakesPage, MakesNode, committed, owned}
+use Rattle.image_counts.specs.Entries.{IsFreePage}
+use Rattle.image_laws.specs.Create.{CanName, MakesPage, MakesNode, committed, owned}
 use Rattle.image_laws.specs.Grown.{HasGrown, GrownLaw, NewPageGrownLaw}
 use Rattle.image_laws.proofs.Adds.{only, stored, add_law}
 use Rattle.image_laws.proofs.Creates.{is_ready, free_inode}

@@ -33,16 +33,8 @@ pub mod Removes
 pub mod Resize
 pub mod Resizes
 pub mod Pointers
-pub mod Unlink
-pub mod Counting
-pub mod NamesCount
-pub mod PagesCount
-pub mod States
 pub mod RoomAfter
 pub mod CreateSteps
-pub mod SlotPaths
-pub mod LinkCounts
-pub mod Listing
 pub mod Grown
 pub mod Linking
 pub mod LinkTidy

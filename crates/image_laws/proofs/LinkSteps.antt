@@ -11,6 +11,7 @@ use Rattle.tree_model.specs.Tree.{Tree, Room, IsRoom, root_id, parent, id_at, is
 use Rattle.tree_model.specs.TreeLaws.{same_room}
 use Rattle.tree_model.specs.declared.command.Command.TheVariants.{Link}
 use Rattle.image_reading.specs.Reading.{Names, ReadsAs}
+use Rattle.image_counts.proofs.States.{is_room}
 use Rattle.image_laws.specs.Add.{with_page}
 use Rattle.image_laws.specs.Create.{CanName, committed, owned}
 use Rattle.image_laws.specs.CreateStep.{IsStepped}
@@ -20,7 +21,6 @@ use Rattle.image_laws.proofs.AddRoom.{get-here, get-other}
 use Rattle.image_laws.proofs.CreateSteps.{parent_is, not_full}
 use Rattle.image_laws.proofs.Links.{link_law, new_page_link_law}
 use Rattle.image_laws.proofs.RoomAfter.{room_at, gained, gained_other, gained_here}
-use Rattle.image_laws.proofs.States.{room_is}
 use Rattle.image_laws.proofs.Trees.{is_directory-reached}
 
 -- ---- the room after
@@ -59,7 +59,7 @@ link_room_law T room from path d n fits above directory = room_linked T room fro
 module _ (P : ℕ) (W : List ℕ) (old : State) (p from path : Route) (d i n : ℕ) (name : List ℕ) (can : CanName P W p d name) (is : reverse path ≡ name_in_words name ∷ p) (reads : ReadsAs P W old) (source : id_at old.tree from ≡ Some i) where
   room_is_linked : HasRoomLinked old.tree old.room from path d n
   room_is_linked = link_room_law old.tree old.room from path d n
-      (room_is P W old.tree old.room can.tidy.sound reads.tree reads.room)
+      (is_room P W old.tree can.tidy.sound reads.tree old.room reads.room)
       ((reads.tree.names (parent path) d).1 (subst (λ q. Names P W q d) (sym (parent_is path p (name_in_words name) is)) can.path))
       (is_directory-reached P W old.tree can.tidy.sound reads.tree d (p, can.path) can.directory)
 
@@ -72,7 +72,7 @@ module _ (P : ℕ) (W : List ℕ) (old : State) (p from path : Route) (d i n : �
         new = record { tree = with_path old.tree path i; room = after old.room };
         reads = record { tree = read; room = has };
         tree = tree;
-        room = (false, room, subst (λ T. IsRoom T (after old.room)) tree (room_is P J (with_path old.tree path i) (after old.room) linked.tidy.sound read has));
+        room = (false, room, subst (λ T. IsRoom T (after old.room)) tree (is_room P J (with_path old.tree path i) linked.tidy.sound read (after old.room) has));
       }
 
 pub link_step_law : LinkStepLaw

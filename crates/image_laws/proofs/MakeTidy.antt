@@ -13,21 +13,22 @@ use Rattle.image_reading.specs.Repairs.{IsKeptFilePage, IsKept, IsPointer, IsLit
 use Rattle.image_reading.specs.Soundness.{Rule, Sound}
 use Rattle.image_reading.specs.Tidy.{Tidy}
 use Rattle.image_reading.proofs.Counts.{count_none}
+use Rattle.image_reading.proofs.Credits.{count_same, count_more}
+use Rattle.image_counts.specs.Entries.{IsSlotOf}
+use Rattle.image_counts.proofs.Decided.{room_below}
 use Rattle.image_laws.specs.Add.{CanAdd}
 use Rattle.image_laws.specs.Grown.{HasGrown}
-use Rattle.image_laws.specs.Space.{IsEntryOf}
 use Rattle.image_laws.specs.Create.{node_words, parent_links, MakesNode}
 use Rattle.image_laws.proofs.Addresses.{descriptor-ne_slot, inode-ne_slot, slot-ne_slot}
-use Rattle.image_laws.proofs.AddRoom.{count_more, room_cases, room_forward, room_here}
+use Rattle.image_laws.proofs.AddRoom.{room_cases, room_forward, room_here}
 use Rattle.image_laws.proofs.AddSlot as added
 use Rattle.image_laws.proofs.Making as making
-use Rattle.image_laws.proofs.Meaning.{count_same, reached_slot}
+use Rattle.image_laws.proofs.Meaning.{reached_slot}
 use Rattle.image_laws.proofs.OnlySlot.{OnlySlot}
 use Rattle.image_laws.proofs.OnlySlot as slots
 use Rattle.image_laws.proofs.Paths.{reached_pos, reached-le, reach}
 use Rattle.image_laws.proofs.Ready.{IsReady, tidy_from}
 use Rattle.image_laws.proofs.Words.{slot_words-same}
-use Rattle.image_laws.proofs.Rooms.{room-lt}
 
 -- exactly one has Q
 count_single : (Q : ℕ → Type 0) (s : ℕ) → ((x : ℕ) → Q x ↔ (x ≡ s)) → Count Q 1
@@ -173,7 +174,7 @@ module _ (P : ℕ) (B C D : List ℕ) (p : Route) (node : Node) (d s i : ℕ) (n
         elim (room_back (page_owner P D (page_of_slot t)) (page_of_slot t) l.page) [
           | inl here ↦ word_nonzero (ready.place.clean t f here.1 dead lt)
           | inr old ↦ ready.place.but.slots t (record {
-            page = subst (λ x. IsRoomOf P B x (page_of_slot t)) (owner_same (page_of_slot t) (room-lt P D (page_owner P D (page_of_slot t)) (page_of_slot t) l.page)) old;
+            page = subst (λ x. IsRoomOf P B x (page_of_slot t)) (owner_same (page_of_slot t) (room_below P D (page_owner P D (page_of_slot t)) (page_of_slot t) l.page)) old;
             dead = dead;
             nonzero = (f, lt, word_nonzero);
           })
@@ -339,19 +340,19 @@ module _ (P : ℕ) (B C D : List ℕ) (p : Route) (node : Node) (d s i : ℕ) (n
   new_name : slot_name P D s ≡ name_in_words name
   new_name = slots.same_name P C D s only s ∙ making.name_is P B C p node d s i name ready makes
 
-  entry_cases : (x t : ℕ) → IsEntryOf P D x t → IsEntryOf P B x t ⊎ ((x ≡ d) × (t ≡ s))
+  entry_cases : (x t : ℕ) → IsSlotOf P D x t → IsSlotOf P B x t ⊎ ((x ≡ d) × (t ≡ s))
   entry_cases x t h =
-      let o = slot_owner_same t h.slot.live.held.in_range in
-      elim (slot_cases t h.slot) [
-        | inl e ↦ inr (sym h.owner ∙ o ∙ ap (slot_owner P B) e ∙ ready.place.slot.owner, e)
-        | inr old ↦ inl (record { slot = old; owner = sym o ∙ h.owner })
+      let o = slot_owner_same t h.0.live.held.in_range in
+      elim (slot_cases t h.0) [
+        | inl e ↦ inr (sym h.1 ∙ o ∙ ap (slot_owner P B) e ∙ ready.place.slot.owner, e)
+        | inr old ↦ inl (old, sym o ∙ h.1)
       ]
 
-  entry_forward : (x t : ℕ) → IsEntryOf P B x t → IsEntryOf P D x t
-  entry_forward x t h = record { slot = slot_forward t h.slot; owner = slot_owner_same t h.slot.live.held.in_range ∙ h.owner }
+  entry_forward : (x t : ℕ) → IsSlotOf P B x t → IsSlotOf P D x t
+  entry_forward x t h = (slot_forward t h.0, slot_owner_same t h.0.live.held.in_range ∙ h.1)
 
-  new_entry : IsEntryOf P D d s
-  new_entry = record { slot = new_slot; owner = slot_owner_same s ready.place.slot.held.in_range ∙ ready.place.slot.owner }
+  new_entry : IsSlotOf P D d s
+  new_entry = (new_slot, slot_owner_same s ready.place.slot.held.in_range ∙ ready.place.slot.owner)
 
   page_same : (x k j : ℕ) → IsPageOf P D x k j ↔ IsPageOf P B x k j
   page_same x k j = (
@@ -375,7 +376,7 @@ module _ (P : ℕ) (B C D : List ℕ) (p : Route) (node : Node) (d s i : ℕ) (n
     reached = λ x. (reached_cases x, λ h. elim h [ inl old ↦ reached_forward x old | inr e ↦ subst (Reached P D) (sym e) (slot_name P C s ∷ p, added.names_new P C D p d s i can only stored) ]);
     entries = λ x t. (
       entry_cases x t,
-      λ h. elim h [ inl old ↦ entry_forward x t old | inr new ↦ subst (λ y. IsEntryOf P D y t) (sym new.0) (subst (IsEntryOf P D d) (sym new.1) new_entry) ],
+      λ h. elim h [ inl old ↦ entry_forward x t old | inr new ↦ subst (λ y. IsSlotOf P D y t) (sym new.0) (subst (IsSlotOf P D d) (sym new.1) new_entry) ],
     );
     pages = λ x j. (
       (λ room. elim (room_back x j room) [ inl new ↦ inr new | inr old ↦ inl old ]),

@@ -8,7 +8,7 @@ use Rattle.tree_model.specs.PathText.{Route}
 use Rattle.tree_model.specs.Tree.{Node, Directory, File}
 use Rattle.image_reading.specs.Reading.{slot_owner, IsLive, Leads, Names, Reached, IsReachedSlot, IsPageOf, IsContent, IsNode, pages_of_size, IsRoomOf, IsNameOf, IsChildOf}
 use Rattle.image_reading.specs.Soundness.{Rule, Obeys, Sound, HasHead, HasLinks}
-use Rattle.image_reading.specs.Counts.{Count}
+use Rattle.image_reading.proofs.Credits.{count_same}
 use Rattle.image_laws.specs.Frame.{IsUnneeded, SameDescriptor, Alike, SameBytes, AllSameBytes, SameShape, SameMeaning, ShapeLaw, NodeLaw, MeaningLaw, MeaningsChain}
 use Rattle.image_laws.proofs.Addresses.{page_of_byte-lt}
 use Rattle.image_laws.proofs.Counts.{at_most}
@@ -28,10 +28,6 @@ page_kind_is P I sound j lt r = elim ((sound Rule.kinds (page_owner P I j)).kind
   | inl file ↦ (sound Rule.page_kinds j).file lt r file ∙ sym file
   | inr directory ↦ (sound Rule.page_kinds j).directory lt r directory ∙ sym directory
 ]
-
--- what the same numbers have has the same count
-pub count_same : (Q R : ℕ → Type 0) (n : ℕ) → ((x : ℕ) → Q x ↔ R x) → Count Q n → Count R n
-count_same Q R n same (xs, distinct, all, len) = (xs, distinct, λ x. (λ c. (same x).0 ((all x).0 c), λ r. (all x).1 ((same x).1 r)), len)
 
 module _ (P : ℕ) (I J : List ℕ) (a : Alike P I J) where
   pub same_owner : (s : ℕ) → SameDescriptor P I J (page_of_slot s) → slot_owner P J s ≡ slot_owner P I s

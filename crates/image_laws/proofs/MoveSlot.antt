@@ -8,10 +8,11 @@ use Rattle.tree_model.specs.PathText.{Route}
 use Rattle.image_reading.specs.Counts.{AtMost}
 use Rattle.image_reading.specs.Reading.{slot_owner, IsHeld, IsLive, Leads, Names, Reached, IsReachedSlot, IsNameOf, IsChildOf}
 use Rattle.image_reading.specs.Soundness.{Rule, Obeys, Sound, HasLinks}
+use Rattle.image_counts.proofs.Paths.{one_path, one_inode, same_slot, same_directory}
 use Rattle.image_laws.proofs.Counts.{at_most, at_most_swap}
 use Rattle.image_laws.proofs.Meaning.{same_head, page_kind_is}
 use Rattle.image_laws.proofs.OnlySlot.{OnlySlot, same_owner, same_name, held_forward, held_back, page_back, page_forward, pointers_kept, one_pointer_kept}
-use Rattle.image_laws.proofs.Paths.{slot_of, reach, one_path, one_inode, one_name, one_slot, reached-le}
+use Rattle.image_laws.proofs.Paths.{slot_of, reach, reached-le}
 use Rattle.image_laws.proofs.Within.{IsWhole, whole, whole_same}
 
 pub record Moves (P : ℕ) (I J : List ℕ) (pa pb : Route) (s d i : ℕ) : Type 0 where
@@ -40,9 +41,6 @@ not_longer : (r : Route) (n : List ℕ) (p : Route) → p ≡ r ++ n ∷ p → �
 not_longer r n p e = let h = ap length e ∙ length-append r (n ∷ p) in omega (arith, h)
 
 module _ (P : ℕ) (I J : List ℕ) (pa pb : Route) (s d i : ℕ) (sound : Sound P I) (a : Moves P I J pa pb s d i) where
-  old_path : Route
-  old_path = slot_name P I s ∷ pa
-
   new_path : Route
   new_path = slot_name P I d ∷ pb
 
@@ -118,10 +116,10 @@ module _ (P : ℕ) (I J : List ℕ) (pa pb : Route) (s d i : ℕ) (sound : Sound
 
   -- paths to the directories of the two slots are theirs
   to_source : (q : Route) (t : ℕ) → t ≡ s → Names P I q (slot_owner P I t) → q ≡ pa
-  to_source q t e b = one_path P I sound q pa (slot_owner P I s) (subst (Names P I q) (ap (slot_owner P I) e) b) a.source_path a.source_directory
+  to_source q t e b = one_path P I sound q pa (slot_owner P I s) a.source_directory (subst (Names P I q) (ap (slot_owner P I) e) b) a.source_path
 
   to_target : (q : Route) (t : ℕ) → t ≡ d → Names P I q (slot_owner P I t) → q ≡ pb
-  to_target q t e b = one_path P I sound q pb (slot_owner P I d) (subst (Names P I q) (ap (slot_owner P I) e) b) a.target_path a.target_directory
+  to_target q t e b = one_path P I sound q pb (slot_owner P I d) a.target_directory (subst (Names P I q) (ap (slot_owner P I) e) b) a.target_path
 
   IsUnder : Route → Type 0
   IsUnder q = (r : Route) × (q ≡ r ++ slot_name P I s ∷ pa)
@@ -165,7 +163,7 @@ module _ (P : ℕ) (I J : List ℕ) (pa pb : Route) (s d i : ℕ) (sound : Sound
   names_move : (r : Route) (x : ℕ) → Names P I (r ++ slot_name P I s ∷ pa) x → Names P J (r ++ slot_name P I d ∷ pb) x
   names_move [] x (t, b, l) =
       let same : slot_owner P I t ≡ slot_owner P I s = one_inode P I sound pa (slot_owner P I t) (slot_owner P I s) b a.source_path in
-      let e : t ≡ s = one_name P I sound t s (slot_of P I t pa (slot_name P I s) x b l) source_slot same l.name in
+      let e : t ≡ s = same_slot P I sound t s (slot_of P I t pa (slot_name P I s) x b l) source_slot same l.name in
       let is : i ≡ x = sym a.inode ∙ ap (slot_inode P I) (sym e) ∙ l.inode in (
         d,
         pb_stays,
@@ -225,7 +223,7 @@ module _ (P : ℕ) (I J : List ℕ) (pa pb : Route) (s d i : ℕ) (sound : Sound
           let path : q ≡ pa = cc in
           let name : m ≡ slot_name P I s = cc in
           let same : slot_owner P I t ≡ slot_owner P I s = one_inode P I sound pa (slot_owner P I t) (slot_owner P I s) (subst (λ z. Names P I z (slot_owner P I t)) path b) a.source_path in
-          ns (one_name P I sound t s (slot_of P I t q m x b k) source_slot same (k.name ∙ name))
+          ns (same_slot P I sound t s (slot_of P I t q m x b k) source_slot same (k.name ∙ name))
       under t q m x b k ns u (n ∷ r) h = let rest : q ≡ r ++ slot_name P I s ∷ pa = cc in u (r, rest)
 
       at_new : (t : ℕ) (q : Route) (m : List ℕ) (x : ℕ) → Names P I q (slot_owner P I t) → Leads P I t m x → t ≢ d → m ∷ q ≡ slot_name P I d ∷ pb → ⊥
@@ -250,13 +248,6 @@ module _ (P : ℕ) (I J : List ℕ) (pa pb : Route) (s d i : ℕ) (sound : Sound
   reached_back : (x : ℕ) → Reached P J x → Reached P I x
   unfolding Stays Moved
   reached_back x (q, b) = elim (names_back q x b) [ inl h ↦ (q, h.0) | inr h ↦ (h.0 ++ slot_name P I s ∷ pa, h.2) ]
-
-  target_slot : IsReachedSlot P J d
-  target_slot = record {
-    owner = (pb, pb_stays);
-    directory = ap (inode_kind J) (owner_same d a.held.in_range) ∙ kind_reached (slot_owner P I d) (pb, a.target_path) ∙ a.target_directory;
-    live = live_new;
-  }
 
   -- each reached slot of J is d, or one of I that isn't the source
   slot_cases : (t : ℕ) → IsReachedSlot P J t → (t ≡ d) ⊎ (IsReachedSlot P I t × (t ≢ s) × (t ≢ d))
@@ -356,8 +347,8 @@ module _ (P : ℕ) (I J : List ℕ) (pa pb : Route) (s d i : ℕ) (sound : Sound
 
   -- only the source named i, where i is a directory
   sole : (t : ℕ) → IsReachedSlot P I t → t ≢ s → t ≢ d → slot_inode P J t ≡ i → inode_kind J i ≡ 2 → ⊥
-  sole t r ns nd e k = ns (one_slot P I sound t s r source_slot (sym (a.only.inode t nd) ∙ e ∙ sym a.inode)
-      (ap (inode_kind I) (sym (a.only.inode t nd) ∙ e) ∙ sym kind_i ∙ k))
+  sole t r ns nd e k = ns (same_directory P I sound t s r source_slot
+      (ap (inode_kind I) (sym (a.only.inode t nd) ∙ e) ∙ sym kind_i ∙ k) (sym (a.only.inode t nd) ∙ e ∙ sym a.inode))
 
   rule9 : (t : ℕ) → Obeys P J Rule.own_directories t
   rule9 t r lt hr ht directory same =

@@ -7,7 +7,8 @@ use Rattle.layout.specs.Geometry.{inodes_of, data_pages_of, page_of_slot, inode_
 use Rattle.layout.specs.GeometryLaws.{descriptor_word_within}
 use Rattle.image_reading.specs.Reading.{IsDirectory, slot_owner, IsHeld, Reached}
 use Rattle.image_reading.specs.Soundness.{Rule, Sound, HasLinks}
-use Rattle.image_laws.specs.Create.{IsPageMadeWord, MakesPage, IsFreePage, owned}
+use Rattle.image_counts.specs.Entries.{IsFreePage}
+use Rattle.image_laws.specs.Create.{IsPageMadeWord, MakesPage, owned}
 use Rattle.image_laws.specs.Exempt.{IsExempt}
 use Rattle.image_laws.specs.Frame.{Alike, SameMeaning}
 use Rattle.image_laws.specs.Free.{IsFree, Stores}
@@ -52,7 +53,7 @@ module _ (P : ℕ) (W A : List ℕ) (j : ℕ) (sound : Sound P W) (page : IsFree
   pub made_slot : (t f : ℕ) → f < 16 → page_of_slot t ≢ j → word A (slot_word_of P t f) ≡ word W (slot_word_of P t f)
   made_slot t f lt ne = makes.others (slot_word_of P t f) (not_page_made P j (slot_word_of P t f)
       (λ w l e. page-ne_slot P j w t f l lt (λ z. ne (sym z)) (sym e))
-      (λ g low high e. descriptor-ne_slot P j g t f page.in_range (omega arith) (sym e)))
+      (λ g low high e. descriptor-ne_slot P j g t f page.0 (omega arith) (sym e)))
 
   -- the slots of the page are zero
   pub made_zero : (t f : ℕ) → page_of_slot t ≡ j → f < 16 → word A (slot_word_of P t f) ≡ 0
@@ -64,10 +65,10 @@ module _ (P : ℕ) (W A : List ℕ) (j : ℕ) (sound : Sound P W) (page : IsFree
 
   free_page_word : (a : ℕ) → IsPageMadeWord P j a → IsFree P W a
   free_page_word a m = elim m [
-    | inl (w, lt, e) ↦ subst (IsFree P W) (sym e) (IsFree.page j w page.in_range lt page.unowned)
+    | inl (w, lt, e) ↦ subst (IsFree P W) (sym e) (IsFree.page j w page.0 lt page.1)
     | inr n ↦ elim n [
-      | inl e ↦ subst (IsFree P W) (sym e) (IsFree.descriptor j 1 page.in_range (omega arith) page.unowned)
-      | inr e ↦ subst (IsFree P W) (sym e) (IsFree.descriptor j 2 page.in_range (omega arith) page.unowned)
+      | inl e ↦ subst (IsFree P W) (sym e) (IsFree.descriptor j 1 page.0 (omega arith) page.1)
+      | inr e ↦ subst (IsFree P W) (sym e) (IsFree.descriptor j 2 page.0 (omega arith) page.1)
     ]
   ]
 

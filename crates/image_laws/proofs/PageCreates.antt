@@ -6,8 +6,9 @@ use Rattle.layout.specs.Name.{name_in_words}
 use Rattle.tree_model.specs.PathText.{Route}
 use Rattle.tree_model.specs.Tree.{Node}
 use Rattle.image_reading.specs.Reading.{IsDirectory, Reached, IsRoomOf}
+use Rattle.image_counts.specs.Entries.{IsFreePage}
 use Rattle.image_laws.specs.Add.{with_page, with_node}
-use Rattle.image_laws.specs.Create.{IsEmptyNode, MakesPage, MakesNode, IsFreePage, CanName, owned, committed, IsPageQuiet, IsCreate, NewPageLaw}
+use Rattle.image_laws.specs.Create.{IsEmptyNode, MakesPage, MakesNode, CanName, owned, committed, IsPageQuiet, IsCreate, NewPageLaw}
 use Rattle.image_laws.specs.Frame.{Alike, SameMeaning}
 use Rattle.image_laws.specs.Free.{Stores}
 use Rattle.image_laws.proofs.Adds.{add_room_law}
@@ -56,14 +57,14 @@ module _ (P : ℕ) (W A : List ℕ) (p : Route) (d j s : ℕ) (name : List ℕ) 
   pub taken : HasTaken P W (owned P A j d) j d
   unfolding page_kind
   taken = record {
-    owner = owned_owner P A j d same_page.sound d_reached d_directory page.in_range unowned makes.kind zero_inode zero_pointer;
-    kind = owned_descriptor P A j d same_page.sound d_reached d_directory page.in_range unowned makes.kind zero_inode zero_pointer j 1 (omega arith) (inr (omega arith)) ∙ makes.kind;
-    zeros = λ t f at lt. owned_slot P A j d same_page.sound d_reached d_directory page.in_range unowned makes.kind zero_inode zero_pointer t f ∙ made_zero P W A j can.tidy.sound page makes t f at lt;
-    descriptors = λ x f lt l8 ne. owned_descriptor P A j d same_page.sound d_reached d_directory page.in_range unowned makes.kind zero_inode zero_pointer x f l8 (inl ne)
+    owner = owned_owner P A j d same_page.sound d_reached d_directory page.0 unowned makes.kind zero_inode zero_pointer;
+    kind = owned_descriptor P A j d same_page.sound d_reached d_directory page.0 unowned makes.kind zero_inode zero_pointer j 1 (omega arith) (inr (omega arith)) ∙ makes.kind;
+    zeros = λ t f at lt. owned_slot P A j d same_page.sound d_reached d_directory page.0 unowned makes.kind zero_inode zero_pointer t f ∙ made_zero P W A j can.tidy.sound page makes t f at lt;
+    descriptors = λ x f lt l8 ne. owned_descriptor P A j d same_page.sound d_reached d_directory page.0 unowned makes.kind zero_inode zero_pointer x f l8 (inl ne)
         ∙ made_descriptor P W A j can.tidy.sound page makes x f lt l8 (inl ne);
-    inodes = λ x f some most lt. owned_inode P A j d same_page.sound d_reached d_directory page.in_range unowned makes.kind zero_inode zero_pointer x f some most lt
+    inodes = λ x f some most lt. owned_inode P A j d same_page.sound d_reached d_directory page.0 unowned makes.kind zero_inode zero_pointer x f some most lt
         ∙ made_inode P W A j can.tidy.sound page makes x f some most lt;
-    slots = λ t f lt ne. owned_slot P A j d same_page.sound d_reached d_directory page.in_range unowned makes.kind zero_inode zero_pointer t f ∙ made_slot P W A j can.tidy.sound page makes t f lt ne;
+    slots = λ t f lt ne. owned_slot P A j d same_page.sound d_reached d_directory page.0 unowned makes.kind zero_inode zero_pointer t f ∙ made_slot P W A j can.tidy.sound page makes t f lt ne;
     same = same_chained P W A (owned P A j d) same_page same_owned;
     reached_slots = λ t. (
       (λ r. (reached_slot_forward P A (owned P A j d) alike_owned t (reached_slot_forward P W A alike_page t r).1).1),

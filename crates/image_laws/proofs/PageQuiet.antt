@@ -5,7 +5,8 @@ use Rattle.layout.specs.Geometry.{page_of_slot}
 use Rattle.tree_model.specs.PathText.{Route}
 use Rattle.image_reading.specs.Reading.{IsDirectory, Names, Reached}
 use Rattle.image_reading.specs.Soundness.{Sound}
-use Rattle.image_laws.specs.Create.{MakesPage, IsFreePage, owned, IsPageQuiet, PageQuietLaw}
+use Rattle.image_counts.specs.Entries.{IsFreePage}
+use Rattle.image_laws.specs.Create.{MakesPage, owned, IsPageQuiet, PageQuietLaw}
 use Rattle.image_laws.specs.Frame.{Alike, SameMeaning}
 use Rattle.image_laws.specs.Free.{Stores}
 use Rattle.image_laws.proofs.Free.{stores_law}
@@ -29,7 +30,7 @@ module _ (P : ℕ) (W A : List ℕ) (p : Route) (d j : ℕ) (sound : Sound P W) 
   d_directory = (alike_page.inodes d (p, named)).kind ∙ directory
 
   pub unowned : page_owner P A j ≡ 0
-  unowned = made_owner P W A j sound page makes j page.in_range ∙ page.unowned
+  unowned = made_owner P W A j sound page makes j page.0 ∙ page.1
 
   pub zero_inode : (t : ℕ) → page_of_slot t ≡ j → slot_inode P A t ≡ 0
   unfolding slot_inode
@@ -40,7 +41,7 @@ module _ (P : ℕ) (W A : List ℕ) (p : Route) (d j : ℕ) (sound : Sound P W) 
   zero_pointer t at = made_zero P W A j sound page makes t 1 at (omega arith)
 
   pub owning_stores : Stores P A (owned P A j d)
-  owning_stores = owned_stores P A j d same_page.sound d_reached d_directory page.in_range unowned makes.kind zero_inode zero_pointer
+  owning_stores = owned_stores P A j d same_page.sound d_reached d_directory page.0 unowned makes.kind zero_inode zero_pointer
 
   pub same_owned : SameMeaning P A (owned P A j d)
   same_owned = same_stores P A (owned P A j d) same_page.sound owning_stores

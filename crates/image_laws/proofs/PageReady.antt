@@ -9,14 +9,14 @@ use Rattle.tree_model.specs.PathText.{Route}
 use Rattle.image_reading.specs.Reading.{HasBytes, slot_owner, IsHeld, IsLive, Reached, IsReachedSlot, IsNameOf, IsChildOf, IsLinkCount, IsRoomOf, pages_of_size, IsPageOf}
 use Rattle.image_reading.specs.Repairs.{IsKeptFilePage, IsKept, IsLitterSlot, IsLitterPage, IsLitterInode, IsLitterCount}
 use Rattle.image_reading.specs.Soundness.{Rule}
+use Rattle.image_reading.proofs.Credits.{count_same}
+use Rattle.image_counts.specs.Entries.{IsSlotOf, IsFreePage}
+use Rattle.image_counts.proofs.Decided.{room_below}
 use Rattle.image_laws.specs.Add.{IsFreeSlot}
-use Rattle.image_laws.specs.Space.{IsEntryOf}
-use Rattle.image_laws.specs.Create.{CanName, IsFreePage}
+use Rattle.image_laws.specs.Create.{CanName}
 use Rattle.image_laws.specs.Frame.{SameMeaning}
-use Rattle.image_laws.proofs.Meaning.{count_same}
 use Rattle.image_laws.proofs.Paths.{reached_pos, reached-le, reach}
 use Rattle.image_laws.proofs.Ready.{IsReadySlot, IsFreeInode, IsTidyBut, tidy_but, no_pointer}
-use Rattle.image_laws.proofs.Rooms.{room-lt}
 use Rattle.image_laws.proofs.Words.{slot_words-same}
 
 -- B is W but for page j, which directory d owns in B, and whose slots are zero there. The same slots are reached.
@@ -103,7 +103,7 @@ module _ (P : ℕ) (W B : List ℕ) (p : Route) (d j s : ℕ) (name : List ℕ) 
 
   unowned : (t : ℕ) → page_of_slot t ≡ j → IsHeld P W t → ⊥
   unfolding slot_owner
-  unowned t at h = h.owned (ap (page_owner P W) at ∙ page.unowned)
+  unowned t at h = h.owned (ap (page_owner P W) at ∙ page.1)
 
   before_elsewhere : (t : ℕ) → IsReachedSlot P W t → page_of_slot t ≢ j
   before_elsewhere t r at = unowned t at r.live.held
@@ -130,7 +130,7 @@ module _ (P : ℕ) (W B : List ℕ) (p : Route) (d j s : ℕ) (name : List ℕ) 
       let here = page_of_slot t in
       let (u, at, o, live) = l.page.slot in
       let ne : here ≢ j = λ e. elsewhere u live (at ∙ e) in
-      let below = room-lt P B (page_owner P B here) here l.page in
+      let below = room_below P B (page_owner P B here) here l.page in
       let page_before : IsRoomOf P W (page_owner P W here) here = subst (λ x. IsRoomOf P W x here) (owner_same here below ne) ((taken.rooms (page_owner P B here) here).1 l.page) in
       (tidy_but P W j can.tidy).slots t (record {
         page = page_before;
@@ -246,7 +246,7 @@ module _ (P : ℕ) (W B : List ℕ) (p : Route) (d j s : ℕ) (name : List ℕ) 
 
       held : IsHeld P B s
       held = record {
-        in_range = slot_below P s (subst (λ x. x < data_pages_of P) (sym at_s) page.in_range);
+        in_range = slot_below P s (subst (λ x. x < data_pages_of P) (sym at_s) page.0);
         kind = ap (page_kind P B) at_s ∙ taken.kind;
         owned = λ z. (let some = d_pos in omega (arith, some, owner_is, z));
       }
@@ -282,17 +282,17 @@ module _ (P : ℕ) (W B : List ℕ) (p : Route) (d j s : ℕ) (name : List ℕ) 
 
   -- ---- what an index holds is as before
 
-  pub entry_same : (x t : ℕ) → IsEntryOf P B x t ↔ IsEntryOf P W x t
+  pub entry_same : (x t : ℕ) → IsSlotOf P B x t ↔ IsSlotOf P W x t
   entry_same x t = (
-    (λ h. record { slot = (taken.reached_slots t).1 h.slot; owner = sym (slot_owner_same t h.slot.live.held.in_range (elsewhere t h.slot.live)) ∙ h.owner }),
-    (λ h. record { slot = (taken.reached_slots t).0 h.slot; owner = slot_owner_same t h.slot.live.held.in_range (before_elsewhere t h.slot) ∙ h.owner }),
+    (λ h. ((taken.reached_slots t).1 h.0, sym (slot_owner_same t h.0.live.held.in_range (elsewhere t h.0.live)) ∙ h.1)),
+    (λ h. ((taken.reached_slots t).0 h.0, slot_owner_same t h.0.live.held.in_range (before_elsewhere t h.0) ∙ h.1)),
   )
 
   pub slot_same : (t : ℕ) → IsReachedSlot P W t → (slot_name P B t ≡ slot_name P W t) × (slot_inode P B t ≡ slot_inode P W t)
   slot_same t r = (name_same t (before_elsewhere t r), slot_inode_same t (before_elsewhere t r))
 
   page_elsewhere : (x k y : ℕ) → Reached P W x → IsPageOf P W x k y → y ≢ j
-  page_elsewhere x k y r g e = reached_pos P W x r (sym g.owner ∙ ap (page_owner P W) e ∙ page.unowned)
+  page_elsewhere x k y r g e = reached_pos P W x r (sym g.owner ∙ ap (page_owner P W) e ∙ page.1)
 
   file_elsewhere : (x k y : ℕ) → IsPageOf P B x k y → y ≢ j
   file_elsewhere x k y g e = let one = g.kind in let two = ap (page_kind P B) e ∙ taken.kind in omega (arith, one, two)

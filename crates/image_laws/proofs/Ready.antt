@@ -1,28 +1,23 @@
 -- What create and mkdir need of the image in which they make a node, and that words are or aren't among those stored.
-use Rattle.std.proofs.Common.{◌≡◌, ◌≢◌, ◌⊎◌, inl, inr, ℕ, ◌+◌, ◌<◌, ◌≤◌, List, [], ◌∷◌, subst, arith}
+use Rattle.std.proofs.Common.{◌≡◌, ◌≢◌, ◌⊎◌, inl, inr, ℕ, ◌+◌, ◌<◌, ◌≤◌, List, subst, arith}
 use Rattle.std.proofs.lemmas.Bool.{cases_eq, cases_lt}
 use Rattle.layout.specs.Fields.{word, page_owner, slot_pointer, slot_name}
 use Rattle.layout.specs.Geometry.{inodes_of, data_pages_of, page_of_slot, inode_word_of, slot_word_of}
 use Rattle.layout.specs.Name.{IsNameWords, name_in_words}
 use Rattle.tree_model.specs.PathText.{Route}
 use Rattle.tree_model.specs.Tree.{Node, Directory, File}
-use Rattle.image_reading.specs.Counts.{Count}
 use Rattle.image_reading.specs.Reading.{slot_owner, IsHeld, IsLive, Reached, IsReachedSlot}
 use Rattle.image_reading.specs.Repairs.{IsPointer, IsLitterSlot, IsLitterPage, IsLitterInode, IsLitterCount}
 use Rattle.image_reading.specs.Soundness.{Sound}
 use Rattle.image_reading.specs.Tidy.{Tidy}
 use Rattle.image_reading.proofs.Counts.{count_none}
+use Rattle.image_counts.proofs.Counting.{none_counted}
 use Rattle.image_laws.specs.Add.{IsFreeSlot}
 use Rattle.image_laws.specs.Create.{IsAmong, IsMadeWord}
 use Rattle.image_laws.proofs.Decide.{dec_eq}
 use Rattle.image_laws.proofs.Rooms.{dec_some}
 
 -- ---- tidy, and tidy but for one page
-
--- none has what is counted 0
-pub none_of : (Q : ℕ → Type 0) (x : ℕ) → Count Q 0 → Q x → ⊥
-none_of Q x ([], d, f, e) q = (f x).1 q
-none_of Q x (y ∷ ys, d, f, e) q = omega arith
 
 -- nothing is to be repaired, but page j may be litter
 pub record IsTidyBut (P : ℕ) (I : List ℕ) (j : ℕ) : Type 0 where
@@ -34,11 +29,11 @@ pub record IsTidyBut (P : ℕ) (I : List ℕ) (j : ℕ) : Type 0 where
 
 pub tidy_but : (P : ℕ) (I : List ℕ) (j : ℕ) → Tidy P I → IsTidyBut P I j
 tidy_but P I j t = record {
-  pointers = λ s. none_of (IsPointer P I) s t.repaired.of_pointers;
-  slots = λ s. none_of (IsLitterSlot P I) s t.repaired.of_slots;
-  pages = λ x h. absurd (none_of (IsLitterPage P I) x t.repaired.of_pages h);
-  inodes = λ i. none_of (IsLitterInode P I) i t.repaired.of_inodes;
-  counts = λ i. none_of (IsLitterCount P I) i t.repaired.of_counts;
+  pointers = none_counted (IsPointer P I) t.repaired.of_pointers;
+  slots = none_counted (IsLitterSlot P I) t.repaired.of_slots;
+  pages = λ x h. absurd (none_counted (IsLitterPage P I) t.repaired.of_pages x h);
+  inodes = none_counted (IsLitterInode P I) t.repaired.of_inodes;
+  counts = none_counted (IsLitterCount P I) t.repaired.of_counts;
 }
 
 pub tidy_from : (P : ℕ) (I : List ℕ) (j : ℕ) → Sound P I → IsTidyBut P I j → (IsLitterPage P I j → ⊥) → Tidy P I

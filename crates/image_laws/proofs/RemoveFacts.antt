@@ -6,9 +6,10 @@ use Rattle.layout.specs.Geometry.{page_of_slot, slot_word_of}
 use Rattle.tree_model.specs.PathText.{Route}
 use Rattle.image_reading.specs.Reading.{IsDirectory, slot_owner, Names, Reached, IsReachedSlot, IsRoomOf}
 use Rattle.image_reading.specs.Soundness.{Rule}
+use Rattle.image_counts.proofs.Paths.{one_path}
 use Rattle.image_laws.specs.Remove.{CanRemove}
 use Rattle.image_laws.proofs.OnlySlot.{same_owner}
-use Rattle.image_laws.proofs.Paths.{reach, one_path}
+use Rattle.image_laws.proofs.Paths.{reach}
 use Rattle.image_laws.proofs.Removes.{removes, remove_law}
 use Rattle.image_laws.proofs.RemoveSlot as removed
 
@@ -37,7 +38,7 @@ module _ (P : ℕ) (I : List ℕ) (p : Route) (s : ℕ) (c : CanRemove P I p s) 
       let (old, other) = ((remove_law P I p s c).names q (slot_inode P I s)).0 b in
       let here : Names P I (slot_name P I s ∷ p) (slot_inode P I s) =
       (s, c.path, record { directory = c.directory; live = c.live; name = refl; inode = refl; in_range = (c.sound Rule.inodes s).most old_slot }) in
-      other (one_path P I c.sound q (slot_name P I s ∷ p) (slot_inode P I s) old here two)
+      other (one_path P I c.sound q (slot_name P I s ∷ p) (slot_inode P I s) two old here)
 
   -- an owner of a live slot isn't the inode
   owner_other : (t : ℕ) → IsReachedSlot P I t → slot_owner P I t ≢ slot_inode P I s

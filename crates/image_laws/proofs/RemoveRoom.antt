@@ -11,11 +11,12 @@ use Rattle.tree_model.specs.TreeLaws.{same_id_itself, other_id}
 use Rattle.image_reading.specs.Counts.{Count, IsIn, IsDistinct}
 use Rattle.image_reading.specs.Reading.{IsDirectory, slot_owner, Reached, IsRoomOf, HasRoom}
 use Rattle.image_reading.proofs.Counts.{count_one}
+use Rattle.image_reading.proofs.Credits.{count_same}
+use Rattle.image_counts.proofs.Pages.{count_room}
 use Rattle.image_laws.specs.Remove.{CanRemove, HasRoomRemoved, RemoveRoomLaw, without_page}
-use Rattle.image_laws.proofs.AddRoom.{IsEntry, inserted}
-use Rattle.image_laws.proofs.Meaning.{count_same}
-use Rattle.image_laws.proofs.NamesCount.{room_count}
+use Rattle.image_laws.proofs.AddRoom.{inserted}
 use Rattle.image_laws.proofs.RemoveFacts as facts
+use Rattle.image_laws.proofs.Rooms.{IsEntry}
 
 -- ---- one less
 
@@ -126,7 +127,7 @@ module _ (P : ℕ) (I : List ℕ) (p : Route) (s : ℕ) (c : CanRemove P I p s) 
   )
 
   owner_entry : (room : Room) → HasRoom P I room → IsEntry P I (slot_owner P I s) (pages_in room (slot_owner P I s))
-  owner_entry room has = ((p, c.path), c.directory, room_count P I room (slot_owner P I s) has (p, c.path) c.directory)
+  owner_entry room has = ((p, c.path), c.directory, count_room P I room has (slot_owner P I s) (p, c.path) c.directory)
 
   room_removed : HasRoomRemoved P I (set I (slot_word_of P s 0) 0) (slot_owner P I s) s (slot_inode P I s)
   room_removed = record {

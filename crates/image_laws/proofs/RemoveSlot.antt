@@ -8,9 +8,10 @@ use Rattle.layout.specs.Name.{name_in_words}
 use Rattle.tree_model.specs.PathText.{Route}
 use Rattle.image_reading.specs.Reading.{slot_owner, IsHeld, IsLive, Names, Reached, IsReachedSlot, IsPageOf}
 use Rattle.image_reading.specs.Soundness.{Rule, Sound, HasLinks}
+use Rattle.image_counts.proofs.Paths.{one_path, one_inode, same_slot}
 use Rattle.image_laws.proofs.OnlySlot.{OnlySlot}
 use Rattle.image_laws.proofs.Meaning.{page_kind_is}
-use Rattle.image_laws.proofs.Paths.{one_path, one_inode, one_name, reached-le}
+use Rattle.image_laws.proofs.Paths.{reached-le}
 use Rattle.image_laws.proofs.Within.{whole, whole_same, OldSlot, Within, within_sound}
 
 pub record Removes (P : ℕ) (I J : List ℕ) (p : Route) (d s i : ℕ) : Type 0 where
@@ -103,7 +104,7 @@ module _ (P : ℕ) (I J : List ℕ) (p : Route) (d s i : ℕ) (sound : Sound P I
         | inr new ↦ absurd (a.leaf (ap (inode_kind I) (sym new.1) ∙ l.directory) t l.live new.1)
         | inl old ↦ elim (cases_eq t s) [
           | inl e ↦
-              let path : q ≡ p = one_path P I sound q p d (subst (Names P I q) (ap (slot_owner P I) e ∙ a.owner) b) a.path a.directory in
+              let path : q ≡ p = one_path P I sound q p d a.directory (subst (Names P I q) (ap (slot_owner P I) e ∙ a.owner) b) a.path in
               let name : n ≡ slot_name P I s = sym l.name ∙ ap (slot_name P I) e in
               inr (cc, sym l.inode ∙ ap (slot_inode P I) e ∙ a.inode)
           | inr ne ↦ inl (
@@ -132,7 +133,7 @@ module _ (P : ℕ) (I J : List ℕ) (p : Route) (d s i : ℕ) (sound : Sound P I
       } in
       let his : IsReachedSlot P I s = record { owner = (p, subst (Names P I p) (sym a.owner) a.path); live = a.live; directory = ap (inode_kind I) a.owner ∙ a.directory } in
       let same : slot_owner P I t ≡ slot_owner P I s = one_inode P I sound p (slot_owner P I t) d b' a.path ∙ sym a.owner in
-      other t l.live (one_name P I sound t s mine his same (sym (same_name t) ∙ l.name))
+      other t l.live (same_slot P I sound t s mine his same (sym (same_name t) ∙ l.name))
 
   pub removed_names : (q : Route) (x : ℕ) → Names P J q x ↔ (Names P I q x × (q ≢ gone))
   removed_names q x = (

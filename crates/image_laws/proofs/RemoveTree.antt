@@ -1,5 +1,6 @@
 -- The tree after a slot gave up its inode number.
 use Rattle.std.proofs.Common.{◌≡◌, ◌↔◌, ◌⊎◌, inl, inr, ℕ, ◌==◌, Bool, true, false, cond, ◌||◌, T, List, [], ◌∷◌, reverse, Option, Some, None, refl, sym, ap, subst, ◌∙◌, set, is_eq}
+use Rattle.std.proofs.lemmas.List.{reverse-reverse}
 use Rattle.std.proofs.lemmas.Bool.Decides.{nat_tests}
 use Rattle.std.proofs.Common.{arith}
 use Rattle.std.specs.FinMap.Entries.{find, is_sorted}
@@ -14,10 +15,10 @@ use Rattle.tree_model.specs.Tree.{Node, Tree, route_cmp, route_cmp_total, id_at,
 use Rattle.tree_model.specs.TreeLaws.{is_same, same_route, is_same_itself, other_route, same_id, id_at-without_path}
 use Rattle.image_reading.specs.Reading.{Names, Reached, IsNode, Reads}
 use Rattle.image_reading.specs.Soundness.{Sound}
+use Rattle.image_counts.proofs.Slots.{same_reverse}
 use Rattle.image_laws.specs.Remove.{HasRemoved, RemoveTreeLaw}
 use Rattle.image_laws.proofs.Paths.{reached-le}
 use Rattle.image_laws.proofs.Removes.{remove_law}
-use Rattle.image_laws.proofs.Trees.{reverse_twice, same_reversed}
 
 -- ---- whether an id has a path
 
@@ -89,7 +90,7 @@ module _ (P : ℕ) (I J : List ℕ) (p path : Route) (s : ℕ) (tree : Tree) (so
           (λ b. absurd (((removed.names (reverse q) x).0 b).1 gone)),
         )
     | false ↦ λ other. (
-      (λ e. (removed.names (reverse q) x).1 ((reads.names q x).0 (sym (at false other) ∙ e), λ gone. clash (sym other ∙ is_same_itself q path (same_reversed q path (gone ∙ sym is))))),
+      (λ e. (removed.names (reverse q) x).1 ((reads.names q x).0 (sym (at false other) ∙ e), λ gone. clash (sym other ∙ is_same_itself q path (same_reverse q path (gone ∙ sym is))))),
       (λ b. at false other ∙ (reads.names q x).1 ((removed.names (reverse q) x).0 b).0),
     )
   ] refl
@@ -106,7 +107,7 @@ module _ (P : ℕ) (I J : List ℕ) (p path : Route) (s : ℕ) (tree : Tree) (so
       (reverse q, (names_left q x).0 found)
 
   reached_has : (x : ℕ) → Reached P J x → has_path (without_path tree path).names.entries x ≡ true
-  reached_has x (q, b) = found_has (without_path tree path).names.entries (reverse q) x ((names_left (reverse q) x).1 (subst (λ z. Names P J z x) (sym (reverse_twice q)) b))
+  reached_has x (q, b) = found_has (without_path tree path).names.entries (reverse q) x ((names_left (reverse q) x).1 (subst (λ z. Names P J z x) (sym (reverse-reverse q)) b))
 
   before : (x : ℕ) → Reached P J x → Reached P I x
   before x (q, b) = (q, ((removed.names q x).0 b).0)

@@ -1,6 +1,6 @@
 -- A sound image reads as a tree, which is well formed.
-use Rattle.std.proofs.Common.{◌≡◌, ◌↔◌, ◌⊎◌, inl, inr, ℕ, ◌+◌, true, List, [], ◌∷◌, ◌++◌, map, reverse, Option, Some, None, is_some, refl, sym, ap, subst, ◌∙◌, arith}
-use Rattle.std.proofs.lemmas.List.{reverse-append}
+use Rattle.std.proofs.Common.{◌≡◌, ◌↔◌, inl, inr, ℕ, ◌+◌, true, List, [], ◌∷◌, ◌++◌, map, reverse, refl, sym, ap, ◌∙◌, arith}
+use Rattle.std.proofs.lemmas.List.{reverse-append, reverse-reverse}
 use Rattle.std.specs.Cmp.{nat_cmp_total}
 use Rattle.std.specs.FinMap.{nat_cmp-IsAntisymmetric}
 use Rattle.std.proofs.Common.{nat_cmp}
@@ -8,24 +8,19 @@ use Rattle.layout.specs.Geometry.{inodes_of}
 use Rattle.layout.specs.Fields.{inode_kind}
 use Rattle.tree_model.specs.PathText.{Route}
 use Rattle.tree_model.specs.Table.{table_of, get-table_of}
-use Rattle.tree_model.specs.Tree.{Node, Directory, File, Tree, IsTree, route_cmp, route_cmp_total, route_cmp-IsAntisymmetric, id_at, node_at, is_directory, is_directory_node, is_root, parent, last_name}
-use Rattle.image_reading.specs.Reading.{slot_owner, Names, Reached, IsNode, Reads}
-use Rattle.image_reading.specs.Soundness.{Rule, Sound}
+use Rattle.tree_model.specs.Tree.{Node, Tree, route_cmp, route_cmp_total, route_cmp-IsAntisymmetric, is_directory, parent, last_name}
+use Rattle.image_reading.specs.Reading.{Names, Reached, IsNode, Reads}
+use Rattle.image_reading.specs.Soundness.{Sound}
+use Rattle.image_counts.proofs.Paths.{one_inode}
+use Rattle.image_counts.proofs.Nodes.{has_sizes}
+use Rattle.image_counts.proofs.States.{is_tree}
 use Rattle.image_laws.specs.Trees.{TreeLaw, FormLaw}
 use Rattle.image_laws.proofs.AllNames.{all_names, all_names_are}
-use Rattle.image_laws.proofs.Contents.{node_of, node_is, one_node, nodes_below, in_nodes, nodes_has}
-use Rattle.image_laws.specs.Lookup.{Listed}
-use Rattle.image_laws.proofs.Entries.{find_has, has_find}
-use Rattle.image_laws.proofs.Paths.{one_path, one_inode, reached-le}
+use Rattle.image_laws.proofs.Contents.{one_node, nodes_below, in_nodes, nodes_has}
+use Rattle.image_laws.proofs.Entries.{Listed, find_has, has_find}
+use Rattle.image_laws.proofs.Paths.{reached-le}
 
 -- ---- a path and its names the other way round
-
-pub reverse_twice : {X : Type 0} (xs : List X) → reverse (reverse xs) ≡ xs
-reverse_twice [] = refl
-reverse_twice (x ∷ xs) = ap reverse (reverse-append (x ∷ []) xs) ∙ reverse-append (reverse xs) (x ∷ []) ∙ ap (λ ys. x ∷ ys) (reverse_twice xs)
-
-pub same_reversed : {X : Type 0} (xs ys : List X) → reverse xs ≡ reverse ys → xs ≡ ys
-same_reversed xs ys e = sym (reverse_twice xs) ∙ ap reverse e ∙ reverse_twice ys
 
 -- the last name stands first
 pub reverse_path : (name : List ℕ) (names : Route) → reverse (name ∷ names) ≡ last_name (name ∷ names) ∷ reverse (parent (name ∷ names))
@@ -42,11 +37,11 @@ unfolding turned
 turned_has [] p i = ((λ h. h), (λ h. h))
 turned_has (e ∷ es) p i = (
   (λ h. elim h [
-    | inl g ↦ inl (sym (reverse_twice e.0) ∙ ap reverse g.0, g.1)
+    | inl g ↦ inl (sym (reverse-reverse e.0) ∙ ap reverse g.0, g.1)
     | inr g ↦ inr ((turned_has es p i).0 g)
   ]),
   (λ h. elim h [
-    | inl g ↦ inl (ap reverse g.0 ∙ reverse_twice p, g.1)
+    | inl g ↦ inl (ap reverse g.0 ∙ reverse-reverse p, g.1)
     | inr g ↦ inr ((turned_has es p i).1 g)
   ]),
 )
@@ -95,50 +90,15 @@ module _ (P : ℕ) (I : List ℕ) (sound : Sound P I) where
 
 -- ---- it is well formed
 
-found : {X : Type 0} (o : Option X) → is_some o ≡ true → (x : X) × (o ≡ Some x)
-found None e = cc
-found (Some x) e = (x, refl)
-
-directory_found : (o : Option Node) → is_directory_node o ≡ true → o ≡ Some Directory
-directory_found None e = cc
-directory_found (Some Directory) e = refl
-directory_found (Some (File bytes)) e = cc
-
 module _ (P : ℕ) (I : List ℕ) (T : Tree) (sound : Sound P I) (reads : Reads P I T) where
   pub directory_is : (i : ℕ) → is_directory T i ≡ true → Reached P I i × (inode_kind I i ≡ 2)
-  directory_is i e = (reads.nodes i Directory).0 (directory_found (node_at T i) e)
+  directory_is i = ((has_sizes P I T sound reads).directories i).0
 
   pub is_directory-reached : (i : ℕ) → Reached P I i → inode_kind I i ≡ 2 → is_directory T i ≡ true
-  is_directory-reached i r k = ap is_directory_node ((reads.nodes i Directory).1 (r, k))
-
-  pub node_found : (i : ℕ) → Reached P I i → (x : Node) × (node_at T i ≡ Some x)
-  node_found i r = (node_of P I sound i r, (reads.nodes i (node_of P I sound i r)).1 (r, node_is P I sound i r))
-
-  parents_of : (path : Route) → is_some (id_at T path) ≡ true → (is_root path ≡ true) ⊎ ((id : ℕ) × (id_at T (parent path) ≡ Some id) × (is_directory T id ≡ true))
-  parents_of [] there = inl refl
-  parents_of (name ∷ names) there =
-      let (i, e) = found (id_at T (name ∷ names)) there in
-      let (s, above, leads) = subst (λ p. Names P I p i) (reverse_path name names) ((reads.names (name ∷ names) i).0 e) in
-      inr (
-        slot_owner P I s,
-        (reads.names (parent (name ∷ names)) (slot_owner P I s)).1 above,
-        is_directory-reached (slot_owner P I s) (reverse (parent (name ∷ names)), above) leads.directory,
-      )
-
-  pub tree_formed : IsTree T
-  tree_formed = record {
-    root = (reads.names [] 1).1 refl;
-    root_directory = (reads.nodes 1 Directory).1 (([], refl), (sound Rule.root 1).directory refl);
-    parents = parents_of;
-    one_path = λ i e p q a b. same_reversed p q (one_path P I sound (reverse p) (reverse q) i ((reads.names p i).0 a) ((reads.names q i).0 b) (directory_is i e).1);
-    named = λ i there. let (x, e) = found (node_at T i) there in
-        let (p, b) = ((reads.nodes i x).0 e).0 in
-        (reverse p, (reads.names (reverse p) i).1 (subst (λ q. Names P I q i) (sym (reverse_twice p)) b));
-    present = λ p i e. let (x, n) = node_found i (reverse p, (reads.names p i).0 e) in ap is_some n;
-  }
+  is_directory-reached i r k = ((has_sizes P I T sound reads).directories i).1 (r, k)
 
 pub form_law : FormLaw
-form_law P I T sound reads = tree_formed P I T sound reads
+form_law P I T sound reads = is_tree P I T sound reads
 
 pub tree_law : TreeLaw
 tree_law P I sound = (the_tree P I sound, the_tree_reads P I sound, form_law P I (the_tree P I sound) sound (the_tree_reads P I sound))

@@ -1,8 +1,8 @@
 -- The intervals of create and mkdir: a new page of the directory where it needs one, the node's and the name's words,
 -- and the slot's inode number.
 use Rattle.std.specs.Prelude.{◌≡◌, ◌≢◌, ◌⊎◌, ℕ, ◌+◌, ◌<◌, ◌≤◌, List, [], ◌∷◌, length, reverse, set, slice_index}
-use Rattle.layout.specs.Fields.{word, inode_links, page_owner, page_kind, page_offset, slot_inode, slot_name, slot_words}
-use Rattle.layout.specs.Geometry.{inodes_of, data_pages_of, page_of_slot, inode_word_of, descriptor_word_of, slot_word_of, page_word_of}
+use Rattle.layout.specs.Fields.{word, inode_links, page_kind, page_offset, slot_inode, slot_name, slot_words}
+use Rattle.layout.specs.Geometry.{inodes_of, page_of_slot, inode_word_of, descriptor_word_of, slot_word_of, page_word_of}
 use Rattle.layout.specs.Name.{IsNameWords, name_in_words}
 use Rattle.tree_model.specs.PathText.{Route}
 use Rattle.tree_model.specs.Tree.{Node, Directory, File, Tree, Room}
@@ -10,6 +10,7 @@ use Rattle.tree_model.specs.Step.{with_new}
 use Rattle.image_reading.specs.Reading.{IsDirectory, slot_owner, IsHeld, Names, Reached, IsReachedSlot, Reads, HasRoom}
 use Rattle.image_reading.specs.Soundness.{Sound}
 use Rattle.image_reading.specs.Tidy.{Tidy}
+use Rattle.image_counts.specs.Entries.{IsFreePage}
 use Rattle.image_laws.specs.Frame.{SameMeaning}
 use Rattle.image_laws.specs.Quiet.{IsMix}
 use Rattle.image_laws.specs.Add.{with_page, with_node}
@@ -104,11 +105,6 @@ pub record MakesPage (P : ℕ) (I J : List ℕ) (j : ℕ) : Type 0 where
   pub kind : page_kind P J j ≡ 2
   pub offset : page_offset P J j ≡ 0
   pub others : (a : ℕ) → (IsPageMadeWord P j a → ⊥) → word J a ≡ word I a
-
--- a data page that nobody owns
-pub record IsFreePage (P : ℕ) (I : List ℕ) (j : ℕ) : Type 0 where
-  pub in_range : j < data_pages_of P
-  pub unowned : page_owner P I j ≡ 0
 
 -- directory d owns page j
 abbrev pub owned : ℕ → List ℕ → ℕ → ℕ → List ℕ

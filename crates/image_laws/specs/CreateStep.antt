@@ -9,8 +9,9 @@ use Rattle.tree_model.specs.Run.{State}
 use Rattle.tree_model.specs.declared.command.Command.{Command}
 use Rattle.tree_model.specs.declared.command.Command.TheVariants.{Create, Mkdir}
 use Rattle.image_reading.specs.Reading.{ReadsAs}
+use Rattle.image_counts.specs.Entries.{IsFreePage}
 use Rattle.image_laws.specs.Add.{with_page, with_node}
-use Rattle.image_laws.specs.Create.{IsEmptyNode, CanMake, IsVacant, IsFreePage, MakesNode, MakesPage, committed, owned}
+use Rattle.image_laws.specs.Create.{IsEmptyNode, CanMake, IsVacant, MakesNode, MakesPage, committed, owned}
 
 -- the command that makes such a node
 abbrev pub making : Node → Route → Command

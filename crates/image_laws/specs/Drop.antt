@@ -8,17 +8,17 @@ use Rattle.tree_model.specs.Step.{without_path, without_unnamed}
 use Rattle.tree_model.specs.Tree.{Tree}
 use Rattle.image_reading.specs.Reading.{HasBytes, IsDirectory, slot_owner, Names, Reached, IsReachedSlot, IsRoomOf, Reads}
 use Rattle.image_reading.specs.Tidy.{Tidy}
+use Rattle.image_counts.specs.Entries.{IsSlotOf}
 use Rattle.image_laws.specs.Frame.{SameMeaning}
 use Rattle.image_laws.specs.Quiet.{IsMix}
 use Rattle.image_laws.specs.Remove.{HasRoomRemoved}
-use Rattle.image_laws.specs.Space.{IsEntryOf}
 
 -- p names the owner of the reached slot s, and a directory that the slot names has no names.
 pub record CanDrop (P : ℕ) (I : List ℕ) (p : Route) (s : ℕ) : Type 0 where
   pub tidy : Tidy P I
   pub path : Names P I p (slot_owner P I s)
   pub slot : IsReachedSlot P I s
-  pub empty : IsDirectory I (slot_inode P I s) → (t : ℕ) → IsEntryOf P I (slot_inode P I s) t → ⊥
+  pub empty : IsDirectory I (slot_inode P I s) → (t : ℕ) → IsSlotOf P I (slot_inode P I s) t → ⊥
 
 -- the slot gives up its inode number
 abbrev pub dropped : ℕ → List ℕ → ℕ → List ℕ

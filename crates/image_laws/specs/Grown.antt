@@ -6,13 +6,13 @@ use Rattle.layout.specs.Name.{name_in_words}
 use Rattle.tree_model.specs.PathText.{Route}
 use Rattle.tree_model.specs.Tree.{Node}
 use Rattle.image_reading.specs.Reading.{HasBytes, Reached, IsReachedSlot, IsPageOf, IsRoomOf}
-use Rattle.image_laws.specs.Create.{CanMake, IsVacant, IsFreePage, MakesNode, MakesPage, committed, owned}
-use Rattle.image_laws.specs.Space.{IsEntryOf}
+use Rattle.image_counts.specs.Entries.{IsSlotOf, IsFreePage}
+use Rattle.image_laws.specs.Create.{CanMake, IsVacant, MakesNode, MakesPage, committed, owned}
 
 -- J has what W has, and inode i, named by slot s of directory d.
 pub record HasGrown (P : ℕ) (W J : List ℕ) (d s i : ℕ) (name : List ℕ) : Type 0 where
   pub reached : (x : ℕ) → Reached P J x ↔ (Reached P W x ⊎ (x ≡ i))
-  pub entries : (x t : ℕ) → IsEntryOf P J x t ↔ (IsEntryOf P W x t ⊎ ((x ≡ d) × (t ≡ s)))
+  pub entries : (x t : ℕ) → IsSlotOf P J x t ↔ (IsSlotOf P W x t ⊎ ((x ≡ d) × (t ≡ s)))
   pub pages : (x j : ℕ) → IsRoomOf P J x j ↔ (IsRoomOf P W x j ⊎ ((x ≡ d) × (j ≡ page_of_slot s)))
   pub files : (x k j : ℕ) → Reached P W x → HasBytes W x → IsPageOf P J x k j ↔ IsPageOf P W x k j
   pub owner : page_owner P J (page_of_slot s) ≡ d

@@ -10,10 +10,7 @@ pub mod Remove
 pub mod Move
 pub mod Resize
 pub mod Pointers
-pub mod Unlink
-pub mod Space
 pub mod CreateStep
-pub mod Lookup
 pub mod Grown
 pub mod Link
 pub mod LinkStep

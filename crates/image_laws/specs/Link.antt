@@ -9,10 +9,11 @@ use Rattle.tree_model.specs.Tree.{Tree, Room}
 use Rattle.tree_model.specs.Step.{with_path}
 use Rattle.image_reading.specs.Reading.{Reads, HasRoom}
 use Rattle.image_reading.specs.Tidy.{Tidy}
+use Rattle.image_counts.specs.Entries.{IsFreePage}
 use Rattle.image_laws.specs.Frame.{SameMeaning}
 use Rattle.image_laws.specs.Quiet.{IsMix}
 use Rattle.image_laws.specs.Add.{IsOldFile, with_page}
-use Rattle.image_laws.specs.Create.{IsAmong, CanName, IsVacant, IsFreePage, MakesPage, IsPageQuiet, committed, owned}
+use Rattle.image_laws.specs.Create.{IsAmong, CanName, IsVacant, MakesPage, IsPageQuiet, committed, owned}
 use Rattle.image_laws.specs.Grown.{HasGrown}
 
 -- a name word of slot s, or the link word of inode i

@@ -8,8 +8,9 @@ use Rattle.tree_model.specs.Step.{is_full, room_after}
 use Rattle.tree_model.specs.Run.{State}
 use Rattle.tree_model.specs.declared.command.Command.TheVariants.{Link}
 use Rattle.image_reading.specs.Reading.{ReadsAs}
+use Rattle.image_counts.specs.Entries.{IsFreePage}
 use Rattle.image_laws.specs.Add.{with_page}
-use Rattle.image_laws.specs.Create.{IsVacant, IsFreePage, MakesPage, committed, owned}
+use Rattle.image_laws.specs.Create.{IsVacant, MakesPage, committed, owned}
 use Rattle.image_laws.specs.CreateStep.{IsStepped}
 use Rattle.image_laws.specs.Link.{MakesLink, CanLink}
 

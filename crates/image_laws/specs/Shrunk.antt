@@ -4,12 +4,12 @@ use Rattle.layout.specs.Fields.{page_owner, slot_inode, slot_name}
 use Rattle.layout.specs.Geometry.{data_pages_of}
 use Rattle.tree_model.specs.PathText.{Route}
 use Rattle.image_reading.specs.Reading.{slot_owner, Reached, IsNameOf, IsPageOf}
+use Rattle.image_counts.specs.Entries.{IsSlotOf}
 use Rattle.image_laws.specs.Drop.{CanDrop, Drops, IsGiven, dropped}
-use Rattle.image_laws.specs.Space.{IsEntryOf}
 
 -- K has what W has, but slot s names nothing, and what is given back has no owner.
 pub record HasShrunk (P : ℕ) (W K : List ℕ) (s : ℕ) : Type 0 where
-  pub entries : (x t : ℕ) → IsEntryOf P K x t ↔ (IsEntryOf P W x t × (t ≢ s))
+  pub entries : (x t : ℕ) → IsSlotOf P K x t ↔ (IsSlotOf P W x t × (t ≢ s))
   pub reached : (x : ℕ) → x ≢ slot_inode P W s → Reached P K x ↔ Reached P W x
   pub inode : Reached P K (slot_inode P W s) ↔ ((t : ℕ) × IsNameOf P W (slot_inode P W s) t × (t ≢ s))
   pub names : (t : ℕ) → t ≢ s → slot_name P K t ≡ slot_name P W t

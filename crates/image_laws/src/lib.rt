@@ -15,13 +15,10 @@ ghost use Rattle.image_laws.specs.Grown.{GrownLaw, NewPageGrownLaw};
 ghost use Rattle.image_laws.specs.Link.{LinkLaw, NewPageLinkLaw};
 ghost use Rattle.image_laws.specs.LinkStep.{LinkRoomLaw, LinkStepLaw, NewPageLinkStepLaw};
 ghost use Rattle.image_laws.specs.Shrunk.{ShrunkLaw};
-ghost use Rattle.image_laws.specs.Lookup.{LookupLaw, LinksLaw, ListLaw};
 ghost use Rattle.image_laws.specs.Move.{MoveLaw};
 ghost use Rattle.image_laws.specs.Pointers.{PointerLaw, LeaveLaw};
 ghost use Rattle.image_laws.specs.Remove.{RemoveLaw, RemoveTreeLaw, RemoveRoomLaw};
 ghost use Rattle.image_laws.specs.Resize.{ResizeLaw};
-ghost use Rattle.image_laws.specs.Unlink.{UnlinkLaw};
-ghost use Rattle.image_laws.specs.Space.{InodesLaw, NamesLaw, FullLaw, PagesLaw, StateLaw};
 ghost use Rattle.image_laws.specs.Trees.{TreeLaw, FormLaw, RoomLaw};
 
 /// An image that agrees with a sound one on what is used means the same.
@@ -83,32 +80,11 @@ pub fn pointer_law()
     ensures leave { LeaveLaw }
 {}
 
-/// Each mix of old and new words while a file is unlinked reads as the tree before, or from its first store on as the tree after.
-pub fn unlink_law()
-    ensures { UnlinkLaw }
-{}
-
-/// How many inodes, slots and pages the tree and the room of an image take, and that a tidy image has a state of the volume.
-pub fn space_law()
-    ensures inodes { InodesLaw }
-    ensures names { NamesLaw }
-    ensures full { FullLaw }
-    ensures pages { PagesLaw }
-    ensures state { StateLaw }
-{}
-
 /// What create and mkdir leave reads as a state that the step allows.
 pub fn create_step_law()
     ensures room { RoomAfterLaw }
     ensures old_page { CreateStepLaw }
     ensures new_page { NewPageStepLaw }
-{}
-
-/// What is looked up by a name, what a directory lists, and that link words are counts.
-pub fn lookup_law()
-    ensures lookup { LookupLaw }
-    ensures links { LinksLaw }
-    ensures list { ListLaw }
 {}
 
 /// What an index of the image holds after create and mkdir, and after unlink and rmdir.

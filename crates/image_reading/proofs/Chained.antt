@@ -1,10 +1,10 @@
 -- The rules hold one after another, up to the first that is broken.
-use Rattle.std.proofs.Common.{◌≡◌, inl, inr, ℕ, ◌+◌, ◌*◌, ◌<◌, List, length, Option, Some, None, IfSome, sym, subst, arith}
+use Rattle.std.proofs.Common.{◌≡◌, ◌↔◌, inl, inr, ℕ, ◌+◌, ◌*◌, ◌<◌, List, length, Option, Some, None, IfSome, refl, sym, subst, arith}
 use Rattle.std.proofs.lemmas.Bool.{cases_lt}
 use Rattle.image_reading.specs.Soundness.{Rule, number, Obeys, Sound, IsFirstFault, IsFirstViolation, pages_in_image}
 use Rattle.image_reading.specs.Scan.{KeepsBelow, IsFault, FindsFault}
 use Rattle.image_reading.specs.declared.Violation.{Violation}
-use Rattle.image_reading.proofs.Violations.{same_rule}
+use Rattle.image_reading.proofs.Violations.{same_rule, no_fault}
 
 module _ (P : ℕ) (I : List ℕ) where
   pub keeps_none : KeepsBelow P I 1
@@ -66,9 +66,20 @@ image_sound P I whole keeps =
     let pages : P ≡ pages_in_image I = omega arith in
     subst (λ p. Sound p I) pages (all_rules P I keeps)
 
-pub sound_at_none : (P : ℕ) (I : List ℕ) (found : Option Violation) → length I ≡ 512 * P → FindsFault P I 15 found → found ≡ None → Sound (pages_in_image I) I
-sound_at_none P I None whole keeps e = image_sound P I whole keeps
-sound_at_none P I (Some violation) whole fault e = let no : ⊥ = cc in absurd no
+pub pages_are : (P : ℕ) (I : List ℕ) → length I ≡ 512 * P → pages_in_image I ≡ P
+pages_are P I whole = omega arith
+
+pub none_not_at_some : (P : ℕ) (I : List ℕ) (violation : Violation) → length I ≡ 512 * P → IsFault P I violation → (Some violation ≡ None) ↔ Sound (pages_in_image I) I
+none_not_at_some P I violation whole fault =
+    let first = image_fault P I violation whole fault in (
+      (λ e. let no : ⊥ = cc in absurd no),
+      (λ sound. absurd (no_fault (pages_in_image I) I first.rule violation.place sound first.first)),
+    )
+
+-- none is found exactly where the image is sound
+pub none_exactly : (P : ℕ) (I : List ℕ) (found : Option Violation) → length I ≡ 512 * P → FindsFault P I 15 found → (found ≡ None) ↔ Sound (pages_in_image I) I
+none_exactly P I None whole keeps = ((λ e. image_sound P I whole keeps), (λ sound. refl))
+none_exactly P I (Some violation) whole fault = none_not_at_some P I violation whole fault
 
 pub first_at_some : (P : ℕ) (I : List ℕ) (n : ℕ) (found : Option Violation) → length I ≡ 512 * P → FindsFault P I n found → IfSome found (IsFirstViolation I)
 first_at_some P I n None whole keeps = tt

@@ -1,12 +1,14 @@
-// The search for the first violation, and its tables.
-ghost use Rattle.std.specs.Prelude.{◌≡◌, ◌*◌, ◌+◌, IfSome, length, vec_len};
+// The search for the first violation and for what is to be repaired, and the tables of both.
+ghost use Rattle.std.specs.Prelude.{◌≡◌, ◌↔◌, ◌*◌, ◌+◌, IfSome, IsTrue, None, length, vec_len};
 ghost use Rattle.image_reading.specs.Soundness.{IsFirstViolation, Sound, pages_in_image};
+ghost use Rattle.image_reading.specs.Tidy.{Tidy};
 
 use crate::Violation;
 use crate::chain::{fault_of_head, fault_of_links, fault_of_names, fault_of_pages};
 use crate::held::rename_of;
 use crate::pages::{Lists, link_pages};
 use crate::reach::Reach;
+use crate::tidy::has_no_repairs;
 use crate::walk::walk_tree;
 use layout::Geometry;
 use pm_trait::NoMemory;
@@ -35,10 +37,14 @@ pub struct Scan {
 }
 
 impl Scan {
-    ghost use Rattle.std.specs.Prelude.{◌≡◌, ◌*◌, IfOk, length};
-    ghost use Rattle.image_reading.specs.Scan.{FindsFault, KeepsBelow};
+    ghost use Rattle.std.specs.Prelude.{◌≡◌, ◌*◌, ℕ, IfOk, length};
+    ghost use Rattle.image_reading.specs.Scan.{FindsFault, IsLinked, KeepsBelow};
+    ghost use Rattle.image_reading.specs.Soundness.{IsOnlyPointer};
+    ghost use Rattle.image_reading.specs.Walk.{Knows};
 
-    /// Tables for volumes of this size. Fails where there is no memory for them.
+    /// Tables for volumes of this size.
+    ///
+    /// Fails for want of memory, and for nothing else.
     pub fn new(alloc: Global, geometry: &Geometry) -> Result<Scan, NoMemory>
         ensures { IfOk result (λ scan. scan.geometry ≡ geometry.now) }
     {
@@ -71,11 +77,12 @@ impl Scan {
         })
     }
 
-    // Rules 5 to 14, where those before hold.
-    fn fault_of_tree(&mut self, words: &[u64]) -> Option<Violation>
+    // Links the pages of each owner, and finds what is reached.
+    fn walk(&mut self, words: &[u64])
         requires whole { length words.now ≡ 512 * self.old.geometry.pages }
-        requires kept { KeepsBelow self.old.geometry.pages words.now 5 }
-        ensures found { FindsFault self.old.geometry.pages words.now 15 result }
+        requires one_pointer { (s : ℕ) → IsOnlyPointer self.old.geometry.pages words.now s }
+        ensures linked { IsLinked self.old.geometry.pages words.now self.new.first.items self.new.next.items }
+        ensures known { Knows self.old.geometry.pages words.now self.new.reach }
         ensures made_for { self.new.geometry ≡ self.old.geometry }
     {
         let geometry = self.geometry;
@@ -91,6 +98,21 @@ impl Scan {
             next: self.next.as_slice(),
         };
         walk_tree(words, &geometry, rename, lists, &mut self.reach);
+    }
+
+    // Rules 5 to 14, where those before hold.
+    fn fault_of_tree(&mut self, words: &[u64]) -> Option<Violation>
+        requires whole { length words.now ≡ 512 * self.old.geometry.pages }
+        requires kept { KeepsBelow self.old.geometry.pages words.now 5 }
+        ensures found { FindsFault self.old.geometry.pages words.now 15 result }
+        ensures made_for { self.new.geometry ≡ self.old.geometry }
+    {
+        self.walk(words);
+        let geometry = self.geometry;
+        let lists = Lists {
+            first: self.first.as_slice(),
+            next: self.next.as_slice(),
+        };
         let named = self.named.as_mut_slice();
         if let Some(fault) = fault_of_names(words, &geometry, &self.reach, lists, named) {
             return Some(fault);
@@ -106,7 +128,7 @@ impl Scan {
 /// The first place at which the words break a rule, by rule and then by place. `None` where the image is sound.
 pub fn first_fault(words: &[u64], scan: &mut Scan) -> Option<Violation>
     requires made_for { length words.now ≡ 512 * scan.old.geometry.pages }
-    ensures sound { result ≡ None → Sound (pages_in_image words.now) words.now }
+    ensures none { (result ≡ None) ↔ Sound (pages_in_image words.now) words.now }
     ensures first { IfSome result (IsFirstViolation words.now) }
     ensures made_for { scan.new.geometry ≡ scan.old.geometry }
 {
@@ -115,4 +137,16 @@ pub fn first_fault(words: &[u64], scan: &mut Scan) -> Option<Violation>
         return Some(fault);
     }
     scan.fault_of_tree(words)
+}
+
+/// Whether a sound image needs no recovery. No memory is taken.
+pub fn is_tidy(words: &[u64], scan: &mut Scan) -> bool
+    requires made_for { length words.now ≡ 512 * scan.old.geometry.pages }
+    requires sound { Sound (pages_in_image words.now) words.now }
+    ensures tidy { IsTrue result ↔ Tidy (pages_in_image words.now) words.now }
+    ensures made_for { scan.new.geometry ≡ scan.old.geometry }
+{
+    scan.walk(words);
+    let geometry = scan.geometry;
+    has_no_repairs(words, &geometry, &scan.reach, scan.tally.as_mut_slice())
 }

@@ -1,6 +1,6 @@
-// Each rule once, at places worked out by hand, on 16 pages: inode 1 begins at word 512, inode 2 at 528, the descriptors
-// at 1,024, eight words each, and data page 0 at 1,536, with sixteen words a slot.
-ghost use Rattle.std.specs.Prelude.{◌≡◌, vec_len};
+// Each rule and each repair once, at places worked out by hand, on 16 pages: inode 1 begins at word 512, inode 2 at 528,
+// the descriptors at 1,024, eight words each, and data page 0 at 1,536, with sixteen words a slot.
+ghost use Rattle.std.specs.Prelude.{◌≡◌, IfOk, vec_len};
 
 use super::*;
 use layout::Geometry;
@@ -43,6 +43,17 @@ fn store(words: &mut Vec<u64>, stores: Stores<'_>)
     }
 }
 
+// The words of a formatted volume with this tree, after these stores.
+fn words_after(alloc: Global, tree: Stores<'_>, stores: Stores<'_>) -> Result<Vec<u64>, Fail>
+    ensures { IfOk result (λ words. vec_len words ≡ 8_192) }
+{
+    let mut words = vec![in alloc; 0u64; 8_192]?;
+    store(&mut words, FORMATTED.as_slice());
+    store(&mut words, tree);
+    store(&mut words, stores);
+    Ok(words)
+}
+
 // The first violation of a formatted volume with this tree, after these stores.
 fn fault_after(
     rt: &impl Abort,
@@ -52,13 +63,61 @@ fn fault_after(
 ) -> Result<Option<(u64, u64)>, Fail> {
     let geometry = Geometry::of(16).ok_or("no volume")?;
     let mut scan = Scan::new(alloc, &geometry)?;
-    let mut words = vec![in alloc; 0u64; 8_192]?;
-    store(&mut words, FORMATTED.as_slice());
-    store(&mut words, tree);
-    store(&mut words, stores);
+    let words = words_after(alloc, tree, stores)?;
     assert_eq!(rt; geometry.pages, 16);
-    assert_eq!(rt; words.len(), 8_192);
     Ok(first_fault(words.as_slice(), &mut scan).map(|fault| (fault.rule, fault.place)))
+}
+
+// Whether a formatted volume with one file needs no recovery, after these stores, which break no rule.
+fn is_tidy_after(rt: &impl Abort, alloc: Global, stores: Stores<'_>) -> Result<bool, Fail> {
+    let geometry = Geometry::of(16).ok_or("no volume")?;
+    let mut scan = Scan::new(alloc, &geometry)?;
+    let words = words_after(alloc, ONE_FILE.as_slice(), stores)?;
+    assert_eq!(rt; geometry.pages, 16);
+    match first_fault(words.as_slice(), &mut scan) {
+        None => Ok(is_tidy(words.as_slice(), &mut scan)),
+        Some(_) => Err("a broken rule".into()),
+    }
+}
+
+#[test]
+fn repairs(rt: HostRuntime) -> Result<(), Fail> {
+    for (stores, expected) in [
+        // as it is
+        ([].as_slice(), true),
+        // slot 0's rename pointer names slot 1
+        ([(1_537, 2)].as_slice(), false),
+        // the file has a link more than it has names, and so has the root
+        ([(529, 2)].as_slice(), false),
+        ([(513, 3)].as_slice(), false),
+        // inode 3 isn't reached, and has a number of its own
+        ([(547, 3)].as_slice(), false),
+        // the last word of slot 31, which isn't live
+        ([(2_047, 1)].as_slice(), false),
+        // page 2 is nobody's, and has an offset
+        ([(1_042, 1)].as_slice(), false),
+        // page 1 is the file's, which has no byte, or has one
+        ([(1_032, 2), (1_033, 1)].as_slice(), false),
+        ([(530, 1), (1_032, 2), (1_033, 1)].as_slice(), true),
+        // page 1 is the root's, and has no live slot, or has one that names the file too
+        ([(1_032, 1), (1_033, 2)].as_slice(), false),
+        (
+            [
+                (529, 2),
+                (1_032, 1),
+                (1_033, 2),
+                (2_048, 2),
+                (2_050, 0x62_0001),
+            ]
+            .as_slice(),
+            true,
+        ),
+        // page 1 is inode 3's, which isn't reached
+        ([(1_032, 3), (1_033, 1)].as_slice(), false),
+    ] {
+        assert_eq!(rt; is_tidy_after(&rt, rt.alloc(), stores)?, expected);
+    }
+    Ok(())
 }
 
 #[test]

@@ -124,7 +124,7 @@ impl Index {
     pub fn pages(&self, inode: u64) -> &[u64]
         requires from_one { 1 ≤ inode }
         requires in_range { inode ≤ inodes_of_index self.now }
-        ensures { result.now ≡ pages_of self.now inode }
+        ensures pages { result.now ≡ pages_of self.now inode }
     {
         self.nodes[place_of(inode)].pages()
     }
@@ -153,7 +153,7 @@ impl Index {
         requires in_range { inode ≤ inodes_of_index self.old }
         requires room { length (pages_of self.old inode) < page_places_of self.old inode }
         ensures pages { pages_of self.new inode ≡ pages_of self.old inode ++ page ∷ [] }
-        ensures page_places { page_places_of self.old inode ≤ page_places_of self.new inode }
+        ensures page_places { page_places_of self.new inode ≡ page_places_of self.old inode }
         ensures entries { entries_of self.new inode ≡ entries_of self.old inode }
         ensures places { places_of self.new inode ≡ places_of self.old inode }
         ensures elsewhere { IsSameElsewhere inode self.old self.new }
@@ -192,8 +192,8 @@ impl Index {
 
 // Where an inode stands in the list.
 fn place_of(inode: u64) -> usize
-    requires { 1 ≤ inode }
-    ensures { result + 1 ≡ inode }
+    requires from_one { 1 ≤ inode }
+    ensures place { result + 1 ≡ inode }
 {
     (inode - 1) as usize
 }

@@ -50,7 +50,7 @@ impl Node {
 
     /// One entry, counted from 0 in the order of names.
     pub fn nth(&self, k: u64) -> &Entry
-        requires { k < length self.now.entries }
+        requires place { k < length self.now.entries }
         ensures entry { slice_get self.now.entries k ≡ Some result.now }
         ensures sorted { IsSorted self.now.entries }
     {
@@ -109,7 +109,7 @@ impl Node {
 
     /// Removes the entry of a name.
     pub fn remove(&mut self, name: &Name)
-        requires { IsPresent self.old.entries name.now }
+        requires present { IsPresent self.old.entries name.now }
         ensures entries { (slot : ℕ) × IsWithEntry self.new.entries self.old.entries (record { name = name.now; slot = slot }) }
         ensures sorted { IsSorted self.new.entries }
         ensures places { self.new.places ≡ self.old.places }
@@ -146,18 +146,20 @@ impl Node {
 
     /// Adds a page at the end.
     pub fn push_page(&mut self, page: u64)
-        requires { length self.old.pages < self.old.page_places }
+        requires room { length self.old.pages < self.old.page_places }
         ensures pages { self.new.pages ≡ self.old.pages ++ page ∷ [] }
-        ensures page_places { self.old.page_places ≤ self.new.page_places }
+        ensures page_places { self.new.page_places ≡ self.old.page_places }
         ensures entries { self.new.entries ≡ self.old.entries }
         ensures places { self.new.places ≡ self.old.places }
     {
-        let _ = self.pages.push(page);
+        // Unlike `push`, `insert` says that it grows no vector that has room.
+        let end = self.pages.len();
+        let _ = self.pages.insert(end, page);
     }
 
     /// Puts a page in the place of the one that stands there.
     pub fn set_page(&mut self, place: u64, page: u64)
-        requires { place < length self.old.pages }
+        requires place { place < length self.old.pages }
         ensures pages { self.new.pages ≡ slice_set self.old.pages place page }
         ensures page_places { self.new.page_places ≡ self.old.page_places }
         ensures entries { self.new.entries ≡ self.old.entries }
@@ -168,7 +170,7 @@ impl Node {
 
     /// Drops the last `n` pages.
     pub fn cut_pages(&mut self, n: u64)
-        requires { n ≤ length self.old.pages }
+        requires count { n ≤ length self.old.pages }
         ensures pages { self.new.pages ≡ take (length self.old.pages - n) self.old.pages }
         ensures page_places { self.new.page_places ≡ self.old.page_places }
         ensures entries { self.new.entries ≡ self.old.entries }

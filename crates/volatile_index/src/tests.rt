@@ -25,8 +25,8 @@ fn least_index(alloc: Global) -> Result<Index, Fail>
 
 // Puts an entry into the directory 2.
 fn add(index: &mut Index, text: &str, slot: u64) -> Result<(), Fail>
-    requires { inodes_of_index index.old ≡ 4 }
-    ensures { inodes_of_index index.new ≡ 4 }
+    requires inodes { inodes_of_index index.old ≡ 4 }
+    ensures inodes { inodes_of_index index.new ≡ 4 }
 {
     let name = name(text)?;
     index.reserve_one(2)?;
@@ -39,8 +39,8 @@ fn add(index: &mut Index, text: &str, slot: u64) -> Result<(), Fail>
 
 // Removes an entry of the directory 2.
 fn take(index: &mut Index, text: &str) -> Result<(), Fail>
-    requires { inodes_of_index index.old ≡ 4 }
-    ensures { inodes_of_index index.new ≡ 4 }
+    requires inodes { inodes_of_index index.old ≡ 4 }
+    ensures inodes { inodes_of_index index.new ≡ 4 }
 {
     let name = name(text)?;
     match index.find(2, &name) {

@@ -7,12 +7,10 @@ ghost use Rattle.image_reading.specs.Soundness.{HasAllPages, HasOwnOffset};
 ghost use Rattle.image_reading.specs.Scan.{Finds, IsLinked};
 ghost use Rattle.image_reading.specs.Walk.{Knows};
 
+use crate::kinds::PAGE_BYTES;
 use crate::pages::Lists;
 use crate::reach::Reach;
 use layout::Geometry;
-
-// A page has so many bytes.
-const PAGE_BYTES: u64 = 4_096;
 
 /// Rule 12: a reached file has each page below its end. `stamps` is overwritten.
 pub fn missing_page(

@@ -64,8 +64,8 @@ fn has_enough_links(
     fields.links - 2 >= counted
 }
 
-// Counts the links of each inode.
-fn count_links(words: &[u64], geometry: &Geometry, reach: &Reach, tally: &mut [u64])
+/// Counts the links of each inode. `tally` is overwritten with them.
+pub fn count_links(words: &[u64], geometry: &Geometry, reach: &Reach, tally: &mut [u64])
     requires whole { length words.now ≡ 512 * geometry.now.pages }
     requires known { Knows geometry.now.pages words.now reach.now }
     requires numbers { (s : ℕ) → NamesInode geometry.now.pages words.now s }

@@ -8,7 +8,7 @@ use Rattle.allocators.proofs.numbers.Numbers.take.Goals as goal
 
 pub overflow_sub-self : goal.overflow_sub-self
 overflow_sub-self c =
-    let free : IsFree c.self.inside.is_free.items c.args.k = rw c.self.view_is c.requires in
+    let free : IsFree c.self.inside.is_free.items c.args.k = rw c.self.view_is c.requires.free in
     let change = count_after_take c.self.inside.is_free.items c.args.k free in
     let all = c.self.invariant.1 in
     omega (arith, change, all)
@@ -16,7 +16,7 @@ overflow_sub-self c =
 pub invariant_of-self : goal.invariant_of-self
 invariant_of-self c =
     let numbers = c.self.inside.is_free.items in
-    let free : IsFree numbers c.args.k = rw c.self.view_is c.requires in
+    let free : IsFree numbers c.args.k = rw c.self.view_is c.requires.free in
     let within = slice_get_within numbers c.args.k true free in
     let change = count_after_take numbers c.args.k free in
     let all = c.self.invariant.1 in
@@ -26,20 +26,20 @@ invariant_of-self c =
 pub invariant_of-self-else-place-self : goal.invariant_of-self-else-place-self
 invariant_of-self-else-place-self c =
     let numbers = c.self.inside.is_free.items in
-    let free : IsFree numbers c.args.k = rw c.self.view_is c.requires in
+    let free : IsFree numbers c.args.k = rw c.self.view_is c.requires.free in
     let within = slice_get_within numbers c.args.k true free in
     let change = count_after_take numbers c.args.k free in
     let all = c.self.invariant.1 in
     (lowest_after_take numbers c.args.k c.self.inside.lowest within c.self.invariant.0 (λ is. c.if-place-self.false (sym is)), omega (arith, change, all))
 
 pub returns-then-place-self-clause-taken : goal.returns-then-place-self-clause-taken
-returns-then-place-self-clause-taken c = rw c.self.view_is (taken_after_take c.args.self.now c.args.k (slice_get_within c.args.self.now c.args.k true c.requires))
+returns-then-place-self-clause-taken c = rw c.self.view_is (taken_after_take c.args.self.now c.args.k (slice_get_within c.args.self.now c.args.k true c.requires.free))
 
 pub returns-then-place-self-clause-count : goal.returns-then-place-self-clause-count
-returns-then-place-self-clause-count c = rw c.self.view_is (count_after_take c.args.self.now c.args.k c.requires)
+returns-then-place-self-clause-count c = rw c.self.view_is (count_after_take c.args.self.now c.args.k c.requires.free)
 
 pub returns-else-place-self-clause-taken : goal.returns-else-place-self-clause-taken
-returns-else-place-self-clause-taken c = rw c.self.view_is (taken_after_take c.args.self.now c.args.k (slice_get_within c.args.self.now c.args.k true c.requires))
+returns-else-place-self-clause-taken c = rw c.self.view_is (taken_after_take c.args.self.now c.args.k (slice_get_within c.args.self.now c.args.k true c.requires.free))
 
 pub returns-else-place-self-clause-count : goal.returns-else-place-self-clause-count
-returns-else-place-self-clause-count c = rw c.self.view_is (count_after_take c.args.self.now c.args.k c.requires)
+returns-else-place-self-clause-count c = rw c.self.view_is (count_after_take c.args.self.now c.args.k c.requires.free)

@@ -3,11 +3,11 @@ use Rattle.volatile_index.proofs.Nodes.{Stands, stands, changed, elsewhere, at_n
 use Rattle.volatile_index.proofs.index.Index.cut_pages.Goals as goal
 
 pub cut_pages-requires : goal.cut_pages-requires
-cut_pages-requires c = at_node (stands c.self.view_is c.place_of.ensures c.requires.in_range c.index_mut.ensures.value) (λ held. c.args.n ≤ length held.pages) c.requires.count
+cut_pages-requires c = record { count = at_node (stands c.self.view_is c.place_of.ensures.place c.requires.in_range c.index_mut.ensures.value) (λ held. c.args.n ≤ length held.pages) c.requires.count }
 
 -- the node of the inode
 here : (c : goal.After-self-1) → Stands c.args.self.now c.self.inside.nodes.items c.args.inode c.place_of.result c.index_mut.result.now
-here c = stands c.self.view_is c.place_of.ensures c.requires.in_range c.index_mut.ensures.value
+here c = stands c.self.view_is c.place_of.ensures.place c.requires.in_range c.index_mut.ensures.value
 
 pub returns-clause-pages : goal.returns-clause-pages
 returns-clause-pages c = changed (here c) c.cut_pages.new.self (λ old new. new.pages ≡ take (length old.pages - c.args.n) old.pages) c.cut_pages.ensures.pages

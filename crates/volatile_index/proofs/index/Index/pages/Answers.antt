@@ -3,4 +3,4 @@ use Rattle.volatile_index.proofs.Nodes.{stands, at_inode}
 use Rattle.volatile_index.proofs.index.Index.pages.Goals as goal
 
 pub returns : goal.returns
-returns c = at_inode (stands c.self.view_is c.place_of.ensures c.requires.in_range c.index.ensures) (λ held. c.pages.result.now ≡ held.pages) c.pages.ensures
+returns c = record { pages = at_inode (stands c.self.view_is c.place_of.ensures.place c.requires.in_range c.index.ensures) (λ held. c.pages.result.now ≡ held.pages) c.pages.ensures }

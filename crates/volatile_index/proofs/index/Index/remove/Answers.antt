@@ -4,11 +4,11 @@ use Rattle.volatile_index.proofs.Nodes.{Stands, stands, changed, elsewhere, at_n
 use Rattle.volatile_index.proofs.index.Index.remove.Goals as goal
 
 pub remove-requires : goal.remove-requires
-remove-requires c = at_node (stands c.self.view_is c.place_of.ensures c.requires.in_range c.index_mut.ensures.value) (λ held. IsPresent held.entries c.args.name.now) c.requires.present
+remove-requires c = record { present = at_node (stands c.self.view_is c.place_of.ensures.place c.requires.in_range c.index_mut.ensures.value) (λ held. IsPresent held.entries c.args.name.now) c.requires.present }
 
 -- the node of the inode
 here : (c : goal.After-self-1) → Stands c.args.self.now c.self.inside.nodes.items c.args.directory c.place_of.result c.index_mut.result.now
-here c = stands c.self.view_is c.place_of.ensures c.requires.in_range c.index_mut.ensures.value
+here c = stands c.self.view_is c.place_of.ensures.place c.requires.in_range c.index_mut.ensures.value
 
 pub returns-clause-entries : goal.returns-clause-entries
 returns-clause-entries c = changed (here c) c.remove.new.self (λ old new. (slot : ℕ) × IsWithEntry new.entries old.entries (record { name = c.args.name.now; slot = slot })) c.remove.ensures.entries

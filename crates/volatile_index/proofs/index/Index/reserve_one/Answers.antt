@@ -4,7 +4,7 @@ use Rattle.volatile_index.proofs.index.Index.reserve_one.Goals as goal
 
 -- the node of the inode
 here : (c : goal.After-self-1) → Stands c.args.self.now c.self.inside.nodes.items c.args.directory c.place_of.result c.index_mut.result.now
-here c = stands c.self.view_is c.place_of.ensures c.requires.in_range c.index_mut.ensures.value
+here c = stands c.self.view_is c.place_of.ensures.place c.requires.in_range c.index_mut.ensures.value
 
 pub returns-clause-ok : goal.returns-clause-ok
 returns-clause-ok c = changed (here c) c.reserve_one.new.self (λ old new. OnOk c.reserve_one.result (length new.entries < new.places)) c.reserve_one.ensures.ok

@@ -13,4 +13,4 @@ returns-in-Ok-clause-entries c =
     (without_entry c.args.self.now.entries c.in-Ok.place c.args.name.now c.in-Ok.ensures.found)
 
 pub returns-in_default-clause-entries : goal.returns-in_default-clause-entries
-returns-in_default-clause-entries c = absurd (gap_not_present _ _ _ c.in_default.ensures.gap c.requires)
+returns-in_default-clause-entries c = absurd (gap_not_present _ _ _ c.in_default.ensures.gap c.requires.present)

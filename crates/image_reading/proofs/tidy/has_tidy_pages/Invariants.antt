@@ -1,0 +1,6 @@
+use Rattle.std.proofs.Common.{ℕ, ◌<◌}
+use Rattle.image_reading.specs.Litter.{IsTidyPage}
+use Rattle.image_reading.proofs.tidy.has_tidy_pages.Given as goal
+
+abbrev pub invariant-loop-page : goal.invariant-loop-page
+invariant-loop-page l = (j : ℕ) → j < l.page → IsTidyPage l.geometry.pages l.words j
