@@ -11,21 +11,22 @@ use Rattle.volume.specs.declared.plan.Action.{Action}
 use Rattle.volume.specs.declared.plan.Action.TheVariants.{Make}
 use Rattle.volume.specs.Volume.{VolumeView}
 use Rattle.volume.specs.Planned.{IsPlanOf}
-use Rattle.create_ops.specs.Making.{command_of, IsPlanFor}
+use Rattle.volume.specs.Prepared.{making}
+use Rattle.create_ops.specs.Making.{IsPlanFor}
 
-same_entry : (one two : NewEntry) → ◌≡◌ {A = Action} (Make one) (Make two) → one ≡ two
+pub same_entry : (one two : NewEntry) → ◌≡◌ {A = Action} (Make one) (Make two) → one ≡ two
 same_entry one two e = cc
 
-kind_by : (P : ℕ) (I : List ℕ) (state : State) (path : Route) (kind : NodeKind) (action : Action) (entry : NewEntry) → action ≡ Make entry → IsPlanOf P I state (command_of kind path) action → entry.kind ≡ kind
+kind_by : (P : ℕ) (I : List ℕ) (state : State) (path : Route) (kind : NodeKind) (action : Action) (entry : NewEntry) → action ≡ Make entry → IsPlanOf P I state (making kind path) action → entry.kind ≡ kind
 kind_by P I state path AFile action entry is (other, plan, for) = ap (λ (e : NewEntry). e.kind) (same_entry entry other (sym is ∙ plan)) ∙ for.kind_is
 kind_by P I state path ADirectory action entry is (other, plan, for) = ap (λ (e : NewEntry). e.kind) (same_entry entry other (sym is ∙ plan)) ∙ for.kind_is
 
 module _ (volume : VolumeView) (W : List ℕ) (trail : Option Trail) (kind : NodeKind) (action : Action) (entry : NewEntry) (is : action ≡ Make entry) where
   -- the command by the entry's kind
-  pub command_is : (state : State) (path : Route) → IsPlanFor volume W trail state (command_of kind path) action → command_of entry.kind path ≡ command_of kind path
-  command_is state path plan = ap (λ (k : NodeKind). command_of k path) (kind_by volume.size W state path kind action entry is plan.planned.plan_is)
+  pub command_is : (state : State) (path : Route) → IsPlanFor volume W trail state (making kind path) action → making entry.kind path ≡ making kind path
+  command_is state path plan = ap (λ (k : NodeKind). making k path) (kind_by volume.size W state path kind action entry is plan.planned.plan_is)
 
-  pub plan_of_entry : (state : State) (path : Route) → IsPlanFor volume W trail state (command_of kind path) action → IsPlanFor volume W trail state (command_of entry.kind path) (Make entry)
+  pub plan_of_entry : (state : State) (path : Route) → IsPlanFor volume W trail state (making kind path) action → IsPlanFor volume W trail state (making entry.kind path) (Make entry)
   plan_of_entry state path plan =
       subst (λ (c : Command). IsPlanFor volume W trail state c (Make entry)) (sym (command_is state path plan))
-      (subst (λ (a : Action). IsPlanFor volume W trail state (command_of kind path) a) is plan)
+      (subst (λ (a : Action). IsPlanFor volume W trail state (making kind path) a) is plan)

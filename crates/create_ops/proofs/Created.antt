@@ -13,7 +13,7 @@ use Rattle.tree_model.specs.Run.{State}
 use Rattle.tree_model.specs.TreeLaws.{id_at-with_new_here}
 use Rattle.tree_model.specs.declared.reply.Refusal.{Refusal}
 use Rattle.image_reading.specs.Reading.{Reads}
-use Rattle.image_laws.specs.Create.{IsEmptyNode, MakesNode, IsFreePage, IsCreate, owned, committed}
+use Rattle.image_laws.specs.Create.{IsEmptyNode, MakesNode, IsCreate, owned, committed}
 use Rattle.image_laws.specs.Frame.{SameMeaning}
 use Rattle.image_laws.specs.Quiet.{IsMix}
 use Rattle.inode_state.specs.Inode.{fields_at}
@@ -24,7 +24,8 @@ use Rattle.volume.specs.declared.plan.NodeKind.TheVariants.{File as AFile, Direc
 use Rattle.volume.specs.declared.plan.NewEntry.{NewEntry}
 use Rattle.volume.specs.Planned.{IsPlace}
 use Rattle.volume.specs.Stops.{MayReadAs}
-use Rattle.create_ops.specs.Making.{node_of, command_of, room_of, MayTake, IsParent, IsReady, IsOpened, IsPlannedAt}
+use Rattle.volume.specs.Prepared.{making}
+use Rattle.create_ops.specs.Making.{node_of, room_of, MayTake, IsParent, IsReady, IsOpened, IsPlannedAt}
 use Rattle.create_ops.specs.Laws.{ImageLaws}
 use Rattle.create_ops.proofs.Moments.{is_mix}
 use Rattle.create_ops.proofs.Plans
@@ -40,27 +41,27 @@ committed_is P I J slot inode pages s i volume same number is =
     is ∙ ap (λ (p : ℕ). set I (slot_word_of p s 0) i) volume ∙ ap (λ (t : ℕ). set I (slot_word_of P t 0) i) same ∙ ap (λ (n : ℕ). set I (slot_word_of P slot 0) n) number
 
 -- the step of an accepted command makes the node
-tree_by : (P : ℕ) (state : State) (path : Route) (kind : NodeKind) → refusal_of P state.tree state.room (command_of kind path) ≡ None
-    → (step P state.tree state.room (command_of kind path)).tree ≡ with_new state.tree path (least_free_id state.tree) (node_of kind)
-tree_by P state path AFile accepted = ap (λ (o : Option Refusal). (outcome_of o (untaken P) (least_free_id state.tree) state.tree state.room (command_of AFile path)).tree) accepted
-tree_by P state path ADirectory accepted = ap (λ (o : Option Refusal). (outcome_of o (untaken P) (least_free_id state.tree) state.tree state.room (command_of ADirectory path)).tree) accepted
+tree_by : (P : ℕ) (state : State) (path : Route) (kind : NodeKind) → refusal_of P state.tree state.room (making kind path) ≡ None
+    → (step P state.tree state.room (making kind path)).tree ≡ with_new state.tree path (least_free_id state.tree) (node_of kind)
+tree_by P state path AFile accepted = ap (λ (o : Option Refusal). (outcome_of o (untaken P) (least_free_id state.tree) state.tree state.room (making AFile path)).tree) accepted
+tree_by P state path ADirectory accepted = ap (λ (o : Option Refusal). (outcome_of o (untaken P) (least_free_id state.tree) state.tree state.room (making ADirectory path)).tree) accepted
 
-answer_by : (P : ℕ) (state : State) (path : Route) (kind : NodeKind) → refusal_of P state.tree state.room (command_of kind path) ≡ None
-    → (step P state.tree state.room (command_of kind path)).answer ≡ Done
-answer_by P state path AFile accepted = ap (λ (o : Option Refusal). (outcome_of o (untaken P) (least_free_id state.tree) state.tree state.room (command_of AFile path)).answer) accepted
-answer_by P state path ADirectory accepted = ap (λ (o : Option Refusal). (outcome_of o (untaken P) (least_free_id state.tree) state.tree state.room (command_of ADirectory path)).answer) accepted
+answer_by : (P : ℕ) (state : State) (path : Route) (kind : NodeKind) → refusal_of P state.tree state.room (making kind path) ≡ None
+    → (step P state.tree state.room (making kind path)).answer ≡ Done
+answer_by P state path AFile accepted = ap (λ (o : Option Refusal). (outcome_of o (untaken P) (least_free_id state.tree) state.tree state.room (making AFile path)).answer) accepted
+answer_by P state path ADirectory accepted = ap (λ (o : Option Refusal). (outcome_of o (untaken P) (least_free_id state.tree) state.tree state.room (making ADirectory path)).answer) accepted
 
 module _ (laws : ImageLaws) (P : ℕ) (W : List ℕ) (state : State) (path : Route) (entry : NewEntry) (at : IsPlannedAt P W state path entry) where
-  pub tree_is : (step P state.tree state.room (command_of entry.kind path)).tree ≡ with_new state.tree path entry.inode (node_of entry.kind)
+  pub tree_is : (step P state.tree state.room (making entry.kind path)).tree ≡ with_new state.tree path entry.inode (node_of entry.kind)
   tree_is =
       let for_entry = Plans.for_entry laws P W state path entry at in
       tree_by P state path entry.kind at.planned.accepted ∙ ap (λ (i : ℕ). with_new state.tree path i (node_of entry.kind)) (sym for_entry.inode_is)
 
-  pub answer_is : (step P state.tree state.room (command_of entry.kind path)).answer ≡ Done
+  pub answer_is : (step P state.tree state.room (making entry.kind path)).answer ≡ Done
   answer_is = answer_by P state path entry.kind at.planned.accepted
 
   -- the path is new in it
-  pub differ : state.tree ≢ (step P state.tree state.room (command_of entry.kind path)).tree
+  pub differ : state.tree ≢ (step P state.tree state.room (making entry.kind path)).tree
   differ same =
       let may = Plans.may laws P W state path entry at in
       let there = ap (λ (tree : Tree). id_at tree path) (same ∙ tree_is) ∙ id_at-with_new_here state.tree path entry.inode (node_of entry.kind) in
@@ -68,7 +69,7 @@ module _ (laws : ImageLaws) (P : ℕ) (W : List ℕ) (state : State) (path : Rou
       cc
 
   -- what means the same may be left
-  pub may_same : (image : List ℕ) → SameMeaning P W image → MayReadAs P state (Some (command_of entry.kind path)) image
+  pub may_same : (image : List ℕ) → SameMeaning P W image → MayReadAs P state (Some (making entry.kind path)) image
   may_same image same = record { sound = same.sound; tree = state.tree; reads = same.reads state.tree at.reads.tree; allowed = inl refl }
 
   module _ (B : List ℕ) (opened : IsOpened P W B entry.directory entry.new_page) where
@@ -142,18 +143,21 @@ module _ (laws : ImageLaws) (P : ℕ) (W : List ℕ) (state : State) (path : Rou
           let node = node_of entry.kind in
           let made_here : MakesNode P (owned P A page entry.directory) I node entry.directory entry.slot entry.inode (words_of_name entry.name)
           = subst (λ (l : List ℕ). MakesNode P l I node entry.directory entry.slot entry.inode (words_of_name entry.name)) is made in
-          let free : IsFreePage P W page = record { in_range = place.page_is.free.0; unowned = place.page_is.free.1 } in
           let plain : entry.slot ≡ 32 * page + 0 = omega (arith, place.slot_is) in
           subst (λ (l : List ℕ). IsCreate P W l I (committed P I entry.slot entry.inode) path node entry.inode (room_of entry (Some page))) (sym is)
           ((laws.new_page P W A I (reverse (parent path)) path node entry.directory page entry.slot entry.inode (words_of_name entry.name)
-          (Plans.can laws P W state path entry at is_name of_bytes) free (ap (λ (s : ℕ). page_of_slot s) plain ∙ page_of_entry page 0 (omega arith)) (empty_node entry.kind) page_made made_here
+          (Plans.can laws P W state path entry at is_name of_bytes) place.page_is.free (ap (λ (s : ℕ). page_of_slot s) plain ∙ page_of_entry page 0 (omega arith)) (empty_node entry.kind) page_made made_here
           (Plans.path_reversed laws P W state path entry at is_name of_bytes)).1)
 
       pub created : IsCreate P W B I (committed P I entry.slot entry.inode) path (node_of entry.kind) entry.inode (room_of entry entry.new_page)
       created = created_by entry.new_page (Plans.for_entry laws P W state path entry at).place opened
 
-      pub writing : (image : List ℕ) → Mix B I image → MayReadAs P state (Some (command_of entry.kind path)) image
+      pub writing : (image : List ℕ) → Mix B I image → MayReadAs P state (Some (making entry.kind path)) image
       writing image mix = may_same image (created.before image (is_mix B I image mix))
+
+      -- and it still reads as the tree before
+      pub writing_reads : (image : List ℕ) → Mix B I image → Reads P image state.tree
+      writing_reads image mix = (created.before image (is_mix B I image mix)).reads state.tree at.reads.tree
 
       pub opened_reads : Reads P B state.tree
       opened_reads = (created.before B (record { size = refl; words = λ x. inl refl })).reads state.tree at.reads.tree
@@ -162,12 +166,12 @@ module _ (laws : ImageLaws) (P : ℕ) (W : List ℕ) (state : State) (path : Rou
       written_reads = (created.before I (record { size = made.size; words = λ x. inr refl })).reads state.tree at.reads.tree
 
       -- the words with the commit read as the step's tree
-      pub new_reads : Reads P (committed P I entry.slot entry.inode) (step P state.tree state.room (command_of entry.kind path)).tree
+      pub new_reads : Reads P (committed P I entry.slot entry.inode) (step P state.tree state.room (making entry.kind path)).tree
       new_reads = subst (λ (tree : Tree). Reads P (committed P I entry.slot entry.inode) tree) (sym tree_is) (created.reads state.tree at.reads.tree)
 
-      pub committing : (J : List ℕ) → J ≡ committed P I entry.slot entry.inode → (image : List ℕ) → Mix I J image → MayReadAs P state (Some (command_of entry.kind path)) image
+      pub committing : (J : List ℕ) → J ≡ committed P I entry.slot entry.inode → (image : List ℕ) → Mix I J image → MayReadAs P state (Some (making entry.kind path)) image
       committing J is image mix = elim (created.commit image (subst (λ (l : List ℕ). IsMix I l image) is (is_mix I J image mix))) [
         | inl same ↦ may_same image same
-        | inr new ↦ subst (λ (l : List ℕ). MayReadAs P state (Some (command_of entry.kind path)) l) (sym new)
-            (record { sound = created.tidy.sound; tree = (step P state.tree state.room (command_of entry.kind path)).tree; reads = new_reads; allowed = inr (inl refl) })
+        | inr new ↦ subst (λ (l : List ℕ). MayReadAs P state (Some (making entry.kind path)) l) (sym new)
+            (record { sound = created.tidy.sound; tree = (step P state.tree state.room (making entry.kind path)).tree; reads = new_reads; allowed = inr (inl refl) })
       ]

@@ -1,6 +1,7 @@
 pub mod Pages
 pub mod Nodes
 pub mod Moments
+pub mod Hanging
 pub mod Opening
 pub mod Counts
 pub mod Plans

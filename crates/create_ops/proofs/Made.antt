@@ -16,7 +16,8 @@ use Rattle.volume.specs.Volume.{VolumeView}
 use Rattle.volume.specs.Entered.{HasEntered}
 use Rattle.volume.specs.Planned.{fences_for}
 use Rattle.volume.specs.Stands.{StandsFor}
-use Rattle.create_ops.specs.Making.{node_of, command_of, room_of, page_fences, IsMade, IsPlannedAt, IsPlanFor}
+use Rattle.volume.specs.Prepared.{making}
+use Rattle.create_ops.specs.Making.{node_of, room_of, page_fences, IsMade, IsPlannedAt, IsPlanFor}
 use Rattle.create_ops.specs.Laws.{ImageLaws}
 use Rattle.create_ops.proofs.Created
 use Rattle.create_ops.proofs.Knowing
@@ -28,7 +29,7 @@ fences_are None = refl
 fences_are (Some page) = refl
 
 -- the plan of a volume that stands is one at its words, by whatever names its number of pages
-pub planned_at : (volume : VolumeView) (W : List ℕ) (trail : Option Trail) (state : State) (path : Route) (entry : NewEntry) (P : ℕ) → P ≡ volume.size → IsPlanFor volume W trail state (command_of entry.kind path) (Make entry) → IsPlannedAt P W state path entry
+pub planned_at : (volume : VolumeView) (W : List ℕ) (trail : Option Trail) (state : State) (path : Route) (entry : NewEntry) (P : ℕ) → P ≡ volume.size → IsPlanFor volume W trail state (making entry.kind path) (Make entry) → IsPlannedAt P W state path entry
 planned_at volume W trail state path entry P is plan =
     subst (λ (p : ℕ). IsPlannedAt p W state path entry) (sym is) (record { tidy = plan.stands.tidy; reads = plan.stands.reads; planned = plan.planned })
 
@@ -42,9 +43,9 @@ module _ (laws : ImageLaws) (P : ℕ) (W : List ℕ) (state : State) (path : Rou
   tidy_after : Tidy P J
   tidy_after = subst (λ (l : List ℕ). Tidy P l) back created.tidy
 
-  reads_after : ReadsAs P J (record { tree = (step P state.tree state.room (command_of entry.kind path)).tree; room = room_of entry entry.new_page state.room })
+  reads_after : ReadsAs P J (record { tree = (step P state.tree state.room (making entry.kind path)).tree; room = room_of entry entry.new_page state.room })
   reads_after = record {
-    tree = subst (λ (l : List ℕ). Reads P l (step P state.tree state.room (command_of entry.kind path)).tree) back
+    tree = subst (λ (l : List ℕ). Reads P l (step P state.tree state.room (making entry.kind path)).tree) back
         (Created.new_reads laws P W state path entry at made.opened made.page is_name of_bytes made.placed.written made.placed.node);
     room = subst (λ (l : List ℕ). HasRoom P l (room_of entry entry.new_page state.room)) back (created.room state.room at.reads.room);
   }
@@ -52,9 +53,9 @@ module _ (laws : ImageLaws) (P : ℕ) (W : List ℕ) (state : State) (path : Rou
   fits : IsRoom (with_new state.tree path (least_free_id state.tree) (node_of entry.kind)) (room_of entry entry.new_page state.room)
   fits = subst (λ (tree : Tree). IsRoom tree (room_of entry entry.new_page state.room))
       (Created.tree_is laws P W state path entry at ∙ ap (λ (i : ℕ). with_new state.tree path i (node_of entry.kind)) (Plans.for_entry laws P W state path entry at).inode_is)
-      (laws.states P J (record { tree = (step P state.tree state.room (command_of entry.kind path)).tree; room = room_of entry entry.new_page state.room }) tidy_after.sound reads_after).room
+      (laws.states P J (record { tree = (step P state.tree state.room (making entry.kind path)).tree; room = room_of entry entry.new_page state.room }) tidy_after.sound reads_after).room
 
-  steps : Steps P state (command_of entry.kind path) Done (record { tree = (step P state.tree state.room (command_of entry.kind path)).tree; room = room_of entry entry.new_page state.room })
+  steps : Steps P state (making entry.kind path) Done (record { tree = (step P state.tree state.room (making entry.kind path)).tree; room = room_of entry entry.new_page state.room })
   steps = record {
     answered = sym (Created.answer_is laws P W state path entry at);
     tree = refl;
@@ -62,15 +63,15 @@ module _ (laws : ImageLaws) (P : ℕ) (W : List ℕ) (state : State) (path : Rou
   }
 
   pub stands_after : (volume new : VolumeView) (trail : Option Trail) → P ≡ volume.size → StandsFor volume W trail state → HasEntered volume new entry → (now : Option Trail) → IsSettledAt J now
-      → (after : State) × StandsFor new J now after × Steps volume.size state (command_of entry.kind path) Done after
+      → (after : State) × StandsFor new J now after × Steps volume.size state (making entry.kind path) Done after
   stands_after volume new trail size stands entered now settled = (
-    record { tree = (step P state.tree state.room (command_of entry.kind path)).tree; room = room_of entry entry.new_page state.room },
+    record { tree = (step P state.tree state.room (making entry.kind path)).tree; room = room_of entry entry.new_page state.room },
     record {
       settled = settled;
       tidy = subst (λ (p : ℕ). Tidy p J) (size ∙ sym entered.same_size) tidy_after;
-      reads = subst (λ (p : ℕ). ReadsAs p J (record { tree = (step P state.tree state.room (command_of entry.kind path)).tree; room = room_of entry entry.new_page state.room })) (size ∙ sym entered.same_size) reads_after;
+      reads = subst (λ (p : ℕ). ReadsAs p J (record { tree = (step P state.tree state.room (making entry.kind path)).tree; room = room_of entry entry.new_page state.room })) (size ∙ sym entered.same_size) reads_after;
       knows = Knowing.knows_after laws P W state path entry at volume (sym size) stands.knows made.opened made.placed.written J made.page made.placed.node made.placed.commit
-          (record { tree = (step P state.tree state.room (command_of entry.kind path)).tree; room = room_of entry entry.new_page state.room }) tidy_after reads_after is_name of_bytes new entered;
+          (record { tree = (step P state.tree state.room (making entry.kind path)).tree; room = room_of entry entry.new_page state.room }) tidy_after reads_after is_name of_bytes new entered;
     },
-    subst (λ (p : ℕ). Steps p state (command_of entry.kind path) Done (record { tree = (step P state.tree state.room (command_of entry.kind path)).tree; room = room_of entry entry.new_page state.room })) size steps,
+    subst (λ (p : ℕ). Steps p state (making entry.kind path) Done (record { tree = (step P state.tree state.room (making entry.kind path)).tree; room = room_of entry entry.new_page state.room })) size steps,
   )

@@ -5,7 +5,8 @@ use Rattle.pm_trait.specs.Device.{Mix}
 use Rattle.layout.specs.declared.fields.DescriptorFields.{DescriptorFields}
 use Rattle.tree_model.specs.Tree.{Tree}
 use Rattle.image_reading.specs.Reading.{Reads}
-use Rattle.image_laws.specs.Create.{MakesPage, IsFreePage, IsPageQuiet, owned}
+use Rattle.image_counts.specs.Entries.{IsFreePage}
+use Rattle.image_laws.specs.Create.{MakesPage, IsPageQuiet, owned}
 use Rattle.image_laws.specs.Frame.{SameMeaning}
 use Rattle.image_laws.specs.Quiet.{IsMix}
 use Rattle.create_ops.specs.Making.{MayTake, IsHolder, IsOpened}
@@ -20,7 +21,7 @@ module _ (laws : ImageLaws) (P : ℕ) (W : List ℕ) (d page : ℕ) (holder : Is
   made = subst (λ (j : ℕ). MakesPage P W A j) page_is filled
 
   free : IsFreePage P W page
-  free = record { in_range = may.0; unowned = ap (λ (f : DescriptorFields). f.owner) may.1 }
+  free = (may.0, ap (λ (f : DescriptorFields). f.owner) may.1)
 
   quiet : IsPageQuiet P W A (owned P A page d)
   quiet = laws.page_quiet P W A holder.path d page holder.sound holder.named holder.is_directory free made

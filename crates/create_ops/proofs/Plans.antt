@@ -16,7 +16,7 @@ use Rattle.tree_model.specs.TreeLaws.{least_free_id-ge, least_free_id-free}
 use Rattle.image_reading.specs.Reading.{IsDirectory, slot_owner, Names, Reached, IsChildOf}
 use Rattle.image_reading.specs.Repairs.{IsLitterInode, IsLitterPage}
 use Rattle.image_reading.specs.Soundness.{Rule, Sound}
-use Rattle.image_counts.specs.Entries.{IsEntryOf, IsFreePage as IsFreeDataPage}
+use Rattle.image_counts.specs.Entries.{IsEntryOf, IsFreePage}
 use Rattle.image_counts.specs.Laws.{HasRoomWords, HasInodes}
 use Rattle.image_laws.specs.Create.{CanMake, IsVacant}
 use Rattle.inode_state.specs.States.{free_fields}
@@ -33,7 +33,8 @@ use Rattle.volume.specs.declared.plan.NewEntry.{NewEntry}
 use Rattle.volume.specs.declared.plan.Action.{Action}
 use Rattle.volume.specs.declared.plan.Action.TheVariants.{Make}
 use Rattle.volume.specs.Planned.{IsVacantSlot, IsPlace, IsEntryFor, IsPlanned, IsPlanOf}
-use Rattle.create_ops.specs.Making.{command_of, MayTake, IsHolder, IsParent, IsPlannedAt}
+use Rattle.volume.specs.Prepared.{making}
+use Rattle.create_ops.specs.Making.{MayTake, IsHolder, IsParent, IsPlannedAt}
 use Rattle.create_ops.specs.Laws.{ImageLaws}
 use Rattle.create_ops.proofs.Counts.{none_of, count_below}
 
@@ -43,11 +44,11 @@ some_one x y e = cc
 same_entry : (one two : NewEntry) → ◌≡◌ {A = Action} (Make one) (Make two) → two ≡ one
 same_entry one two e = cc
 
-entry_by : (P : ℕ) (I : List ℕ) (state : State) (path : Route) (kind : NodeKind) (entry : NewEntry) → IsPlanOf P I state (command_of kind path) (Make entry) → IsEntryFor P I state path kind entry
+entry_by : (P : ℕ) (I : List ℕ) (state : State) (path : Route) (kind : NodeKind) (entry : NewEntry) → IsPlanOf P I state (making kind path) (Make entry) → IsEntryFor P I state path kind entry
 entry_by P I state path AFile entry (other, is, for) = subst (λ (e : NewEntry). IsEntryFor P I state path AFile e) (same_entry entry other is) for
 entry_by P I state path ADirectory entry (other, is, for) = subst (λ (e : NewEntry). IsEntryFor P I state path ADirectory e) (same_entry entry other is) for
 
-may_by : (P : ℕ) (I : List ℕ) (state : State) (path : Route) (kind : NodeKind) (action : Action) → IsTree state.tree → IsPlanned P I state (command_of kind path) action → MayMake (untaken P) state.tree state.room path
+may_by : (P : ℕ) (I : List ℕ) (state : State) (path : Route) (kind : NodeKind) (action : Action) → IsTree state.tree → IsPlanned P I state (making kind path) action → MayMake (untaken P) state.tree state.room path
 may_by P I state path AFile action tree planned = MayMake-create (untaken P) state.tree state.room path tree planned.accepted
 may_by P I state path ADirectory action tree planned = MayMake-mkdir (untaken P) state.tree state.room path tree planned.accepted
 
@@ -214,7 +215,7 @@ module _ (laws : ImageLaws) (P : ℕ) (W : List ℕ) (state : State) (path : Rou
   pub vacant_zero : IsVacantSlot P W entry.directory entry.slot → (f : ℕ) → f < 16 → word W (slot_word_of P entry.slot f) ≡ 0
   vacant_zero is f lt = room_words.zeros entry.slot f is.page is.vacant lt
 
-  pub page_free : (page : ℕ) → IsFreeDataPage P W page → MayTake P W (Some page)
+  pub page_free : (page : ℕ) → IsFreePage P W page → MayTake P W (Some page)
   page_free page free = (
     free.0,
     zero_descriptor P W page (λ f lt. elim (cases_eq (word W (descriptor_word_of P page f)) 0) [

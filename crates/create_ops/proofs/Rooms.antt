@@ -1,29 +1,36 @@
 -- The room after an entry is the one that the step of its command leaves.
-use Rattle.std.proofs.Common.{◌≡◌, ◌≢◌, ℕ, ◌*◌, ◌==◌, true, false, Option, Some, None, is_some, refl, sym, ap, subst, ◌∙◌, List, arith}
+use Rattle.std.proofs.Common.{◌≡◌, ◌≢◌, ℕ, ◌+◌, ◌*◌, ◌==◌, Bool, true, false, Option, Some, None, is_some, unwrap_or, refl, sym, ap, subst, ◌∙◌, List, arith}
+use Rattle.std.specs.Prelude.{if◌then◌else◌}
 use Rattle.std.proofs.lemmas.Bool.Decides.{nat_tests}
 use Rattle.tree_model.specs.PathText.{Route}
-use Rattle.tree_model.specs.Tree.{Tree, IsRoom, name_count, pages_in}
-use Rattle.tree_model.specs.Step.{is_full, room_after, tree_after, with_new, least_free_id, refusal_of, RoomAfter}
+use Rattle.tree_model.specs.Tree.{Tree, Room, IsRoom, root_id, parent, id_at, name_count, pages_in}
+use Rattle.tree_model.specs.Step.{is_full, page_for_name, need, room_after, tree_after, with_new, least_free_id, refusal_of, RoomAfter}
 use Rattle.tree_model.specs.Run.{State}
 use Rattle.tree_model.specs.declared.command.Command.{Command}
 use Rattle.tree_model.specs.declared.reply.Refusal.{Refusal}
-use Rattle.image_laws.specs.CreateStep.{making, HasRoomAfter}
+use Rattle.image_laws.specs.CreateStep.{making as making_node, HasRoomAfter}
 use Rattle.volume.specs.declared.plan.NodeKind.{NodeKind}
 use Rattle.volume.specs.declared.plan.NodeKind.TheVariants.{File as AFile, Directory as ADirectory}
 use Rattle.volume.specs.declared.plan.NewEntry.{NewEntry}
-use Rattle.volume.specs.Planned.{IsPlace}
-use Rattle.create_ops.specs.Making.{node_of, command_of, room_of, IsPlannedAt}
+use Rattle.volume.specs.Planned.{IsPlace, fences_for}
+use Rattle.volume.specs.Prepared.{making}
+use Rattle.create_ops.specs.Making.{node_of, room_of, IsPlannedAt}
 use Rattle.create_ops.specs.Laws.{ImageLaws}
 use Rattle.create_ops.proofs.Plans
 
 -- a row for each kind
-after_is : (kind : NodeKind) (id : ℕ) (T : Tree) (path : Route) → tree_after id T (command_of kind path) ≡ with_new T path id (node_of kind)
+after_is : (kind : NodeKind) (id : ℕ) (T : Tree) (path : Route) → tree_after id T (making kind path) ≡ with_new T path id (node_of kind)
 after_is AFile id T path = refl
 after_is ADirectory id T path = refl
 
-command_is : (kind : NodeKind) (path : Route) → making (node_of kind) path ≡ command_of kind path
+command_is : (kind : NodeKind) (path : Route) → making_node (node_of kind) path ≡ making kind path
 command_is AFile path = refl
 command_is ADirectory path = refl
+
+-- what it needs is what its directory's new name needs
+need_is : (kind : NodeKind) (T : Tree) (room : Room) (path : Route) (directory : ℕ) → id_at T (parent path) ≡ Some directory → need T room (making kind path) ≡ page_for_name T room (Some directory)
+need_is AFile T room path directory is = ap (λ (o : Option ℕ). page_for_name T room (Some (unwrap_or o root_id))) is
+need_is ADirectory T room path directory is = ap (λ (o : Option ℕ). page_for_name T room (Some (unwrap_or o root_id))) is
 
 is_same : (n m : ℕ) → n ≡ m → n == m ≡ true
 is_same n m e = grind (arith, nat_tests)
@@ -41,6 +48,17 @@ module _ (laws : ImageLaws) (P : ℕ) (W : List ℕ) (state : State) (path : Rou
       let rooms = Plans.room_words laws P W state path entry at in
       is_same (name_count state.tree entry.directory) (32 * pages_in state.room entry.directory) (rooms.full.1 (λ s is none. place.full s (record { page = is; vacant = none })))
 
+  fences_by : (new_page : Option ℕ) → IsPlace P W entry.directory entry.slot new_page → fences_for new_page ≡ 2 + 2 * page_for_name state.tree state.room (Some entry.directory)
+  fences_by None place = ap (λ (full : Bool). 2 + 2 * (if full then 1 else 0)) (sym (full_by None place))
+  fences_by (Some page) place = ap (λ (full : Bool). 2 + 2 * (if full then 1 else 0)) (sym (full_by (Some page) place))
+
+  -- two fences, and two more for a page that the command needs
+  pub fences_needed : fences_for entry.new_page ≡ 2 + 2 * need state.tree state.room (making entry.kind path)
+  fences_needed =
+      let for_entry = Plans.for_entry laws P W state path entry at in
+      fences_by entry.new_page for_entry.place
+      ∙ ap (λ (pages : ℕ). 2 + 2 * pages) (sym (need_is entry.kind state.tree state.room path entry.directory for_entry.directory_is))
+
   after_command : HasRoomAfter state.tree state.room (node_of entry.kind) path entry.directory entry.inode
   after_command = laws.room_after state.tree state.room (node_of entry.kind) path entry.directory entry.inode (record {
     formed = (Plans.volume_state laws P W state path entry at).tree;
@@ -50,18 +68,18 @@ module _ (laws : ImageLaws) (P : ℕ) (W : List ℕ) (state : State) (path : Rou
     absent = Plans.not_there laws P W state path entry at;
   })
 
-  room_by : (new_page : Option ℕ) → IsPlace P W entry.directory entry.slot new_page → room_after entry.inode state.tree state.room (making (node_of entry.kind) path) false ≡ room_of entry new_page state.room
+  room_by : (new_page : Option ℕ) → IsPlace P W entry.directory entry.slot new_page → room_after entry.inode state.tree state.room (making_node (node_of entry.kind) path) false ≡ room_of entry new_page state.room
   room_by None place = after_command.not_full false (full_by None place)
   room_by (Some page) place = after_command.full false (full_by (Some page) place)
 
-  pub room_is : room_of entry entry.new_page state.room ≡ room_after (least_free_id state.tree) state.tree state.room (command_of entry.kind path) false
+  pub room_is : room_of entry entry.new_page state.room ≡ room_after (least_free_id state.tree) state.tree state.room (making entry.kind path) false
   room_is =
       let for_entry = Plans.for_entry laws P W state path entry at in
       sym (room_by entry.new_page for_entry.place) ∙ ap (λ (c : Command). room_after entry.inode state.tree state.room c false) (command_is entry.kind path)
-      ∙ ap (λ (i : ℕ). room_after i state.tree state.room (command_of entry.kind path) false) for_entry.inode_is
+      ∙ ap (λ (i : ℕ). room_after i state.tree state.room (making entry.kind path) false) for_entry.inode_is
 
   -- so it is the room after an accepted command
   pub room_follows : IsRoom (with_new state.tree path (least_free_id state.tree) (node_of entry.kind)) (room_of entry entry.new_page state.room)
-      → RoomAfter (refusal_of P state.tree state.room (command_of entry.kind path)) state.tree state.room (command_of entry.kind path) (room_of entry entry.new_page state.room)
-  room_follows fits = subst (λ (o : Option Refusal). RoomAfter o state.tree state.room (command_of entry.kind path) (room_of entry entry.new_page state.room)) (sym at.planned.accepted)
+      → RoomAfter (refusal_of P state.tree state.room (making entry.kind path)) state.tree state.room (making entry.kind path) (room_of entry entry.new_page state.room)
+  room_follows fits = subst (λ (o : Option Refusal). RoomAfter o state.tree state.room (making entry.kind path) (room_of entry entry.new_page state.room)) (sym at.planned.accepted)
       (false, room_is, subst (λ (tree : Tree). IsRoom tree (room_of entry entry.new_page state.room)) (sym (after_is entry.kind (least_free_id state.tree) state.tree path)) fits)

@@ -8,7 +8,6 @@ use Rattle.tree_model.specs.PathText.{Route}
 use Rattle.tree_model.specs.Tree.{Node, Directory, File, Room}
 use Rattle.tree_model.specs.Run.{State}
 use Rattle.tree_model.specs.declared.command.Command.{Command}
-use Rattle.tree_model.specs.declared.command.Command.TheVariants.{Create, Mkdir}
 use Rattle.inode_state.specs.States.{free_fields, file_fields, directory_fields, IsLive}
 use Rattle.inode_state.specs.Inode.{fields_at}
 use Rattle.dentry_state.specs.States.{free_fields as free_slot}
@@ -26,6 +25,7 @@ use Rattle.volume.specs.declared.plan.NewEntry.{NewEntry}
 use Rattle.volume.specs.declared.plan.Action.{Action}
 use Rattle.volume.specs.declared.plan.Action.TheVariants.{Make, Status, Names, Space}
 use Rattle.volume.specs.Planned.{IsPlanned, fences_for}
+use Rattle.volume.specs.Prepared.{making}
 use Rattle.volume.specs.Stands.{StandsFor}
 use Rattle.volume.specs.Volume.{VolumeView}
 use Rattle.pm_trait.specs.Trail.{Trail}
@@ -35,11 +35,6 @@ use Rattle.pm_trait.specs.Trail.{Trail}
 abbrev pub node_of : NodeKind → Node
 node_of AFile = File []
 node_of ADirectory = Directory
-
--- the command that makes it
-abbrev pub command_of : NodeKind → Route → Command
-command_of AFile path = Create path
-command_of ADirectory path = Mkdir path
 
 -- what its inode says
 abbrev pub fields_of : NodeKind → ℕ → InodeFields
@@ -87,7 +82,7 @@ pub record IsHolder (P : ℕ) (I : List ℕ) (directory : ℕ) : Type 0 where
 pub record IsPlannedAt (P : ℕ) (I : List ℕ) (state : State) (path : Route) (entry : NewEntry) : Type 0 where
   pub tidy : Tidy P I
   pub reads : ReadsAs P I state
-  pub planned : IsPlanned P I state (command_of entry.kind path) (Make entry)
+  pub planned : IsPlanned P I state (making entry.kind path) (Make entry)
 
 -- The volume stands for the state, and this is the plan of a command that it accepts.
 pub record IsPlanFor (volume : VolumeView) (now : List ℕ) (trail : Option Trail) (state : State) (command : Command) (action : Action) : Type 0 where

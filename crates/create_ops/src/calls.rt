@@ -1,8 +1,9 @@
 // The calls of accepted commands that make an entry.
 ghost use Rattle.std.specs.Prelude.{◌≡◌, ◌+◌, ◌*◌, ◌^◌, ◌<◌, ◌≤◌, false, true, length, Some, IfOk, OnOk, OnErr};
-ghost use Rattle.pm_trait.specs.Device.{HasRisen, LeavesOnly, StaysOnce, acks_from, moment_of};
+ghost use Rattle.pm_trait.specs.Device.{EndsInFault, HasRisen, LeavesOnly, StaysOnce, acks_from, moment_of};
+ghost use Rattle.layout.specs.Geometry.{slot_word_of};
 ghost use Rattle.tree_model.specs.PathText.{Route};
-ghost use Rattle.tree_model.specs.Step.{Done, step};
+ghost use Rattle.tree_model.specs.Step.{Done, step, need};
 ghost use Rattle.tree_model.specs.Replies.{reply_of};
 ghost use Rattle.tree_model.specs.Run.{State, Steps};
 ghost use Rattle.tree_model.specs.declared.command.Command.TheVariants.{Create, Mkdir};
@@ -10,6 +11,9 @@ ghost use Rattle.image_reading.specs.Reading.{Reads};
 ghost use Rattle.volume.specs.Planned.{IsReserved, events_of};
 ghost use Rattle.volume.specs.Stands.{StandsFor};
 ghost use Rattle.volume.specs.Stops.{MayReadAs};
+ghost use Rattle.volume.specs.Commit.{HangsOn};
+ghost use Rattle.volume.specs.declared.plan.NewEntry.{NewEntry};
+ghost use Rattle.volume.specs.declared.plan.Action.TheVariants.{Make};
 ghost use Rattle.create_ops.specs.Making.{IsPlanFor, fences_of};
 
 use crate::make::make;
@@ -39,7 +43,11 @@ pub fn apply_create<P: Pm>(volume: &mut Volume, plan: Plan, pm: &mut P) -> Resul
     ensures stays { (state : State) (path : Route) → IsPlanFor volume.old (P.now pm.old) (P.trail pm.old) state (Create path) plan
         → StaysOnce (P.trail pm.old) (P.trail pm.new) (λ image.
         Reads volume.old.size image (step volume.old.size state.tree state.room (Create path)).tree) }
+    // What it leaves hangs on one word alone: the inode number of the new entry's slot.
+    ensures commit_word { (entry : NewEntry) → plan ≡ Make entry
+        → HangsOn volume.old.size (P.trail pm.old) (P.trail pm.new) (slot_word_of volume.old.size entry.slot 0) }
     ensures no_ack { acks_from (P.trail pm.old) (P.trail pm.new) (moment_of (P.trail pm.new)) ≡ 0 }
+    ensures halts { OnErr result (EndsInFault (P.trail pm.new)) }
 
     ensures reply { IfOk result (λ reply. reply ≡ reply_of Done) }
     ensures going { OnOk result (volume.new.stopped ≡ false) }
@@ -53,6 +61,8 @@ pub fn apply_create<P: Pm>(volume: &mut Volume, plan: Plan, pm: &mut P) -> Resul
     ensures cause { OnErr result (HasRisen (P.faults pm.old) (P.faults pm.new)) }
     ensures refused { P.refused pm.new ≡ P.refused pm.old }
     ensures fences { OnOk result (P.fences pm.new ≡ P.fences pm.old + fences_of plan) }
+    ensures counted { (state : State) (path : Route) → IsPlanFor volume.old (P.now pm.old) (P.trail pm.old) state (Create path) plan
+        → OnOk result (P.fences pm.new ≡ P.fences pm.old + 2 + 2 * need state.tree state.room (Create path)) }
     ensures most_fences { P.fences pm.new ≤ P.fences pm.old + fences_of plan }
     ensures acks { P.acks pm.new ≡ P.acks pm.old }
 {
@@ -84,7 +94,11 @@ pub fn apply_mkdir<P: Pm>(volume: &mut Volume, plan: Plan, pm: &mut P) -> Result
     ensures stays { (state : State) (path : Route) → IsPlanFor volume.old (P.now pm.old) (P.trail pm.old) state (Mkdir path) plan
         → StaysOnce (P.trail pm.old) (P.trail pm.new) (λ image.
         Reads volume.old.size image (step volume.old.size state.tree state.room (Mkdir path)).tree) }
+    // What it leaves hangs on one word alone: the inode number of the new entry's slot.
+    ensures commit_word { (entry : NewEntry) → plan ≡ Make entry
+        → HangsOn volume.old.size (P.trail pm.old) (P.trail pm.new) (slot_word_of volume.old.size entry.slot 0) }
     ensures no_ack { acks_from (P.trail pm.old) (P.trail pm.new) (moment_of (P.trail pm.new)) ≡ 0 }
+    ensures halts { OnErr result (EndsInFault (P.trail pm.new)) }
 
     ensures reply { IfOk result (λ reply. reply ≡ reply_of Done) }
     ensures going { OnOk result (volume.new.stopped ≡ false) }
@@ -98,6 +112,8 @@ pub fn apply_mkdir<P: Pm>(volume: &mut Volume, plan: Plan, pm: &mut P) -> Result
     ensures cause { OnErr result (HasRisen (P.faults pm.old) (P.faults pm.new)) }
     ensures refused { P.refused pm.new ≡ P.refused pm.old }
     ensures fences { OnOk result (P.fences pm.new ≡ P.fences pm.old + fences_of plan) }
+    ensures counted { (state : State) (path : Route) → IsPlanFor volume.old (P.now pm.old) (P.trail pm.old) state (Mkdir path) plan
+        → OnOk result (P.fences pm.new ≡ P.fences pm.old + 2 + 2 * need state.tree state.room (Mkdir path)) }
     ensures most_fences { P.fences pm.new ≤ P.fences pm.old + fences_of plan }
     ensures acks { P.acks pm.new ≡ P.acks pm.old }
 {

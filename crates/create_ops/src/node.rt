@@ -1,6 +1,6 @@
 // A node is made: its inode, its name and the links of its directory are written, and then the slot gets its number.
 ghost use Rattle.std.specs.Prelude.{◌≡◌, ◌+◌, ◌-◌, ◌^◌, ◌<◌, ◌≤◌, ◌*◌, ℕ, length, slice_set, IfOk, OnOk, OnErr, Some};
-ghost use Rattle.pm_trait.specs.Device.{IsSettledAt, IsInterval, IsFlushed, IsClean, IsFenced, HasRisen};
+ghost use Rattle.pm_trait.specs.Device.{IsSettledAt, IsInterval, IsFlushed, IsClean, IsFenced, EndsInFault, HasRisen};
 ghost use Rattle.layout.specs.Geometry.{slots_of, slot_word_of, inode_word_of};
 ghost use Rattle.layout.specs.Fields.{inode_links};
 ghost use Rattle.layout.specs.Name.{IsName, IsBytes, words_of_name};
@@ -29,10 +29,10 @@ const NAME_EVENTS: u64 = 16;
 const LINK_EVENTS: u64 = 2;
 
 /// The stores, flushes and fence of `write_node`.
-pub const WRITE_EVENTS: u64 = 24;
+const WRITE_EVENTS: u64 = 24;
 
-/// The store, flushes and fence of `commit_node`.
-pub const COMMIT_EVENTS: u64 = 4;
+/// The store, flush and fence of `commit_node`.
+const COMMIT_EVENTS: u64 = 3;
 
 // A new node and its name, both settled, before the slot has the node's number.
 #[derive(Drop)]
@@ -170,6 +170,7 @@ pub fn write_node<P: Pm>(
     requires countable { P.fences pm.old < 2 ^ 64 - 1 }
 
     ensures fenced { IsFenced (P.now pm.old) (P.trail pm.old) (P.now pm.new) (P.trail pm.new) result }
+    ensures halts { OnErr result (EndsInFault (P.trail pm.new)) }
     ensures made { MakesNode geometry.now.pages (P.now pm.old) (P.now pm.new) (node_of entry.now.kind) entry.now.directory entry.now.slot entry.now.inode (words_of_name entry.now.name) }
     ensures is_name { IsName entry.now.name }
     ensures of_bytes { IsBytes entry.now.name }
@@ -210,6 +211,7 @@ pub fn commit_node<P: Pm>(pm: &mut P, node: NewNode) -> Result<(), PmFault>
     requires countable { P.fences pm.old < 2 ^ 64 - 1 }
 
     ensures fenced { IsFenced (P.now pm.old) (P.trail pm.old) (P.now pm.new) (P.trail pm.new) result }
+    ensures halts { OnErr result (EndsInFault (P.trail pm.new)) }
     ensures committed { P.now pm.new ≡ slice_set (P.now pm.old) (slot_word_of node.dentry.pages node.dentry.slot 0) node.inode.number }
 
     ensures room { P.spare pm.old ≤ P.spare pm.new + COMMIT_EVENTS }

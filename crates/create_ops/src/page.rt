@@ -1,11 +1,11 @@
 // A directory takes a new page: it is filled with free slots first, and then gets its owner.
 ghost use Rattle.std.specs.Prelude.{◌≡◌, ◌≢◌, ◌+◌, ◌-◌, ◌^◌, ◌<◌, ◌≤◌, ◌*◌, length, slice_index, Some, IfOk, OnOk, OnErr};
-ghost use Rattle.pm_trait.specs.Device.{IsSettledAt, IsFenced, HasRisen, LeavesOnly, StaysOnce, acks_from, moment_of};
+ghost use Rattle.pm_trait.specs.Device.{IsSettledAt, IsFenced, EndsInFault, HasRisen, LeavesOnly, StaysOnce, acks_from, moment_of};
 ghost use Rattle.tree_model.specs.Tree.{Tree};
 ghost use Rattle.image_reading.specs.Reading.{Reads};
 ghost use Rattle.image_laws.specs.Frame.{SameMeaning};
 ghost use Rattle.create_ops.specs.Making.{MayTake, IsHolder, IsOpened, page_fences};
-ghost use Rattle.page_state.specs.States.{IsFree, IsFilled};
+ghost use Rattle.page_state.specs.States.{IsFree};
 ghost use Rattle.page_state.specs.Page.{PageIsClean, descriptor_of};
 ghost use Rattle.image_laws.specs.Create.{MakesPage, owned};
 
@@ -14,15 +14,13 @@ use fence_token::{Clean, fence};
 use layout::Geometry;
 use page_state::{Filled, Free, PageH};
 use pm_trait::{Pm, PmFault};
+use volume::PAGE_EVENTS;
 
 /// The stores, flushes and fence of `fill_page`.
 const FILL_EVENTS: u64 = 580;
 
 /// The store, flush and fence of `claim_page`.
 const CLAIM_EVENTS: u64 = 3;
-
-/// The most stores, flushes and fences of `take_page`.
-pub const PAGE_EVENTS: u64 = FILL_EVENTS + CLAIM_EVENTS;
 
 // Makes a free page one of free slots. The list has that page alone.
 fn fill_page<'a, P: Pm>(
@@ -39,10 +37,11 @@ fn fill_page<'a, P: Pm>(
     requires countable { P.fences pm.old < 2 ^ 64 - 1 }
 
     ensures fenced { IsFenced (P.now pm.old) (P.trail pm.old) (P.now pm.new) (P.trail pm.new) result }
+    ensures halts { OnErr result (EndsInFault (P.trail pm.new)) }
     ensures made { MakesPage geometry.now.pages (P.now pm.old) (P.now pm.new) (slice_index page.entry.now 0) }
     ensures volume { IfOk result (λ filled. filled.volume_pages ≡ geometry.now.pages) }
     ensures page { IfOk result (λ filled. filled.pages ≡ page.entry.now) }
-    ensures clean { IfOk result (λ filled. PageIsClean IsFilled filled (P.now pm.new) (P.trail pm.new)) }
+    ensures clean { IfOk result (λ filled. PageIsClean filled (P.now pm.new) (P.trail pm.new)) }
 
     ensures room { P.spare pm.old ≤ P.spare pm.new + FILL_EVENTS }
     ensures faults { P.faults pm.old ≤ P.faults pm.new }
@@ -65,13 +64,14 @@ fn fill_page<'a, P: Pm>(
 // Gives a filled page to a directory.
 fn claim_page<P: Pm>(pm: &mut P, page: PageH<Clean, Filled>, directory: u64) -> Result<(), PmFault>
     requires one { length page.pages ≡ 1 }
-    requires clean { PageIsClean IsFilled page (P.now pm.old) (P.trail pm.old) }
+    requires clean { PageIsClean page (P.now pm.old) (P.trail pm.old) }
     requires directory { 1 ≤ directory }
     requires settled { IsSettledAt (P.now pm.old) (P.trail pm.old) }
     requires room { CLAIM_EVENTS ≤ P.spare pm.old }
     requires countable { P.fences pm.old < 2 ^ 64 - 1 }
 
     ensures fenced { IsFenced (P.now pm.old) (P.trail pm.old) (P.now pm.new) (P.trail pm.new) result }
+    ensures halts { OnErr result (EndsInFault (P.trail pm.new)) }
     ensures owned { P.now pm.new ≡ owned page.entry.volume_pages (P.now pm.old) (slice_index page.entry.pages 0) directory }
 
     ensures room { P.spare pm.old ≤ P.spare pm.new + CLAIM_EVENTS }
@@ -116,6 +116,7 @@ fn open_page<P: Pm>(
     ensures stays { (before after : Tree) → Reads geometry.now.pages (P.now pm.old) before → before ≢ after
         → StaysOnce (P.trail pm.old) (P.trail pm.new) (λ image. Reads geometry.now.pages image after) }
     ensures no_ack { acks_from (P.trail pm.old) (P.trail pm.new) (moment_of (P.trail pm.new)) ≡ 0 }
+    ensures halts { OnErr result (EndsInFault (P.trail pm.new)) }
 
     ensures long { length (P.now pm.new) ≡ length (P.now pm.old) }
     ensures room { P.spare pm.old ≤ P.spare pm.new + PAGE_EVENTS }
@@ -155,6 +156,7 @@ pub fn take_page<P: Pm>(
     ensures stays { (before after : Tree) → Reads geometry.now.pages (P.now pm.old) before → before ≢ after
         → StaysOnce (P.trail pm.old) (P.trail pm.new) (λ image. Reads geometry.now.pages image after) }
     ensures no_ack { acks_from (P.trail pm.old) (P.trail pm.new) (moment_of (P.trail pm.new)) ≡ 0 }
+    ensures halts { OnErr result (EndsInFault (P.trail pm.new)) }
 
     ensures long { length (P.now pm.new) ≡ length (P.now pm.old) }
     ensures room { P.spare pm.old ≤ P.spare pm.new + PAGE_EVENTS }

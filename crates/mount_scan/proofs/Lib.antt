@@ -3,7 +3,5 @@ mod Frees
 mod Facts
 mod Places
 mod Holding
-mod Marking
-mod Tidying
 mod Heads
 mod Mounts

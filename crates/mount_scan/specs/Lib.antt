@@ -1,3 +1,2 @@
 pub mod Building
-pub mod Tidiness
 pub mod Mounting

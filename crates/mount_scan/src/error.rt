@@ -15,7 +15,7 @@ pub enum MountError {
     /// It breaks a rule, the first of them at this place. Rule 0 is none: the volume is sound and needs recovery.
     #[error("a damaged volume")]
     Damaged(Violation),
-    /// The device failed.
+    /// The device failed. It doesn't come as long as a mount stores nothing.
     #[error("the device failed")]
     PmFault,
     /// There is no memory for the volume.

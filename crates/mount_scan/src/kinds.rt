@@ -3,14 +3,8 @@
 /// The kind of a file's inode, and of its pages.
 pub const FILE: u64 = 1;
 
-/// The kind of a directory's inode, and of its pages.
-pub const DIRECTORY: u64 = 2;
-
 /// How many bytes a page has.
-pub const PAGE_BYTES: u64 = 4096;
+pub const PAGE_BYTES: u64 = 4_096;
 
 /// How many slots a page has.
 pub const PAGE_SLOTS: u64 = 32;
-
-/// How many words a slot has.
-pub const SLOT_WORDS: u64 = 16;

@@ -10,8 +10,7 @@ ghost use Rattle.mount_scan.specs.Mounting.{HoldsVolume, IsSound, IsTidy, IsDama
 use crate::build::volume_of_words;
 use crate::error::MountError;
 use crate::head::geometry_of;
-use crate::tidy::is_tidy;
-use image_reading::{Scan, Violation, first_fault};
+use image_reading::{Scan, Violation, first_fault, is_tidy};
 use pm_trait::Pm;
 use std::alloc::Global;
 use volume::Volume;
@@ -64,7 +63,7 @@ fn open(alloc: Global, words: &[u64]) -> Result<Volume, MountError>
     if let Some(violation) = first_fault(words, &mut scan) {
         return Err(MountError::Damaged(violation));
     }
-    if !is_tidy(alloc, &geometry, words)? {
+    if !is_tidy(words, &mut scan) {
         return Err(MountError::Damaged(NEEDS_RECOVERY));
     }
     let volume = volume_of_words(alloc, geometry, words)?;

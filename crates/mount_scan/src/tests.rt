@@ -28,7 +28,7 @@ const FRESH: [(usize, u64); 8] = [
 ];
 
 // A file `a` of 5,000 bytes, in inode 2 and slot 0, whose second page stands before its first.
-const FILE: [(usize, u64); 15] = [
+pub const FILE: [(usize, u64); 15] = [
     (528, 1),
     (529, 1),
     (530, 5_000),
@@ -65,6 +65,35 @@ const DIRECTORIES: [(usize, u64); 15] = [
     (2_050, 0x64_0001),
 ];
 
+// A directory `d` of two pages, inode 2, and in them the files `f` of 100 bytes and `g`, inodes 3 and 4.
+const TWO_PAGES: [(usize, u64); 25] = [
+    (513, 3),
+    (528, 2),
+    (529, 2),
+    (531, 2),
+    (544, 1),
+    (545, 1),
+    (546, 100),
+    (547, 3),
+    (560, 1),
+    (561, 1),
+    (563, 4),
+    (1_024, 1),
+    (1_025, 2),
+    (1_032, 2),
+    (1_033, 2),
+    (1_040, 2),
+    (1_041, 2),
+    (1_048, 3),
+    (1_049, 1),
+    (1_536, 2),
+    (1_538, 0x64_0001),
+    (2_048, 3),
+    (2_050, 0x66_0001),
+    (2_640, 4),
+    (2_642, 0x67_0001),
+];
+
 fn put(words: &mut [u64], changes: &[(usize, u64)]) {
     for (word, value) in changes {
         if let Some(place) = words.get_mut(*word) {
@@ -74,7 +103,7 @@ fn put(words: &mut [u64], changes: &[(usize, u64)]) {
 }
 
 // A device with a formatted volume, but for these words.
-fn device(alloc: Global, changes: &[(usize, u64)]) -> Result<RamPm, Fail>
+pub fn device(alloc: Global, changes: &[(usize, u64)]) -> Result<RamPm, Fail>
     ensures { IfOk result (λ pm. IsSettledAt (⟦<RamPm as Pm>⟧.now pm) (⟦<RamPm as Pm>⟧.trail pm)) }
 {
     let mut words = vec![in alloc; 0; 8_192]?;
@@ -143,6 +172,36 @@ fn a_volume_with_directories(rt: HostRuntime) -> Result<(), Fail> {
         amount: 0,
     };
     assert_eq!(rt; stat_at(&volume, b"/d/e", &pm)?, inner);
+    Ok(())
+}
+
+#[test]
+fn a_volume_with_a_directory_of_two_pages(rt: HostRuntime) -> Result<(), Fail> {
+    let alloc = rt.alloc();
+    let mut pm = device(alloc, &TWO_PAGES)?;
+    let volume = mount(alloc, &mut pm)?;
+    let directory = Stat {
+        dir: true,
+        inode: 2,
+        links: 2,
+        amount: 2,
+    };
+    assert_eq!(rt; stat_at(&volume, b"/d", &pm)?, directory);
+    let first = Stat {
+        dir: false,
+        inode: 3,
+        links: 1,
+        amount: 100,
+    };
+    assert_eq!(rt; stat_at(&volume, b"/d/f", &pm)?, first);
+    let last = Stat {
+        dir: false,
+        inode: 4,
+        links: 1,
+        amount: 0,
+    };
+    assert_eq!(rt; stat_at(&volume, b"/d/g", &pm)?, last);
+    assert_eq!(rt; stat_at(&volume, b"/", &pm)?.links, 3);
     Ok(())
 }
 

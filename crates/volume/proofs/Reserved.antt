@@ -1,52 +1,19 @@
 -- What stays where the index gets places.
-use Rattle.std.proofs.Common.{◌≡◌, ◌↔◌, inl, inr, ℕ, List, Contains, Option, refl, sym, ap, subst, ◌∙◌}
+use Rattle.std.proofs.Common.{◌≡◌, ◌↔◌, ℕ, List, Contains, Option, sym, ap, subst, ◌∙◌}
 use Rattle.std.specs.Prelude.{slice_get}
-use Rattle.std.proofs.lemmas.Bool.{cases_eq}
 use Rattle.pm_trait.specs.Trail.{Trail}
 use Rattle.tree_model.specs.Run.{State}
 use Rattle.image_reading.specs.Counts.{IsDistinct}
 use Rattle.image_counts.specs.Entries.{IsEntryOf, IsPageIn}
-use Rattle.volatile_index.specs.Index.{Held, entries_of, pages_of, IsSameElsewhere}
+use Rattle.volatile_index.specs.Index.{Held}
 use Rattle.volatile_index.specs.declared.entry.Entry.{Entry}
 use Rattle.volume.specs.Volume.{VolumeView}
 use Rattle.volume.specs.Stands.{KnowsNodes, Knows, StandsFor}
 use Rattle.volume.specs.Prepared.{HasSameContents, IsSameButPlaces}
 
-pub same_contents : (d : ℕ) (old new : List Held) → entries_of new d ≡ entries_of old d → pages_of new d ≡ pages_of old d → IsSameElsewhere d old new → HasSameContents old new
-same_contents d old new entries pages elsewhere = record {
-  each_inode = elsewhere.inodes;
-  entries = λ i. elim (cases_eq i d) [
-    | inl here ↦ subst (λ j. entries_of new j ≡ entries_of old j) (sym here) entries
-    | inr other ↦ ap (λ (held : Held). held.entries) (elsewhere.others i other)
-  ];
-  pages = λ i. elim (cases_eq i d) [
-    | inl here ↦ subst (λ j. pages_of new j ≡ pages_of old j) (sym here) pages
-    | inr other ↦ ap (λ (held : Held). held.pages) (elsewhere.others i other)
-  ];
-}
-
-pub contents_joined : (first second third : List Held) → HasSameContents first second → HasSameContents second third → HasSameContents first third
-contents_joined first second third one two = record {
-  each_inode = two.each_inode ∙ one.each_inode;
-  entries = λ i. two.entries i ∙ one.entries i;
-  pages = λ i. two.pages i ∙ one.pages i;
-}
-
-pub same_itself : (volume : VolumeView) → IsSameButPlaces volume volume
-same_itself volume = record {
-  same_size = refl;
-  same_state = refl;
-  index = record { each_inode = refl; entries = λ i. refl; pages = λ i. refl };
-  inodes = refl;
-  data_pages = refl;
-}
-
 -- a volume with another index that holds the same
 abbrev with_index : VolumeView → List Held → VolumeView
 with_index volume index = record { size = volume.size; index = index; inodes = volume.inodes; data_pages = volume.data_pages; stopped = volume.stopped }
-
-pub view_of_index : (volume : VolumeView) (index : List Held) → HasSameContents volume.index index → IsSameButPlaces volume (with_index volume index)
-view_of_index volume index same = record { same_size = refl; same_state = refl; index = same; inodes = refl; data_pages = refl }
 
 nodes_still : (P : ℕ) (I : List ℕ) (old new : List Held) → HasSameContents old new → KnowsNodes P old I → KnowsNodes P new I
 nodes_still P I old new same knows = record {

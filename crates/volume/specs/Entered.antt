@@ -2,7 +2,7 @@
 use Rattle.std.specs.Prelude.{◌≡◌, ℕ, ◌-◌, ◌≤◌, Bool, false, List, [], ◌∷◌, ◌++◌, Option, Some, None, slice_set}
 use Rattle.allocators.specs.Numbers.{IsFree}
 use Rattle.volatile_index.specs.Entries.{IsAbsent, IsWithEntry}
-use Rattle.volatile_index.specs.Index.{inodes_of_index, entries_of, pages_of, IsSameElsewhere}
+use Rattle.volatile_index.specs.Index.{inodes_of_index, entries_of, places_of, pages_of, page_places_of, IsSameElsewhere}
 use Rattle.volume.specs.Volume.{VolumeView}
 use Rattle.volume.specs.declared.plan.NewEntry.{NewEntry}
 
@@ -31,12 +31,14 @@ pub record MayEnter (volume : VolumeView) (entry : NewEntry) : Type 0 where
   pub inode : IsFree volume.inodes (entry.inode - 1)
   pub page : IsFreePlace volume.data_pages entry.new_page
 
--- The directory has the entry and its new page, and the inode and the page are taken.
+-- The directory has the entry and its new page, in the places that were there, and the inode and the page are taken.
 pub record HasEntered (old new : VolumeView) (entry : NewEntry) : Type 0 where
   pub same_size : new.size ≡ old.size
   pub same_state : new.stopped ≡ old.stopped
   pub entries : IsWithEntry (entries_of old.index entry.directory) (entries_of new.index entry.directory) (record { name = entry.name; slot = entry.slot })
+  pub places : places_of new.index entry.directory ≡ places_of old.index entry.directory
   pub pages : pages_of new.index entry.directory ≡ pages_of old.index entry.directory ++ new_pages entry.new_page
+  pub page_places : page_places_of new.index entry.directory ≡ page_places_of old.index entry.directory
   pub elsewhere : IsSameElsewhere entry.directory old.index new.index
   pub inodes : new.inodes ≡ slice_set old.inodes (entry.inode - 1) false
   pub data_pages : new.data_pages ≡ with_taken old.data_pages entry.new_page

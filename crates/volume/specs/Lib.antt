@@ -1,6 +1,7 @@
 pub mod Volume
 pub mod Stands
 pub mod Stops
+pub mod Commit
 pub mod Planned
 pub mod Entered
 pub mod Walks

@@ -78,13 +78,13 @@ pub record IsPlanned (P : ℕ) (I : List ℕ) (state : State) (command : Command
 
 -- ---- what a plan has reserved
 
--- stores, flushes and the fence of a new page's two steps: its 512 words, two words and the owner of its descriptor
+-- stores, flushes and fences of a new page's two steps: its 512 words, two words and the owner of its descriptor
 abbrev pub page_events : ℕ
 page_events = 512 + 2 + 65 + 1 + 3
 
 -- and of an entry's two steps: an inode, a name and a parent's links, then the slot's inode number
 abbrev pub entry_events : ℕ
-entry_events = 4 + 14 + 1 + 1 + 2 + 1 + 1 + 1 + 2 + 1
+entry_events = 4 + 14 + 1 + 1 + 2 + 1 + 1 + 1 + 1 + 1
 
 -- how many events its call makes at most
 abbrev pub events_of : Action → ℕ

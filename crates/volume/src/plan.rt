@@ -7,22 +7,26 @@ use std::marker::Model;
 /// What a new entry names.
 #[derive(Clone, Copy, Debug, PartialEq, Eq)]
 pub enum NodeKind {
+    /// A file of no bytes.
     File,
+    /// A directory of no names.
     Directory,
 }
 
 /// An entry that is to be made, and the node that it names.
 #[derive(Drop)]
 pub struct NewEntry {
+    /// What the node is.
     pub kind: NodeKind,
     /// The inode of the directory that it is made in.
     pub directory: u64,
+    /// The name that the directory gets.
     pub name: Name,
-    /// A free inode, for the node.
+    /// A free inode, for the node. Inodes are numbered from 1.
     pub inode: u64,
-    /// The slot for the name.
+    /// The slot for the name. Slots are numbered from 0, 32 for each data page.
     pub slot: u64,
-    /// The page that the directory takes for the slot, where its pages are full.
+    /// The data page that the directory takes for the slot, where its pages are full. They are numbered from 0.
     pub new_page: Option<u64>,
 }
 

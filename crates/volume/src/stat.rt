@@ -1,10 +1,9 @@
 // What is told of a node, and of what is free.
-ghost use Rattle.std.specs.Prelude.{◌≡◌, ℕ, List, Option, false};
-ghost use Rattle.pm_trait.specs.Trail.{Trail};
+ghost use Rattle.std.specs.Prelude.{◌≡◌, false};
 ghost use Rattle.tree_model.specs.Capacity.{untaken};
 ghost use Rattle.tree_model.specs.Run.{State};
 ghost use Rattle.tree_model.specs.Step.{status_of, space_of};
-ghost use Rattle.volume.specs.Stands.{StandsFor, HasNode};
+ghost use Rattle.volume.specs.Stands.{StandsFor, IsStanding, HasNode};
 
 use crate::image_laws::image_laws;
 use crate::resolve::DIRECTORY;
@@ -38,9 +37,10 @@ impl Volume {
     }
 
     /// How many inodes and data pages are free, and how many the volume has.
-    pub fn free(&self) -> Free
+    pub fn free<P: Pm>(&self, pm: &P) -> Free
         requires going { self.now.stopped ≡ false }
-        ensures { (words : List ℕ) (trail : Option Trail) (state : State) → StandsFor self.now words trail state →
+        requires stands { IsStanding self.now (P.now pm.now) (P.trail pm.now) }
+        ensures { (state : State) → StandsFor self.now (P.now pm.now) (P.trail pm.now) state →
             result ≡ space_of (untaken self.now.size) state.tree state.room }
     {
         image_laws();

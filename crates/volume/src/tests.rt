@@ -22,8 +22,7 @@ fn takes_in_an_entry(rt: HostRuntime) -> Result<(), Fail> {
     inodes.take(0);
     let data_pages = Numbers::new(rt.alloc(), geometry.data_pages)?;
     let mut volume = Volume::from_parts(geometry, index, inodes, data_pages);
-    let free = volume.free();
-    assert_eq!(rt; (free.inodes, free.inodes_all), (3, 4));
+    assert_eq!(rt; volume.inodes.free_count(), 3);
     volume.enter(NewEntry {
         kind: NodeKind::File,
         directory: 1,
@@ -32,9 +31,9 @@ fn takes_in_an_entry(rt: HostRuntime) -> Result<(), Fail> {
         slot: 7,
         new_page: None,
     });
-    assert_eq!(rt; volume.free().inodes, 2);
-    assert_eq!(rt; volume.count(1), 1);
-    let entry = volume.nth(1, 0);
+    assert_eq!(rt; volume.inodes.free_count(), 2);
+    assert_eq!(rt; volume.index.count(1), 1);
+    let entry = volume.index.nth(1, 0);
     assert_eq!(rt; entry.name.as_slice(), b"a".as_slice());
     assert_eq!(rt; entry.slot, 7);
     assert_eq!(rt; volume.geometry().pages, 16);

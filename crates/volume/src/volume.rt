@@ -63,6 +63,9 @@ impl Volume {
     pub fn stop(&mut self)
         ensures stopped { self.new.stopped ≡ true }
         ensures size { self.new.size ≡ self.old.size }
+        ensures index { self.new.index ≡ self.old.index }
+        ensures inodes { self.new.inodes ≡ self.old.inodes }
+        ensures data_pages { self.new.data_pages ≡ self.old.data_pages }
     {
         self.stopped = true;
     }
@@ -96,6 +99,7 @@ impl Volume {
         ensures data_pages { self.new.data_pages ≡ with_taken self.old.data_pages new_page }
         ensures entries { entries_of self.new.index directory ≡ entries_of self.old.index directory }
         ensures places { places_of self.new.index directory ≡ places_of self.old.index directory }
+        ensures page_places { page_places_of self.new.index directory ≡ page_places_of self.old.index directory }
         ensures elsewhere { IsSameElsewhere directory self.old.index self.new.index }
         ensures inodes { self.new.inodes ≡ self.old.inodes }
         ensures size { self.new.size ≡ self.old.size }

@@ -11,7 +11,7 @@ fn a_directory_in_the_root(rt: HostRuntime) -> Result<(), Fail> {
     let rest = vec![in alloc; 0; 7_676]?;
     old.extend_from_slice(rest.as_slice())?;
     let mut pm = RamPm::new(alloc, old.as_slice())?;
-    pm.reserve(28)?;
+    pm.reserve(27)?;
     let geometry = Geometry::of(16).ok_or("no volume")?;
     let entry = NewEntry {
         kind: NodeKind::Directory,
@@ -40,6 +40,6 @@ fn a_directory_in_the_root(rt: HostRuntime) -> Result<(), Fail> {
         assert_eq!(rt; pm.image().get(word).copied(), Some(value), "at {word}");
     }
     assert_eq!(rt; pm.fences(), 2);
-    assert_eq!(rt; pm.events(), 28);
+    assert_eq!(rt; pm.events(), 27);
     Ok(())
 }

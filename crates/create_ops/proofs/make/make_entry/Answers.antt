@@ -1,9 +1,12 @@
 use Rattle.std.proofs.Common.{ℕ, List, Some}
+use Rattle.layout.specs.Geometry.{slot_word_of}
+use Rattle.image_reading.specs.Reading.{Reads}
 use Rattle.pm_trait.specs.DeviceLaws.{stays_then}
 use Rattle.volume.specs.Stops.{MayReadAs}
+use Rattle.volume.specs.Prepared.{making}
 use Rattle.image_laws.specs.Frame.{SameMeaning}
-use Rattle.create_ops.specs.Making.{command_of}
 use Rattle.create_ops.proofs.Moments.{quiet_fenced, quiet_then, quiet_weaker, no_ack_then, acks_none_then, on_ok, reads_stay}
+use Rattle.create_ops.proofs.Hanging.{hangs_quiet, hangs_commit, hangs_then}
 use Rattle.create_ops.proofs.Plans
 use Rattle.create_ops.proofs.Created
 use Rattle.create_ops.proofs.make.make_entry.Goals as goal
@@ -37,7 +40,7 @@ pub returns-in_err-take_page-clause-any_moment : goal.returns-in_err-take_page-c
 returns-in_err-take_page-clause-any_moment g c = λ state path at.
     let P = c.args.geometry.now.pages in
     let W = g.P.Pm.now c.args.pm.now in
-    quiet_weaker (SameMeaning P W) (MayReadAs P state (Some (command_of c.args.entry.now.kind path))) (Created.may_same c.image_laws.ensures P W state path c.args.entry.now at) c.take_page.ensures.any_moment
+    quiet_weaker (SameMeaning P W) (MayReadAs P state (Some (making c.args.entry.now.kind path))) (Created.may_same c.image_laws.ensures P W state path c.args.entry.now at) c.take_page.ensures.any_moment
 
 pub returns-in_err-take_page-clause-stays : goal.returns-in_err-take_page-clause-stays
 returns-in_err-take_page-clause-stays g c = λ state path at.
@@ -49,7 +52,7 @@ returns-in_err-node-clause-any_moment g c = λ state path at.
     let W = g.P.Pm.now c.args.pm.now in
     let entry = c.args.entry.now in
     let laws = c.image_laws.ensures in
-    let May : List ℕ → Type 0 = MayReadAs P state (Some (command_of entry.kind path)) in
+    let May : List ℕ → Type 0 = MayReadAs P state (Some (making entry.kind path)) in
     let write = c.write_node.ensures in
     quiet_then May c.take_page.ensures.no_ack
     (quiet_weaker (SameMeaning P W) May (Created.may_same laws P W state path entry at) c.take_page.ensures.any_moment)
@@ -81,7 +84,7 @@ returns-clause-any_moment g c = λ state path at.
     let J = g.P.Pm.now c.commit_node.new.pm in
     let entry = c.args.entry.now in
     let laws = c.image_laws.ensures in
-    let May : List ℕ → Type 0 = MayReadAs P state (Some (command_of entry.kind path)) in
+    let May : List ℕ → Type 0 = MayReadAs P state (Some (making entry.kind path)) in
     let write = c.write_node.ensures in
     let commit = c.commit_node.ensures in
     let opened = c.in_ok-take_page.ensures.opened in
@@ -129,3 +132,49 @@ returns-clause-made g c =
         commit = Created.committed_is P I J entry.slot entry.inode c.in_ok-node.node.dentry.pages c.in_ok-node.node.dentry.slot c.in_ok-node.node.inode.number c.in_ok-node.ensures.pages c.in_ok-node.ensures.slot c.in_ok-node.ensures.number c.commit_node.ensures.committed;
       };
     })
+
+pub returns-in_err-take_page-clause-commit_word : goal.returns-in_err-take_page-clause-commit_word
+returns-in_err-take_page-clause-commit_word g c =
+    let (state, path, at) = c.requires.planned in
+    let P = c.args.geometry.now.pages in
+    let W = g.P.Pm.now c.args.pm.now in
+    let Before : List ℕ → Type 0 = λ image. Reads P image state.tree in
+    hangs_quiet P (slot_word_of P c.args.entry.now.slot 0) state.tree c.image_laws.ensures.one_tree
+    (quiet_weaker (SameMeaning P W) Before (λ image same. same.reads state.tree at.reads.tree) c.take_page.ensures.any_moment)
+
+pub returns-in_err-node-clause-commit_word : goal.returns-in_err-node-clause-commit_word
+returns-in_err-node-clause-commit_word g c =
+    let (state, path, at) = c.requires.planned in
+    let P = c.args.geometry.now.pages in
+    let W = g.P.Pm.now c.args.pm.now in
+    let entry = c.args.entry.now in
+    let commit = slot_word_of P entry.slot 0 in
+    let laws = c.image_laws.ensures in
+    let Before : List ℕ → Type 0 = λ image. Reads P image state.tree in
+    let write = c.write_node.ensures in
+    hangs_then
+    (hangs_quiet P commit state.tree laws.one_tree
+    (quiet_weaker (SameMeaning P W) Before (λ image same. same.reads state.tree at.reads.tree) c.take_page.ensures.any_moment))
+    (hangs_quiet P commit state.tree laws.one_tree
+    (quiet_fenced Before write.fenced (Created.writing_reads laws P W state path entry at (g.P.Pm.now c.take_page.new.pm) c.in_ok-take_page.ensures.opened write.is_name write.of_bytes (g.P.Pm.now c.write_node.new.pm) write.made)))
+
+pub returns-clause-commit_word : goal.returns-clause-commit_word
+returns-clause-commit_word g c =
+    let (state, path, at) = c.requires.planned in
+    let P = c.args.geometry.now.pages in
+    let W = g.P.Pm.now c.args.pm.now in
+    let I = g.P.Pm.now c.write_node.new.pm in
+    let entry = c.args.entry.now in
+    let commit = slot_word_of P entry.slot 0 in
+    let laws = c.image_laws.ensures in
+    let Before : List ℕ → Type 0 = λ image. Reads P image state.tree in
+    let write = c.write_node.ensures in
+    let node = c.in_ok-node in
+    hangs_then
+    (hangs_then
+    (hangs_quiet P commit state.tree laws.one_tree
+    (quiet_weaker (SameMeaning P W) Before (λ image same. same.reads state.tree at.reads.tree) c.take_page.ensures.any_moment))
+    (hangs_quiet P commit state.tree laws.one_tree
+    (quiet_fenced Before write.fenced (Created.writing_reads laws P W state path entry at (g.P.Pm.now c.take_page.new.pm) c.in_ok-take_page.ensures.opened write.is_name write.of_bytes I write.made))))
+    (hangs_commit P commit entry.inode c.commit_node.ensures.fenced
+    (Created.committed_is P I (g.P.Pm.now c.commit_node.new.pm) entry.slot entry.inode node.node.dentry.pages node.node.dentry.slot node.node.inode.number node.ensures.pages node.ensures.slot node.ensures.number c.commit_node.ensures.committed))

@@ -1,5 +1,5 @@
 use Rattle.std.specs.Prelude.{Ok, Err}
-use Rattle.pm_trait.specs.DeviceLaws.{fence_ends}
+use Rattle.pm_trait.specs.DeviceLaws.{ends_in_fault, fence_ends}
 use Rattle.fence_token.specs.ObjectLaws.{stands_in_flight_fence}
 use Rattle.create_ops.proofs.Nodes.{inode_settled, still_whole, slot_still_free, slot_still_settled, whole_again, parent_still, parent_still_settled, written_run, written_flushed, inode_waits, dentry_waits, node_made}
 use Rattle.create_ops.proofs.node.write_node.Goals as goal
@@ -92,3 +92,6 @@ returns-in-Err-clause-made g c =
     let child = c.count_child.ensures in
     node_made geometry.pages c.args.entry.now geometry.volume_size c.requires.ready c.requires.settled inode.stores dentry.stores child.stores
     (g.P.Pm.now c.fence.new.pm) c.init_inode-inode.result c.name_slot-dentry.result c.fence.ensures.words inode.number inode.fields inode.in_flight dentry.pages dentry.slot dentry.fields dentry.in_flight child.links
+
+pub returns-in-Err-clause-halts : goal.returns-in-Err-clause-halts
+returns-in-Err-clause-halts g c = ends_in_fault (g.P.Pm.trail c.count_child.new.pm) c.in-Err.ensures.err

@@ -1,6 +1,6 @@
 use Rattle.std.proofs.Common.{◌∙◌}
 use Rattle.std.specs.Prelude.{Ok, Err}
-use Rattle.pm_trait.specs.DeviceLaws.{fence_ends, then_nothing}
+use Rattle.pm_trait.specs.DeviceLaws.{ends_in_fault, fence_ends, then_nothing}
 use Rattle.fence_token.specs.ObjectLaws.{stands_in_flight_fence}
 use Rattle.create_ops.proofs.Pages.{owner_inside, page_owned, claim_flushed}
 use Rattle.create_ops.proofs.page.claim_page.Goals as goal
@@ -33,3 +33,6 @@ pub returns-in-Err-clause-owned : goal.returns-in-Err-clause-owned
 returns-in-Err-clause-owned g c =
     page_owned c.args.page.volume_pages c.args.page.pages c.args.directory (c.fence.ensures.words ∙ c.flush-claimed.ensures.words) c.requires.one
     (owner_inside c.args.page.volume_pages c.args.page.pages (g.P.Pm.now c.args.pm.now) c.requires.one c.requires.clean.stands.inside) c.claim-dirty.ensures.owner c.claim-dirty.ensures.stores
+
+pub returns-in-Err-clause-halts : goal.returns-in-Err-clause-halts
+returns-in-Err-clause-halts g c = ends_in_fault (g.P.Pm.trail c.flush-claimed.new.pm) c.in-Err.ensures.err

@@ -10,7 +10,7 @@ use Rattle.volume.proofs.volume.Volume.lowest_slot.Goals as goal
 
 pub vacant_slot-requires-clause-page : goal.vacant_slot-requires-clause-page
 vacant_slot-requires-clause-page g c =
-    let known = c.pages-pages.ensures ∙ ap (λ (volume : VolumeView). pages_of volume.index c.args.directory) c.self.view_is in
+    let known = c.pages-pages.ensures.pages ∙ ap (λ (volume : VolumeView). pages_of volume.index c.args.directory) c.self.view_is in
     let there = subst (λ (pages : List ℕ). Rattle.std.proofs.Common.Contains pages (get_or c.pages-pages.result.now c.loop-page.page-index 0)) known (Contains-get_or c.pages-pages.result.now c.loop-page.page-index 0 c.loop-page-test.true) in
     let below = known_page c.args.self.now (g.P.Pm.now c.args.pm.now) (g.P.Pm.trail c.args.pm.now) c.requires.stands c.args.directory (get_or c.pages-pages.result.now c.loop-page.page-index 0) c.requires.least c.requires.most there in
     let same = ap (λ (volume : VolumeView). data_pages_of volume.size) c.self.view_is in
@@ -29,7 +29,7 @@ loop-page-preserved g c =
 pub returns : goal.returns
 returns g c =
     let pages = c.pages-pages.result.now in
-    let known = take_all c.loop-page.page-index pages c.loop-page-test.false ∙ c.pages-pages.ensures ∙ ap (λ (volume : VolumeView). pages_of volume.index c.args.directory) c.self.view_is in
+    let known = take_all c.loop-page.page-index pages c.loop-page-test.false ∙ c.pages-pages.ensures.pages ∙ ap (λ (volume : VolumeView). pages_of volume.index c.args.directory) c.self.view_is in
     let among = subst (λ (front : List ℕ). IsLowestOf (IsVacantAmong c.args.self.now.size c.image-words.result.now front) c.loop-page.lowest) known c.loop-page.invariant in
     let in_words = subst (λ (words : List ℕ). IsLowestOf (IsVacantAmong c.args.self.now.size words (pages_of c.args.self.now.index c.args.directory)) c.loop-page.lowest) c.image-words.ensures among in
     vacant_in_directory c.args.self.now (g.P.Pm.now c.args.pm.now) (g.P.Pm.trail c.args.pm.now) c.requires.stands c.args.directory c.loop-page.lowest c.requires.least c.requires.most in_words

@@ -5,7 +5,7 @@ use Rattle.volume.proofs.Listed.{nth_name}
 use Rattle.volume.proofs.volume.Volume.nth.Goals as goal
 
 pub returns-clause-name : goal.returns-clause-name
-returns-clause-name c = λ words trail state stands directory.
-    let at_inside = subst (λ (volume : VolumeView). StandsFor volume words trail state) (sym c.self.view_is) stands in
+returns-clause-name g c = λ state stands directory.
+    let at_inside = subst (λ (volume : VolumeView). StandsFor volume (g.P.Pm.now c.args.pm.now) (g.P.Pm.trail c.args.pm.now) state) (sym c.self.view_is) stands in
     let laws = c.image_laws.ensures in
-    nth_name _ words trail state at_inside laws.entries laws.sizes laws.inodes laws.states c.args.directory directory c.nth.ensures.sorted c.args.k c.nth.result.now c.nth.ensures.entry
+    nth_name _ (g.P.Pm.now c.args.pm.now) (g.P.Pm.trail c.args.pm.now) state at_inside laws.entries laws.sizes laws.inodes laws.states c.args.directory directory c.nth.ensures.sorted c.args.k c.nth.result.now c.nth.ensures.entry

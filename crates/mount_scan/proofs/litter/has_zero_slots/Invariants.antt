@@ -1,7 +1,0 @@
-use Rattle.std.proofs.Common.{ℕ, ◌+◌, ◌*◌, ◌<◌}
-use Rattle.image_reading.specs.Reading.{IsLive}
-use Rattle.mount_scan.specs.Tidiness.{IsZeroSlot}
-use Rattle.mount_scan.proofs.litter.has_zero_slots.Given as goal
-
-abbrev pub invariant-loop-place : goal.invariant-loop-place
-invariant-loop-place l = (k : ℕ) → k < l.place → ¬ IsLive l.geometry.pages l.words (32 * l.page + k) → IsZeroSlot l.geometry.pages l.words (32 * l.page + k)

@@ -1,7 +1,0 @@
-use Rattle.std.proofs.Common.{◌≡◌, ℕ, ◌<◌}
-use Rattle.layout.specs.Geometry.{slot_word_of}
-use Rattle.layout.specs.Fields.{word}
-use Rattle.mount_scan.proofs.litter.is_zero_slot.Given as goal
-
-abbrev pub invariant-loop-field : goal.invariant-loop-field
-invariant-loop-field l = (f : ℕ) → f < l.field → word l.words (slot_word_of l.geometry.pages l.slot f) ≡ 0

@@ -1,0 +1,22 @@
+use Rattle.std.proofs.Common.{ap, arith}
+use Rattle.layout.specs.Geometry.{inodes_of}
+use Rattle.layout.specs.GeometryLaws.{some_inodes}
+use Rattle.volume.specs.Volume.{VolumeView}
+use Rattle.mount_scan.proofs.volume_tests.a_directory_is_planned_beside_a_file.Goals as goal
+
+pub count-requires-clause-in_range : goal.count-requires-clause-in_range
+count-requires-clause-in_range g c =
+    let geometry = c.volume.inside.geometry in
+    let same = ap (λ (volume : VolumeView). inodes_of volume.size) c.volume.view_is in
+    omega (arith, some_inodes geometry.pages geometry.volume_size, same, c.in_ok-volume.ensures.standing.1.knows.nodes.each_inode)
+
+pub nth-first-requires-clause-in_range : goal.nth-first-requires-clause-in_range
+nth-first-requires-clause-in_range g c =
+    let geometry = c.volume.inside.geometry in
+    let same = ap (λ (volume : VolumeView). inodes_of volume.size) c.volume.view_is in
+    omega (arith, some_inodes geometry.pages geometry.volume_size, same, c.in_ok-volume.ensures.standing.1.knows.nodes.each_inode)
+
+pub prepare-requires-2-clause-stands : goal.prepare-requires-2-clause-stands
+prepare-requires-2-clause-stands g c =
+    let (state, stands) = c.in_ok-volume.ensures.standing in
+    (state, c.prepare.ensures.stands state stands)
