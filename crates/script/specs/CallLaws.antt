@@ -2,9 +2,8 @@
 use Rattle.std.specs.Prelude.{ℕ, Bool, true, false, cond, List, [], ◌∷◌, length, nat_lt, codes, Result, Ok, Err}
 use Rattle.tree_model.specs.PathText.{Route, path_of}
 use Rattle.tree_model.specs.Run.{Line}
-use Rattle.tree_model.specs.declared.command.Command.TheVariants.{Create, Stat, List as Show}
+use Rattle.tree_model.specs.declared.command.Command.TheVariants.{Create, Mkdir, Stat, List as Show}
 use Rattle.tree_model.specs.declared.reply.LineFault.{LineFault}
-use Rattle.tree_model.specs.declared.reply.LineFault.TheVariants.{BadLine}
 use Rattle.script.specs.Lines.{line_limit, words_of, is_word, on_path, of_two, of_words, call_of}
 use Rattle.script.specs.Calls.{MayCome}
 
@@ -15,6 +14,10 @@ either false one other has has_other = has_other
 create_comes : (path : Result Route LineFault) → MayCome (on_path (λ p. Create p) path)
 create_comes (Ok path) = tt
 create_comes (Err fault) = tt
+
+mkdir_comes : (path : Result Route LineFault) → MayCome (on_path (λ p. Mkdir p) path)
+mkdir_comes (Ok path) = tt
+mkdir_comes (Err fault) = tt
 
 stat_comes : (path : Result Route LineFault) → MayCome (on_path (λ p. Stat p) path)
 stat_comes (Ok path) = tt
@@ -27,8 +30,9 @@ list_comes (Err fault) = tt
 two_come : (verb path : List ℕ) → MayCome (of_two verb path)
 two_come verb path =
     either (is_word (codes "create") verb) _ _ (create_comes (path_of path))
+    (either (is_word (codes "mkdir") verb) _ _ (mkdir_comes (path_of path))
     (either (is_word (codes "stat") verb) _ _ (stat_comes (path_of path))
-    (either (is_word (codes "list") verb) _ _ (list_comes (path_of path)) tt))
+    (either (is_word (codes "list") verb) _ _ (list_comes (path_of path)) tt)))
 
 words_come : (words : List (List ℕ)) → MayCome (of_words words)
 words_come [] = tt

@@ -13,7 +13,7 @@ line_of_call (Refused fault) = Err fault
 -- the command has come
 abbrev pub HasCome : Command → Type 0
 HasCome (Create path) = Unit {0}
-HasCome (Mkdir path) = ⊥
+HasCome (Mkdir path) = Unit {0}
 HasCome (Link from to) = ⊥
 HasCome (Unlink path) = ⊥
 HasCome (Rmdir path) = ⊥

@@ -19,8 +19,8 @@ impl<'a> Call<'a> {
     /// not come yet is refused before its path is read. `scratch`, of at least 32,768 bytes, is where the bytes of a line
     /// are to be decoded.
     pub fn parse(line: &'a [u8], scratch: &'a mut [u8]) -> Call<'a>
-        requires { 32768 ≤ length scratch.old }
-        ensures { line_of_call result ≡ call_of line.now }
+        requires scratch { 32768 ≤ length scratch.old }
+        ensures call { line_of_call result ≡ call_of line.now }
     {
         let _ = scratch;
         if line.len() > LONGEST_LINE {
@@ -55,6 +55,8 @@ fn call_on_path<'a>(verb: &[u8], path: &'a [u8]) -> Call<'a>
 {
     if verb == b"create".as_slice() {
         create(path)
+    } else if verb == b"mkdir".as_slice() {
+        mkdir(path)
     } else if verb == b"stat".as_slice() {
         stat(path)
     } else if verb == b"list".as_slice() {
@@ -69,6 +71,15 @@ fn create(path: &[u8]) -> Call<'_>
 {
     match Path::parse(path) {
         Ok(path) => Call::Do(Command::Create { path }),
+        Err(fault) => Call::Refused(fault),
+    }
+}
+
+fn mkdir(path: &[u8]) -> Call<'_>
+    ensures { line_of_call result ≡ on_path (λ p. Command.Mkdir p) (path_of path.now) }
+{
+    match Path::parse(path) {
+        Ok(path) => Call::Do(Command::Mkdir { path }),
         Err(fault) => Call::Refused(fault),
     }
 }

@@ -72,6 +72,7 @@ impl Lines {
 
     /// Nothing is read yet. All the memory is taken here.
     pub fn new(alloc: Global) -> Result<Lines, NoMemory>
+        ensures line { IfOk result (λ lines. current lines ≡ []) }
         ensures pending { IfOk result (λ lines. pending lines ≡ []) }
         ensures read { IfOk result (λ lines. read_count lines ≡ 0) }
         ensures unended { IfOk result (λ lines. has_ended lines ≡ false) }
@@ -94,7 +95,7 @@ impl Lines {
     ///
     /// Once the end of the input was seen, the source has to be one with none left.
     pub fn next<S: Source>(&mut self, source: &mut S) -> Result<Step, ReadFault>
-        requires { IsTrue (has_ended self.old) → IsEnd (S.left source.old) }
+        requires ended { IsTrue (has_ended self.old) → IsEnd (S.left source.old) }
         ensures step { IfOk result (λ step.
             GoesOn step (current self.new) (read_count self.new) (has_ended self.new)
             (rest_of (pending self.old) (S.left source.old))
@@ -131,7 +132,7 @@ impl Lines {
 
     // Takes the line before this place, and the newline there, off the bytes that were read.
     fn take_line(&mut self, place: usize) -> Step
-        requires { place < length (pending self.old) }
+        requires within { place < length (pending self.old) }
         ensures line { current self.new ≡ take place (pending self.old) }
         ensures behind { pending self.new ≡ drop (place + 1) (pending self.old) }
         ensures read { read_count self.new ≡ read_count self.old }
@@ -151,7 +152,7 @@ impl Lines {
 
     // Takes all the bytes that were read as the last line, if there are any: the input has ended.
     fn take_last(&mut self) -> Step
-        requires { read_count self.old < script_limit }
+        requires below { read_count self.old < script_limit }
         ensures line { current self.new ≡ pending self.old }
         ensures none { pending self.new ≡ [] }
         ensures read { read_count self.new ≡ read_count self.old }
@@ -182,7 +183,7 @@ impl Lines {
 
     // Moves the bytes that were read to the front, where too little room is behind them.
     fn make_room(&mut self)
-        requires { length (pending self.old) ≤ line_limit }
+        requires room { length (pending self.old) ≤ line_limit }
         ensures same { pending self.new ≡ pending self.old }
         ensures read { read_count self.new ≡ read_count self.old }
         ensures ended { has_ended self.new ≡ has_ended self.old }
@@ -197,8 +198,8 @@ impl Lines {
 
     // How many bytes are asked of the next read: at least `READ_SIZE`, or all that the limit leaves.
     fn room(&self) -> usize
-        requires { self.now.end + READ_SIZE ≤ CAPACITY }
-        ensures { result ≡ min (CAPACITY - self.now.end) (script_limit - read_count self.now) }
+        requires room { self.now.end + READ_SIZE ≤ CAPACITY }
+        ensures count { result ≡ min (CAPACITY - self.now.end) (script_limit - read_count self.now) }
     {
         let left = SCRIPT_LIMIT - self.read;
         (CAPACITY - self.end).min(left as usize)
@@ -239,7 +240,7 @@ impl Lines {
     fn newline_behind(&self, known: usize) -> Option<usize>
         requires within { known ≤ length (pending self.now) }
         requires unbroken { IsUnbroken (take known (pending self.now)) }
-        ensures { MatchOption result (IsUnbroken (pending self.now)) (BreaksAt newline (pending self.now)) }
+        ensures place { MatchOption result (IsUnbroken (pending self.now)) (BreaksAt newline (pending self.now)) }
     {
         match first_place(&self.buffer[self.start + known..self.end], b'\n') {
             Some(place) => Some(known + place),

@@ -1,6 +1,8 @@
 ghost use Rattle.std.specs.Prelude.{◌≡◌, ◌≤◌};
 
-use crate::{Call, Lines, Step, write_count, write_name, write_newline, write_plain, write_space};
+use crate::{
+    Buffers, Call, Lines, Step, write_count, write_name, write_newline, write_plain, write_space,
+};
 use io_edge::{MemSink, MemSource, ReadFault, Source};
 use layout::Name;
 use std::alloc::Global;
@@ -12,6 +14,7 @@ fn word_of(alloc: Global, line: &[u8]) -> Result<&'static str, Fail> {
     let mut scratch = vec![in alloc; 0; 32_768]?;
     let word = match Call::parse(line, &mut scratch) {
         Call::Do(Command::Create { .. }) => "create",
+        Call::Do(Command::Mkdir { .. }) => "mkdir",
         Call::Do(Command::Stat { .. }) => "stat",
         Call::Do(Command::List { .. }) => "list",
         Call::Do(_) => "another",
@@ -32,11 +35,20 @@ fn calls(rt: HostRuntime) -> Result<(), Fail> {
         ("  ", "BadLine"),
         ("list", "BadLine"),
         ("list / x", "BadLine"),
-        ("mkdir /a", "BadLine"),
+        ("mkdir /a", "mkdir"),
+        ("  mkdir   /a/b ", "mkdir"),
+        ("mkdir /", "mkdir"),
+        ("mkdir", "BadLine"),
+        ("mkdir /a /b", "BadLine"),
+        ("Mkdir /a", "BadLine"),
+        ("mkdir/a", "BadLine"),
+        ("rmdir /a", "BadLine"),
         ("frob a", "BadLine"),
         ("create a", "BadPath"),
         ("create /%4", "BadPath"),
         ("stat /.", "BadPath"),
+        ("mkdir a", "BadPath"),
+        ("mkdir /a/", "BadPath"),
     ] {
         assert_eq!(rt; word_of(rt.alloc(), line.as_bytes())?, wanted, "at {line}");
     }
@@ -45,15 +57,23 @@ fn calls(rt: HostRuntime) -> Result<(), Fail> {
 
 #[test]
 fn long_calls(rt: HostRuntime) -> Result<(), Fail> {
-    for (count, wanted) in [
-        (110, "create"),
-        (111, "NameTooLong"),
-        (65_528, "NameTooLong"),
-        (65_529, "BadLine"),
+    for (start, count, wanted) in [
+        ("create /", 110, "create"),
+        ("create /", 111, "NameTooLong"),
+        ("create /", 65_528, "NameTooLong"),
+        ("create /", 65_529, "BadLine"),
+        ("mkdir /", 110, "mkdir"),
+        ("mkdir /", 111, "NameTooLong"),
+        ("mkdir /", 65_529, "NameTooLong"),
+        ("mkdir /", 65_530, "BadLine"),
     ] {
-        let mut line = Vec::from_slice(rt.alloc(), b"create /")?;
+        let mut line = Vec::from_slice(rt.alloc(), start.as_bytes())?;
         line.extend_from_slice(vec![in rt.alloc(); b'n'; count]?.as_slice())?;
-        assert_eq!(rt; word_of(rt.alloc(), &line)?, wanted, "at {count}");
+        assert_eq!(rt;
+            word_of(rt.alloc(), &line)?,
+            wanted,
+            "at {start} and {count}"
+        );
     }
     Ok(())
 }
@@ -134,6 +154,20 @@ fn lines_at_the_limit(rt: HostRuntime) -> Result<(), Fail> {
             assert_eq!(rt; told.len(), wanted, "at {step}");
         }
     }
+    Ok(())
+}
+
+#[test]
+fn new_buffers(rt: HostRuntime) -> Result<(), Fail> {
+    let mut buffers = Buffers::new(rt.alloc())?;
+    let mut source = MemSource::new(
+        Vec::from_slice(rt.alloc(), b"list /")?,
+        4,
+        Vec::new(rt.alloc()),
+    );
+    assert_eq!(rt; buffers.lines.next(&mut source), Ok(Step::Line));
+    let call = Call::parse(buffers.lines.line(), &mut buffers.scratch);
+    assert!(rt; matches!(call, Call::Do(Command::List { .. })));
     Ok(())
 }
 

@@ -23,7 +23,7 @@ type NameText = ArrayVec<u8, 330>;
 
 /// Writes the line of a reply that is neither `Bytes` nor `Names`.
 pub fn write_plain<K: Sink>(reply: &Reply, sink: &mut K) -> Result<(), WriteFault>
-    requires { IsPlain reply.now }
+    requires plain { IsPlain reply.now }
     ensures ok { OnOk result (K.taken sink.new ≡ with_bytes (K.taken sink.old) (reply_text reply.now)) }
     ensures err { OnErr result (TookFront (K.taken sink.old) (reply_text reply.now) (K.taken sink.new)) }
     ensures ok_faults { OnOk result (K.faults sink.new ≡ K.faults sink.old) }
@@ -79,8 +79,8 @@ pub fn write_newline<K: Sink>(sink: &mut K) -> Result<(), WriteFault>
 
 // The line of a plain reply.
 fn reply_line(reply: &Reply) -> LineText
-    requires { IsPlain reply.now }
-    ensures { result.items ≡ reply_text reply.now }
+    requires plain { IsPlain reply.now }
+    ensures items { result.items ≡ reply_text reply.now }
 {
     match reply {
         Reply::Done => line_of(b"ok"),
@@ -97,8 +97,8 @@ fn reply_line(reply: &Reply) -> LineText
 
 // A line of these words.
 fn line_of(words: &[u8]) -> LineText
-    requires { length words.now ≤ 127 }
-    ensures { result.items ≡ words.now ++ newline ∷ [] }
+    requires short { length words.now ≤ 127 }
+    ensures items { result.items ≡ words.now ++ newline ∷ [] }
 {
     let mut line = ArrayVec::new();
     push_text(&mut line, words);
@@ -107,8 +107,8 @@ fn line_of(words: &[u8]) -> LineText
 }
 
 fn error_line(name: &[u8]) -> LineText
-    requires { length name.now ≤ 11 }
-    ensures { result.items ≡ codes "error " ++ name.now ++ newline ∷ [] }
+    requires short { length name.now ≤ 11 }
+    ensures items { result.items ≡ codes "error " ++ name.now ++ newline ∷ [] }
 {
     let mut line = ArrayVec::new();
     push_text(&mut line, b"error ");
@@ -215,7 +215,7 @@ fn fault_name(fault: LineFault) -> &'static [u8]
 
 /// Adds a text.
 pub fn push_text<const SIZE: usize>(line: &mut ArrayVec<u8, SIZE>, text: &[u8])
-    requires { array_vec_len line.old + length text.now ≤ SIZE }
+    requires room { array_vec_len line.old + length text.now ≤ SIZE }
     ensures items { line.new.items ≡ line.old.items ++ text.now }
     ensures len { array_vec_len line.new ≡ array_vec_len line.old + length text.now }
 {
@@ -224,7 +224,7 @@ pub fn push_text<const SIZE: usize>(line: &mut ArrayVec<u8, SIZE>, text: &[u8])
 
 /// Adds a number in decimal.
 pub fn push_number(line: &mut LineText, number: u64)
-    requires { array_vec_len line.old + 20 ≤ 128 }
+    requires room { array_vec_len line.old + 20 ≤ 128 }
     ensures items { line.new.items ≡ line.old.items ++ decimal number }
     ensures len { array_vec_len line.new ≤ array_vec_len line.old + 20 }
 {
@@ -245,7 +245,7 @@ fn escaped(name: &Name) -> NameText
 
 #[tactic(auto, using(crate::proofs::Pieces::length_percent))]
 fn push_byte(text: &mut NameText, byte: u8)
-    requires { array_vec_len text.old + 3 ≤ 330 }
+    requires room { array_vec_len text.old + 3 ≤ 330 }
     ensures items { text.new.items ≡ text.old.items ++ byte_text byte }
     ensures len { array_vec_len text.new ≤ array_vec_len text.old + 3 }
 {

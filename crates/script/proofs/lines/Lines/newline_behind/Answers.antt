@@ -14,8 +14,10 @@ returns-in-Some c =
     let inside : from ≤ l.end = omega (arith, c.requires.within, length-take (l.end - l.start) (drop l.start l.buffer.items)) in
     let searched = ap (λ items. take (l.end - from) (drop from items)) c.deref.ensures.value
     ∙ window_behind l.buffer.items l.start l.end c.args.known from refl inside in
-    breaks_behind newline (pending l) c.args.known c.in-Some.place c.requires.within c.requires.unbroken
-    (subst (λ (bytes : List ℕ). BreaksAt newline bytes c.in-Some.place) searched c.in-Some.ensures)
+    record {
+      place = breaks_behind newline (pending l) c.args.known c.in-Some.place c.requires.within c.requires.unbroken
+          (subst (λ (bytes : List ℕ). BreaksAt newline bytes c.in-Some.place) searched c.in-Some.ensures);
+    }
 
 pub returns-in-None : goal.returns-in-None
 returns-in-None c =
@@ -24,4 +26,4 @@ returns-in-None c =
     let inside : from ≤ l.end = omega (arith, c.requires.within, length-take (l.end - l.start) (drop l.start l.buffer.items)) in
     let searched = ap (λ items. take (l.end - from) (drop from items)) c.deref.ensures.value
     ∙ window_behind l.buffer.items l.start l.end c.args.known from refl inside in
-    lacks_behind newline (pending l) c.args.known c.requires.unbroken (subst (λ (bytes : List ℕ). IsUnbroken bytes) searched c.in-None.ensures)
+    record { place = lacks_behind newline (pending l) c.args.known c.requires.unbroken (subst (λ (bytes : List ℕ). IsUnbroken bytes) searched c.in-None.ensures) }

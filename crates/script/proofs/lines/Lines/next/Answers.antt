@@ -6,7 +6,7 @@ use Rattle.script.proofs.lines.Lines.next.Goals as goal
 
 pub returns-in-Some-clause-step : goal.returns-in-Some-clause-step
 returns-in-Some-clause-step g c =
-    line_given _ _ _ _ _ _ _ _ _ refl c.in-Some.ensures c.take_line.ensures.line c.take_line.ensures.behind c.take_line.ensures.step
+    line_given _ _ _ _ _ _ _ _ _ refl c.in-Some.ensures.place c.take_line.ensures.line c.take_line.ensures.behind c.take_line.ensures.step
 
 pub returns-in-Some-clause-counted : goal.returns-in-Some-clause-counted
 returns-in-Some-clause-counted g c =
