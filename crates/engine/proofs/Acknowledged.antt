@@ -1,0 +1,113 @@
+-- A line that was executed, and then acknowledged.
+use Rattle.std.proofs.Common.{◌≡◌, ◌≢◌, inl, inr, ℕ, List, [], ◌∷◌, refl, sym, ap, subst, ◌∙◌}
+use Rattle.std.specs.Prelude.{Option, Some, None, Ok, Err}
+use Rattle.pm_trait.specs.declared.event.Event.TheVariants.{Ack}
+use Rattle.pm_trait.specs.Trail.{Trail}
+use Rattle.pm_trait.specs.Device.{with_event, acks_from, moment_of}
+use Rattle.pm_trait.specs.ContinuesLaws.{acks_from-all, continues_by}
+use Rattle.pm_trait.specs.DeviceLaws.{leaves_weaker, leaves_next}
+use Rattle.pm_trait.specs.AckLaws.{leaves_ack, acks_none, acks_next, acks_ack, settled_ack}
+use Rattle.tree_model.specs.Step.{Answer, Done, Count, Status, Bytes, Listed, Space, Refused, Unread, Fault, Stopped}
+use Rattle.tree_model.specs.Run.{Line, State, LineStep}
+use Rattle.tree_model.specs.Replies.{reply_of}
+use Rattle.tree_model.specs.declared.reply.Reply.{Reply}
+use Rattle.tree_model.specs.declared.reply.Reply.TheVariants as reply
+use Rattle.volume.specs.Volume.{VolumeView}
+use Rattle.volume.specs.Stands.{StandsFor}
+use Rattle.volume.specs.Stops.{MayReadAs}
+use Rattle.engine.specs.Exec.{Executed, HasAnswered}
+use Rattle.engine.specs.Quiet.{MayStore}
+use Rattle.engine.specs.Replies.{IsTold}
+use Rattle.engine.specs.Run.{command_of, IsAt}
+use Rattle.engine.proofs.After.{Acked, acked_then}
+use Rattle.engine.proofs.Quiet.{acts_answered}
+
+-- an acknowledgement is one
+ack_counts : (old : Option Trail) {new : Option Trail} → new ≡ with_event old Ack → Acked old new 1
+ack_counts None appended told is = absurd (cc (appended, is))
+ack_counts (Some trail) {new} appended told is =
+    ap (λ (t : Option Trail). acks_from (Some trail) t (moment_of t)) appended ∙ acks_from-all trail (Ack ∷ [])
+
+-- what a volume stands for is what its words read as
+pub stands_at : {volume : VolumeView} {words : List ℕ} {trail : Option Trail} {state : State} → StandsFor volume words trail state → IsAt volume.size state words
+stands_at stands = record { tidy = stands.tidy; reads = stands.reads }
+
+-- the state that a line leaves is one that a stop in it may leave
+pub may_be_after : (P : ℕ) (old : State) (line : Line) (answer : Answer) (new : State) (words : List ℕ) → LineStep P old line answer new → IsAt P new words
+    → MayReadAs P old (command_of (Some line)) words
+may_be_after P old (Ok command) answer new words (inl step) is =
+    record { sound = is.tidy.sound; tree = new.tree; reads = is.reads.tree; allowed = inr (inl step.tree) }
+may_be_after P old (Ok command) answer new words (inr lacks) is =
+    record { sound = is.tidy.sound; tree = new.tree; reads = is.reads.tree; allowed = inl (ap (λ (s : State). s.tree) lacks.unchanged) }
+may_be_after P old (Err fault) answer new words step is =
+    record { sound = is.tidy.sound; tree = new.tree; reads = is.reads.tree; allowed = ap (λ (s : State). s.tree) step.1 }
+
+-- what a stop with no line running may leave, it may leave with any line running
+pub may_more : (P : ℕ) (state : State) (line : Line) (image : List ℕ) → MayReadAs P state None image → MayReadAs P state (command_of (Some line)) image
+may_more P state (Ok command) image may = record { sound = may.sound; tree = may.tree; reads = may.reads; allowed = inl may.allowed }
+may_more P state (Err fault) image may = may
+
+pub may_be_there : (P : ℕ) (state : State) (words : List ℕ) → IsAt P state words → MayReadAs P state None words
+may_be_there P state words is = record { sound = is.tidy.sound; tree = state.tree; reads = is.reads.tree; allowed = refl }
+
+-- a volume stands for a state whatever was acknowledged
+pub stands_acked : {volume : VolumeView} {words after : List ℕ} {trail acked : Option Trail} {state : State} → after ≡ words → acked ≡ with_event trail Ack → StandsFor volume words trail state → StandsFor volume after acked state
+stands_acked {volume = volume} {words = words} {after = after} {acked = acked} {state = state} same appended stands =
+    let settled = settled_ack same appended stands.settled in
+    let there : StandsFor volume words acked state = record { settled = settled_ack refl appended stands.settled; tidy = stands.tidy; reads = stands.reads; knows = stands.knows } in
+    subst (λ (w : List ℕ). StandsFor volume w acked state) (sym same) there
+
+-- and has what is written of an answer
+told_acked : (volume : VolumeView) {words after : List ℕ} (trail : Option Trail) {acked : Option Trail} → after ≡ words → acked ≡ with_event trail Ack → (answer : Answer) → IsTold volume words trail answer → IsTold volume after acked answer
+told_acked volume trail same appended Done told = told
+told_acked volume trail same appended (Count n) told = told
+told_acked volume trail same appended (Status s) told = told
+told_acked volume trail same appended (Bytes bytes) told = told
+told_acked volume trail same appended (Listed inode names) told = record {
+  state = told.state;
+  stands = stands_acked same appended told.stands;
+  going = told.going;
+  directory = told.directory;
+  names_are = told.names_are;
+}
+told_acked volume trail same appended (Space free) told = told
+told_acked volume trail same appended (Refused refusal) told = told
+told_acked volume trail same appended (Unread fault) told = told
+told_acked volume trail same appended Fault told = told
+told_acked volume trail same appended Stopped told = told
+
+module _ {P : ℕ} {old : State} {line : Line} {volume : VolumeView} {replied : Reply} {before after acked : Option Trail} {words words_after : List ℕ} {fences_before fences_after fences_acked : ℕ}
+    (size : volume.size ≡ P) (done : Executed P old line volume replied before words after fences_before fences_after) (still : replied ≢ reply.Done → after ≡ before)
+    (same : words_after ≡ words) (appended : acked ≡ with_event after Ack) (counted : fences_acked ≡ fences_after) where
+  is_there : IsAt P done.new words
+  is_there = subst (λ (p : ℕ). IsAt p done.new words) size (stands_at done.stands)
+
+  pub acknowledged : HasAnswered P old line volume replied before words_after acked fences_before fences_acked
+  acknowledged = record {
+    answer = done.answer;
+    new = done.new;
+    replied = record { reply_is = done.replied.reply_is; told = told_acked volume after same appended done.answer done.replied.told };
+    step = done.step;
+    stands = stands_acked same appended done.stands;
+    acks = acks_next done.no_ack (acks_none _ done.any_moment.continues done.no_ack) (acks_ack _ done.stands.settled appended (refl, is_there));
+    any_moment = leaves_next done.no_ack (leaves_weaker (λ k image may. inl may) done.any_moment)
+        (leaves_ack _ done.stands.settled appended
+        (inl (refl, may_be_after P old line done.answer done.new words done.step is_there))
+        (inr (refl, may_be_there P done.new words is_there)));
+    quiet = acts_answered done.answer done.any_moment.continues (continues_by Ack appended) done.no_ack
+        (λ may_not. still (λ is_done. may_not (may_store done.answer done.replied.reply_is is_done))) appended;
+    one_ack = λ told is_told. acked_then 0 1 done.any_moment.continues (leaves_ack (λ k image. Unit {0}) done.stands.settled appended tt tt).continues (λ t i. done.no_ack) (ack_counts after appended) told is_told;
+    fences = counted ∙ done.fences;
+  }
+    where
+      may_store : (answer : Answer) → replied ≡ reply_of answer → replied ≡ reply.Done → MayStore (Some answer)
+      may_store Done is is_done = tt
+      may_store (Count n) is is_done = tt
+      may_store (Status s) is is_done = absurd (cc (is, is_done))
+      may_store (Bytes bytes) is is_done = absurd (cc (is, is_done))
+      may_store (Listed inode names) is is_done = absurd (cc (is, is_done))
+      may_store (Space free) is is_done = absurd (cc (is, is_done))
+      may_store (Refused refusal) is is_done = absurd (cc (is, is_done))
+      may_store (Unread fault) is is_done = absurd (cc (is, is_done))
+      may_store Fault is is_done = tt
+      may_store Stopped is is_done = absurd (cc (is, is_done))

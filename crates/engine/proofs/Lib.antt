@@ -1,0 +1,17 @@
+pub mod Runs
+pub mod After
+pub mod Quiet
+pub mod Stays
+pub mod FenceCounts
+pub mod Acknowledged
+pub mod Told
+pub mod Commands
+pub mod Causes
+pub mod TurnLaws
+pub mod Taken
+pub mod RunEnds
+pub mod Turned
+pub mod InputEnds
+pub mod Wrote
+pub mod RunStarts
+pub mod ListingLaws

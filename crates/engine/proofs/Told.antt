@@ -1,0 +1,220 @@
+-- What is told of an accepted command that changes nothing.
+use Rattle.std.proofs.Common.{◌≡◌, ◌≢◌, ℕ, true, false, List, [], ◌∷◌, length, Option, Some, None, is_some, unwrap_or, refl, sym, ap, subst, ◌∙◌}
+use Rattle.std.specs.Prelude.{IsTrue}
+use Rattle.pm_trait.specs.Trail.{Trail}
+use Rattle.tree_model.specs.PathText.{Route}
+use Rattle.tree_model.specs.Tree.{Tree, Room, Node, Directory, File, IsTree, IsRoom, root_id, node_at, id_at, is_directory, is_directory_node, is_file, is_file_node}
+use Rattle.tree_model.specs.Capacity.{untaken}
+use Rattle.tree_model.specs.Walk.{walk}
+use Rattle.tree_model.specs.WalkLaws.{id_at-from_walk}
+use Rattle.tree_model.specs.Accepted.{first-none, at-none, fault_of-none}
+use Rattle.tree_model.specs.RoomLaws.{room_after-same}
+use Rattle.tree_model.specs.Step.{Answer, Done, Status as StatusAnswer, Listed, Space as SpaceAnswer, at, fault_of, id_of, gaining, losing, names_in, status_of, space_of, answer_of, tree_after, least_free_id, refusal_of, outcome_of, step, RoomAfter}
+use Rattle.tree_model.specs.Run.{State, Steps, is_changing}
+use Rattle.tree_model.specs.declared.command.Command.{Command}
+use Rattle.tree_model.specs.declared.command.Command.TheVariants.{Create, Mkdir, Link, Unlink, Rmdir, Rename, Write, Truncate, Read, Stat as Tell, List as Show, Df}
+use Rattle.tree_model.specs.declared.reply.Refusal.TheVariants.{NotDir}
+use Rattle.tree_model.specs.declared.reply.Reply.TheVariants as reply
+use Rattle.tree_model.specs.declared.reply.Stat.{Stat}
+use Rattle.tree_model.specs.declared.reply.Free.{Free}
+use Rattle.image_counts.specs.Laws.{StateLaw}
+use Rattle.volume.specs.Volume.{VolumeView}
+use Rattle.volume.specs.Stands.{StandsFor, HasNode}
+use Rattle.volume.specs.Planned.{IsPlanOf}
+use Rattle.volume.specs.declared.plan.NewEntry.{NewEntry}
+use Rattle.volume.specs.declared.plan.Action.{Action}
+use Rattle.volume.specs.declared.plan.Action.TheVariants.{Make, Status, Names, Space}
+use Rattle.create_ops.specs.Making.{IsPlanFor}
+use Rattle.engine.specs.Replies.{IsReplyOf}
+
+-- ---- the step of an accepted command
+
+pub accepted_answer : (P : ℕ) (T : Tree) (room : Room) (c : Command) → refusal_of P T room c ≡ None → (step P T room c).answer ≡ answer_of (untaken P) T room c
+accepted_answer P T room c e = ap (λ o. (outcome_of o (untaken P) (least_free_id T) T room c).answer) e
+
+accepted_tree : (P : ℕ) (T : Tree) (room : Room) (c : Command) → refusal_of P T room c ≡ None → (step P T room c).tree ≡ tree_after (least_free_id T) T c
+accepted_tree P T room c e = ap (λ o. (outcome_of o (untaken P) (least_free_id T) T room c).tree) e
+
+-- where the tree stays and no directory gains or loses a name, all stays
+stays_by : (P : ℕ) (state : State) (c : Command) → IsRoom state.tree state.room → refusal_of P state.tree state.room c ≡ None
+    → gaining state.tree c ≡ None → losing state.tree c ≡ None → tree_after (least_free_id state.tree) state.tree c ≡ state.tree → Steps P state c (step P state.tree state.room c).answer state
+stays_by P state c fits e gains loses same = record {
+  answered = refl;
+  tree = sym (accepted_tree P state.tree state.room c e ∙ same);
+  room = subst (λ o. RoomAfter o state.tree state.room c state.room) (sym e) (
+    false,
+    sym (room_after-same (least_free_id state.tree) state.tree state.room c false fits gains loses (λ directory. ap (λ T. is_directory T directory) same)),
+    subst (λ T. IsRoom T state.room) (sym same) fits,
+  );
+}
+
+pub told_steps : (P : ℕ) (state : State) (c : Command) → is_changing c ≡ false → IsRoom state.tree state.room → refusal_of P state.tree state.room c ≡ None → Steps P state c (step P state.tree state.room c).answer state
+told_steps P state (Create path) reads fits e = absurd (cc reads)
+told_steps P state (Mkdir path) reads fits e = absurd (cc reads)
+told_steps P state (Link from to) reads fits e = absurd (cc reads)
+told_steps P state (Unlink path) reads fits e = absurd (cc reads)
+told_steps P state (Rmdir path) reads fits e = absurd (cc reads)
+told_steps P state (Rename from to) reads fits e = absurd (cc reads)
+told_steps P state (Write path offset bytes) reads fits e = absurd (cc reads)
+told_steps P state (Truncate path size) reads fits e = absurd (cc reads)
+told_steps P state (Read path offset count) reads fits e = stays_by P state (Read path offset count) fits e refl refl refl
+told_steps P state (Tell path) reads fits e = stays_by P state (Tell path) fits e refl refl refl
+told_steps P state (Show path) reads fits e = stays_by P state (Show path) fits e refl refl refl
+told_steps P state Df reads fits e = stays_by P state Df fits e refl refl refl
+
+-- it is not answered Done
+pub told_not_done : (P : ℕ) (state : State) (c : Command) → is_changing c ≡ false → refusal_of P state.tree state.room c ≡ None → (step P state.tree state.room c).answer ≢ Done
+told_not_done P state c reads e done = not_done c reads (sym (accepted_answer P state.tree state.room c e) ∙ done)
+  where
+    not_done : (c : Command) → is_changing c ≡ false → answer_of (untaken P) state.tree state.room c ≢ Done
+    not_done (Create path) reads is = absurd (cc reads)
+    not_done (Mkdir path) reads is = absurd (cc reads)
+    not_done (Link from to) reads is = absurd (cc reads)
+    not_done (Unlink path) reads is = absurd (cc reads)
+    not_done (Rmdir path) reads is = absurd (cc reads)
+    not_done (Rename from to) reads is = absurd (cc reads)
+    not_done (Write path offset bytes) reads is = absurd (cc reads)
+    not_done (Truncate path size) reads is = absurd (cc reads)
+    not_done (Read path offset count) reads is = cc is
+    not_done (Tell path) reads is = cc is
+    not_done (Show path) reads is = cc is
+    not_done Df reads is = cc is
+
+-- ---- the node of an accepted command
+
+module _ (P : ℕ) (T : Tree) (room : Room) (path : Route) (t : IsTree T) where
+  id_is : (id : ℕ) → id_at T path ≡ Some id → id_of T path ≡ id
+  id_is id is = ap (λ o. unwrap_or o root_id) is
+
+  walked : fault_of (walk T path) ≡ None → IsTrue (is_some (node_at T (id_of T path)))
+  walked none =
+      let (here, is) = fault_of-none (walk T path) none in
+      let named = id_at-from_walk T path here t is in
+      subst (λ id. IsTrue (is_some (node_at T id))) (sym (id_is here.id named)) (t.present path here.id named)
+
+  pub status_there : refusal_of P T room (Tell path) ≡ None → IsTrue (is_some (node_at T (id_of T path)))
+  status_there e = walked (first-none (fault_of (walk T path)) [] e).0
+
+  only_directory : (o : Option Node) → IsTrue (is_some o) → is_file_node o ≡ false → is_directory_node o ≡ true
+  only_directory None there file = absurd (cc there)
+  only_directory (Some Directory) there file = refl
+  only_directory (Some (File bytes)) there file = absurd (cc file)
+
+  pub listed_there : refusal_of P T room (Show path) ≡ None → is_directory T (id_of T path) ≡ true
+  listed_there e =
+      let walk_none = first-none (fault_of (walk T path)) (at NotDir (is_file T (id_of T path)) ∷ []) e in
+      let file = at-none NotDir (is_file T (id_of T path)) (first-none (at NotDir (is_file T (id_of T path))) [] walk_none.1).0 in
+      only_directory (node_at T (id_of T path)) (walked walk_none.0) file
+
+-- ---- the command of a plan that makes nothing
+
+module _ (P : ℕ) (I : List ℕ) (state : State) where
+  pub nothing_made : (c : Command) (entry : NewEntry) → is_changing c ≡ false → IsPlanOf P I state c (Make entry) → ⊥
+  nothing_made (Create path) entry reads plan = absurd (cc reads)
+  nothing_made (Mkdir path) entry reads plan = absurd (cc reads)
+  nothing_made (Link from to) entry reads plan = plan
+  nothing_made (Unlink path) entry reads plan = plan
+  nothing_made (Rmdir path) entry reads plan = plan
+  nothing_made (Rename from to) entry reads plan = plan
+  nothing_made (Write path offset bytes) entry reads plan = plan
+  nothing_made (Truncate path size) entry reads plan = plan
+  nothing_made (Read path offset count) entry reads plan = plan
+  nothing_made (Tell path) entry reads plan = cc plan
+  nothing_made (Show path) entry reads plan = cc plan
+  nothing_made Df entry reads plan = cc plan
+
+  pub status_of_plan : (c : Command) (inode : ℕ) → is_changing c ≡ false → IsPlanOf P I state c (Status inode) → (path : Route) × (c ≡ Tell path) × (inode ≡ id_of state.tree path)
+  status_of_plan (Create path) inode reads plan = absurd (cc reads)
+  status_of_plan (Mkdir path) inode reads plan = absurd (cc reads)
+  status_of_plan (Link from to) inode reads plan = absurd plan
+  status_of_plan (Unlink path) inode reads plan = absurd plan
+  status_of_plan (Rmdir path) inode reads plan = absurd plan
+  status_of_plan (Rename from to) inode reads plan = absurd plan
+  status_of_plan (Write path offset bytes) inode reads plan = absurd plan
+  status_of_plan (Truncate path size) inode reads plan = absurd plan
+  status_of_plan (Read path offset count) inode reads plan = absurd plan
+  status_of_plan (Tell path) inode reads plan = (path, refl, cc plan)
+  status_of_plan (Show path) inode reads plan = absurd (cc plan)
+  status_of_plan Df inode reads plan = absurd (cc plan)
+
+  pub names_of_plan : (c : Command) (inode : ℕ) → is_changing c ≡ false → IsPlanOf P I state c (Names inode) → (path : Route) × (c ≡ Show path) × (inode ≡ id_of state.tree path)
+  names_of_plan (Create path) inode reads plan = absurd (cc reads)
+  names_of_plan (Mkdir path) inode reads plan = absurd (cc reads)
+  names_of_plan (Link from to) inode reads plan = absurd plan
+  names_of_plan (Unlink path) inode reads plan = absurd plan
+  names_of_plan (Rmdir path) inode reads plan = absurd plan
+  names_of_plan (Rename from to) inode reads plan = absurd plan
+  names_of_plan (Write path offset bytes) inode reads plan = absurd plan
+  names_of_plan (Truncate path size) inode reads plan = absurd plan
+  names_of_plan (Read path offset count) inode reads plan = absurd plan
+  names_of_plan (Tell path) inode reads plan = absurd (cc plan)
+  names_of_plan (Show path) inode reads plan = (path, refl, cc plan)
+  names_of_plan Df inode reads plan = absurd (cc plan)
+
+  pub space_of_plan : (c : Command) → is_changing c ≡ false → IsPlanOf P I state c Space → c ≡ Df
+  space_of_plan (Create path) reads plan = absurd (cc reads)
+  space_of_plan (Mkdir path) reads plan = absurd (cc reads)
+  space_of_plan (Link from to) reads plan = absurd plan
+  space_of_plan (Unlink path) reads plan = absurd plan
+  space_of_plan (Rmdir path) reads plan = absurd plan
+  space_of_plan (Rename from to) reads plan = absurd plan
+  space_of_plan (Write path offset bytes) reads plan = absurd plan
+  space_of_plan (Truncate path size) reads plan = absurd plan
+  space_of_plan (Read path offset count) reads plan = absurd plan
+  space_of_plan (Tell path) reads plan = absurd (cc plan)
+  space_of_plan (Show path) reads plan = absurd (cc plan)
+  space_of_plan Df reads plan = refl
+
+-- ---- what a volume tells
+
+module _ (volume : VolumeView) (words : List ℕ) (trail : Option Trail) (law : StateLaw) where
+  pub tree_is : {state : State} → StandsFor volume words trail state → IsTree state.tree
+  tree_is {state} stands = (law volume.size words state stands.tidy.sound stands.reads).tree
+
+  pub room_is : {state : State} → StandsFor volume words trail state → IsRoom state.tree state.room
+  room_is {state} stands = (law volume.size words state stands.tidy.sound stands.reads).room
+
+  module _ (state : State) (c : Command) (action : Action) (reads : is_changing c ≡ false) (planned : IsPlanFor volume words trail state c action) where
+    -- the node that is told of
+    pub node_told : (inode : ℕ) → action ≡ Status inode → HasNode volume words trail inode
+    node_told inode is =
+        let (path, c_is, inode_is) = status_of_plan volume.size words state c inode reads (subst (IsPlanOf volume.size words state c) is planned.planned.plan_is) in
+        let there = status_there volume.size state.tree state.room path (tree_is planned.stands) (ap (refusal_of volume.size state.tree state.room) (sym c_is) ∙ planned.planned.accepted) in
+        (state, planned.stands, subst (λ (id : ℕ). IsTrue (is_some (node_at state.tree id))) (sym inode_is) there)
+
+    -- the directory that is listed
+    pub directory_listed : (inode : ℕ) → action ≡ Names inode → is_directory state.tree inode ≡ true
+    directory_listed inode is =
+        let (path, c_is, inode_is) = names_of_plan volume.size words state c inode reads (subst (IsPlanOf volume.size words state c) is planned.planned.plan_is) in
+        let there = listed_there volume.size state.tree state.room path (tree_is planned.stands) (ap (refusal_of volume.size state.tree state.room) (sym c_is) ∙ planned.planned.accepted) in
+        ap (is_directory state.tree) inode_is ∙ there
+
+    answered_by : (answer : Answer) → answer_of (untaken volume.size) state.tree state.room c ≡ answer → answer ≡ (step volume.size state.tree state.room c).answer
+    answered_by answer is = sym (accepted_answer volume.size state.tree state.room c planned.planned.accepted ∙ is)
+
+    pub status_replied : (inode : ℕ) (status : Stat) → action ≡ Status inode → status ≡ status_of state.tree inode
+        → IsReplyOf volume words trail (step volume.size state.tree state.room c).answer (reply.Status status)
+    status_replied inode status is told =
+        let (path, c_is, inode_is) = status_of_plan volume.size words state c inode reads (subst (IsPlanOf volume.size words state c) is planned.planned.plan_is) in
+        subst (λ (answer : Answer). IsReplyOf volume words trail answer (reply.Status status))
+        (answered_by (StatusAnswer status) (ap (answer_of (untaken volume.size) state.tree state.room) c_is ∙ ap (λ (id : ℕ). StatusAnswer (status_of state.tree id)) (sym inode_is) ∙ ap StatusAnswer (sym told)))
+        (record { reply_is = refl; told = tt })
+
+    pub names_replied : (inode count : ℕ) → action ≡ Names inode → volume.stopped ≡ false → count ≡ length (names_in state.tree inode)
+        → IsReplyOf volume words trail (step volume.size state.tree state.room c).answer (reply.Names inode count)
+    names_replied inode count is going counted =
+        let (path, c_is, inode_is) = names_of_plan volume.size words state c inode reads (subst (IsPlanOf volume.size words state c) is planned.planned.plan_is) in
+        subst (λ (answer : Answer). IsReplyOf volume words trail answer (reply.Names inode count))
+        (answered_by (Listed inode (names_in state.tree inode)) (ap (answer_of (untaken volume.size) state.tree state.room) c_is ∙ ap (λ (id : ℕ). Listed id (names_in state.tree id)) (sym inode_is)))
+        (record {
+          reply_is = ap (λ (n : ℕ). reply.Names inode n) counted;
+          told = record { state = state; stands = planned.stands; going = going; directory = directory_listed inode is; names_are = refl };
+        })
+
+    pub space_replied : (free : Free) → action ≡ Space → free ≡ space_of (untaken volume.size) state.tree state.room
+        → IsReplyOf volume words trail (step volume.size state.tree state.room c).answer (reply.Space free)
+    space_replied free is told =
+        let c_is = space_of_plan volume.size words state c reads (subst (IsPlanOf volume.size words state c) is planned.planned.plan_is) in
+        subst (λ (answer : Answer). IsReplyOf volume words trail answer (reply.Space free))
+        (answered_by (SpaceAnswer free) (ap (answer_of (untaken volume.size) state.tree state.room) c_is ∙ ap SpaceAnswer (sym told)))
+        (record { reply_is = refl; told = tt })

@@ -1,0 +1,13 @@
+//! A session on a mounted volume: lines of a script are executed one after another, acknowledged and answered.
+#![tactic(auto)]
+
+mod command;
+mod listing;
+mod session;
+mod turns;
+
+pub use session::Session;
+pub use turns::run;
+
+#[cfg(test)]
+mod tests;
