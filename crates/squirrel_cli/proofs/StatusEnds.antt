@@ -1,13 +1,12 @@
 -- The status that tells an end of a run.
 use Rattle.std.proofs.Common.{◌≡◌, ◌≢◌, ◌⊎◌, inl, inr, ℕ, List, Option, None, length, ◌+◌, refl, sym, ap, ◌∙◌, arith}
-use Rattle.std.specs.Prelude.{Some}
+use Rattle.std.specs.Prelude.{Some, IsSome}
 use Rattle.std.proofs.lemmas.List.{length-append}
-use Rattle.squirrel_cli.specs.declared.run_end.RunEnd.{RunEnd}
-use Rattle.squirrel_cli.specs.declared.run_end.RunEnd.TheVariants as run_end
+use Rattle.script.specs.declared.run_end.RunEnd.{RunEnd}
+use Rattle.script.specs.declared.run_end.RunEnd.TheVariants as run_end
 use Rattle.squirrel_cli.specs.declared.status.Status.{Status}
 use Rattle.squirrel_cli.specs.declared.status.Status.TheVariants as status
 use Rattle.squirrel_cli.specs.Ends.{end_of, GaveAll, IsShortScript}
-use Rattle.image_reading.specs.declared.Violation.{Violation}
 
 pub ends_as : {is other : Status} {end wanted : RunEnd} → end_of is ≡ Some end → is ≡ other → end_of other ≡ Some wanted → end ≡ wanted
 ends_as ended same other_ends = let e = sym ended ∙ ap end_of same ∙ other_ends in cc e
@@ -25,17 +24,18 @@ status_of_run status.WriteFault end e = inr (inr (inr (inr (inl refl))))
 status_of_run status.ScriptLimit end e = inr (inr (inr (inr (inr refl))))
 
 -- where nothing hindered it the work is done
-pub run_done : (is : Status) → is ≢ status.Usage → is ≢ status.NotVolume → ((violation : Violation) → is ≢ status.Damaged violation)
-    → is ≢ status.DeviceFault → is ≢ status.ReadFault → is ≢ status.WriteFault → is ≢ status.ScriptLimit → (is ≡ status.Done) ⊎ (is ≡ status.NoMemory)
-run_done status.Done usage not_volume damaged device read write limit = inl refl
-run_done status.Usage usage not_volume damaged device read write limit = absurd (usage refl)
-run_done status.NoMemory usage not_volume damaged device read write limit = inr refl
-run_done status.NotVolume usage not_volume damaged device read write limit = absurd (not_volume refl)
-run_done (status.Damaged violation) usage not_volume damaged device read write limit = absurd (damaged violation refl)
-run_done status.DeviceFault usage not_volume damaged device read write limit = absurd (device refl)
-run_done status.ReadFault usage not_volume damaged device read write limit = absurd (read refl)
-run_done status.WriteFault usage not_volume damaged device read write limit = absurd (write refl)
-run_done status.ScriptLimit usage not_volume damaged device read write limit = absurd (limit refl)
+pub run_done : (is : Status) → (is ≡ status.NoMemory) ⊎ IsSome (end_of is) → is ≢ status.DeviceFault → is ≢ status.ReadFault → is ≢ status.WriteFault → is ≢ status.ScriptLimit
+    → (is ≡ status.Done) ⊎ (is ≡ status.NoMemory)
+run_done is (inl memory) device read write limit = inr memory
+run_done status.Done (inr ended) device read write limit = inl refl
+run_done status.Usage (inr ended) device read write limit = absurd (cc ended)
+run_done status.NoMemory (inr ended) device read write limit = inr refl
+run_done status.NotVolume (inr ended) device read write limit = absurd (cc ended)
+run_done (status.Damaged violation) (inr ended) device read write limit = absurd (cc ended)
+run_done status.DeviceFault (inr ended) device read write limit = absurd (device refl)
+run_done status.ReadFault (inr ended) device read write limit = absurd (read refl)
+run_done status.WriteFault (inr ended) device read write limit = absurd (write refl)
+run_done status.ScriptLimit (inr ended) device read write limit = absurd (limit refl)
 
 pub mkfs_done : {is : Status} → (is ≡ status.Usage) ⊎ (is ≡ status.Done) ⊎ (is ≡ status.NoMemory) ⊎ (is ≡ status.DeviceFault) ⊎ (is ≡ status.WriteFault)
     → is ≢ status.Usage → is ≢ status.DeviceFault → is ≢ status.WriteFault → (is ≡ status.Done) ⊎ (is ≡ status.NoMemory)

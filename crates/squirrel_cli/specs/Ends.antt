@@ -1,13 +1,12 @@
 -- How the ends of a run are told, and which starts a job needs.
 use Rattle.std.specs.Prelude.{◌≡◌, ℕ, ◌*◌, ◌<◌, ◌++◌, List, length, Option, Some, None}
-use Rattle.image_reading.specs.Soundness.{KeepsRule1, pages_in_image}
 use Rattle.squirrel_cli.specs.declared.job.Job.{Job}
 use Rattle.squirrel_cli.specs.declared.job.Job.TheVariants.{Mkfs, Run}
-use Rattle.squirrel_cli.specs.declared.run_end.RunEnd.{RunEnd}
-use Rattle.squirrel_cli.specs.declared.run_end.RunEnd.TheVariants as ends
+use Rattle.script.specs.declared.run_end.RunEnd.{RunEnd}
+use Rattle.script.specs.declared.run_end.RunEnd.TheVariants as ends
 use Rattle.squirrel_cli.specs.declared.status.Status.{Status}
 use Rattle.squirrel_cli.specs.declared.status.Status.TheVariants.{Done, Usage, NoMemory, NotVolume, Damaged, DeviceFault, ReadFault, WriteFault, ScriptLimit}
-use Rattle.squirrel_cli.specs.Flat.{IsFlat}
+use Rattle.mount_scan.specs.Mounting.{IsTidy}
 use Rattle.script.specs.Lines.{script_limit}
 
 -- the end of a run that a status tells
@@ -22,14 +21,6 @@ end_of ReadFault = Some ends.ReadFault
 end_of WriteFault = Some ends.WriteFault
 end_of ScriptLimit = Some ends.Limit
 
--- the words are a volume's: their length and the first of them
-abbrev pub IsVolume : List ℕ → Type 0
-IsVolume words = KeepsRule1 (pages_in_image words) words
-
--- and it is a flat one
-abbrev pub IsFlatVolume : List ℕ → Type 0
-IsFlatVolume words = IsFlat (pages_in_image words) words
-
 -- 2^32 bytes left the source
 abbrev pub GaveAll : Option (List ℕ) → Option (List ℕ) → Type 0
 GaveAll None after = Unit {0}
@@ -41,8 +32,8 @@ abbrev pub IsShortScript : Option (List ℕ) → Type 0
 IsShortScript None = ⊥
 IsShortScript (Some bytes) = length bytes < script_limit
 
--- the device is as the job needs it: of the right length, or a flat volume
+-- the device is as the job needs it: of the right length, or a volume that needs no recovery
 abbrev pub IsReady : Option Job → List ℕ → Type 0
 IsReady None words = ⊥
 IsReady (Some (Mkfs pages)) words = length words ≡ 512 * pages
-IsReady (Some Run) words = IsFlatVolume words
+IsReady (Some Run) words = IsTidy words

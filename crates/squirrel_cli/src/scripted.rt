@@ -1,37 +1,26 @@
 // A script on the volume that a device holds.
-ghost use Rattle.std.specs.Prelude.{◌≡◌, ◌≢◌, ◌⊎◌, ◌^◌, ◌≤◌, ℕ, length, Some, Err, IfOk, IfSome};
+ghost use Rattle.std.specs.Prelude.{◌≡◌, ◌≢◌, ◌⊎◌, ◌^◌, ◌≤◌, ℕ, Some, IfSome, IsSome, false};
 ghost use Rattle.pm_trait.specs.Device.{HasRisen, IsSettledAt};
 ghost use Rattle.io_edge.specs.Bytes.{with_bytes, TookFront};
 ghost use Rattle.image_reading.specs.Soundness.{pages_in_image};
-ghost use Rattle.squirrel_cli.specs.Ends.{end_of, IsVolume, IsFlatVolume, GaveAll};
-ghost use Rattle.squirrel_cli.specs.Flat.{IsFlat};
-ghost use Rattle.squirrel_cli.specs.Script.{RunsScript};
-ghost use Rattle.squirrel_cli.specs.Stands.{Knows, StandsOn};
+ghost use Rattle.image_reading.specs.Tidy.{Tidy};
+ghost use Rattle.volume.specs.Stands.{IsStanding};
+ghost use Rattle.mount_scan.specs.Mounting.{HoldsVolume, IsTidy, IsDamage};
+ghost use Rattle.engine.specs.Script.{RunsScript};
+ghost use Rattle.squirrel_cli.specs.Ends.{end_of, GaveAll};
+ghost use Rattle.squirrel_cli.specs.Refusals.{IsToldOf};
 ghost use Rattle.squirrel_cli.specs.Texts.{not_a_volume_text, damaged_text};
 
-use crate::flat::Flat;
-use crate::load::{LoadError, geometry_of, load};
-use crate::run::run;
-use crate::run_end::RunEnd;
-use crate::session::Session;
 use crate::status::Status;
 use arrayvec::ArrayVec;
+use engine::{Session, run};
 use image_reading::{Violation, head_law};
 use io_edge::{Sink, Source, WriteFault, write_all};
+use mount_scan::{MountError, mount};
 use pm_trait::Pm;
-use script::{LineText, Lines, push_number, push_text};
+use script::{Buffers, LineText, RunEnd, push_number, push_text};
 use std::alloc::Global;
-
-/// How many bytes the longest line, of 65,536 bytes, gives at the most: each stands in two hexadecimal digits.
-const LINE_BYTES: usize = 32768;
-
-// Why there is nothing to run a script on.
-#[derive(Clone, Copy, Debug, PartialEq, Eq)]
-enum OpenError {
-    NotVolume,
-    NotFlat,
-    NoMemory,
-}
+use volume::Volume;
 
 /// Answers the script on the volume that the device holds.
 pub fn answer_script<P: Pm, S: Source, K: Sink>(
@@ -45,20 +34,22 @@ pub fn answer_script<P: Pm, S: Source, K: Sink>(
     requires acks { P.acks pm.old ≤ 2 ^ 32 }
 
     ensures usable { result ≢ Status.Usage }
-    ensures not_volume { result ≡ Status.NotVolume → ¬ IsVolume (P.now pm.old) }
+    ensures not_volume { result ≡ Status.NotVolume → ¬ HoldsVolume (P.now pm.old) }
     ensures not_volume_told { result ≡ Status.NotVolume → K.taken out.new ≡ with_bytes (K.taken out.old) not_a_volume_text }
-    ensures not_volume_each { ¬ IsVolume (P.now pm.old) →
+    ensures not_volume_each { ¬ HoldsVolume (P.now pm.old) →
         (result ≡ Status.NotVolume) ⊎ (result ≡ Status.WriteFault) × TookFront (K.taken out.old) not_a_volume_text (K.taken out.new) }
-    ensures damaged { (violation : Violation) → result ≡ Status.Damaged violation →
-        IsVolume (P.now pm.old) × (¬ IsFlatVolume (P.now pm.old)) × (violation.rule ≡ 0) × (violation.place ≡ 0) }
-    ensures damaged_told { (violation : Violation) → result ≡ Status.Damaged violation → K.taken out.new ≡ with_bytes (K.taken out.old) (damaged_text 0 0) }
-    ensures damaged_each { IsVolume (P.now pm.old) → ¬ IsFlatVolume (P.now pm.old) →
-        (result ≡ Status.Damaged (record { rule = 0; place = 0 })) ⊎ (result ≡ Status.NoMemory)
-        ⊎ (result ≡ Status.WriteFault) × TookFront (K.taken out.old) (damaged_text 0 0) (K.taken out.new) }
-    ensures left_alone { ¬ IsFlatVolume (P.now pm.old) → (P.now pm.new ≡ P.now pm.old) × (P.trail pm.new ≡ P.trail pm.old) × (script.new ≡ script.old) }
+    ensures damaged { (violation : Violation) → result ≡ Status.Damaged violation → HoldsVolume (P.now pm.old) × IsDamage (P.now pm.old) violation }
+    ensures damaged_told { (violation : Violation) → result ≡ Status.Damaged violation →
+        K.taken out.new ≡ with_bytes (K.taken out.old) (damaged_text violation.rule violation.place) }
+    ensures damaged_each { HoldsVolume (P.now pm.old) → ¬ IsTidy (P.now pm.old) → (result ≡ Status.NoMemory)
+        ⊎ (violation : Violation) × IsDamage (P.now pm.old) violation × ((result ≡ Status.Damaged violation)
+        ⊎ (result ≡ Status.WriteFault) × TookFront (K.taken out.old) (damaged_text violation.rule violation.place) (K.taken out.new)) }
+    ensures left_alone { ¬ IsTidy (P.now pm.old) → (P.now pm.new ≡ P.now pm.old) × (P.trail pm.new ≡ P.trail pm.old) × (script.new ≡ script.old) }
 
-    ensures runs { IsFlatVolume (P.now pm.old) → IfSome (end_of result) (λ end.
-        RunsScript (pages_in_image (P.now pm.old)) (P.now pm.old) end (S.left script.old) (S.left script.new)
+    ensures taken { IsTidy (P.now pm.old) → (result ≡ Status.NoMemory) ⊎ IsSome (end_of result) }
+    ensures answered { IsSome (end_of result) → IsTidy (P.now pm.old) ⊎ (result ≡ Status.WriteFault) × ¬ IsTidy (P.now pm.old) }
+    ensures runs { IsTidy (P.now pm.old) → IfSome (end_of result) (λ end.
+        RunsScript (pages_in_image (P.now pm.old)) (P.now pm.old) (P.now pm.new) end (S.left script.old) (S.left script.new)
         (K.taken out.old) (K.taken out.new) (P.trail pm.old) (P.trail pm.new) (P.faults pm.old) (P.faults pm.new)
         (P.fences pm.old) (P.fences pm.new) (P.acks pm.old) (P.acks pm.new)) }
 
@@ -72,56 +63,31 @@ pub fn answer_script<P: Pm, S: Source, K: Sink>(
         (P.now pm.new ≡ P.now pm.old) × (P.trail pm.new ≡ P.trail pm.old) × (script.new ≡ script.old) × (out.new ≡ out.old) }
     ensures done { result ≡ Status.Done → P.faults pm.new ≡ P.faults pm.old }
     ensures settled { HasRisen (P.faults pm.old) (P.faults pm.new) ⊎ IsSettledAt (P.now pm.new) (P.trail pm.new) }
-    ensures flat { IsFlatVolume (P.now pm.old) → HasRisen (P.faults pm.old) (P.faults pm.new) ⊎ IsFlatVolume (P.now pm.new) }
+    ensures tidy { IsTidy (P.now pm.old) → HasRisen (P.faults pm.old) (P.faults pm.new) ⊎ IsTidy (P.now pm.new) }
 {
     head_law();
-    match open(alloc, pm.image()) {
-        Ok(flat) => answer_lines(alloc, flat, script, out, pm),
-        Err(OpenError::NotVolume) => tell(out, b"not a volume\n", Status::NotVolume),
-        Err(OpenError::NotFlat) => {
-            let line = damaged_line(&NOT_FLAT);
-            tell(out, line.as_slice(), Status::Damaged(NOT_FLAT))
-        }
-        Err(OpenError::NoMemory) => Status::NoMemory,
+    match mount(alloc, pm) {
+        Ok(volume) => answer_lines(alloc, volume, script, out, pm),
+        Err(error) => refuse(error, out),
     }
 }
 
-// What is told of a volume that is not flat: no rule of a sound volume is named by it.
-const NOT_FLAT: Violation = Violation { rule: 0, place: 0 };
-
-// The flat volume that the words are.
-fn open(alloc: Global, words: &[u64]) -> Result<Flat, OpenError>
-    ensures ok { IfOk result (λ flat. IsFlatVolume words.now × Knows flat words.now × (flat.geometry.pages ≡ pages_in_image words.now)) }
-    ensures not_volume { result ≡ Err OpenError.NotVolume → ¬ IsVolume words.now }
-    ensures not_flat { result ≡ Err OpenError.NotFlat → IsVolume words.now × ¬ IsFlatVolume words.now }
-    ensures no_memory { result ≡ Err OpenError.NoMemory → IsVolume words.now }
-{
-    let Some(geometry) = geometry_of(words) else {
-        return Err(OpenError::NotVolume);
-    };
-    head_law();
-    match load(alloc, geometry, words) {
-        Ok(flat) => Ok(flat),
-        Err(LoadError::NotFlat) => Err(OpenError::NotFlat),
-        Err(LoadError::NoMemory) => Err(OpenError::NoMemory),
-    }
-}
-
-// Answers the script on a flat volume.
+// Answers the script on a mounted volume.
 fn answer_lines<P: Pm, S: Source, K: Sink>(
     alloc: Global,
-    flat: Flat,
+    volume: Volume,
     script: &mut S,
     out: &mut K,
     pm: &mut P,
 ) -> Status
-    requires stands { StandsOn flat (P.now pm.old) (P.trail pm.old) }
+    requires going { volume.stopped ≡ false }
+    requires stands { IsStanding volume (P.now pm.old) (P.trail pm.old) }
     requires fences { P.fences pm.old ≤ 2 ^ 32 }
     requires acks { P.acks pm.old ≤ 2 ^ 32 }
 
     ensures ends { (result ≡ Status.NoMemory) ⊎ (result ≡ Status.Done) ⊎ (result ≡ Status.DeviceFault)
         ⊎ (result ≡ Status.ReadFault) ⊎ (result ≡ Status.WriteFault) ⊎ (result ≡ Status.ScriptLimit) }
-    ensures runs { IfSome (end_of result) (λ end. RunsScript flat.geometry.pages (P.now pm.old) end (S.left script.old) (S.left script.new)
+    ensures runs { IfSome (end_of result) (λ end. RunsScript volume.size (P.now pm.old) (P.now pm.new) end (S.left script.old) (S.left script.new)
         (K.taken out.old) (K.taken out.new) (P.trail pm.old) (P.trail pm.new) (P.faults pm.old) (P.faults pm.new)
         (P.fences pm.old) (P.fences pm.new) (P.acks pm.old) (P.acks pm.new)) }
     ensures device_cause { result ≡ Status.DeviceFault → HasRisen (P.faults pm.old) (P.faults pm.new) }
@@ -133,19 +99,34 @@ fn answer_lines<P: Pm, S: Source, K: Sink>(
         (P.now pm.new ≡ P.now pm.old) × (P.trail pm.new ≡ P.trail pm.old) × (script.new ≡ script.old) × (out.new ≡ out.old) }
     ensures done { result ≡ Status.Done → P.faults pm.new ≡ P.faults pm.old }
     ensures settled { HasRisen (P.faults pm.old) (P.faults pm.new) ⊎ IsSettledAt (P.now pm.new) (P.trail pm.new) }
-    ensures flat { HasRisen (P.faults pm.old) (P.faults pm.new) ⊎ IsFlat flat.geometry.pages (P.now pm.new) }
+    ensures tidy { HasRisen (P.faults pm.old) (P.faults pm.new) ⊎ Tidy volume.size (P.now pm.new) }
 {
-    let Ok(mut lines) = Lines::new(alloc) else {
+    let Ok(mut buffers) = Buffers::new(alloc) else {
         return Status::NoMemory;
     };
-    let Ok(mut scratch) = vec![in alloc; 0; LINE_BYTES] else {
+    let Ok(mut session) = Session::start(alloc, volume) else {
         return Status::NoMemory;
     };
-    let mut session = Session {
-        flat,
-        stopped: false,
-    };
-    status_of_end(run(&mut session, &mut lines, &mut scratch, script, out, pm))
+    status_of_end(run(&mut session, &mut buffers, script, out, pm))
+}
+
+// Tells why the device was not mounted.
+fn refuse<K: Sink>(error: MountError, out: &mut K) -> Status
+    requires { error ≢ MountError.PmFault }
+    ensures told { IsToldOf error result (K.taken out.old) (K.taken out.new) }
+    ensures cause { result ≡ Status.WriteFault → HasRisen (K.faults out.old) (K.faults out.new) }
+    ensures no_write_fault { result ≢ Status.WriteFault → K.faults out.new ≡ K.faults out.old }
+    ensures no_memory { result ≡ Status.NoMemory → out.new ≡ out.old }
+{
+    match error {
+        MountError::NotVolume => tell(out, b"not a volume\n", Status::NotVolume),
+        MountError::Damaged(violation) => {
+            let line = damaged_line(&violation);
+            tell(out, line.as_slice(), Status::Damaged(violation))
+        }
+        MountError::PmFault => unreachable!(),
+        MountError::NoMemory => Status::NoMemory,
+    }
 }
 
 // The status that tells how a run ended.

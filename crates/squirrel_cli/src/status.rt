@@ -14,7 +14,8 @@ pub enum Status {
     NoMemory,
     /// The device's length or its first words are no volume's.
     NotVolume,
-    /// The volume is not flat: rule 0 and place 0, whether it breaks a rule or not.
+    /// The volume breaks a rule, the first of them at this place. Rule 0 and place 0 tell that it breaks none and needs
+    /// recovery.
     Damaged(Violation),
     /// A fence failed.
     DeviceFault,

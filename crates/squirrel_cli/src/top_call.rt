@@ -1,5 +1,5 @@
 // The top call.
-ghost use Rattle.std.specs.Prelude.{◌≡◌, ◌≢◌, ◌⊎◌, ℕ, ◌+◌, ◌*◌, ◌^◌, ◌<◌, ◌≤◌, ◌↔◌, length, Some, IfSome};
+ghost use Rattle.std.specs.Prelude.{◌≡◌, ◌≢◌, ◌⊎◌, ℕ, ◌+◌, ◌*◌, ◌^◌, ◌<◌, ◌≤◌, ◌↔◌, length, Some, IfSome, IsSome};
 ghost use Rattle.pm_trait.specs.Device.{HasRisen, IsSettledAt, LeavesOnly};
 ghost use Rattle.io_edge.specs.Bytes.{with_bytes, TookFront};
 ghost use Rattle.layout.specs.Format.{IsFormattedFrom};
@@ -7,8 +7,9 @@ ghost use Rattle.image_reading.specs.Laws.{IsFresh};
 ghost use Rattle.image_reading.specs.Soundness.{pages_in_image};
 ghost use Rattle.format_ops.specs.Stops.{IsOldHiddenOrFormatted};
 ghost use Rattle.squirrel_cli.specs.Job.{job_of as job_of_words, IsUnusable};
-ghost use Rattle.squirrel_cli.specs.Ends.{end_of, IsVolume, IsFlatVolume, GaveAll, IsShortScript, IsReady};
-ghost use Rattle.squirrel_cli.specs.Script.{RunsScript};
+ghost use Rattle.mount_scan.specs.Mounting.{HoldsVolume, IsTidy, IsDamage};
+ghost use Rattle.squirrel_cli.specs.Ends.{end_of, GaveAll, IsShortScript, IsReady};
+ghost use Rattle.engine.specs.Script.{RunsScript};
 ghost use Rattle.squirrel_cli.specs.Texts.{formatted_text, not_a_volume_text, damaged_text};
 
 use crate::job::{Job, job_of};
@@ -39,21 +40,24 @@ pub fn squirrel<P: Pm, S: Source, K: Sink>(
     ensures usage_output { result ≡ Status.Usage → out.new ≡ out.old }
     ensures usage_script { result ≡ Status.Usage → script.new ≡ script.old }
 
-    // A device that is no volume, or no flat one, is told so and left alone, and the script is not read.
-    ensures not_volume { result ≡ Status.NotVolume → (job_of_words words.now ≡ Some Job.Run) × ¬ IsVolume (P.now pm.old) }
+    // A device that is no volume, one that breaks a rule, and one that needs recovery is told so and left alone, and the script
+    // is not read.
+    ensures not_volume { result ≡ Status.NotVolume → (job_of_words words.now ≡ Some Job.Run) × ¬ HoldsVolume (P.now pm.old) }
     ensures not_volume_told { result ≡ Status.NotVolume → K.taken out.new ≡ with_bytes (K.taken out.old) not_a_volume_text }
-    ensures not_volume_each { job_of_words words.now ≡ Some Job.Run → ¬ IsVolume (P.now pm.old) →
+    ensures not_volume_each { job_of_words words.now ≡ Some Job.Run → ¬ HoldsVolume (P.now pm.old) →
         (result ≡ Status.NotVolume) ⊎ (result ≡ Status.WriteFault) × TookFront (K.taken out.old) not_a_volume_text (K.taken out.new) }
     ensures damaged { (violation : Violation) → result ≡ Status.Damaged violation →
-        (job_of_words words.now ≡ Some Job.Run) × IsVolume (P.now pm.old) × (¬ IsFlatVolume (P.now pm.old)) × (violation.rule ≡ 0) × (violation.place ≡ 0) }
-    ensures damaged_told { (violation : Violation) → result ≡ Status.Damaged violation → K.taken out.new ≡ with_bytes (K.taken out.old) (damaged_text 0 0) }
-    ensures damaged_each { job_of_words words.now ≡ Some Job.Run → IsVolume (P.now pm.old) → ¬ IsFlatVolume (P.now pm.old) →
-        (result ≡ Status.Damaged (record { rule = 0; place = 0 })) ⊎ (result ≡ Status.NoMemory)
-        ⊎ (result ≡ Status.WriteFault) × TookFront (K.taken out.old) (damaged_text 0 0) (K.taken out.new) }
-    ensures left_alone { job_of_words words.now ≡ Some Job.Run → ¬ IsFlatVolume (P.now pm.old) →
+        (job_of_words words.now ≡ Some Job.Run) × HoldsVolume (P.now pm.old) × IsDamage (P.now pm.old) violation }
+    ensures damaged_told { (violation : Violation) → result ≡ Status.Damaged violation →
+        K.taken out.new ≡ with_bytes (K.taken out.old) (damaged_text violation.rule violation.place) }
+    ensures damaged_each { job_of_words words.now ≡ Some Job.Run → HoldsVolume (P.now pm.old) → ¬ IsTidy (P.now pm.old) → (result ≡ Status.NoMemory)
+        ⊎ (violation : Violation) × IsDamage (P.now pm.old) violation × ((result ≡ Status.Damaged violation)
+        ⊎ (result ≡ Status.WriteFault) × TookFront (K.taken out.old) (damaged_text violation.rule violation.place) (K.taken out.new)) }
+    ensures left_alone { job_of_words words.now ≡ Some Job.Run → ¬ IsTidy (P.now pm.old) →
         (P.now pm.new ≡ P.now pm.old) × (P.trail pm.new ≡ P.trail pm.old) × (script.new ≡ script.old) }
 
-    // Each fault has its cause, which no other answer has, and want of memory comes before anything is read, written or stored.
+    // Each fault has its cause. A read or a write that failed has no other answer. Want of memory comes before anything is read,
+    // written or stored.
     ensures device_cause { result ≡ Status.DeviceFault → HasRisen (P.faults pm.old) (P.faults pm.new) }
     ensures read_cause { result ≡ Status.ReadFault → HasRisen (S.faults script.old) (S.faults script.new) }
     ensures write_cause { result ≡ Status.WriteFault → HasRisen (K.faults out.old) (K.faults out.new) }
@@ -80,10 +84,12 @@ pub fn squirrel<P: Pm, S: Source, K: Sink>(
     ensures formatted_acks { (pages : ℕ) → job_of_words words.now ≡ Some (Job.Mkfs pages) → P.acks pm.new ≡ P.acks pm.old }
     ensures formatted_script { (pages : ℕ) → job_of_words words.now ≡ Some (Job.Mkfs pages) → script.new ≡ script.old }
 
-    // `run` executes the lines of the script: each reply is the tree's, and a stop at any moment leaves the tree after all
-    // acknowledged lines, the running one's change whole or absent.
-    ensures runs { job_of_words words.now ≡ Some Job.Run → IsFlatVolume (P.now pm.old) → IfSome (end_of result) (λ end.
-        RunsScript (pages_in_image (P.now pm.old)) (P.now pm.old) end (S.left script.old) (S.left script.new)
+    // `run` executes the lines of the script on a volume that needs no recovery, and on no other: each reply is the tree's, and a
+    // stop at any moment leaves the tree after all acknowledged lines, the running one's change whole or absent.
+    ensures answered { job_of_words words.now ≡ Some Job.Run → IsSome (end_of result) →
+        IsTidy (P.now pm.old) ⊎ (result ≡ Status.WriteFault) × ¬ IsTidy (P.now pm.old) }
+    ensures runs { job_of_words words.now ≡ Some Job.Run → IsTidy (P.now pm.old) → IfSome (end_of result) (λ end.
+        RunsScript (pages_in_image (P.now pm.old)) (P.now pm.old) (P.now pm.new) end (S.left script.old) (S.left script.new)
         (K.taken out.old) (K.taken out.new) (P.trail pm.old) (P.trail pm.new) (P.faults pm.old) (P.faults pm.new)
         (P.fences pm.old) (P.fences pm.new) (P.acks pm.old) (P.acks pm.new)) }
 
@@ -95,11 +101,11 @@ pub fn squirrel<P: Pm, S: Source, K: Sink>(
         ¬ HasRisen (P.faults pm.old) (P.faults pm.new) → ¬ HasRisen (K.faults out.old) (K.faults out.new) →
         (result ≡ Status.Done) ⊎ (result ≡ Status.NoMemory) }
 
-    // Where no fence failed the device is settled again, and a flat volume is left, which the next job takes. The work is
-    // not done where one failed.
+    // Where no fence failed the device is settled again, and a volume that needs no recovery is left, which the next job takes.
+    // The work is not done where one failed.
     ensures settled { HasRisen (P.faults pm.old) (P.faults pm.new) ⊎ IsSettledAt (P.now pm.new) (P.trail pm.new) }
-    ensures flat { job_of_words words.now ≡ Some Job.Run → IsFlatVolume (P.now pm.old) →
-        HasRisen (P.faults pm.old) (P.faults pm.new) ⊎ IsFlatVolume (P.now pm.new) }
+    ensures tidy { job_of_words words.now ≡ Some Job.Run → IsTidy (P.now pm.old) →
+        HasRisen (P.faults pm.old) (P.faults pm.new) ⊎ IsTidy (P.now pm.new) }
     ensures done { result ≡ Status.Done → P.faults pm.new ≡ P.faults pm.old }
 {
     match job_of(words) {

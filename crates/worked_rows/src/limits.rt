@@ -92,11 +92,13 @@ fn lines_at_the_limit(rt: HostRuntime) -> Result<(), Fail> {
 // Names of one byte, one for each inode but the root's on 256 pages.
 const NAMES: &[u8] = b"ABCDEFGHIJKLMNOPQRSTUVWXYZabcdefghijklmnopqrstuvwxyz0123456789~";
 
-// A script that makes so many files.
-fn files(alloc: Global, count: usize) -> Result<Vec<u8>, Fail> {
+// A script that makes so many files in a directory.
+fn files(alloc: Global, directory: &str, count: usize) -> Result<Vec<u8>, Fail> {
     let mut script = Vec::new(alloc);
     for name in NAMES.iter().take(count) {
-        script.extend_from_slice(b"create /")?;
+        script.extend_from_slice(b"create ")?;
+        script.extend_from_slice(directory.as_bytes())?;
+        script.push(b'/')?;
         script.push(*name)?;
         script.push(b'\n')?;
     }
@@ -115,7 +117,7 @@ fn a_directory_fills_its_pages(rt: HostRuntime) -> Result<(), Fail> {
         (33, 99, 70, 1),
         (63, 189, 130, 1),
     ] {
-        let script = files(rt.alloc(), count)?;
+        let script = files(rt.alloc(), "", count)?;
         let left = job_on(
             rt.alloc(),
             "squirrel run v",
@@ -135,12 +137,71 @@ fn a_directory_fills_its_pages(rt: HostRuntime) -> Result<(), Fail> {
     Ok(())
 }
 
+// A directory in the root takes its pages as the root does, after the root's own.
+#[test]
+fn a_subdirectory_fills_its_pages(rt: HostRuntime) -> Result<(), Fail> {
+    let old = vec![in rt.alloc(); 0; 131_072]?;
+    let fresh = job_on(rt.alloc(), "squirrel mkfs v 256", old.as_slice(), b"")?;
+    for (count, fences, second_owner) in [(1, 8, 0), (32, 70, 0), (33, 74, 2)] {
+        let mut script = b"mkdir /d\n".to_vec(rt.alloc())?;
+        script.extend_from_slice(files(rt.alloc(), "/d", count)?.as_slice())?;
+        let left = job_on(
+            rt.alloc(),
+            "squirrel run v",
+            fresh.image.as_slice(),
+            &script,
+        )?;
+        assert_eq!(rt; left.fences, fences, "at {count}");
+        assert_eq!(rt; left.image.get(1_536..1_539), Some([1, 2, 0].as_slice()));
+        assert_eq!(rt; left.image.get(1_544..1_547), Some([2, 2, 0].as_slice()));
+        assert_eq!(rt;
+            left.image.get(1_552).copied(),
+            Some(second_owner),
+            "at {count}"
+        );
+    }
+    Ok(())
+}
+
+fn set(image: &mut Vec<u64>, word: usize, value: u64) -> Result<(), Fail> {
+    let place = image.get_mut(word).ok_or("no word")?;
+    *place = value;
+    Ok(())
+}
+
+// A file has all pages but the root's one: a name in the root has room, and one in an empty directory has none. Want of
+// inodes comes before want of pages.
+#[test]
+fn a_volume_without_free_pages(rt: HostRuntime) -> Result<(), Fail> {
+    let volume = small_volume(rt.alloc())?;
+    let left = job_on(
+        rt.alloc(),
+        "squirrel run v",
+        volume.as_slice(),
+        b"create /a\n",
+    )?;
+    let mut image = left.image;
+    set(&mut image, 530, 49_152)?;
+    // The descriptors of the pages after the root's one: the file's number, its kind, and the place in it.
+    for (offset, descriptor) in (1_032usize..1_128).step_by(8).enumerate() {
+        set(&mut image, descriptor, 2)?;
+        set(&mut image, descriptor.saturating_add(1), 1)?;
+        set(&mut image, descriptor.saturating_add(2), offset as u64)?;
+    }
+    let script = b"stat /a\nmkdir /d\ncreate /d/x\nmkdir /d/y\ncreate /b\ncreate /d/x\nlist /\n";
+    let wanted =
+        b"ok file inode 2 links 1 size 49152\nok\nerror NoPages\nerror NoPages\nok\nerror NoInodes\nok 3 a b d\n";
+    let left = job_on(rt.alloc(), "squirrel run v", image.as_slice(), script)?;
+    assert_eq!(rt; left.told.as_slice(), wanted.as_slice());
+    Ok(())
+}
+
 // All 63 inodes but the root's are named: the next file finds none, and a later run reads them all.
 #[test]
 fn a_volume_without_free_inodes(rt: HostRuntime) -> Result<(), Fail> {
     let old = vec![in rt.alloc(); 0; 131_072]?;
     let fresh = job_on(rt.alloc(), "squirrel mkfs v 256", old.as_slice(), b"")?;
-    let script = files(rt.alloc(), 63)?;
+    let script = files(rt.alloc(), "", 63)?;
     let full = job_on(
         rt.alloc(),
         "squirrel run v",

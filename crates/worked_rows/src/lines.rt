@@ -53,6 +53,36 @@ fn files_are_made_and_told(rt: HostRuntime) -> Result<(), Fail> {
 }
 
 #[test]
+fn directories_are_made_and_told(rt: HostRuntime) -> Result<(), Fail> {
+    compare(
+        &rt,
+        rt.alloc(),
+        &[
+            (
+                "mkdir /d\ncreate /d/x\nstat /d\n",
+                "ok\nok\nok dir inode 2 links 2 names 1\n",
+            ),
+            (
+                "mkdir /d\nmkdir /d/e\nstat /d\nstat /\nlist /d\nlist /\nlist /d/e\n",
+                "ok\nok\nok dir inode 2 links 3 names 1\nok dir inode 1 links 3 names 1\nok 1 e\nok 1 d\nok 0\n",
+            ),
+            (
+                "mkdir /d\nmkdir /e\ncreate /d/x\nstat /e/x\nstat /d/x\nlist /e\nlist /\n",
+                "ok\nok\nok\nerror NotFound\nok file inode 4 links 1 size 0\nok 0\nok 2 d e\n",
+            ),
+            (
+                "mkdir /x\nmkdir /x/x\nmkdir /x/x/x\nstat /x/x/x\nstat /x/x/x/x\n",
+                "ok\nok\nok\nok dir inode 4 links 2 names 0\nerror NotFound\n",
+            ),
+            (
+                "mkdir /d\nmkdir /d\nmkdir /\nmkdir /x/y\ncreate /f\nmkdir /f/g\ncreate /d/f\nmkdir /z\nmkdir z\nmkdir\n",
+                "ok\nerror Exists\nerror Root\nerror NotFound\nok\nerror NotDir\nok\nerror NoInodes\nerror BadPath\nerror BadLine\n",
+            ),
+        ],
+    )
+}
+
+#[test]
 fn commands_are_refused(rt: HostRuntime) -> Result<(), Fail> {
     compare(
         &rt,

@@ -109,7 +109,7 @@ fn words_that_ask_for_no_job(rt: HostRuntime) -> Result<(), Fail> {
     Ok(())
 }
 
-// Runs a script on words that are no volume that can be taken: it is told so, and nothing is done.
+// Runs a script on words that can't be mounted: it is told so, and nothing is done.
 fn compare(rt: &impl Abort, alloc: Global, image: &[u64], told: &str) -> Result<(), Fail> {
     let left = job_on(alloc, "squirrel run v", image, b"create /b\n")?;
     assert_eq!(rt; left.told.as_slice(), told.as_bytes());
@@ -146,29 +146,42 @@ fn words_that_are_no_volume(rt: HostRuntime) -> Result<(), Fail> {
 // Each word is of the root, of the file's inode, of the page's descriptor, or of a slot of the page.
 #[test]
 fn volumes_that_break_a_rule(rt: HostRuntime) -> Result<(), Fail> {
+    for (word, value, told) in [
+        (512, 1, "damaged 2 1\n"),
+        (515, 2, "damaged 2 1\n"),
+        (1_537, 3_329, "damaged 3 0\n"),
+        (1_536, 1, "damaged 5 0\n"),
+        (1_536, 5, "damaged 5 0\n"),
+        (1_538, 0x61_0000, "damaged 6 0\n"),
+        (1_538, 0x2F_0001, "damaged 6 0\n"),
+        (1_539, 1, "damaged 6 0\n"),
+        (531, 3, "damaged 7 2\n"),
+        (1_536, 3, "damaged 7 3\n"),
+        (1_025, 1, "damaged 10 0\n"),
+        (530, 1, "damaged 12 2\n"),
+        (513, 1, "damaged 14 1\n"),
+        (528, 2, "damaged 14 1\n"),
+    ] {
+        let image = with_word(rt.alloc(), word, value)?;
+        compare(&rt, rt.alloc(), image.as_slice(), told)?;
+    }
+    Ok(())
+}
+
+// They break no rule, but a stop left something to be repaired: links that are too high, a rename pointer, and an inode, a
+// page and a slot that nothing names and that aren't zero.
+#[test]
+fn volumes_that_need_recovery(rt: HostRuntime) -> Result<(), Fail> {
     for (word, value) in [
-        (512, 1),
         (513, 3),
-        (514, 1),
-        (515, 2),
-        (528, 2),
         (529, 2),
-        (530, 1),
-        (531, 3),
         (544, 1),
         (1_024, 2),
-        (1_025, 1),
-        (1_026, 1),
         (1_033, 2),
         (1_536, 0),
-        (1_536, 1),
-        (1_536, 3),
-        (1_536, 5),
         (1_537, 2),
-        (1_538, 0x61_0000),
-        (1_538, 0x2F_0001),
-        (1_539, 1),
         (1_553, 1),
+        (1_554, 1),
     ] {
         let image = with_word(rt.alloc(), word, value)?;
         compare(&rt, rt.alloc(), image.as_slice(), "damaged 0 0\n")?;
@@ -182,13 +195,15 @@ fn a_name_that_stands_twice(rt: HostRuntime) -> Result<(), Fail> {
     let mut image = with_word(rt.alloc(), 1_552, 2)?;
     let name = image.get_mut(1_554).ok_or("no word")?;
     *name = 0x61_0001;
-    compare(&rt, rt.alloc(), image.as_slice(), "damaged 0 0\n")
+    compare(&rt, rt.alloc(), image.as_slice(), "damaged 8 1\n")
 }
 
 // Words that no one reads may be anything.
 #[test]
 fn words_that_are_not_read(rt: HostRuntime) -> Result<(), Fail> {
-    for word in [5, 511, 516, 527, 532, 1_027, 1_031, 1_032 + 3, 2_048, 8_191] {
+    for word in [
+        5, 511, 514, 516, 527, 532, 1_026, 1_027, 1_031, 1_035, 2_048, 8_191,
+    ] {
         let image = with_word(rt.alloc(), word, 9)?;
         let left = job_on(rt.alloc(), "squirrel run v", image.as_slice(), b"list /\n")?;
         assert_eq!(rt; left.told.as_slice(), b"ok 1 a\n".as_slice(), "at {word}");

@@ -8,7 +8,7 @@ use Rattle.layout.specs.Format.{IsFormattedFrom}
 use Rattle.image_reading.specs.Laws.{IsFresh}
 use Rattle.io_edge.specs.Bytes.{with_bytes}
 use Rattle.squirrel_cli.specs.Texts.{formatted_text}
-use Rattle.squirrel_cli.proofs.After.{leaves_unacknowledged}
+use Rattle.squirrel_cli.proofs.Unacknowledged.{leaves_unacknowledged}
 use Rattle.squirrel_cli.proofs.mkfs.make_volume.Goals as goal
 
 -- the pages are those of the length
