@@ -1,1 +1,2 @@
+pub mod NumbersLaws
 mod Lists

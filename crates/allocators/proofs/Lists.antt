@@ -4,7 +4,7 @@ use Rattle.std.proofs.lemmas.Bool.{cases_eq}
 use Rattle.std.proofs.lemmas.List.{length-set, length-replicate, get_or-replicate}
 use Rattle.allocators.specs.Numbers.{IsFree}
 use Rattle.allocators.specs.NumbersKept.{IsLowestPlace}
-use Rattle.allocators.specs.NumbersLaws.{free_here, free_before, free_still, free_after_give, taken_after_take}
+use Rattle.allocators.proofs.NumbersLaws.{free_here, free_before, free_still, free_after_give, taken_after_take}
 
 pub first_of_all : (n : ℕ) → IsLowestPlace (replicate n true) 0
 first_of_all n = record {

@@ -2,12 +2,12 @@
 use Rattle.std.proofs.Common.{◌≡◌, ◌≢◌, ◌⊎◌, inl, inr, ℕ, ◌+◌, ◌*◌, ◌<◌, ◌≤◌, List, length, Option, Some, None, sym, ap, subst, ◌∙◌, arith}
 use Rattle.layout.specs.declared.fields.InodeFields.{InodeFields}
 use Rattle.layout.specs.Geometry.{inodes_of, data_pages_of, slots_of, page_of_slot, descriptor_word_of, slot_word_of}
-use Rattle.layout.specs.GeometryLaws.{page_of_slot_below, page_of_entry}
+use Rattle.layout.proofs.GeometryLaws.{page_of_slot_below, page_of_entry}
 use Rattle.layout.specs.Fields.{word, inode_kind, page_owner, page_offset, slot_inode, slot_words, slot_name}
-use Rattle.layout.specs.FieldLaws.{same_words_from}
+use Rattle.layout.proofs.FieldLaws.{same_words_from}
 use Rattle.layout.specs.Name.{IsName, IsBytes, words_of_name, name_in_words}
-use Rattle.layout.specs.NameLaws.{name_in_words-words_of_name}
-use Rattle.dentry_state.specs.DentryLaws.{next_fields}
+use Rattle.layout.proofs.NameLaws.{name_in_words-words_of_name}
+use Rattle.dentry_state.proofs.DentryLaws.{next_fields}
 use Rattle.tree_model.specs.PathText.{Route}
 use Rattle.tree_model.specs.Run.{State}
 use Rattle.image_reading.specs.Reading.{IsDirectory, slot_owner, Reached, ReadsAs}

@@ -2,7 +2,7 @@
 use Rattle.std.proofs.Common.{◌≡◌, ◌≢◌, ◌⊎◌, inl, inr, ℕ, ◌+◌, ◌*◌, ◌<◌, ◌≤◌, List, length, reverse, slice_index, set, Option, Some, None, refl, sym, ap, subst, ◌∙◌, arith}
 use Rattle.pm_trait.specs.Device.{Mix}
 use Rattle.layout.specs.Geometry.{IsVolumeSize, inodes_of, page_of_slot, slot_word_of}
-use Rattle.layout.specs.GeometryLaws.{page_of_entry}
+use Rattle.layout.proofs.GeometryLaws.{page_of_entry}
 use Rattle.layout.specs.Fields.{word}
 use Rattle.layout.specs.Name.{IsName, IsBytes, words_of_name}
 use Rattle.tree_model.specs.PathText.{Route}
@@ -10,14 +10,14 @@ use Rattle.tree_model.specs.Tree.{Tree, id_at, parent}
 use Rattle.tree_model.specs.Capacity.{untaken}
 use Rattle.tree_model.specs.Step.{Done, step, refusal_of, outcome_of, least_free_id, with_new}
 use Rattle.tree_model.specs.Run.{State}
-use Rattle.tree_model.specs.TreeLaws.{id_at-with_new_here}
+use Rattle.tree_model.proofs.TreeLaws.{id_at-with_new_here}
 use Rattle.tree_model.specs.declared.reply.Refusal.{Refusal}
 use Rattle.image_reading.specs.Reading.{Reads}
 use Rattle.image_laws.specs.Create.{IsEmptyNode, MakesNode, IsCreate, owned, committed}
 use Rattle.image_laws.specs.Frame.{SameMeaning}
 use Rattle.image_laws.specs.Quiet.{IsMix}
 use Rattle.inode_state.specs.Inode.{fields_at}
-use Rattle.inode_state.specs.InodeLaws.{same_fields_at}
+use Rattle.inode_state.proofs.InodeLaws.{same_fields_at}
 use Rattle.layout.specs.declared.fields.InodeFields.{InodeFields}
 use Rattle.volume.specs.declared.plan.NodeKind.{NodeKind}
 use Rattle.volume.specs.declared.plan.NodeKind.TheVariants.{File as AFile, Directory as ADirectory}

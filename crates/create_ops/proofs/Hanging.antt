@@ -5,7 +5,7 @@ use Rattle.std.proofs.lemmas.Bool.{cases_eq, cases_lt}
 use Rattle.std.proofs.lemmas.Grind.{same_number_lists}
 use Rattle.pm_trait.specs.Trail.{Trail}
 use Rattle.pm_trait.specs.Device.{LeavesOnly, MayLeave, Mix, IsFenced, moment_of}
-use Rattle.pm_trait.specs.ContinuesLaws.{continues_then, may_leave-more}
+use Rattle.pm_trait.proofs.ContinuesLaws.{continues_then, may_leave-more}
 use Rattle.layout.specs.Fields.{word}
 use Rattle.tree_model.specs.Tree.{Tree}
 use Rattle.image_reading.specs.Reading.{Reads}

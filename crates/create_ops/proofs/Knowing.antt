@@ -16,9 +16,9 @@ use Rattle.image_reading.specs.Tidy.{Tidy}
 use Rattle.image_counts.specs.Entries.{IsEntryOf, IsPageIn}
 use Rattle.image_laws.specs.Create.{MakesNode, committed}
 use Rattle.allocators.specs.Numbers.{IsFree}
-use Rattle.allocators.specs.NumbersLaws.{taken_after_take, free_before, free_still}
+use Rattle.allocators.proofs.NumbersLaws.{taken_after_take, free_before, free_still}
 use Rattle.volatile_index.specs.Index.{Held, entries_of, pages_of}
-use Rattle.volatile_index.specs.EntryLaws.{contains_entry, contains_still, contains_before as entry_among}
+use Rattle.volatile_index.proofs.EntryLaws.{contains_entry, contains_still, contains_before as entry_among}
 use Rattle.volatile_index.specs.declared.entry.Entry.{Entry}
 use Rattle.volume.specs.declared.plan.NewEntry.{NewEntry}
 use Rattle.volume.specs.Volume.{VolumeView}

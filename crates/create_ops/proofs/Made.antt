@@ -1,7 +1,10 @@
 -- An entry that is made leaves a volume that stands for what its command leaves.
-use Rattle.std.proofs.Common.{◌≡◌, ℕ, ◌+◌, List, Option, Some, None, refl, sym, ap, subst, ◌∙◌}
+use Rattle.std.proofs.Common.{◌≡◌, ℕ, ◌+◌, List, Option, Some, None, refl, sym, ap, subst, ◌∙◌, arith}
+use Rattle.std.specs.Prelude.{Ok, Err}
 use Rattle.pm_trait.specs.Trail.{Trail}
 use Rattle.pm_trait.specs.Device.{IsSettledAt}
+use Rattle.pm_trait.specs.DeviceView.{DeviceView, MakesIntervals}
+use Rattle.pm_trait.proofs.DeviceViewLaws.{intervals_as, intervals_failed}
 use Rattle.layout.specs.Name.{IsName, IsBytes}
 use Rattle.tree_model.specs.PathText.{Route}
 use Rattle.tree_model.specs.Tree.{Tree, IsRoom}
@@ -28,10 +31,17 @@ pub fences_are : (new_page : Option ℕ) → page_fences new_page + 2 ≡ fences
 fences_are None = refl
 fences_are (Some page) = refl
 
+-- the intervals of an entry are those of its command
+pub made_ok : {T U E F : Type 0} {a b : DeviceView} {events : ℕ} {done : U} (value : T) (new_page : Option ℕ) → MakesIntervals {E = F} a b events (page_fences new_page + 2) (Ok done) → MakesIntervals {E = E} a b events (fences_for new_page) (Ok value)
+made_ok {E = E} {a = a} {b} {events} value new_page made = subst (λ (fences : ℕ). MakesIntervals {E = E} a b events fences (Ok value)) (fences_are new_page) (intervals_as value made)
+
+pub made_err : {T U E F : Type 0} {a b : DeviceView} {events : ℕ} {failed : F} (fault : E) (new_page : Option ℕ) → MakesIntervals {T = U} a b events (page_fences new_page + 2) (Err failed) → MakesIntervals {T = T} a b events (fences_for new_page) (Err fault)
+made_err {T = T} {a = a} {b} {events} fault new_page made = subst (λ (fences : ℕ). MakesIntervals {T = T} a b events fences (Err fault)) (fences_are new_page) (intervals_failed events (page_fences new_page + 2) (Err fault) refl (omega arith) (omega arith) made)
+
 -- the plan of a volume that stands is one at its words, by whatever names its number of pages
-pub planned_at : (volume : VolumeView) (W : List ℕ) (trail : Option Trail) (state : State) (path : Route) (entry : NewEntry) (P : ℕ) → P ≡ volume.size → IsPlanFor volume W trail state (making entry.kind path) (Make entry) → IsPlannedAt P W state path entry
-planned_at volume W trail state path entry P is plan =
-    subst (λ (p : ℕ). IsPlannedAt p W state path entry) (sym is) (record { tidy = plan.stands.tidy; reads = plan.stands.reads; planned = plan.planned })
+pub planned_at : (volume : VolumeView) (device : DeviceView) (state : State) (path : Route) (entry : NewEntry) (P : ℕ) → P ≡ volume.size → IsPlanFor volume device state (making entry.kind path) (Make entry) → IsPlannedAt P device.words state path entry
+planned_at volume device state path entry P is plan =
+    subst (λ (p : ℕ). IsPlannedAt p device.words state path entry) (sym is) (record { tidy = plan.stands.tidy; reads = plan.stands.reads; planned = plan.planned })
 
 module _ (laws : ImageLaws) (P : ℕ) (W : List ℕ) (state : State) (path : Route) (entry : NewEntry) (at : IsPlannedAt P W state path entry) (J : List ℕ) (made : IsMade P W J entry) (is_name : IsName entry.name) (of_bytes : IsBytes entry.name) where
   created : IsCreate P W made.opened made.placed.written (committed P made.placed.written entry.slot entry.inode) path (node_of entry.kind) entry.inode (room_of entry entry.new_page)

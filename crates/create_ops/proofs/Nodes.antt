@@ -1,22 +1,25 @@
 -- The interval in which a node, its name and its directory's links are written, and the one that commits it.
-use Rattle.std.proofs.Common.{◌≡◌, ◌⊎◌, inl, inr, ℕ, zero, suc, ◌+◌, ◌-◌, ◌*◌, ◌<◌, List, length, slice_index, slice_set, sym, ap, subst, ◌∙◌, arith, get_or-set_same, get_or-set_other, length-set}
+use Rattle.std.proofs.Common.{◌≡◌, ◌⊎◌, inl, inr, ℕ, zero, suc, ◌+◌, ◌-◌, ◌*◌, ◌<◌, List, [], ◌∷◌, length, slice_index, sym, ap, subst, ◌∙◌, arith}
 use Rattle.std.specs.Prelude.{Option}
-use Rattle.std.proofs.lemmas.Bool.{cases_eq}
-use Rattle.std.proofs.lemmas.Grind.{same_number_lists}
 use Rattle.pm_trait.specs.Trail.{Trail}
 use Rattle.pm_trait.specs.Device.{IsInterval, IsFlushed, IsClean, IsSettledAt}
-use Rattle.pm_trait.specs.DeviceLaws.{interval_keeps, interval_length, interval_joined, then_nothing, clean_stays, flushed_stays}
+use Rattle.pm_trait.specs.declared.event.Event.TheVariants.{Store, Flush}
+use Rattle.pm_trait.specs.DeviceView.{DeviceView, Performs, Stores}
+use Rattle.pm_trait.proofs.DeviceViewLaws.{store_stores, flush_stores, stores_flushed, stores_weaker, stores_nothing}
+use Rattle.pm_trait.proofs.DeviceLaws.{interval_keeps, interval_length, interval_joined, clean_stays, flushed_stays}
 use Rattle.layout.specs.declared.fields.InodeFields.{InodeFields}
 use Rattle.layout.specs.declared.fields.SlotFields.{SlotFields}
 use Rattle.layout.specs.Geometry.{IsVolumeSize, inode_word_of, slot_word_of}
-use Rattle.layout.specs.Fields.{word, inode_kind, inode_links, inode_size, inode_own, slot_inode, slot_words}
+use Rattle.layout.specs.Fields.{word, inode_kind, inode_links, inode_size, inode_own, slot_words}
 use Rattle.layout.specs.Name.{words_of_name}
-use Rattle.fence_token.specs.ObjectLaws.{stands_in_flight_stays}
-use Rattle.inode_state.specs.Inode.{InodeView, IsInodeWord, fields_at, InodeIsInFlight}
-use Rattle.inode_state.specs.InodeLaws.{same_fields_at, inode_is_local, inode_words_apart, inode_word_in_volume}
-use Rattle.dentry_state.specs.States.{free_fields as free_slot, named_fields, committed_fields}
-use Rattle.dentry_state.specs.Dentry.{DentryView, IsSlotWord, IsNameWord, slot_fields_at, DentryIsInFlight}
-use Rattle.dentry_state.specs.DentryLaws.{same_fields_at as same_slot_at, dentry_is_local, slot_word_is, name_word_is_slot_word, slot_word_is_no_inode_word, slot_word_in_volume}
+use Rattle.fence_token.specs.Objects.{StandsInFlight}
+use Rattle.fence_token.specs.Flushes.{FlushesLines}
+use Rattle.fence_token.proofs.ObjectLaws.{lines_stores, stands_in_flight_stays}
+use Rattle.inode_state.specs.Inode.{InodeView, IsInodeWord, fields_at}
+use Rattle.inode_state.proofs.InodeLaws.{same_fields_at, inode_is_local, inode_words_apart, inode_word_in_volume}
+use Rattle.dentry_state.specs.States.{free_fields as free_slot, named_fields}
+use Rattle.dentry_state.specs.Dentry.{DentryView, IsSlotWord, IsNameWord, slot_fields_at}
+use Rattle.dentry_state.proofs.DentryLaws.{same_fields_at as same_slot_at, dentry_is_local, name_word_is_slot_word, slot_word_is_no_inode_word, slot_word_in_volume}
 use Rattle.volume.specs.declared.plan.NodeKind.{NodeKind}
 use Rattle.volume.specs.declared.plan.NodeKind.TheVariants.{File as AFile, Directory as ADirectory}
 use Rattle.volume.specs.declared.plan.NewEntry.{NewEntry}
@@ -25,15 +28,20 @@ use Rattle.create_ops.specs.Making.{node_of, fields_of, IsParentWord, IsParent, 
 
 -- ---- stores and the flush after them
 
-pub inode_stored : {a b c : List ℕ} {ta tb tc : Option Trail} (m n : ℕ) → n ≡ m → IsInterval (IsInodeWord n) a ta b tb → IsInterval (λ _. ⊥) b tb c tc → IsInterval (IsInodeWord m) a ta c tc
-inode_stored {a} {b} {c} {ta} {tb} {tc} m n same run flush = subst (λ (k : ℕ). IsInterval (IsInodeWord k) a ta c tc) same (then_nothing run flush)
+pub inode_stored : {a b c : DeviceView} {line : ℕ} (m n : ℕ) → n ≡ m → Stores (IsInodeWord n) a b 4 → Performs b c (Flush line ∷ []) → Stores (IsInodeWord m) a c 5
+inode_stored {a} {c = c} m n same run flush = subst (λ (k : ℕ). Stores (IsInodeWord k) a c 5) same (stores_flushed run (flush_stores flush))
 
-pub links_stored : {a b c : List ℕ} {ta tb tc : Option Trail} (m n : ℕ) → n ≡ m → IsInterval (λ word. word ≡ inode_word_of n 1) a ta b tb → IsInterval (λ _. ⊥) b tb c tc → IsInterval (λ word. word ≡ inode_word_of m 1) a ta c tc
-links_stored {a} {b} {c} {ta} {tb} {tc} m n same run flush = subst (λ (k : ℕ). IsInterval (λ word. word ≡ inode_word_of k 1) a ta c tc) same (then_nothing run flush)
+pub links_stored : {a b c : DeviceView} {value line : ℕ} (m n : ℕ) → n ≡ m → Performs a b (Store (inode_word_of n 1) value ∷ []) → Performs b c (Flush line ∷ []) → Stores (λ word. word ≡ inode_word_of m 1) a c 2
+links_stored {a} {c = c} m n same stored flush = subst (λ (k : ℕ). Stores (λ word. word ≡ inode_word_of k 1) a c 2) same (stores_flushed (store_stores stored) (flush_stores flush))
 
-pub name_stored : {a b c : List ℕ} {ta tb tc : Option Trail} (P Q s t : ℕ) → Q ≡ P → t ≡ s → IsInterval (IsNameWord Q t) a ta b tb → IsInterval (λ _. ⊥) b tb c tc → IsInterval (IsNameWord P s) a ta c tc
-name_stored {a} {b} {c} {ta} {tb} {tc} P Q s t volume slot run flush =
-    subst (λ (k : ℕ). IsInterval (IsNameWord k s) a ta c tc) volume (subst (λ (k : ℕ). IsInterval (IsNameWord Q k) a ta c tc) slot (then_nothing run flush))
+pub name_stored : {a b c : DeviceView} {line lines : ℕ} (P s : ℕ) (dentry : DentryView) → dentry.pages ≡ P → dentry.slot ≡ s → lines ≡ 2 → Stores (IsNameWord dentry.pages dentry.slot) a b 14 → FlushesLines b c line lines → Stores (IsNameWord P s) a c 16
+name_stored {a} {c = c} {lines = lines} P s dentry pages slot both run flushes =
+    subst (λ (count : ℕ). Stores (IsNameWord P s) a c (14 + count)) both
+    (subst (λ (p : ℕ). Stores (IsNameWord p s) a c (14 + lines)) pages (subst (λ (k : ℕ). Stores (IsNameWord dentry.pages k) a c (14 + lines)) slot (stores_flushed run (lines_stores flushes))))
+
+-- nothing is counted of a file
+pub no_links : {a : DeviceView} (directory : ℕ) → Stores (IsParentWord AFile directory) a a 2
+no_links {a} directory = stores_weaker 2 (λ word none. none) (omega arith) (stores_nothing a)
 
 -- ---- the commit
 
@@ -42,23 +50,9 @@ commit_flushed P Q s t volume slot flushed word is =
     let own : IsSlotWord P s word = record { field = 0; is_field = omega arith; at = is } in
     flushed word (subst (λ (k : ℕ). IsSlotWord k t word) (sym volume) (subst (λ (k : ℕ). IsSlotWord P k word) (sym slot) own))
 
--- the slot's number is the one that was stored
-number_read : (P Q s t number : ℕ) (now : List ℕ) (fields given : SlotFields) → Q ≡ P → t ≡ s → fields ≡ committed_fields given number → slot_fields_at Q now t ≡ fields → slot_inode P now s ≡ number
-number_read P Q s t number now fields given volume slot made reads =
-    sym (ap (λ (k : ℕ). slot_inode k now t) volume ∙ ap (λ (k : ℕ). slot_inode P now k) slot) ∙ ap (λ (f : SlotFields). f.inode) (reads ∙ made)
-
-pub slot_committed : {a b c : List ℕ} {ta tb : Option Trail} (P Q s t number : ℕ) (fields given : SlotFields) → c ≡ b → ((word : ℕ) → IsSlotWord P s word → word < length a) → Q ≡ P → t ≡ s → fields ≡ committed_fields given number
-    → slot_fields_at Q b t ≡ fields → IsInterval (λ word. word ≡ slot_word_of P s 0) a ta b tb → c ≡ slice_set a (slot_word_of P s 0) number
-unfolding slot_inode word
-slot_committed {a} {b} P Q s t number fields given same inside volume slot made reads run =
-    same ∙ same_number_lists b (slice_set a x number) (interval_length run ∙ sym (length-set a x number)) (λ k below. elim (cases_eq k x) [
-      | inl is ↦ ap (λ (w : ℕ). slice_index b w) is ∙ number_read P Q s t number b fields given volume slot made reads
-          ∙ sym (ap (λ (w : ℕ). slice_index (slice_set a x number) w) is ∙ get_or-set_same a x number 0 (inside x (slot_word_is P s 0 (omega arith))))
-      | inr other ↦ interval_keeps k run other ∙ sym (get_or-set_other a x k number 0 other)
-    ])
-  where
-    x : ℕ
-    x = slot_word_of P s 0
+-- the store of the slot's number, and its flush
+pub slot_stored : {a b c : DeviceView} {word value line lines : ℕ} → lines ≡ 1 → Performs a b (Store word value ∷ []) → FlushesLines b c line lines → Stores (λ other. other ≡ word) a c 2
+slot_stored {a} {c = c} {word = word} one stored flushes = subst (λ (count : ℕ). Stores (λ other. other ≡ word) a c (1 + count)) one (stores_flushed (store_stores stored) (lines_stores flushes))
 
 -- ---- the kind of the node
 
@@ -99,6 +93,13 @@ made_word P ADirectory d s i a (inr is) = inr (inr is)
 
 -- ---- what is written
 
+-- the inode is in flight at these words and this trail
+abbrev IsFlying : InodeView → List ℕ → Option Trail → Type 0
+IsFlying inode now trail = StandsInFlight (IsInodeWord inode.number) (λ words. fields_at words inode.number ≡ inode.fields) inode.ticket now trail
+
+abbrev IsFlyingSlot : DentryView → List ℕ → Option Trail → Type 0
+IsFlyingSlot dentry now trail = StandsInFlight (IsSlotWord dentry.pages dentry.slot) (λ words. slot_fields_at dentry.pages words dentry.slot ≡ dentry.fields) dentry.ticket now trail
+
 module _ (P : ℕ) (entry : NewEntry) {a : List ℕ} {ta : Option Trail} (size : IsVolumeSize P) (ready : IsReady P a entry) (settled : IsSettledAt a ta) where
   pub inode_settled : (x : ℕ) → IsInodeWord entry.inode x → IsClean a ta x
   inode_settled x is =
@@ -118,7 +119,7 @@ module _ (P : ℕ) (entry : NewEntry) {a : List ℕ} {ta : Option Trail} (size :
   slot_apart : (x : ℕ) → IsSlotWord P entry.slot x → ¬ IsInodeWord entry.inode x
   slot_apart x is = slot_word_is_no_inode_word P entry.slot entry.inode x ready.least ready.most is
 
-  inode_apart : (x : ℕ) → IsInodeWord entry.inode x → ¬ IsNameWord P entry.slot x
+  pub inode_apart : (x : ℕ) → IsInodeWord entry.inode x → ¬ IsNameWord P entry.slot x
   inode_apart x is name = slot_apart x (name_word_is_slot_word P entry.slot x name) is
 
   parent_apart : (x : ℕ) → IsInodeWord entry.directory x → ¬ IsInodeWord entry.inode x
@@ -171,11 +172,12 @@ module _ (P : ℕ) (entry : NewEntry) {a : List ℕ} {ta : Option Trail} (size :
         inode_off_parent : (x : ℕ) → IsInodeWord entry.inode x → ¬ IsParentWord entry.kind entry.directory x
         inode_off_parent x is stored = parent_apart x (parent_word entry.kind entry.directory x stored) is
 
-        pub written_run : IsInterval (λ x. (IsInodeWord entry.inode x ⊎ IsNameWord P entry.slot x) ⊎ IsParentWord entry.kind entry.directory x) a ta d td
-        written_run = interval_joined (interval_joined one two inode_apart) three (λ x either stored. elim either [
-          | inl is ↦ inode_off_parent x is stored
-          | inr is ↦ off_parent x (name_word_is_slot_word P entry.slot x is) stored
-        ])
+        pub links_apart : (x : ℕ) → (IsInodeWord entry.inode x ⊎ IsNameWord P entry.slot x) → IsParentWord entry.kind entry.directory x → ⊥
+        links_apart x (inl is) stored = inode_off_parent x is stored
+        links_apart x (inr is) stored = off_parent x (name_word_is_slot_word P entry.slot x is) stored
+
+        written_run : IsInterval (λ x. (IsInodeWord entry.inode x ⊎ IsNameWord P entry.slot x) ⊎ IsParentWord entry.kind entry.directory x) a ta d td
+        written_run = interval_joined (interval_joined one two inode_apart) three links_apart
 
         pub written_flushed : ((x : ℕ) → IsInodeWord entry.inode x → IsFlushed tb x) → ((x : ℕ) → IsSlotWord P entry.slot x → IsFlushed tc x) → ((x : ℕ) → IsParentWord entry.kind entry.directory x → IsFlushed td x)
             → (x : ℕ) → (IsInodeWord entry.inode x ⊎ IsNameWord P entry.slot x) ⊎ IsParentWord entry.kind entry.directory x → IsFlushed td x
@@ -185,12 +187,12 @@ module _ (P : ℕ) (entry : NewEntry) {a : List ℕ} {ta : Option Trail} (size :
             flushed_stays x three (off_parent x own) (slots x own)
         written_flushed inodes slots parents x (inr is) = parents x is
 
-        pub inode_waits : (inode : InodeView) → inode.number ≡ entry.inode → InodeIsInFlight inode b tb → InodeIsInFlight inode d td
+        pub inode_waits : (inode : InodeView) → inode.number ≡ entry.inode → IsFlying inode b tb → IsFlying inode d td
         inode_waits inode number flight =
             let own : (x : ℕ) → IsInodeWord inode.number x → IsInodeWord entry.inode x = λ x is. subst (λ (n : ℕ). IsInodeWord n x) number is in
             stands_in_flight_stays (inode_is_local inode) three (λ x is. inode_off_parent x (own x is)) (stands_in_flight_stays (inode_is_local inode) two (λ x is. inode_apart x (own x is)) flight)
 
-        pub dentry_waits : (dentry : DentryView) → dentry.pages ≡ P → dentry.slot ≡ entry.slot → DentryIsInFlight dentry c tc → DentryIsInFlight dentry d td
+        pub dentry_waits : (dentry : DentryView) → dentry.pages ≡ P → dentry.slot ≡ entry.slot → IsFlyingSlot dentry c tc → IsFlyingSlot dentry d td
         dentry_waits dentry volume slot flight =
             let own : (x : ℕ) → IsSlotWord dentry.pages dentry.slot x → IsSlotWord P entry.slot x = λ x is.
             subst (λ (n : ℕ). IsSlotWord n entry.slot x) volume (subst (λ (n : ℕ). IsSlotWord dentry.pages n x) slot is) in
@@ -215,8 +217,8 @@ module _ (P : ℕ) (entry : NewEntry) {a : List ℕ} {ta : Option Trail} (size :
         }
 
         pub node_made : (e : List ℕ) (inode : InodeView) (dentry : DentryView) → e ≡ d
-            → inode.number ≡ entry.inode → inode.fields ≡ fields_of entry.kind entry.inode → InodeIsInFlight inode b tb
-            → dentry.pages ≡ P → dentry.slot ≡ entry.slot → dentry.fields ≡ named_fields entry.name → DentryIsInFlight dentry c tc
+            → inode.number ≡ entry.inode → inode.fields ≡ fields_of entry.kind entry.inode → IsFlying inode b tb
+            → dentry.pages ≡ P → dentry.slot ≡ entry.slot → dentry.fields ≡ named_fields entry.name → IsFlyingSlot dentry c tc
             → inode_links d entry.directory ≡ parent_links (node_of entry.kind) (inode_links c entry.directory)
             → MakesNode P a e (node_of entry.kind) entry.directory entry.slot entry.inode (words_of_name entry.name)
         node_made e inode dentry same number fields stands volume slot name named links =

@@ -2,7 +2,7 @@
 use Rattle.std.proofs.Common.{◌≡◌, ◌≢◌, ◌⊎◌, inl, inr, ℕ, ◌+◌, ◌*◌, ◌%◌, ◌<◌, ◌≤◌, List, length, set, Option, Some, None, sym, ap, ◌∙◌, arith, get_or-set_same, get_or-set_other, length-set}
 use Rattle.std.proofs.lemmas.Bool.{cases_eq}
 use Rattle.layout.specs.Geometry.{IsVolumeSize, inodes_of, data_pages_of, page_of_slot, inode_word_of, descriptor_word_of, slot_word_of, page_word_of}
-use Rattle.layout.specs.GeometryLaws.{same_descriptor_word, same_page_word, slot_word_in_page, descriptor_word_within, inode_word_not_descriptor_word, inode_word_not_page_word, descriptor_word_not_slot_word, descriptor_word_not_page_word}
+use Rattle.layout.proofs.GeometryLaws.{same_descriptor_word, same_page_word, slot_word_in_page, descriptor_word_within, inode_word_not_descriptor_word, inode_word_not_page_word, descriptor_word_not_slot_word, descriptor_word_not_page_word}
 use Rattle.layout.specs.Fields.{word, page_owner}
 use Rattle.image_laws.specs.Create.{IsPageMadeWord, MakesPage, owned}
 use Rattle.create_ops.specs.Making.{MayTake, IsOpened}

@@ -1,15 +1,16 @@
 -- One page of a list of one: what its fill and its claim leave.
-use Rattle.std.proofs.Common.{◌≡◌, inl, inr, ℕ, ◌*◌, ◌<◌, List, length, slice_index, set, sym, ap, subst, ◌∙◌, arith, get_or-set_same, get_or-set_other, length-set}
+use Rattle.std.proofs.Common.{◌≡◌, inl, inr, ℕ, ◌+◌, ◌*◌, ◌<◌, ◌≤◌, List, length, slice_index, set, sym, ap, subst, ◌∙◌, arith, get_or-set_same, get_or-set_other, length-set}
 use Rattle.std.specs.Prelude.{Option}
 use Rattle.std.proofs.lemmas.Bool.{cases_eq}
 use Rattle.std.proofs.lemmas.Grind.{same_number_lists}
 use Rattle.pm_trait.specs.Trail.{Trail}
 use Rattle.pm_trait.specs.Device.{IsInterval, IsFlushed, IsClean, IsSettledAt}
-use Rattle.pm_trait.specs.DeviceLaws.{interval_keeps, interval_length}
+use Rattle.pm_trait.specs.DeviceView.{DeviceView, Stores}
+use Rattle.pm_trait.proofs.DeviceLaws.{interval_keeps, interval_length}
 use Rattle.layout.specs.Geometry.{IsVolumeSize, data_pages_of, descriptor_word_of}
 use Rattle.layout.specs.Fields.{word, page_owner, page_kind, page_offset}
 use Rattle.page_state.specs.Page.{EachPage, OfSome, IsOwnWord, IsFilledWord, IsOwnerWord, IsZeroPage}
-use Rattle.page_state.specs.PageLaws.{own_word_within, descriptor_word_is}
+use Rattle.page_state.proofs.PageLaws.{own_word_within, descriptor_word_is}
 use Rattle.image_laws.specs.Create.{IsPageMadeWord, MakesPage, owned}
 
 -- a word of one of the pages is one of the page
@@ -87,3 +88,12 @@ page_owned {a} {b} {c} P pages d same one inside owner run =
   where
     x : ℕ
     x = descriptor_word_of P (slice_index pages 0) 0
+
+-- what the calls of a page tell, in one
+pub told_stores : {W : ℕ → Type 0} {n : ℕ} (a b : DeviceView) (events : ℕ) → n ≡ events → IsInterval W a.words a.trail b.words b.trail → a.spare ≤ b.spare + n
+    → b.faults ≡ a.faults → b.refused ≡ a.refused → b.fences ≡ a.fences → b.acks ≡ a.acks → Stores W a b events
+told_stores a b events is run room faults refused fences acks = record {
+  stores = run;
+  room = omega (arith, room, is);
+  counts = record { faults = faults; refused = refused; fences = fences; acks = acks };
+}

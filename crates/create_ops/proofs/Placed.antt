@@ -1,11 +1,11 @@
 -- What a node, its name and its commit leave of the other words.
 use Rattle.std.proofs.Common.{◌≡◌, ◌≢◌, inl, inr, ℕ, ◌+◌, ◌*◌, ◌<◌, ◌≤◌, List, length, slice_index, sym, ap, ◌∙◌, arith, get_or-set_same, get_or-set_other, length-set}
 use Rattle.layout.specs.Geometry.{inodes_of, data_pages_of, slots_of, inode_word_of, descriptor_word_of, slot_word_of}
-use Rattle.layout.specs.GeometryLaws.{same_inode_word, same_slot_word, slot_word_within, inode_word_not_slot_word, inode_word_not_descriptor_word, descriptor_word_not_slot_word}
+use Rattle.layout.proofs.GeometryLaws.{same_inode_word, same_slot_word, slot_word_within, inode_word_not_slot_word, inode_word_not_descriptor_word, descriptor_word_not_slot_word}
 use Rattle.layout.specs.Fields.{word, inode_kind, slot_inode, slot_words}
-use Rattle.layout.specs.FieldLaws.{same_words_from}
+use Rattle.layout.proofs.FieldLaws.{same_words_from}
 use Rattle.tree_model.specs.Tree.{Node, Directory, File}
-use Rattle.dentry_state.specs.DentryLaws.{next_fields}
+use Rattle.dentry_state.proofs.DentryLaws.{next_fields}
 use Rattle.image_laws.specs.Create.{IsMadeWord, MakesNode, committed, node_words}
 use Rattle.volume.specs.declared.plan.NodeKind.{NodeKind}
 use Rattle.volume.specs.declared.plan.NodeKind.TheVariants.{File as AFile, Directory as ADirectory}

@@ -3,16 +3,16 @@ use Rattle.std.proofs.Common.{◌≡◌, ◌≢◌, inl, inr, ℕ, zero, suc, �
 use Rattle.std.proofs.lemmas.Bool.{cases_eq, false≢true}
 use Rattle.std.proofs.lemmas.List.{reverse-append, reverse-reverse}
 use Rattle.layout.specs.Geometry.{IsVolumeSize, inodes_of, data_pages_of, slots_of, page_of_slot, inode_word_of, descriptor_word_of, slot_word_of}
-use Rattle.layout.specs.GeometryLaws.{slots_in_pages, data_pages_below, page_of_slot_below, page_of_entry, slot_below}
+use Rattle.layout.proofs.GeometryLaws.{slots_in_pages, data_pages_below, page_of_slot_below, page_of_entry, slot_below}
 use Rattle.layout.specs.Fields.{word, words_from, inode_kind, inode_links, inode_size, inode_own, page_owner, page_kind, page_offset, slot_inode, slot_pointer, slot_words}
 use Rattle.layout.specs.Name.{IsName, IsBytes, words_of_name, name_in_words}
-use Rattle.layout.specs.NameLaws.{name_in_words-words_of_name, IsNameWords-words_of_name}
+use Rattle.layout.proofs.NameLaws.{name_in_words-words_of_name, IsNameWords-words_of_name}
 use Rattle.tree_model.specs.PathText.{Route}
 use Rattle.tree_model.specs.Tree.{Node, IsTree, id_at, node_at, is_directory, is_root, parent, last_name}
 use Rattle.tree_model.specs.Capacity.{untaken}
 use Rattle.tree_model.specs.Run.{State, IsVolumeState}
-use Rattle.tree_model.specs.Accepted.{MayMake, MayMake-create, MayMake-mkdir}
-use Rattle.tree_model.specs.TreeLaws.{least_free_id-ge, least_free_id-free}
+use Rattle.tree_model.proofs.Accepted.{MayMake, MayMake-create, MayMake-mkdir}
+use Rattle.tree_model.proofs.TreeLaws.{least_free_id-ge, least_free_id-free}
 use Rattle.image_reading.specs.Reading.{IsDirectory, slot_owner, Names, Reached, IsChildOf}
 use Rattle.image_reading.specs.Repairs.{IsLitterInode, IsLitterPage}
 use Rattle.image_reading.specs.Soundness.{Rule, Sound}
@@ -21,12 +21,12 @@ use Rattle.image_counts.specs.Laws.{HasRoomWords, HasInodes}
 use Rattle.image_laws.specs.Create.{CanMake, IsVacant}
 use Rattle.inode_state.specs.States.{free_fields}
 use Rattle.inode_state.specs.Inode.{fields_at}
-use Rattle.inode_state.specs.InodeLaws.{same_fields as same_inode}
+use Rattle.inode_state.proofs.InodeLaws.{same_fields as same_inode}
 use Rattle.dentry_state.specs.States.{free_fields as free_slot}
 use Rattle.dentry_state.specs.Dentry.{slot_fields_at}
-use Rattle.dentry_state.specs.DentryLaws.{same_fields as same_slot, next_fields}
+use Rattle.dentry_state.proofs.DentryLaws.{same_fields as same_slot, next_fields}
 use Rattle.page_state.specs.Page.{descriptor_of}
-use Rattle.page_state.specs.PageLaws.{same_descriptor_fields}
+use Rattle.page_state.proofs.PageLaws.{same_descriptor_fields}
 use Rattle.volume.specs.declared.plan.NodeKind.{NodeKind}
 use Rattle.volume.specs.declared.plan.NodeKind.TheVariants.{File as AFile, Directory as ADirectory}
 use Rattle.volume.specs.declared.plan.NewEntry.{NewEntry}

@@ -2,11 +2,11 @@
 use Rattle.std.proofs.Common.{◌≡◌, inr, ℕ, ◌+◌, ◌-◌, ◌^◌, ◌<◌, ◌≤◌, List, [], ◌∷◌, ◌++◌, length, slice_index, replicate, refl, ◌∙◌, ap, subst, sym, arith, length-append}
 use Rattle.std.proofs.lemmas.List.{get_or-replicate, get_or_append_left, get_or-append_right, length-replicate}
 use Rattle.layout.specs.Geometry.{inodes_of, inode_pages_of, descriptor_pages_of, data_pages_of, first_data_word_of, descriptor_word_of, inode_word_of, slot_word_of, slots_of}
-use Rattle.layout.specs.GeometryLaws.{descriptor_word_below}
+use Rattle.layout.proofs.GeometryLaws.{descriptor_word_below}
 use Rattle.layout.specs.Fields.{word, inode_kind, inode_links, inode_size, inode_own, page_owner, page_kind, page_offset}
 use Rattle.page_state.specs.States.{IsFree}
 use Rattle.page_state.specs.Page.{descriptor_of}
-use Rattle.page_state.specs.PageLaws.{same_descriptor_fields}
+use Rattle.page_state.proofs.PageLaws.{same_descriptor_fields}
 use Rattle.inode_state.specs.States.{IsLive}
 use Rattle.inode_state.specs.Inode.{fields_at}
 use Rattle.volume.specs.declared.plan.NewEntry.{NewEntry}

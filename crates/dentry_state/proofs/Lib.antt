@@ -1,3 +1,4 @@
+pub mod DentryLaws
 pub mod Events
 pub mod Stored
 pub mod Lines

@@ -1,16 +1,16 @@
 -- The lines of a slot that were stored to.
-use Rattle.std.proofs.Common.{◌≡◌, ℕ, ◌+◌, ◌-◌, ◌/◌, ◌<◌, ◌≤◌, inl, inr, List, [], ◌∷◌, sym, ◌∙◌, ap, subst, arith}
+use Rattle.std.proofs.Common.{◌≡◌, ℕ, ◌+◌, ◌-◌, ◌/◌, ◌<◌, ◌≤◌, inl, inr, List, sym, subst, arith}
 use Rattle.std.specs.Prelude.{Option}
 use Rattle.std.proofs.lemmas.Bool.{cases_lt}
-use Rattle.pm_trait.specs.declared.event.Event.TheVariants.{Flush}
 use Rattle.pm_trait.specs.Trail.{Trail}
-use Rattle.pm_trait.specs.Device.{with_events, IsInterval, IsClean, IsFlushed}
-use Rattle.pm_trait.specs.DeviceLaws.{flushed_stays, flushed_if_clean}
+use Rattle.pm_trait.specs.DeviceView.{DeviceView}
+use Rattle.pm_trait.specs.Device.{IsInterval, IsClean, IsFlushed}
+use Rattle.pm_trait.proofs.DeviceLaws.{flushed_stays, flushed_if_clean}
 use Rattle.layout.specs.Geometry.{first_data_word_of, slot_word_of}
-use Rattle.fence_token.specs.Ticket.{flushes_of}
+use Rattle.fence_token.specs.Flushes.{FlushesLines}
 use Rattle.dentry_state.specs.declared.dentry.Touched.{Touched}
 use Rattle.dentry_state.specs.declared.dentry.Touched.TheVariants.{FirstLine, BothLines}
-use Rattle.dentry_state.specs.Dentry.{IsSlotWord, last_touched, touched_lines, slot_flushes}
+use Rattle.dentry_state.specs.Dentry.{IsSlotWord, last_touched, touched_lines}
 
 in_order_from : (p s field first last : ℕ) → first ≡ slot_word_of p s 0 → last ≡ slot_word_of p s field → first ≤ last
 unfolding slot_word_of
@@ -24,24 +24,12 @@ unfolding slot_word_of first_data_word_of
 lines FirstLine p s first last at_first at_last = omega (arith, at_first, at_last)
 lines BothLines p s first last at_first at_last = omega (arith, at_first, at_last)
 
-second_line : (p s first : ℕ) → first ≡ slot_word_of p s 0 → first / 8 + 1 ≡ slot_word_of p s 8 / 8
-unfolding slot_word_of first_data_word_of
-second_line p s first at = omega (arith, at)
-
-flushes_are : (trail : Option Trail) (touched : Touched) (p s first : ℕ) → first ≡ slot_word_of p s 0 → with_events trail (flushes_of (first / 8) (touched_lines touched)) ≡ with_events trail (slot_flushes touched p s)
-flushes_are trail FirstLine p s first at =
-    let start : first / 8 + 0 ≡ slot_word_of p s 0 / 8 = omega (arith, at) in
-    ap (λ (line : ℕ). with_events trail (Flush line ∷ [])) start
-flushes_are trail BothLines p s first at =
-    let start : first / 8 + 0 ≡ slot_word_of p s 0 / 8 = omega (arith, at) in
-    ap (λ (line : ℕ). with_events trail (Flush line ∷ Flush (first / 8 + 1) ∷ [])) start
-    ∙ ap (λ (line : ℕ). with_events trail (Flush (slot_word_of p s 0 / 8) ∷ Flush line ∷ [])) (second_line p s first at)
-
 -- the flushes of their span
-pub flushes_told : (trail : Option Trail) (touched : Touched) (p s first last : ℕ) → first ≡ slot_word_of p s 0 → last ≡ slot_word_of p s (last_touched touched)
-    → with_events trail (flushes_of (first / 8) (last / 8 - first / 8 + 1)) ≡ with_events trail (slot_flushes touched p s)
-flushes_told trail touched p s first last at_first at_last =
-    ap (λ (count : ℕ). with_events trail (flushes_of (first / 8) count)) (lines touched p s first last at_first at_last) ∙ flushes_are trail touched p s first at_first
+pub flushed_lines : {a b : DeviceView} (touched : Touched) (p s first last : ℕ) → first ≡ slot_word_of p s 0 → last ≡ slot_word_of p s (last_touched touched)
+    → FlushesLines a b (first / 8) (last / 8 - first / 8 + 1) → FlushesLines a b (slot_word_of p s 0 / 8) (touched_lines touched)
+flushed_lines {a} {b} touched p s first last at_first at_last flushes =
+    subst (λ (count : ℕ). FlushesLines a b (slot_word_of p s 0 / 8) count) (lines touched p s first last at_first at_last)
+    (subst (λ (word : ℕ). FlushesLines a b (word / 8) (last / 8 - first / 8 + 1)) at_first flushes)
 
 -- a field up to the last one stands in their span
 in_span : (p s field last_field first last word : ℕ) → field ≤ last_field → first ≡ slot_word_of p s 0 → last ≡ slot_word_of p s last_field → word ≡ slot_word_of p s field → (first ≤ word) × (word ≤ last)

@@ -5,18 +5,18 @@ use Rattle.std.proofs.lemmas.Bool.{cases_eq}
 use Rattle.pm_trait.specs.declared.event.Event.TheVariants.{Store}
 use Rattle.pm_trait.specs.Trail.{Trail}
 use Rattle.pm_trait.specs.Device.{IsInterval, with_event}
-use Rattle.pm_trait.specs.DeviceLaws.{interval_empty, interval_weaker, interval_keeps, interval_length, then_store}
+use Rattle.pm_trait.proofs.DeviceLaws.{interval_empty, interval_weaker, interval_keeps, interval_length, then_store}
 use Rattle.layout.specs.declared.fields.SlotFields.{SlotFields}
 use Rattle.layout.specs.declared.fields.InodeFields.{InodeFields}
 use Rattle.layout.specs.Geometry.{first_data_word_of, inode_word_of, slot_word_of}
 use Rattle.layout.specs.Fields.{word, words_from, inode_kind, slot_inode, slot_pointer, slot_words}
-use Rattle.layout.specs.FieldLaws.{same_words_from}
+use Rattle.layout.proofs.FieldLaws.{same_words_from}
 use Rattle.fence_token.specs.Objects.{Stands, StandsClean}
 use Rattle.inode_state.specs.States.{IsInit}
 use Rattle.inode_state.specs.Inode.{IsInodeWord, fields_at}
 use Rattle.dentry_state.specs.States.{committed_fields}
 use Rattle.dentry_state.specs.Dentry.{IsSlotWord, IsNameWord, slot_fields_at}
-use Rattle.dentry_state.specs.DentryLaws.{same_fields, next_fields}
+use Rattle.dentry_state.proofs.DentryLaws.{same_fields, next_fields}
 
 -- a word of a slot is one of the slot of the same place
 pub address_as : (p q s t f w : ℕ) → w ≡ slot_word_of p s f → p ≡ q → s ≡ t → w ≡ slot_word_of q t f

@@ -2,14 +2,14 @@
 use Rattle.std.proofs.Common.{◌≡◌, ℕ, ◌+◌, ◌*◌, ◌<◌, ◌≤◌, List, replicate, slice_index, sym, ◌∙◌, ap, arith}
 use Rattle.std.proofs.lemmas.List.{get_or-replicate}
 use Rattle.layout.specs.Geometry.{IsVolumeSize, inodes_of, slots_of, inode_word_of, slot_word_of}
-use Rattle.layout.specs.GeometryLaws.{slot_word_within}
+use Rattle.layout.proofs.GeometryLaws.{slot_word_within}
 use Rattle.layout.specs.Fields.{word, inode_kind, inode_links, inode_size, inode_own, slot_inode, slot_pointer, slot_words}
 use Rattle.inode_state.specs.States.{free_fields as free_inode}
 use Rattle.inode_state.specs.Inode.{fields_at}
-use Rattle.inode_state.specs.InodeLaws.{same_fields as same_inode_fields, inode_word_is, inode_word_in_volume}
+use Rattle.inode_state.proofs.InodeLaws.{same_fields as same_inode_fields, inode_word_is, inode_word_in_volume}
 use Rattle.dentry_state.specs.States.{free_fields}
 use Rattle.dentry_state.specs.Dentry.{slot_fields_at}
-use Rattle.dentry_state.specs.DentryLaws.{same_fields, next_fields}
+use Rattle.dentry_state.proofs.DentryLaws.{same_fields, next_fields}
 use Rattle.dentry_state.proofs.Stored.{words_are}
 
 zero_at : (count w : ℕ) (words : List ℕ) → words ≡ replicate count 0 → w < count → slice_index words w ≡ 0

@@ -1,4 +1,3 @@
 pub mod States
 pub mod Dentry
-pub mod DentryLaws
 pub mod Laws

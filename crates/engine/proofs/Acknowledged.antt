@@ -4,9 +4,9 @@ use Rattle.std.specs.Prelude.{Option, Some, None, Ok, Err}
 use Rattle.pm_trait.specs.declared.event.Event.TheVariants.{Ack}
 use Rattle.pm_trait.specs.Trail.{Trail}
 use Rattle.pm_trait.specs.Device.{with_event, acks_from, moment_of}
-use Rattle.pm_trait.specs.ContinuesLaws.{acks_from-all, continues_by}
-use Rattle.pm_trait.specs.DeviceLaws.{leaves_weaker, leaves_next}
-use Rattle.pm_trait.specs.AckLaws.{leaves_ack, acks_none, acks_next, acks_ack, settled_ack}
+use Rattle.pm_trait.proofs.ContinuesLaws.{acks_from-all, continues_by}
+use Rattle.pm_trait.proofs.DeviceLaws.{leaves_weaker, leaves_next}
+use Rattle.pm_trait.proofs.AckLaws.{leaves_ack, acks_none, acks_next, acks_ack, settled_ack}
 use Rattle.tree_model.specs.Step.{Answer, Done, Count, Status, Bytes, Listed, Space, Refused, Unread, Fault, Stopped}
 use Rattle.tree_model.specs.Run.{Line, State, LineStep}
 use Rattle.tree_model.specs.Replies.{reply_of}

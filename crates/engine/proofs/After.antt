@@ -3,9 +3,9 @@ use Rattle.std.proofs.Common.{◌≡◌, ℕ, ◌+◌, List, refl, sym, subst, �
 use Rattle.std.specs.Prelude.{Option, Some, None}
 use Rattle.pm_trait.specs.Trail.{Trail}
 use Rattle.pm_trait.specs.Device.{Continues, LeavesOnly, AcksSettled, MayLeave, IsAckAt, acks_from, moment_of}
-use Rattle.pm_trait.specs.ContinuesLaws.{acks_from-then}
-use Rattle.pm_trait.specs.DeviceLaws.{leaves_then}
-use Rattle.pm_trait.specs.AckLaws.{acks_then}
+use Rattle.pm_trait.proofs.ContinuesLaws.{acks_from-then}
+use Rattle.pm_trait.proofs.DeviceLaws.{leaves_then}
+use Rattle.pm_trait.proofs.AckLaws.{acks_then}
 
 -- where the trail is told, so many acknowledgements came
 abbrev pub Acked : Option Trail → Option Trail → ℕ → Type 0

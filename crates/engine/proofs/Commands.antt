@@ -2,9 +2,10 @@
 use Rattle.std.proofs.Common.{◌≡◌, ◌≢◌, inl, inr, ℕ, ◌+◌, ◌*◌, true, false, List, Option, Some, None, is_none, ◌&&◌, refl, sym, ap, subst, ◌∙◌, arith}
 use Rattle.std.specs.Prelude.{IsTrue, Result, Ok, Err, OnOk, OnErr, IfOk}
 use Rattle.pm_trait.specs.Trail.{Trail}
+use Rattle.pm_trait.specs.DeviceView.{DeviceView}
 use Rattle.pm_trait.specs.Device.{LeavesOnly, StaysOnce, EndsInFault, acks_from, moment_of}
-use Rattle.pm_trait.specs.ContinuesLaws.{continues_here, acks_from-here}
-use Rattle.pm_trait.specs.DeviceLaws.{leaves_here}
+use Rattle.pm_trait.proofs.ContinuesLaws.{continues_here, acks_from-here}
+use Rattle.pm_trait.proofs.DeviceLaws.{leaves_here}
 use Rattle.pm_trait.specs.declared.event.PmFault.{PmFault}
 use Rattle.tree_model.specs.Capacity.{untaken}
 use Rattle.tree_model.specs.Step.{Answer, Done, Refused, need, least_free_id, refusal_of, outcome_of, step, RoomAfterWith}
@@ -88,10 +89,10 @@ told_executed P volume words before after state c replied fences_before fences_a
 
 -- ---- an entry was made, or a fence failed
 
-pub planned_as : (volume : VolumeView) (words : List ℕ) (trail : Option Trail) (state : State) (c made : Command) (action : Action) → c ≡ made → StandsFor volume words trail state → IsPlanned volume.size words state c action
-    → IsPlanFor volume words trail state made action
-planned_as volume words trail state c made action is stands planned =
-    subst (λ (command : Command). IsPlanFor volume words trail state command action) is (record { stands = stands; planned = planned })
+pub planned_as : (volume : VolumeView) (device : DeviceView) (state : State) (c made : Command) (action : Action) → c ≡ made → StandsFor volume device.words device.trail state → IsPlanned volume.size device.words state c action
+    → IsPlanFor volume device state made action
+planned_as volume device state c made action is stands planned =
+    subst (λ (command : Command). IsPlanFor volume device state command action) is (record { stands = stands; planned = planned })
 
 module _ (P : ℕ) (state : State) (c : Command) (mid : VolumeView) (before between after : Option Trail) (size : mid.size ≡ P) (told : between ≡ before) where
   moments : LeavesOnly between after (λ acks image. (acks ≡ 0) × MayReadAs mid.size state (Some c) image) → LeavesOnly before after (λ acks image. (acks ≡ 0) × MayReadAs P state (Some c) image)

@@ -6,11 +6,11 @@ use Rattle.std.proofs.lemmas.List.Concat.{flat_map-append}
 use Rattle.std.proofs.lemmas.List.{append-nil}
 use Rattle.std.proofs.lemmas.Option.{slice_get_within, get_or_from_slice_get}
 use Rattle.io_edge.specs.Bytes.{with_bytes, TookFront}
-use Rattle.io_edge.specs.BytesLaws.{with_bytes-nil, whole_then_whole, whole_then_front, front_before_more}
+use Rattle.io_edge.proofs.BytesLaws.{with_bytes-nil, whole_then_whole, whole_then_front, front_before_more}
 use Rattle.tree_model.specs.Step.{Listed}
 use Rattle.script.specs.Lines.{newline}
 use Rattle.script.specs.Texts.{answer_text}
-use Rattle.script.specs.TextLaws.{answer_text-listed}
+use Rattle.script.proofs.TextLaws.{answer_text-listed}
 use Rattle.engine.specs.Listing.{entry_text, entries_text}
 
 pub on_any_err : {A E : Type 0} (r : Result A E) (P : Type 0) → P → OnErr r P

@@ -6,7 +6,7 @@ use Rattle.pm_trait.specs.declared.event.Event.{Event}
 use Rattle.pm_trait.specs.declared.event.Event.TheVariants.{Ack}
 use Rattle.pm_trait.specs.Trail.{Trail}
 use Rattle.pm_trait.specs.Device.{with_events, with_event, acks_from, moment_of, IsAckAt, Continues}
-use Rattle.pm_trait.specs.ContinuesLaws.{acks_from-earlier, acks_from-joined, acks_from-quiet}
+use Rattle.pm_trait.proofs.ContinuesLaws.{acks_from-earlier, acks_from-joined, acks_from-quiet}
 use Rattle.tree_model.specs.Step.{Answer, Done, Count, Status, Bytes, Listed, Space, Refused, Unread, Fault, Stopped}
 use Rattle.engine.specs.Quiet.{MayStore, ActsOnly}
 use Rattle.engine.proofs.After.{Acked, untold}

@@ -1,9 +1,9 @@
 -- How a run of a script ends.
 use Rattle.std.proofs.Common.{◌≡◌, ℕ, ◌+◌, Bool, true, false, ◌<◌, List, [], ◌∷◌, ◌++◌, length, refl, subst, arith}
 use Rattle.std.specs.Prelude.{Option}
-use Rattle.pm_trait.specs.Trail.{Trail}
+use Rattle.pm_trait.specs.DeviceView.{DeviceView}
 use Rattle.io_edge.specs.Bytes.{with_bytes, TookFront}
-use Rattle.io_edge.specs.BytesLaws.{whole_then_whole}
+use Rattle.io_edge.proofs.BytesLaws.{whole_then_whole}
 use Rattle.tree_model.specs.Step.{Answer, Fault, Stopped}
 use Rattle.tree_model.specs.Run.{Line, State}
 use Rattle.tree_model.specs.declared.reply.Reply.{Reply}
@@ -28,11 +28,11 @@ is_going : (stopped : Bool) (left given : ℕ) → (stopped ≡ true → left < 
 is_going false left given halted same = refl
 is_going true left given halted same = absurd (let fewer = halted refl in omega (arith, same, fewer))
 
-pub run_ends : {P : ℕ} {start : State} {first : Option Trail} {script taken : Option (List ℕ)} {volume : VolumeView} {stopped : Bool} {words : List ℕ} {trail : Option Trail} {seen : Bool} {rest now : Option (List ℕ)} {fences_first fences_now acks_first acks_now : ℕ}
-    (end : RunEnd) (base : List ℕ) (left written : Option (List ℕ)) (so_far : RanSoFar P start first script taken volume stopped words trail seen rest now fences_first fences_now acks_first acks_now) (size : volume.size ≡ P) (faults_before faults_after : ℕ)
-    → CountsFaults stopped faults_before faults_after → ReadsAs P base start → EndsWith end so_far.answers so_far.states → ExecutesTold end script left so_far.lines → Writes end taken so_far.answers written
-    → RunsScript P base words end script left taken written first trail faults_before faults_after fences_first fences_now acks_first acks_now
-run_ends {start = start} {stopped = stopped} {words = words} end base left written so_far size faults_before faults_after counts reads ends executes writes = record {
+pub run_ends : {P : ℕ} {start : State} {script taken : Option (List ℕ)} {volume : VolumeView} {stopped : Bool} {seen : Bool} {rest now : Option (List ℕ)}
+    (end : RunEnd) (before after : DeviceView) (left written : Option (List ℕ)) (so_far : RanSoFar P start before.trail script taken volume stopped after.words after.trail seen rest now before.fences after.fences before.acks after.acks) (size : volume.size ≡ P)
+    → CountsFaults stopped before.faults after.faults → ReadsAs P before.words start → EndsWith end so_far.answers so_far.states → ExecutesTold end script left so_far.lines → Writes end taken so_far.answers written
+    → RunsScript P before after end script left taken written
+run_ends {start = start} {stopped = stopped} end before after left written so_far size counts reads ends executes writes = record {
   start = start;
   reads = reads;
   lines = so_far.lines;
@@ -50,7 +50,7 @@ run_ends {start = start} {stopped = stopped} {words = words} end base left writt
   settled = λ same. (so_far.going (is_going stopped (length so_far.states) (length so_far.answers) so_far.halted same)).stands.settled;
   last = λ same.
       let going = so_far.going (is_going stopped (length so_far.states) (length so_far.answers) so_far.halted same) in
-      subst (λ (p : ℕ). IsAt p (last_state start so_far.states) words) size (stands_at going.stands);
+      subst (λ (p : ℕ). IsAt p (last_state start so_far.states) after.words) size (stands_at going.stands);
   fences = λ same. so_far.fences (is_going stopped (length so_far.states) (length so_far.answers) so_far.halted same);
   any_moment = so_far.any_moment;
   quiet = so_far.quiet;
@@ -69,27 +69,27 @@ front_written taken answers answer now cut is front = record {
   bytes = whole_then_whole taken now cut (texts_of answers) _ is front.bytes;
 }
 
-module _ {P : ℕ} {start : State} {first : Option Trail} {script taken : Option (List ℕ)} {volume : VolumeView} {words : List ℕ} {trail : Option Trail} {seen : Bool} {rest now : Option (List ℕ)} {fences_first fences_now acks_first acks_now : ℕ} (base : List ℕ) (reads : ReadsAs P base start) (faults_before : ℕ) where
-  pub cut_answered : {fences_after acks_after : ℕ} (so_far : RanSoFar P start first script taken volume false words trail seen rest now fences_first fences_now acks_first acks_now) (line : Line) {volume_after : VolumeView} {reply : Reply} {words_after : List ℕ} {trail_after : Option Trail}
-      (done : HasAnswered P (last_state start so_far.states) line volume_after reply trail words_after trail_after fences_now fences_after) → volume_after.size ≡ P → (faults_after : ℕ) → CountsFaults false faults_before faults_after → (seen_after : Bool) (rest_after left cut : Option (List ℕ)) → AreTakenTold (so_far.lines ++ line ∷ []) seen_after script rest_after
-      → ExecutesTold WriteFault script left (so_far.lines ++ line ∷ []) → TookFront now (answer_text done.answer) cut → acks_after ≡ acks_now + 1
-      → RunsScript P base words_after WriteFault script left taken cut first trail_after faults_before faults_after fences_first fences_after acks_first acks_after
-  cut_answered so_far line done size faults_after counts seen_after rest_after left cut are_taken executes front acks_are =
-      run_ends WriteFault base left cut (ran_answered so_far line done {ended_after = seen_after} {rest_after = rest_after} are_taken refl acks_are) size faults_before faults_after counts reads tt executes
+module _ {P : ℕ} {start : State} {script taken : Option (List ℕ)} {volume : VolumeView} {seen : Bool} {rest now : Option (List ℕ)} (before between after : DeviceView) (reads : ReadsAs P before.words start) where
+  pub cut_answered : (so_far : RanSoFar P start before.trail script taken volume false between.words between.trail seen rest now before.fences between.fences before.acks between.acks) (line : Line) {volume_after : VolumeView} {reply : Reply}
+      (done : HasAnswered P (last_state start so_far.states) line volume_after reply between.trail after.words after.trail between.fences after.fences) → volume_after.size ≡ P → CountsFaults false before.faults after.faults → (seen_after : Bool) (rest_after left cut : Option (List ℕ)) → AreTakenTold (so_far.lines ++ line ∷ []) seen_after script rest_after
+      → ExecutesTold WriteFault script left (so_far.lines ++ line ∷ []) → TookFront now (answer_text done.answer) cut → after.acks ≡ between.acks + 1
+      → RunsScript P before after WriteFault script left taken cut
+  cut_answered so_far line done size counts seen_after rest_after left cut are_taken executes front acks_are =
+      run_ends WriteFault before after left cut (ran_answered so_far line done {ended_after = seen_after} {rest_after = rest_after} are_taken refl acks_are) size counts reads tt executes
       (front_written taken so_far.answers done.answer now cut so_far.texts front)
 
-  pub cut_failed : (fences_after : ℕ) {acks_after : ℕ} (so_far : RanSoFar P start first script taken volume false words trail seen rest now fences_first fences_now acks_first acks_now) (line : Line) (volume_after : VolumeView) (words_after : List ℕ) {trail_after : Option Trail} → volume_after.size ≡ P
-      → (failed : HasFailed P (last_state start so_far.states) line trail trail_after) (faults_after : ℕ) → CountsFaults true faults_before faults_after → (seen_after : Bool) (rest_after left cut : Option (List ℕ)) → AreTakenTold (so_far.lines ++ line ∷ []) seen_after script rest_after
-      → ExecutesTold WriteFault script left (so_far.lines ++ line ∷ []) → TookFront now (answer_text Fault) cut → acks_after ≡ acks_now
-      → RunsScript P base words_after WriteFault script left taken cut first trail_after faults_before faults_after fences_first fences_after acks_first acks_after
-  cut_failed fences_after so_far line volume_after words_after size failed faults_after counts seen_after rest_after left cut are_taken executes front acks_are =
-      run_ends WriteFault base left cut (ran_failed so_far line failed volume_after words_after fences_after {ended_after = seen_after} {rest_after = rest_after} are_taken refl acks_are) size faults_before faults_after counts reads tt executes
+  pub cut_failed : (so_far : RanSoFar P start before.trail script taken volume false between.words between.trail seen rest now before.fences between.fences before.acks between.acks) (line : Line) (volume_after : VolumeView) → volume_after.size ≡ P
+      → (failed : HasFailed P (last_state start so_far.states) line between.trail after.trail) → CountsFaults true before.faults after.faults → (seen_after : Bool) (rest_after left cut : Option (List ℕ)) → AreTakenTold (so_far.lines ++ line ∷ []) seen_after script rest_after
+      → ExecutesTold WriteFault script left (so_far.lines ++ line ∷ []) → TookFront now (answer_text Fault) cut → after.acks ≡ between.acks
+      → RunsScript P before after WriteFault script left taken cut
+  cut_failed so_far line volume_after size failed counts seen_after rest_after left cut are_taken executes front acks_are =
+      run_ends WriteFault before after left cut (ran_failed so_far line failed volume_after after.words after.fences {ended_after = seen_after} {rest_after = rest_after} are_taken refl acks_are) size counts reads tt executes
       (front_written taken so_far.answers Fault now cut so_far.texts front)
 
-  pub cut_stopped : (fences_after : ℕ) {acks_after : ℕ} (so_far : RanSoFar P start first script taken volume true words trail seen rest now fences_first fences_now acks_first acks_now) (line : Line) (volume_after : VolumeView) (words_after : List ℕ) {trail_after : Option Trail} → volume_after.size ≡ P
-      → trail_after ≡ trail → (faults_after : ℕ) → CountsFaults true faults_before faults_after → (seen_after : Bool) (rest_after left cut : Option (List ℕ)) → AreTakenTold (so_far.lines ++ line ∷ []) seen_after script rest_after
-      → ExecutesTold WriteFault script left (so_far.lines ++ line ∷ []) → TookFront now (answer_text Stopped) cut → acks_after ≡ acks_now
-      → RunsScript P base words_after WriteFault script left taken cut first trail_after faults_before faults_after fences_first fences_after acks_first acks_after
-  cut_stopped fences_after so_far line volume_after words_after size same faults_after counts seen_after rest_after left cut are_taken executes front acks_are =
-      run_ends WriteFault base left cut (ran_stopped so_far line volume_after fences_after {words_after = words_after} {ended_after = seen_after} {rest_after = rest_after} same are_taken refl acks_are) size faults_before faults_after counts reads tt executes
+  pub cut_stopped : (so_far : RanSoFar P start before.trail script taken volume true between.words between.trail seen rest now before.fences between.fences before.acks between.acks) (line : Line) (volume_after : VolumeView) → volume_after.size ≡ P
+      → after.trail ≡ between.trail → CountsFaults true before.faults after.faults → (seen_after : Bool) (rest_after left cut : Option (List ℕ)) → AreTakenTold (so_far.lines ++ line ∷ []) seen_after script rest_after
+      → ExecutesTold WriteFault script left (so_far.lines ++ line ∷ []) → TookFront now (answer_text Stopped) cut → after.acks ≡ between.acks
+      → RunsScript P before after WriteFault script left taken cut
+  cut_stopped so_far line volume_after size same counts seen_after rest_after left cut are_taken executes front acks_are =
+      run_ends WriteFault before after left cut (ran_stopped so_far line volume_after after.fences {words_after = after.words} {ended_after = seen_after} {rest_after = rest_after} same are_taken refl acks_are) size counts reads tt executes
       (front_written taken so_far.answers Stopped now cut so_far.texts front)

@@ -6,8 +6,8 @@ use Rattle.pm_trait.specs.declared.event.Event.{Event}
 use Rattle.pm_trait.specs.declared.event.Event.TheVariants.{Ack}
 use Rattle.pm_trait.specs.Trail.{Trail, IsCrashImage}
 use Rattle.pm_trait.specs.Device.{IsSettledAt, MayLeave, StaysOnce, with_event, moment_of}
-use Rattle.pm_trait.specs.ContinuesLaws.{continues_same, continues_by, may_leave-longer}
-use Rattle.pm_trait.specs.AckLaws.{leaves_ack}
+use Rattle.pm_trait.proofs.ContinuesLaws.{continues_same, continues_by, may_leave-longer}
+use Rattle.pm_trait.proofs.AckLaws.{leaves_ack}
 
 -- nothing happened
 pub stays_here : {old new : Option Trail} (Q : List ℕ → Type 0) → new ≡ old → StaysOnce old new Q

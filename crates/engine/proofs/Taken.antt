@@ -6,7 +6,7 @@ use Rattle.io_edge.specs.Bytes.{IsEnd}
 use Rattle.tree_model.specs.Run.{Line}
 use Rattle.tree_model.specs.declared.reply.LineFault.TheVariants.{BadLine}
 use Rattle.script.specs.Lines.{newline, script_limit, call_of, calls_of, complete_lines_of}
-use Rattle.script.specs.LineLaws.{lines_of-taken, complete_lines_of-front, complete_lines_of-begun, call_of-long}
+use Rattle.script.proofs.LineLaws.{lines_of-taken, complete_lines_of-front, complete_lines_of-begun, call_of-long}
 use Rattle.script.specs.Reading.{IfTold, TakesLine, TakesLongLine, IsOver, BreaksOff, ReadFront}
 use Rattle.script.specs.declared.run_end.RunEnd.TheVariants.{Done, Faulted, ReadFault, WriteFault, Limit}
 use Rattle.engine.specs.Script.{ExecutesTold}

@@ -2,13 +2,14 @@
 use Rattle.std.proofs.Common.{◌≡◌, ◌≢◌, ℕ, true, false, List, [], ◌∷◌, length, Option, Some, None, is_some, unwrap_or, refl, sym, ap, subst, ◌∙◌}
 use Rattle.std.specs.Prelude.{IsTrue}
 use Rattle.pm_trait.specs.Trail.{Trail}
+use Rattle.pm_trait.specs.DeviceView.{DeviceView}
 use Rattle.tree_model.specs.PathText.{Route}
 use Rattle.tree_model.specs.Tree.{Tree, Room, Node, Directory, File, IsTree, IsRoom, root_id, node_at, id_at, is_directory, is_directory_node, is_file, is_file_node}
 use Rattle.tree_model.specs.Capacity.{untaken}
 use Rattle.tree_model.specs.Walk.{walk}
-use Rattle.tree_model.specs.WalkLaws.{id_at-from_walk}
-use Rattle.tree_model.specs.Accepted.{first-none, at-none, fault_of-none}
-use Rattle.tree_model.specs.RoomLaws.{room_after-same}
+use Rattle.tree_model.proofs.WalkLaws.{id_at-from_walk}
+use Rattle.tree_model.proofs.Accepted.{first-none, at-none, fault_of-none}
+use Rattle.tree_model.proofs.RoomLaws.{room_after-same}
 use Rattle.tree_model.specs.Step.{Answer, Done, Status as StatusAnswer, Listed, Space as SpaceAnswer, at, fault_of, id_of, gaining, losing, names_in, status_of, space_of, answer_of, tree_after, least_free_id, refusal_of, outcome_of, step, RoomAfter}
 use Rattle.tree_model.specs.Run.{State, Steps, is_changing}
 use Rattle.tree_model.specs.declared.command.Command.{Command}
@@ -174,37 +175,38 @@ module _ (volume : VolumeView) (words : List ℕ) (trail : Option Trail) (law : 
   pub room_is : {state : State} → StandsFor volume words trail state → IsRoom state.tree state.room
   room_is {state} stands = (law volume.size words state stands.tidy.sound stands.reads).room
 
-  module _ (state : State) (c : Command) (action : Action) (reads : is_changing c ≡ false) (planned : IsPlanFor volume words trail state c action) where
+module _ (volume : VolumeView) (device : DeviceView) (law : StateLaw) where
+  module _ (state : State) (c : Command) (action : Action) (reads : is_changing c ≡ false) (planned : IsPlanFor volume device state c action) where
     -- the node that is told of
-    pub node_told : (inode : ℕ) → action ≡ Status inode → HasNode volume words trail inode
+    pub node_told : (inode : ℕ) → action ≡ Status inode → HasNode volume device.words device.trail inode
     node_told inode is =
-        let (path, c_is, inode_is) = status_of_plan volume.size words state c inode reads (subst (IsPlanOf volume.size words state c) is planned.planned.plan_is) in
-        let there = status_there volume.size state.tree state.room path (tree_is planned.stands) (ap (refusal_of volume.size state.tree state.room) (sym c_is) ∙ planned.planned.accepted) in
+        let (path, c_is, inode_is) = status_of_plan volume.size device.words state c inode reads (subst (IsPlanOf volume.size device.words state c) is planned.planned.plan_is) in
+        let there = status_there volume.size state.tree state.room path (tree_is volume device.words device.trail law planned.stands) (ap (refusal_of volume.size state.tree state.room) (sym c_is) ∙ planned.planned.accepted) in
         (state, planned.stands, subst (λ (id : ℕ). IsTrue (is_some (node_at state.tree id))) (sym inode_is) there)
 
     -- the directory that is listed
     pub directory_listed : (inode : ℕ) → action ≡ Names inode → is_directory state.tree inode ≡ true
     directory_listed inode is =
-        let (path, c_is, inode_is) = names_of_plan volume.size words state c inode reads (subst (IsPlanOf volume.size words state c) is planned.planned.plan_is) in
-        let there = listed_there volume.size state.tree state.room path (tree_is planned.stands) (ap (refusal_of volume.size state.tree state.room) (sym c_is) ∙ planned.planned.accepted) in
+        let (path, c_is, inode_is) = names_of_plan volume.size device.words state c inode reads (subst (IsPlanOf volume.size device.words state c) is planned.planned.plan_is) in
+        let there = listed_there volume.size state.tree state.room path (tree_is volume device.words device.trail law planned.stands) (ap (refusal_of volume.size state.tree state.room) (sym c_is) ∙ planned.planned.accepted) in
         ap (is_directory state.tree) inode_is ∙ there
 
     answered_by : (answer : Answer) → answer_of (untaken volume.size) state.tree state.room c ≡ answer → answer ≡ (step volume.size state.tree state.room c).answer
     answered_by answer is = sym (accepted_answer volume.size state.tree state.room c planned.planned.accepted ∙ is)
 
     pub status_replied : (inode : ℕ) (status : Stat) → action ≡ Status inode → status ≡ status_of state.tree inode
-        → IsReplyOf volume words trail (step volume.size state.tree state.room c).answer (reply.Status status)
+        → IsReplyOf volume device.words device.trail (step volume.size state.tree state.room c).answer (reply.Status status)
     status_replied inode status is told =
-        let (path, c_is, inode_is) = status_of_plan volume.size words state c inode reads (subst (IsPlanOf volume.size words state c) is planned.planned.plan_is) in
-        subst (λ (answer : Answer). IsReplyOf volume words trail answer (reply.Status status))
+        let (path, c_is, inode_is) = status_of_plan volume.size device.words state c inode reads (subst (IsPlanOf volume.size device.words state c) is planned.planned.plan_is) in
+        subst (λ (answer : Answer). IsReplyOf volume device.words device.trail answer (reply.Status status))
         (answered_by (StatusAnswer status) (ap (answer_of (untaken volume.size) state.tree state.room) c_is ∙ ap (λ (id : ℕ). StatusAnswer (status_of state.tree id)) (sym inode_is) ∙ ap StatusAnswer (sym told)))
         (record { reply_is = refl; told = tt })
 
     pub names_replied : (inode count : ℕ) → action ≡ Names inode → volume.stopped ≡ false → count ≡ length (names_in state.tree inode)
-        → IsReplyOf volume words trail (step volume.size state.tree state.room c).answer (reply.Names inode count)
+        → IsReplyOf volume device.words device.trail (step volume.size state.tree state.room c).answer (reply.Names inode count)
     names_replied inode count is going counted =
-        let (path, c_is, inode_is) = names_of_plan volume.size words state c inode reads (subst (IsPlanOf volume.size words state c) is planned.planned.plan_is) in
-        subst (λ (answer : Answer). IsReplyOf volume words trail answer (reply.Names inode count))
+        let (path, c_is, inode_is) = names_of_plan volume.size device.words state c inode reads (subst (IsPlanOf volume.size device.words state c) is planned.planned.plan_is) in
+        subst (λ (answer : Answer). IsReplyOf volume device.words device.trail answer (reply.Names inode count))
         (answered_by (Listed inode (names_in state.tree inode)) (ap (answer_of (untaken volume.size) state.tree state.room) c_is ∙ ap (λ (id : ℕ). Listed id (names_in state.tree id)) (sym inode_is)))
         (record {
           reply_is = ap (λ (n : ℕ). reply.Names inode n) counted;
@@ -212,9 +214,9 @@ module _ (volume : VolumeView) (words : List ℕ) (trail : Option Trail) (law : 
         })
 
     pub space_replied : (free : Free) → action ≡ Space → free ≡ space_of (untaken volume.size) state.tree state.room
-        → IsReplyOf volume words trail (step volume.size state.tree state.room c).answer (reply.Space free)
+        → IsReplyOf volume device.words device.trail (step volume.size state.tree state.room c).answer (reply.Space free)
     space_replied free is told =
-        let c_is = space_of_plan volume.size words state c reads (subst (IsPlanOf volume.size words state c) is planned.planned.plan_is) in
-        subst (λ (answer : Answer). IsReplyOf volume words trail answer (reply.Space free))
+        let c_is = space_of_plan volume.size device.words state c reads (subst (IsPlanOf volume.size device.words state c) is planned.planned.plan_is) in
+        subst (λ (answer : Answer). IsReplyOf volume device.words device.trail answer (reply.Space free))
         (answered_by (SpaceAnswer free) (ap (answer_of (untaken volume.size) state.tree state.room) c_is ∙ ap SpaceAnswer (sym told)))
         (record { reply_is = refl; told = tt })

@@ -4,9 +4,9 @@ use Rattle.std.proofs.lemmas.List.{append-nil}
 use Rattle.std.specs.Prelude.{Option, Some, None, slice_get}
 use Rattle.pm_trait.specs.Trail.{Trail}
 use Rattle.pm_trait.specs.Device.{LeavesOnly, AcksSettled, EndsInFault}
-use Rattle.pm_trait.specs.ContinuesLaws.{continues_here, acks_from-here}
-use Rattle.pm_trait.specs.DeviceLaws.{leaves_weaker, leaves_here}
-use Rattle.pm_trait.specs.AckLaws.{acks_here, acks_weaker, acks_none}
+use Rattle.pm_trait.proofs.ContinuesLaws.{continues_here, acks_from-here}
+use Rattle.pm_trait.proofs.DeviceLaws.{leaves_weaker, leaves_here}
+use Rattle.pm_trait.proofs.AckLaws.{acks_here, acks_weaker, acks_none}
 use Rattle.io_edge.specs.Bytes.{with_bytes}
 use Rattle.tree_model.specs.Step.{Answer, Fault, Stopped}
 use Rattle.tree_model.specs.Run.{Line, State}

@@ -4,8 +4,8 @@ use Rattle.std.specs.Ordering.{eq_by_cmp, ordering_reverse}
 use Rattle.std.specs.Cmp.{IsTotalOrder}
 use Rattle.std.specs.FinMap.{IsAntisymmetric}
 use Rattle.std.specs.FinMap.Entries.{find, below_all, is_sorted}
-use Rattle.tree_model.specs.EntryLaws.{front, back, find-first}
-use Rattle.tree_model.specs.TreeLaws.{tied}
+use Rattle.tree_model.proofs.EntryLaws.{front, back, find-first}
+use Rattle.tree_model.proofs.TreeLaws.{tied}
 use Rattle.image_counts.proofs.Counting.{Among, AreApart}
 
 is_less : (r : Ordering) → T (is_lt r) → r ≡ Less

@@ -8,7 +8,7 @@ use Rattle.layout.specs.Fields.{inode_kind}
 use Rattle.tree_model.specs.Tree.{Tree, Node, node_at}
 use Rattle.tree_model.specs.Capacity.{inodes_in_use, free_inodes, untaken}
 use Rattle.tree_model.specs.Step.{least_free_id}
-use Rattle.tree_model.specs.TreeLaws.{least_free_id-only}
+use Rattle.tree_model.proofs.TreeLaws.{least_free_id-only}
 use Rattle.image_reading.specs.Counts.{Count}
 use Rattle.image_reading.specs.Reading.{Reached, Reads}
 use Rattle.image_reading.specs.Repairs.{IsLitterInode}

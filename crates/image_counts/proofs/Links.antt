@@ -5,7 +5,7 @@ use Rattle.std.proofs.lemmas.Bool.{cases_eq}
 use Rattle.layout.specs.Fields.{inode_kind, inode_links, slot_inode}
 use Rattle.tree_model.specs.PathText.{Route}
 use Rattle.tree_model.specs.Tree.{Tree, is_directory, is_in, entries_in, path_count, link_count}
-use Rattle.tree_model.specs.TreeLaws.{not_true}
+use Rattle.tree_model.proofs.TreeLaws.{not_true}
 use Rattle.image_reading.specs.Counts.{Count}
 use Rattle.image_reading.specs.Reading.{IsDirectory, IsFile, slot_owner, Reached, IsNameOf, IsChildOf, IsLinkCount, Reads}
 use Rattle.image_reading.specs.Repairs.{IsLitterCount}

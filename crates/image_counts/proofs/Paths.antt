@@ -2,7 +2,7 @@
 use Rattle.std.proofs.Common.{◌≡◌, ◌⊎◌, inl, inr, ℕ, ◌<◌, ◌≤◌, List, [], ◌∷◌, ◌++◌, reverse, refl, sym, ap, subst, ◌∙◌, arith}
 use Rattle.std.proofs.lemmas.List.{reverse-append}
 use Rattle.layout.specs.Geometry.{inodes_of}
-use Rattle.layout.specs.GeometryLaws.{some_inodes}
+use Rattle.layout.proofs.GeometryLaws.{some_inodes}
 use Rattle.layout.specs.Fields.{slot_inode, slot_name}
 use Rattle.tree_model.specs.PathText.{Route}
 use Rattle.tree_model.specs.Tree.{Tree}

@@ -6,7 +6,7 @@ use Rattle.layout.specs.Fields.{page_owner}
 use Rattle.tree_model.specs.PathText.{Route}
 use Rattle.tree_model.specs.Tree.{Tree, File, Room, IsTree, IsRoom, id_at, is_root, parent, is_directory, name_count}
 use Rattle.tree_model.specs.Capacity.{Fits, file_limit, inodes_in_use, pages_in_use}
-use Rattle.tree_model.specs.RoomLaws.{IsPageCount, IsRoom-from}
+use Rattle.tree_model.proofs.RoomLaws.{IsPageCount, IsRoom-from}
 use Rattle.image_reading.specs.Counts.{IsIn, Count}
 use Rattle.image_reading.specs.Reading.{IsDirectory, slot_owner, Names, Reached, IsRoomOf, Reads, HasRoom}
 use Rattle.image_reading.specs.Repairs.{IsKept}

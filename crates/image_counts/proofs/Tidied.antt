@@ -2,7 +2,7 @@
 use Rattle.std.proofs.Common.{◌≡◌, ◌≢◌, ◌⊎◌, inl, inr, ℕ, ◌+◌, ◌*◌, ◌<◌, ◌≤◌, List, sym, subst, ◌∙◌, arith}
 use Rattle.std.proofs.lemmas.Bool.{cases_eq, cases_lt}
 use Rattle.layout.specs.Geometry.{data_pages_of, page_of_slot, slot_word_of}
-use Rattle.layout.specs.GeometryLaws.{page_of_slot_below, slot_below}
+use Rattle.layout.proofs.GeometryLaws.{page_of_slot_below, slot_below}
 use Rattle.layout.specs.Fields.{word, inode_size, page_owner, page_offset, slot_inode}
 use Rattle.tree_model.specs.Tree.{name_count, pages_in}
 use Rattle.tree_model.specs.Capacity.{pages_in_use, free_pages, untaken}

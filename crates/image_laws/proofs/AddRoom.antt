@@ -7,7 +7,7 @@ use Rattle.layout.specs.Geometry.{page_of_slot}
 use Rattle.tree_model.specs.PathText.{Route}
 use Rattle.tree_model.specs.Table.{get, insert, get-insert}
 use Rattle.tree_model.specs.Tree.{Node, Directory, File, Room, pages_in}
-use Rattle.tree_model.specs.TreeLaws.{same_id_itself, other_id}
+use Rattle.tree_model.proofs.TreeLaws.{same_id_itself, other_id}
 use Rattle.image_reading.specs.Counts.{Count}
 use Rattle.image_reading.specs.Reading.{slot_owner, Reached, IsNode, IsRoomOf, HasRoom}
 use Rattle.image_reading.proofs.Counts.{count_none, count_one}

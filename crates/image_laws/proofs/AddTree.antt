@@ -5,7 +5,7 @@ use Rattle.layout.specs.Fields.{slot_name}
 use Rattle.tree_model.specs.PathText.{Route}
 use Rattle.tree_model.specs.Tree.{Node, Tree, id_at, node_at}
 use Rattle.tree_model.specs.Step.{with_new, with_path}
-use Rattle.tree_model.specs.TreeLaws.{is_same, same_route, is_same_itself, id_at-with_new, id_at-with_path, node_at-with_new_here, node_at-with_new_other}
+use Rattle.tree_model.proofs.TreeLaws.{is_same, same_route, is_same_itself, id_at-with_new, id_at-with_path, node_at-with_new_here, node_at-with_new_other}
 use Rattle.image_reading.specs.Reading.{slot_owner, Names, Reached, IsNode, Reads}
 use Rattle.image_counts.proofs.Paths.{one_inode}
 use Rattle.image_counts.proofs.Slots.{same_reverse}

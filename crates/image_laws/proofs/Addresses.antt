@@ -1,7 +1,7 @@
 -- Words of different things stand apart.
 use Rattle.std.proofs.Common.{◌≡◌, ◌≢◌, ℕ, ◌+◌, ◌*◌, ◌/◌, ◌%◌, ◌<◌, ◌≤◌, sym, arith}
 use Rattle.layout.specs.Geometry.{IsVolumeSize, inodes_of, data_pages_of, page_of_slot, first_data_word_of, inode_word_of, descriptor_word_of, slot_word_of, page_word_of}
-use Rattle.layout.specs.GeometryLaws.{some_inodes, same_inode_word, same_descriptor_word, same_slot_word, same_page_word, inode_word_above, descriptor_word_above, slot_word_above, page_word_above, inode_word_not_descriptor_word, inode_word_not_slot_word, inode_word_not_page_word, descriptor_word_not_slot_word, descriptor_word_not_page_word}
+use Rattle.layout.proofs.GeometryLaws.{some_inodes, same_inode_word, same_descriptor_word, same_slot_word, same_page_word, inode_word_above, descriptor_word_above, slot_word_above, page_word_above, inode_word_not_descriptor_word, inode_word_not_slot_word, inode_word_not_page_word, descriptor_word_not_slot_word, descriptor_word_not_page_word}
 use Rattle.image_reading.specs.Reading.{pages_of_size}
 
 -- a byte below the size lies in a page of the file

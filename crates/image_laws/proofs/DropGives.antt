@@ -3,7 +3,7 @@ use Rattle.std.proofs.Common.{◌≡◌, ◌≢◌, ◌⊎◌, inl, inr, ℕ, �
 use Rattle.std.proofs.lemmas.Bool.{cases_eq, cases_lt}
 use Rattle.layout.specs.Fields.{word, inode_kind, inode_links, page_owner, page_kind, page_offset, slot_inode, slot_pointer}
 use Rattle.layout.specs.Geometry.{inodes_of, data_pages_of, page_of_slot, inode_word_of, descriptor_word_of, slot_word_of}
-use Rattle.layout.specs.GeometryLaws.{page_of_slot_below, slot_below}
+use Rattle.layout.proofs.GeometryLaws.{page_of_slot_below, slot_below}
 use Rattle.tree_model.specs.PathText.{Route}
 use Rattle.image_reading.specs.Reading.{IsDirectory, slot_owner, IsHeld, Reached, IsReachedSlot, IsRoomOf}
 use Rattle.image_reading.specs.Repairs.{IsKept, IsLitterPage}

@@ -4,12 +4,12 @@ use Rattle.std.proofs.lemmas.Bool.{cases_eq}
 use Rattle.layout.specs.Fields.{slot_inode, slot_name}
 use Rattle.layout.specs.Geometry.{page_of_slot}
 use Rattle.tree_model.specs.PathText.{Route}
-use Rattle.tree_model.specs.RoomLaws.{get-room_after}
+use Rattle.tree_model.proofs.RoomLaws.{get-room_after}
 use Rattle.tree_model.specs.Run.{State}
 use Rattle.tree_model.specs.Step.{without_path, without_unnamed, room_after, tree_after, pages_after}
 use Rattle.tree_model.specs.Table.{get, remove}
 use Rattle.tree_model.specs.Tree.{Tree, Room, IsRoom, root_id, parent, id_at, is_directory, is_number, pages_in}
-use Rattle.tree_model.specs.TreeLaws.{same_room}
+use Rattle.tree_model.proofs.TreeLaws.{same_room}
 use Rattle.image_reading.specs.Reading.{slot_owner, Names, Reads, HasRoom, ReadsAs}
 use Rattle.image_reading.specs.Soundness.{Sound}
 use Rattle.image_counts.proofs.Decided.{room_counted}

@@ -4,7 +4,7 @@ use Rattle.std.proofs.lemmas.Bool.{cases_eq}
 use Rattle.layout.specs.Fields.{word, inode_kind, inode_links, inode_size, page_owner, page_kind, page_offset, slot_inode, slot_pointer, slot_name}
 use Rattle.layout.specs.Name.{name_in_words}
 use Rattle.layout.specs.Geometry.{inodes_of, data_pages_of, page_of_slot, inode_word_of, descriptor_word_of, slot_word_of}
-use Rattle.layout.specs.GeometryLaws.{page_of_slot_below, slot_word_within}
+use Rattle.layout.proofs.GeometryLaws.{page_of_slot_below, slot_word_within}
 use Rattle.tree_model.specs.PathText.{Route}
 use Rattle.tree_model.specs.Step.{without_path, without_unnamed}
 use Rattle.tree_model.specs.Table.{remove}

@@ -4,7 +4,7 @@ use Rattle.std.specs.Ordering.{eq_by_cmp}
 use Rattle.std.specs.Cmp.{IsTotalOrder, tied_itself}
 use Rattle.std.specs.FinMap.{IsAntisymmetric}
 use Rattle.std.specs.FinMap.Entries.{find}
-use Rattle.tree_model.specs.TreeLaws.{tied}
+use Rattle.tree_model.proofs.TreeLaws.{tied}
 
 -- a list of pairs has this pair
 abbrev pub Listed : {K V : Type 0} → List (K × V) → K → V → Type 0

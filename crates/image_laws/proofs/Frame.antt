@@ -2,7 +2,7 @@
 use Rattle.std.proofs.Common.{◌≡◌, ◌≢◌, ◌⊎◌, inl, inr, ℕ, ◌+◌, ◌-◌, ◌<◌, List, refl, sym, subst, ◌∙◌, arith}
 use Rattle.layout.specs.Fields.{page_owner, slot_inode, slot_pointer}
 use Rattle.layout.specs.Geometry.{slots_of, page_of_slot}
-use Rattle.layout.specs.GeometryLaws.{page_of_slot_below}
+use Rattle.layout.proofs.GeometryLaws.{page_of_slot_below}
 use Rattle.image_reading.specs.Reading.{slot_owner, IsHeld, IsLive, Reached}
 use Rattle.image_reading.specs.Soundness.{Rule, Obeys, Sound}
 use Rattle.image_laws.specs.Frame.{SamePage, IsIdle, AreIdle, SameDescriptor, SameSlot, Alike, Agrees, FrameLaw}

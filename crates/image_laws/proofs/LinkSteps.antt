@@ -3,12 +3,12 @@ use Rattle.std.proofs.Common.{◌≡◌, inl, inr, ℕ, ◌+◌, Bool, true, fal
 use Rattle.std.proofs.lemmas.Bool.{cases_eq}
 use Rattle.layout.specs.Name.{name_in_words}
 use Rattle.tree_model.specs.PathText.{Route}
-use Rattle.tree_model.specs.RoomLaws.{get-room_after}
+use Rattle.tree_model.proofs.RoomLaws.{get-room_after}
 use Rattle.tree_model.specs.Run.{State}
 use Rattle.tree_model.specs.Step.{with_path, is_full, page_for_name, room_after, tree_after}
 use Rattle.tree_model.specs.Table.{get}
 use Rattle.tree_model.specs.Tree.{Tree, Room, IsRoom, root_id, parent, id_at, is_directory, is_number, pages_in}
-use Rattle.tree_model.specs.TreeLaws.{same_room}
+use Rattle.tree_model.proofs.TreeLaws.{same_room}
 use Rattle.tree_model.specs.declared.command.Command.TheVariants.{Link}
 use Rattle.image_reading.specs.Reading.{Names, ReadsAs}
 use Rattle.image_counts.proofs.States.{is_room}

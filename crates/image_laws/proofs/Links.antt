@@ -3,7 +3,7 @@ use Rattle.std.proofs.Common.{◌≡◌, ◌≢◌, ◌⊎◌, inl, inr, ℕ, �
 use Rattle.std.proofs.lemmas.List.{get_or-set_other}
 use Rattle.layout.specs.Fields.{word}
 use Rattle.layout.specs.Geometry.{page_of_slot, slot_word_of}
-use Rattle.layout.specs.GeometryLaws.{slot_word_within}
+use Rattle.layout.proofs.GeometryLaws.{slot_word_within}
 use Rattle.layout.specs.Name.{name_in_words}
 use Rattle.tree_model.specs.PathText.{Route}
 use Rattle.tree_model.specs.Step.{with_path}

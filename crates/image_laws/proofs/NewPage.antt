@@ -4,7 +4,7 @@ use Rattle.std.proofs.lemmas.Bool.{cases_eq}
 use Rattle.std.proofs.lemmas.List.{get_or-set_same, get_or-set_other}
 use Rattle.layout.specs.Fields.{word, inode_links, page_owner, page_kind, page_offset, slot_inode, slot_pointer}
 use Rattle.layout.specs.Geometry.{inodes_of, data_pages_of, page_of_slot, inode_word_of, descriptor_word_of, slot_word_of, page_word_of}
-use Rattle.layout.specs.GeometryLaws.{descriptor_word_within}
+use Rattle.layout.proofs.GeometryLaws.{descriptor_word_within}
 use Rattle.image_reading.specs.Reading.{IsDirectory, slot_owner, IsHeld, Reached}
 use Rattle.image_reading.specs.Soundness.{Rule, Sound, HasLinks}
 use Rattle.image_counts.specs.Entries.{IsFreePage}

@@ -3,7 +3,7 @@ use Rattle.std.proofs.Common.{◌≡◌, ◌≢◌, ◌↔◌, ℕ, ◌+◌, ◌
 use Rattle.std.proofs.lemmas.List.{get_or-set_same, get_or-set_other}
 use Rattle.layout.specs.Fields.{word, inode_kind, inode_links, inode_size, inode_own, page_owner, page_kind, page_offset, slot_inode, slot_pointer, slot_name, slot_words, page_byte}
 use Rattle.layout.specs.Geometry.{inodes_of, data_pages_of, slots_of, page_of_slot, inode_word_of, descriptor_word_of, page_word_of, slot_word_of}
-use Rattle.layout.specs.GeometryLaws.{page_of_slot_below, slot_word_within}
+use Rattle.layout.proofs.GeometryLaws.{page_of_slot_below, slot_word_within}
 use Rattle.layout.specs.Name.{name_in_words}
 use Rattle.tree_model.specs.Tree.{Node, Directory, File}
 use Rattle.image_reading.specs.Reading.{slot_owner, IsHeld, IsPageOf, IsNode}

@@ -4,7 +4,7 @@ use Rattle.std.proofs.lemmas.Bool.{cases_eq, cases_lt}
 use Rattle.std.proofs.lemmas.List.{get_or-set_same, get_or-set_other}
 use Rattle.layout.specs.Fields.{word, inode_kind, inode_links, inode_size, inode_own, page_owner, page_kind, page_offset, slot_inode, slot_pointer, slot_words, page_byte}
 use Rattle.layout.specs.Geometry.{inodes_of, data_pages_of, page_of_slot, inode_word_of, descriptor_word_of, page_word_of, slot_word_of}
-use Rattle.layout.specs.GeometryLaws.{page_of_slot_below, slot_word_within}
+use Rattle.layout.proofs.GeometryLaws.{page_of_slot_below, slot_word_within}
 use Rattle.image_reading.specs.Reading.{slot_owner, IsHeld, IsLive}
 use Rattle.image_reading.specs.Soundness.{Rule, PointsAtHeld, IsOnlyPointer, Sound, HasLinks}
 use Rattle.image_laws.specs.Frame.{SameSlot, SameInode, SameMeaning}

@@ -7,12 +7,12 @@ use Rattle.std.specs.FinMap.Entries.{find, is_sorted}
 use Rattle.std.specs.List.{list_any}
 use Rattle.layout.specs.Fields.{slot_name}
 use Rattle.layout.specs.Geometry.{slot_word_of}
-use Rattle.tree_model.specs.EntryLaws.{front, back, find-below, find-first}
+use Rattle.tree_model.proofs.EntryLaws.{front, back, find-below, find-first}
 use Rattle.tree_model.specs.PathText.{Route}
 use Rattle.tree_model.specs.Step.{without_path, without_unnamed}
 use Rattle.tree_model.specs.Table.{get-retain}
 use Rattle.tree_model.specs.Tree.{Node, Tree, route_cmp, route_cmp_total, id_at, node_at, is_directory, is_directory_node}
-use Rattle.tree_model.specs.TreeLaws.{is_same, same_route, is_same_itself, other_route, same_id, id_at-without_path}
+use Rattle.tree_model.proofs.TreeLaws.{is_same, same_route, is_same_itself, other_route, same_id, id_at-without_path}
 use Rattle.image_reading.specs.Reading.{Names, Reached, IsNode, Reads}
 use Rattle.image_reading.specs.Soundness.{Sound}
 use Rattle.image_counts.proofs.Slots.{same_reverse}

@@ -3,7 +3,7 @@ use Rattle.std.proofs.Common.{◌<◌, ◌≤◌, length, set, refl, ◌∙◌, 
 use Rattle.std.proofs.lemmas.List.{get_or-set_same}
 use Rattle.layout.specs.Fields.{word, inode_size}
 use Rattle.layout.specs.Geometry.{inodes_of, inode_word_of}
-use Rattle.layout.specs.GeometryLaws.{inode_word_within}
+use Rattle.layout.proofs.GeometryLaws.{inode_word_within}
 use Rattle.image_reading.specs.Soundness.{Rule}
 use Rattle.image_laws.specs.Resize.{ResizeLaw}
 use Rattle.image_laws.proofs.Paths.{reached_pos, reached-le}

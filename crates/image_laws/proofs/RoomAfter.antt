@@ -3,11 +3,11 @@ use Rattle.std.proofs.Common.{◌≡◌, ◌≢◌, inl, inr, ℕ, ◌+◌, ◌=
 use Rattle.std.proofs.lemmas.Bool.{cases_eq}
 use Rattle.std.proofs.lemmas.Bool.Decides.{nat_tests}
 use Rattle.tree_model.specs.PathText.{Route}
-use Rattle.tree_model.specs.RoomLaws.{directory-from_room, room-has_directory, get-room_after}
+use Rattle.tree_model.proofs.RoomLaws.{directory-from_room, room-has_directory, get-room_after}
 use Rattle.tree_model.specs.Step.{with_new, is_full, room_after, pages_after, page_for_name, tree_after}
 use Rattle.tree_model.specs.Table.{get}
 use Rattle.tree_model.specs.Tree.{Node, Directory, File, Tree, Room, IsRoom, root_id, is_directory, is_directory_node, is_number, pages_in}
-use Rattle.tree_model.specs.TreeLaws.{same_room, node_at-with_new_here, node_at-with_new_other}
+use Rattle.tree_model.proofs.TreeLaws.{same_room, node_at-with_new_here, node_at-with_new_other}
 use Rattle.image_laws.specs.Add.{with_page, with_node}
 use Rattle.image_laws.specs.CreateStep.{making, CanBeMade, HasRoomAfter, RoomAfterLaw}
 use Rattle.image_laws.proofs.AddRoom.{get-here, get-other}

@@ -2,7 +2,7 @@
 use Rattle.std.proofs.Common.{◌≡◌, ◌≢◌, inl, inr, ℕ, ◌/◌, ◌<◌, ◌≤◌, not, eqb, IsTrue, List, arith, length, get_or, ◌*◌, eq-eqb, ne_eqb}
 use Rattle.std.proofs.lemmas.Bool.{cases_lt}
 use Rattle.layout.specs.Geometry.{IsVolumeSize, slots_of, page_of_slot, inodes_of, data_pages_of}
-use Rattle.layout.specs.GeometryLaws.{some_inodes, page_of_slot_below, data_pages_below}
+use Rattle.layout.proofs.GeometryLaws.{some_inodes, page_of_slot_below, data_pages_below}
 use Rattle.layout.specs.Superblock.{head_of}
 use Rattle.layout.specs.Fields.{word, page_kind, page_owner}
 use Rattle.image_reading.specs.Reading.{IsHeld, slot_owner}

@@ -1,9 +1,9 @@
 -- Slots of one directory with one name.
 use Rattle.std.proofs.Common.{◌≡◌, ◌≢◌, ℕ, ◌+◌, ◌-◌, ◌*◌, ◌%◌, ◌<◌, ◌≤◌, List, refl, sym, ap, subst, ◌∙◌, arith}
 use Rattle.layout.specs.Geometry.{slots_of, page_of_slot}
-use Rattle.layout.specs.GeometryLaws.{page_of_slot_below}
+use Rattle.layout.proofs.GeometryLaws.{page_of_slot_below}
 use Rattle.layout.specs.Name.{name_in_words}
-use Rattle.layout.specs.NameLaws.{same_words}
+use Rattle.layout.proofs.NameLaws.{same_words}
 use Rattle.layout.specs.Fields.{page_owner, slot_name, slot_words}
 use Rattle.image_reading.specs.Reading.{slot_owner, IsReachedSlot}
 use Rattle.image_reading.specs.Soundness.{HasName, HasOwnName}

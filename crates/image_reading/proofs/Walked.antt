@@ -2,7 +2,7 @@
 use Rattle.std.proofs.Common.{◌≡◌, ◌↔◌, ◌⊎◌, inl, inr, ℕ, ◌+◌, ◌*◌, ◌%◌, ◌<◌, ◌≤◌, false, List, [], ◌∷◌, get_or, vec_len, refl, sym, ap, subst, ◌∙◌, arith}
 use Rattle.std.proofs.lemmas.Bool.{cases_eq}
 use Rattle.layout.specs.Geometry.{inodes_of, data_pages_of, slots_of, page_of_slot}
-use Rattle.layout.specs.GeometryLaws.{page_of_slot_below, slot_below, page_of_entry}
+use Rattle.layout.proofs.GeometryLaws.{page_of_slot_below, slot_below, page_of_entry}
 use Rattle.layout.specs.Fields.{page_owner, slot_inode}
 use Rattle.image_reading.specs.Reading.{slot_owner, IsReachedSlot, Reached}
 use Rattle.image_reading.specs.Scan.{IsRename}

@@ -1,3 +1,4 @@
+pub mod InodeLaws
 mod Stored
 mod Line
 mod Zeros

@@ -1,17 +1,20 @@
 -- The words of an inode after stores to them.
-use Rattle.std.proofs.Common.{◌≡◌, ◌≢◌, inl, inr, ⊎_elim, ℕ, ◌+◌, ◌<◌, List, length, slice_index, slice_set, sym, ◌∙◌, ap, subst, arith, get_or-set_same, get_or-set_other, length-set}
+use Rattle.std.proofs.Common.{◌≡◌, ◌≢◌, inl, inr, ⊎_elim, ℕ, ◌+◌, ◌<◌, List, [], ◌∷◌, length, slice_index, slice_set, sym, ◌∙◌, ap, subst, arith, get_or-set_same, get_or-set_other, length-set}
 use Rattle.std.specs.Prelude.{Option}
+use Rattle.pm_trait.specs.declared.event.Event.{Event}
 use Rattle.pm_trait.specs.declared.event.Event.TheVariants.{Store}
 use Rattle.pm_trait.specs.Trail.{Trail}
 use Rattle.pm_trait.specs.Device.{IsInterval, with_event}
-use Rattle.pm_trait.specs.DeviceLaws.{interval_store, then_store, interval_weaker}
+use Rattle.pm_trait.proofs.DeviceLaws.{interval_store, then_store, interval_weaker}
+use Rattle.pm_trait.specs.DeviceView.{DeviceView, Performs}
+use Rattle.pm_trait.proofs.DeviceViewLaws.{performs_then}
 use Rattle.layout.specs.declared.fields.InodeFields.{InodeFields}
 use Rattle.layout.specs.Geometry.{inode_word_of}
 use Rattle.layout.specs.Fields.{word, inode_kind, inode_links, inode_size, inode_own}
 use Rattle.fence_token.specs.Objects.{Stands, StandsClean}
 use Rattle.inode_state.specs.States.{linked_fields}
-use Rattle.inode_state.specs.Inode.{IsInodeWord, fields_at}
-use Rattle.inode_state.specs.InodeLaws.{same_fields}
+use Rattle.inode_state.specs.Inode.{IsInodeWord, fields_at, inode_stores}
+use Rattle.inode_state.proofs.InodeLaws.{same_fields}
 
 -- an inode of the same number and fields stands too
 pub stands_as : {now : List ℕ} (m n : ℕ) (f g : InodeFields) → n ≡ m → g ≡ f → Stands (IsInodeWord m) (λ words. fields_at words m ≡ f) now → Stands (IsInodeWord n) (λ words. fields_at words n ≡ g) now
@@ -63,6 +66,14 @@ four_stores n w0 w1 w2 w3 v0 v1 v2 v3 at0 at1 at2 at3 b tb c tc d td e te =
         ]
       ]
     ]) four
+
+-- and the device has carried them out
+pub four_performed : {a b c d e : DeviceView} {w0 w1 w2 w3 : ℕ} (n : ℕ) (fields : InodeFields) → w0 ≡ inode_word_of n 0 → w1 ≡ inode_word_of n 1 → w2 ≡ inode_word_of n 2 → w3 ≡ inode_word_of n 3
+    → Performs a b (Store w0 fields.kind ∷ []) → Performs b c (Store w1 fields.links ∷ []) → Performs c d (Store w2 fields.size ∷ []) → Performs d e (Store w3 fields.own ∷ [])
+    → Performs a e (inode_stores n fields)
+four_performed {a} {e = e} {w0} {w1} {w2} {w3} n fields at0 at1 at2 at3 kind links size own =
+    let stored : (Store w0 fields.kind ∷ Store w1 fields.links ∷ Store w2 fields.size ∷ Store w3 fields.own ∷ []) ≡ inode_stores n fields = cc in
+    subst (λ (events : List Event). Performs a e events) stored (performs_then (performs_then (performs_then kind links) size) own)
 
 -- and the words then say what was stored
 pub four_fields : (n : ℕ) (fields : InodeFields) (a b c d e : List ℕ) (w0 w1 w2 w3 : ℕ) → w0 ≡ inode_word_of n 0 → w1 ≡ inode_word_of n 1 → w2 ≡ inode_word_of n 2 → w3 ≡ inode_word_of n 3

@@ -5,7 +5,7 @@ use Rattle.layout.specs.Fields.{word, inode_kind, inode_links, inode_size, inode
 use Rattle.layout.specs.Geometry.{inode_word_of}
 use Rattle.inode_state.specs.States.{free_fields}
 use Rattle.inode_state.specs.Inode.{fields_at}
-use Rattle.inode_state.specs.InodeLaws.{same_fields}
+use Rattle.inode_state.proofs.InodeLaws.{same_fields}
 
 word_within : (count number field : ℕ) → 16 * number + 516 ≤ count → field < 4 → inode_word_of number field < count
 unfolding inode_word_of

@@ -1,4 +1,3 @@
 pub mod States
 pub mod Inode
-pub mod InodeLaws
 pub mod Laws

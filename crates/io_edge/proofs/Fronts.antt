@@ -3,7 +3,7 @@ use Rattle.std.proofs.Common.{◌≡◌, ℕ, ◌+◌, List, ◌++◌, length, t
 use Rattle.std.proofs.lemmas.List.{take-append-drop, drop-drop}
 use Rattle.std.proofs.Math.Seq.{take-append_seam, take-add}
 use Rattle.io_edge.specs.Bytes.{with_bytes}
-use Rattle.io_edge.specs.BytesLaws.{whole_then_whole}
+use Rattle.io_edge.proofs.BytesLaws.{whole_then_whole}
 
 -- what was copied to the front of a buffer, and what is left behind it, are the bytes from here on
 pub copied_then_left : (bytes copied behind : List ℕ) (at count : ℕ) → copied ≡ take count (drop at bytes) → length copied ≡ count

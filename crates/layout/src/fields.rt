@@ -76,7 +76,7 @@ impl Geometry {
     }
 
     /// Reads a slot. Slots are numbered from 0, 32 to a data page.
-    #[tactic(auto, using(crate::specs::GeometryLaws::slot_words_within), unfolding(crate::specs::Fields::slot_inode, crate::specs::Fields::slot_pointer, crate::specs::Fields::slot_words))]
+    #[tactic(auto, using(crate::proofs::GeometryLaws::slot_words_within), unfolding(crate::specs::Fields::slot_inode, crate::specs::Fields::slot_pointer, crate::specs::Fields::slot_words))]
     pub fn slot_at(&self, words: &[u64], slot: u64) -> SlotFields
         requires whole { length words.now ≡ 512 * self.now.pages }
         requires slot_in_range { slot < slots_of self.now.pages }
@@ -102,7 +102,7 @@ fn word_at(words: &[u64], address: u64) -> u64
 }
 
 // The words from this address on.
-#[tactic(auto, using(crate::specs::FieldLaws::words_from_range))]
+#[tactic(auto, using(crate::proofs::FieldLaws::words_from_range))]
 fn fourteen_words(words: &[u64], first: u64) -> [u64; 14]
     requires { first + 14 ≤ length words.now }
     ensures { result ≡ words_from words.now first 14 }

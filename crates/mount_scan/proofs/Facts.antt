@@ -1,7 +1,7 @@
 -- What tidy words say of their pages and slots.
 use Rattle.std.proofs.Common.{◌≡◌, ◌≢◌, inl, inr, ℕ, ◌<◌, ◌≤◌, List, refl, sym, ap, subst, ◌∙◌, arith}
 use Rattle.layout.specs.Geometry.{inodes_of, data_pages_of, slots_of, page_of_slot}
-use Rattle.layout.specs.GeometryLaws.{page_of_slot_below}
+use Rattle.layout.proofs.GeometryLaws.{page_of_slot_below}
 use Rattle.layout.specs.Name.{IsNameWords, name_in_words}
 use Rattle.layout.specs.Fields.{inode_kind, inode_size, page_owner, page_kind, page_offset, slot_inode, slot_name, slot_words}
 use Rattle.tree_model.specs.Run.{State}

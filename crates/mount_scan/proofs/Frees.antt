@@ -3,7 +3,7 @@ use Rattle.std.proofs.Common.{◌≡◌, ◌↔◌, inl, inr, ℕ, zero, suc, �
 use Rattle.std.proofs.lemmas.Bool.{cases_eq, cases_lt}
 use Rattle.std.proofs.lemmas.List.{length-set}
 use Rattle.allocators.specs.Numbers.{IsFree}
-use Rattle.allocators.specs.NumbersLaws.{taken_after_take, free_before, free_still}
+use Rattle.allocators.proofs.NumbersLaws.{taken_after_take, free_before, free_still}
 
 -- Below the limit those with Q are free, and from it on all are.
 pub record AreFree (Q : ℕ → Type 0) (count limit : ℕ) (numbers : List Bool) : Type 0 where

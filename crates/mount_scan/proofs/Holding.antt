@@ -11,7 +11,7 @@ use Rattle.image_reading.specs.Reading.{slot_owner}
 use Rattle.image_reading.specs.Tidy.{Tidy}
 use Rattle.image_counts.specs.Entries.{IsEntryOf, IsPageIn}
 use Rattle.volatile_index.specs.Entries.{IsAbsent, IsWithEntry}
-use Rattle.volatile_index.specs.EntryLaws.{contains_none, contains_entry, contains_still, contains_before}
+use Rattle.volatile_index.proofs.EntryLaws.{contains_none, contains_entry, contains_still, contains_before}
 use Rattle.volatile_index.specs.Index.{Held, held_of, inodes_of_index, IsSameElsewhere}
 use Rattle.volatile_index.specs.declared.entry.Entry.{Entry}
 use Rattle.volume.specs.Stands.{KnowsNodes}

@@ -3,16 +3,16 @@ use Rattle.std.proofs.Common.{◌≡◌, ◌≢◌, ◌⊎◌, inl, inr, ⊎_eli
 use Rattle.std.specs.Prelude.{Option}
 use Rattle.pm_trait.specs.Trail.{Trail}
 use Rattle.pm_trait.specs.Device.{IsInterval, IsFlushed}
-use Rattle.pm_trait.specs.DeviceLaws.{interval_keeps, interval_length, clean_stays, flushed_stays, flushed_if_clean}
+use Rattle.pm_trait.proofs.DeviceLaws.{interval_keeps, interval_length, clean_stays, flushed_stays, flushed_if_clean}
 use Rattle.layout.specs.declared.fields.DescriptorFields.{DescriptorFields}
 use Rattle.layout.specs.Geometry.{data_pages_of, descriptor_word_of}
-use Rattle.layout.specs.GeometryLaws.{same_descriptor_word, descriptor_word_not_page_word}
+use Rattle.layout.proofs.GeometryLaws.{same_descriptor_word, descriptor_word_not_page_word}
 use Rattle.layout.specs.Fields.{word, page_owner, page_kind, page_offset}
 use Rattle.page_state.specs.declared.page.Touched.{Touched}
 use Rattle.page_state.specs.declared.page.Touched.TheVariants.{Descriptors, Whole}
 use Rattle.page_state.specs.States.{slots_fields, owned_fields, IsFree, IsFilled, IsLive}
 use Rattle.page_state.specs.Page.{EachPage, AreDataPages, OfSome, IsOwnWord, IsFilledWord, IsOwnerWord, IsTouched, IsSlotPage, descriptor_of, fields_of_page, HaveMeaning, PageIsDirty, PageIsClean}
-use Rattle.page_state.specs.PageLaws.{same_descriptor_fields}
+use Rattle.page_state.proofs.PageLaws.{same_descriptor_fields}
 
 -- a fill stores no owner
 not_filled : (volume_pages : ℕ) (pages : List ℕ) (index : ℕ) → AreDataPages (data_pages_of volume_pages) pages → index < length pages → ¬ OfSome pages (IsFilledWord volume_pages) (descriptor_word_of volume_pages (slice_index pages index) 0)

@@ -5,9 +5,9 @@ use Rattle.std.proofs.lemmas.Bool.{cases_eq}
 use Rattle.pm_trait.specs.declared.event.Event.TheVariants.{Store}
 use Rattle.pm_trait.specs.Trail.{Trail}
 use Rattle.pm_trait.specs.Device.{IsInterval, with_event}
-use Rattle.pm_trait.specs.DeviceLaws.{interval_empty, interval_store, then_store, interval_weaker}
+use Rattle.pm_trait.proofs.DeviceLaws.{interval_empty, interval_store, then_store, interval_weaker}
 use Rattle.layout.specs.Geometry.{data_pages_of, page_word_of, descriptor_word_of}
-use Rattle.layout.specs.GeometryLaws.{same_page_word, descriptor_word_not_page_word, same_descriptor_word}
+use Rattle.layout.proofs.GeometryLaws.{same_page_word, descriptor_word_not_page_word, same_descriptor_word}
 use Rattle.layout.specs.Fields.{word, page_owner, page_kind, page_offset}
 use Rattle.page_state.specs.Page.{IsContentWord, IsOwnWord, IsFilledWord, IsOwnerWord, IsZeroPage, IsSlotPage}
 

@@ -1,3 +1,4 @@
+pub mod PageLaws
 pub mod Contents
 pub mod Lines
 pub mod Told

@@ -4,10 +4,10 @@ use Rattle.std.specs.Prelude.{Option}
 use Rattle.std.proofs.lemmas.Bool.{cases_eq}
 use Rattle.pm_trait.specs.Trail.{Trail}
 use Rattle.pm_trait.specs.Device.{IsInterval}
-use Rattle.pm_trait.specs.DeviceLaws.{interval_empty, interval_joined, interval_weaker, interval_keeps}
+use Rattle.pm_trait.proofs.DeviceLaws.{interval_empty, interval_joined, interval_weaker, interval_keeps}
 use Rattle.layout.specs.Geometry.{data_pages_of}
 use Rattle.page_state.specs.Page.{AreDataPages, OfFirst, IsOwnWord}
-use Rattle.page_state.specs.PageLaws.{own_words_apart}
+use Rattle.page_state.proofs.PageLaws.{own_words_apart}
 
 -- a place before another has another page
 pub pages_differ : {data_pages : ℕ} (pages : List ℕ) (index count : ℕ) → AreDataPages data_pages pages → index < count → count < length pages → slice_index pages index ≢ slice_index pages count

@@ -8,7 +8,7 @@ use Rattle.std.proofs.lemmas.List.FromFn.{map-range_with_len_more}
 use Rattle.pm_trait.specs.declared.event.Event.{Event}
 use Rattle.pm_trait.specs.declared.event.Event.TheVariants.{Store, Flush}
 use Rattle.pm_trait.specs.Trail.{Trail}
-use Rattle.pm_trait.specs.ContinuesLaws.{with_events-append}
+use Rattle.pm_trait.proofs.ContinuesLaws.{with_events-append}
 use Rattle.pm_trait.specs.Device.{with_events, with_event}
 use Rattle.layout.specs.Geometry.{descriptor_word_of, page_word_of}
 use Rattle.fence_token.specs.Ticket.{flushes_of}

@@ -2,11 +2,11 @@
 use Rattle.std.proofs.Common.{◌≡◌, ℕ, ◌<◌, List, ◌++◌, length, slice_index, refl, ◌∙◌, ap, arith, replicate}
 use Rattle.std.proofs.lemmas.List.{get_or-replicate, get_or_append_left, length-replicate}
 use Rattle.layout.specs.Geometry.{inodes_of, inode_pages_of, descriptor_pages_of, data_pages_of, first_data_word_of, descriptor_word_of}
-use Rattle.layout.specs.GeometryLaws.{descriptor_word_below}
+use Rattle.layout.proofs.GeometryLaws.{descriptor_word_below}
 use Rattle.layout.specs.Fields.{word, page_owner, page_kind, page_offset}
 use Rattle.page_state.specs.States.{IsFree}
 use Rattle.page_state.specs.Page.{EachPage, descriptor_of}
-use Rattle.page_state.specs.PageLaws.{same_descriptor_fields}
+use Rattle.page_state.proofs.PageLaws.{same_descriptor_fields}
 
 -- a word among the first, which are 0
 zero_word : (words zeros rest : List ℕ) (count w : ℕ) → words ≡ zeros ++ rest → zeros ≡ replicate count 0 → w < count → slice_index words w ≡ 0

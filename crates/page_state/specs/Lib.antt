@@ -1,5 +1,4 @@
 pub mod States
 pub mod Page
 pub mod Events
-pub mod PageLaws
 pub mod Laws

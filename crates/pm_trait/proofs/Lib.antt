@@ -1,1 +1,6 @@
+pub mod AckLaws
+pub mod ContinuesLaws
+pub mod DeviceLaws
+pub mod DeviceViewLaws
+pub mod TrailLaws
 mod TrailRows

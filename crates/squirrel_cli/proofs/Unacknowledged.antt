@@ -3,7 +3,7 @@ use Rattle.std.proofs.Common.{◌≡◌, ℕ, List}
 use Rattle.std.specs.Prelude.{Option}
 use Rattle.pm_trait.specs.Trail.{Trail}
 use Rattle.pm_trait.specs.Device.{LeavesOnly, acks_from, moment_of}
-use Rattle.pm_trait.specs.ContinuesLaws.{acks_from-quiet}
+use Rattle.pm_trait.proofs.ContinuesLaws.{acks_from-quiet}
 
 pub leaves_unacknowledged : {Q : List ℕ → Type 0} {a b : Option Trail} → LeavesOnly a b (λ k. Q) → acks_from a b (moment_of b) ≡ 0 → LeavesOnly a b (λ k image. (k ≡ 0) × Q image)
 leaves_unacknowledged leaves none = record {

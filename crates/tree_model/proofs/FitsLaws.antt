@@ -7,7 +7,7 @@ use Rattle.std.specs.List.{list_any}
 use Rattle.std.specs.FinMap.Entries.{find, length-put}
 use Rattle.std.proofs.lemmas.Bool.Decides.{nat_tests}
 use Rattle.layout.specs.Geometry.{IsVolumeSize, pieces, inodes_of}
-use Rattle.layout.specs.GeometryLaws.{some_inodes}
+use Rattle.layout.proofs.GeometryLaws.{some_inodes}
 use Rattle.tree_model.specs.PathText.{Route}
 use Rattle.tree_model.specs.Table.{Table, get, retain, insert, get-insert, get-retain}
 use Rattle.tree_model.specs.Tree.{Tree, Node, Directory, File, Room, IsTree, IsRoom, fresh, fresh_room, root_id, node_at, node_pages, file_pages, bytes_of, bytes_of_node, is_root, parent, is_directory, is_file, is_above, name_count}
@@ -18,12 +18,12 @@ use Rattle.tree_model.specs.declared.command.Command.{Command}
 use Rattle.tree_model.specs.declared.command.Command.TheVariants.{Create, Mkdir, Link, Unlink, Rmdir, Rename, Write, Truncate, Read, Stat as Tell, List as Show, Df}
 use Rattle.tree_model.specs.declared.reply.Refusal.{Refusal}
 use Rattle.tree_model.specs.declared.reply.Refusal.TheVariants.{Root, Exists, IsDir, NotDir, NotEmpty, IntoItself, TooBig, NoInodes, NoPages}
-use Rattle.tree_model.specs.EntryLaws.{measure_found, sum_by-put, sum_by-where_key-le, length-where_key-le}
-use Rattle.tree_model.specs.TreeLaws.{same_id, least_free_id-ge, least_free_id-free, least_free_id-le}
+use Rattle.tree_model.proofs.EntryLaws.{measure_found, sum_by-put, sum_by-where_key-le, length-where_key-le}
+use Rattle.tree_model.proofs.TreeLaws.{same_id, least_free_id-ge, least_free_id-free, least_free_id-le}
 use Rattle.tree_model.proofs.TreeKept.{chosen, none_some, same_some}
-use Rattle.tree_model.specs.Accepted.{first-none, at-none, fault_of-none}
+use Rattle.tree_model.proofs.Accepted.{first-none, at-none, fault_of-none}
 use Rattle.tree_model.proofs.StepLaws.{id_of-walk}
-use Rattle.tree_model.specs.WalkLaws.{id_at-from_walk}
+use Rattle.tree_model.proofs.WalkLaws.{id_at-from_walk}
 use Rattle.tree_model.proofs.Sums.{room_total-room_after}
 
 -- ---- rooms

@@ -6,7 +6,7 @@ use Rattle.tree_model.specs.PathText.{Route}
 use Rattle.tree_model.specs.Table.{get-table_of}
 use Rattle.tree_model.specs.Tree.{Tree, route_cmp, route_cmp_total, rest_after, id_at}
 use Rattle.tree_model.specs.Step.{with_moved, moved_path}
-use Rattle.tree_model.specs.TreeLaws.{is_same, same_route, is_same_itself, not_true}
+use Rattle.tree_model.proofs.TreeLaws.{is_same, same_route, is_same_itself, not_true}
 
 pub same_test : (a b : Bool) → (a ≡ true → b ≡ true) → (b ≡ true → a ≡ true) → a ≡ b
 same_test true b f g = sym (f refl)

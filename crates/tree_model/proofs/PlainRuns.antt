@@ -8,7 +8,7 @@ use Rattle.tree_model.specs.Run.{State, Line, IsVolumeState, fresh_state, LineSt
 use Rattle.tree_model.specs.declared.command.Command.{Command}
 use Rattle.tree_model.specs.declared.command.Command.TheVariants.{Create, Mkdir, Link, Unlink, Rmdir, Rename, Write, Truncate, Read, Stat as Tell, List as Show, Df}
 use Rattle.tree_model.specs.declared.reply.Refusal.{Refusal}
-use Rattle.tree_model.specs.RoomLaws.{room_after-same}
+use Rattle.tree_model.proofs.RoomLaws.{room_after-same}
 use Rattle.tree_model.proofs.StepLaws.{IsTree-fresh, IsTree-step}
 use Rattle.tree_model.proofs.FitsLaws.{IsRoom-fresh, IsRoom-step, Fits-fresh, Fits-step}
 use Rattle.tree_model.proofs.RoomsKept.{NamesMove, has_room}

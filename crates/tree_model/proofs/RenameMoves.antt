@@ -10,16 +10,16 @@ use Rattle.tree_model.specs.Step.{first, at, fault_of, refusal_with, with_moved,
 use Rattle.tree_model.specs.declared.command.Command.TheVariants.{Rename}
 use Rattle.tree_model.specs.declared.reply.Refusal.{Refusal}
 use Rattle.tree_model.specs.declared.reply.Refusal.TheVariants.{Root, IsDir, NotDir, NotEmpty, IntoItself, NoPages}
-use Rattle.tree_model.specs.EntryLaws.{front, back, find-below, length-where_key-put}
-use Rattle.tree_model.specs.TreeLaws.{is_same, same_route, is_same_itself, is_in-at, not_root-below, above}
+use Rattle.tree_model.proofs.EntryLaws.{front, back, find-below, length-where_key-put}
+use Rattle.tree_model.proofs.TreeLaws.{is_same, same_route, is_same_itself, is_in-at, not_root-below, above}
 use Rattle.tree_model.proofs.Lookups.{rest_after-append, rest_after-some, origin, origin_of, at_origin, AreClearOf, AreClearOf-from_find, moved_entries, find-moved}
 use Rattle.tree_model.proofs.TreeKept.{is_some_at, none_some}
 use Rattle.tree_model.proofs.TreeLess.{HasNoNames, less_kept}
 use Rattle.tree_model.proofs.TreeMoved.{clear, at_to, at_self, parent_of_to, rest_tree, parent-append, no_front_of_parent}
-use Rattle.tree_model.specs.Accepted.{first-none, at-none, fault_of-none}
+use Rattle.tree_model.proofs.Accepted.{first-none, at-none, fault_of-none}
 use Rattle.tree_model.proofs.StepLaws.{neither_first, target_empty, not_inside}
 use Rattle.tree_model.proofs.FitsLaws.{there_by_sameness}
-use Rattle.tree_model.specs.WalkLaws.{id_at-from_walk, holder-from_walk}
+use Rattle.tree_model.proofs.WalkLaws.{id_at-from_walk, holder-from_walk}
 use Rattle.tree_model.proofs.RoomsKept.{NamesMove, one_if}
 use Rattle.tree_model.proofs.NamesMoves.{NamesMove-same, name_count-without_path}
 

@@ -5,8 +5,8 @@ use Rattle.tree_model.specs.Table.{get}
 use Rattle.tree_model.specs.Tree.{Tree, Room, IsTree, IsRoom, is_directory, is_number, name_count, pages_in}
 use Rattle.tree_model.specs.Step.{gaining, losing, pages_after, room_after, tree_after}
 use Rattle.tree_model.specs.declared.command.Command.{Command}
-use Rattle.tree_model.specs.TreeLaws.{name_count-not_directory}
-use Rattle.tree_model.specs.RoomLaws.{IsPageCount, directory-from_room, IsPageCount-from_room, room-has_directory, IsRoom-from, get-room_after}
+use Rattle.tree_model.proofs.TreeLaws.{name_count-not_directory}
+use Rattle.tree_model.proofs.RoomLaws.{IsPageCount, directory-from_room, IsPageCount-from_room, room-has_directory, IsRoom-from, get-room_after}
 use Rattle.tree_model.proofs.TreeKept.{chosen, none_some, same_some, some_is}
 
 abbrev pub one_if : Bool → ℕ

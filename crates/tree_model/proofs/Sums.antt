@@ -10,8 +10,8 @@ use Rattle.tree_model.specs.Table.{table_of}
 use Rattle.tree_model.specs.Tree.{Tree, Node, Directory, File, Room, pages_in, is_number}
 use Rattle.tree_model.specs.Step.{directory_of, directories, gaining, losing, page_for_name, pages_after, room_after, tree_after}
 use Rattle.tree_model.specs.declared.command.Command.{Command}
-use Rattle.tree_model.specs.EntryLaws.{front, back, sum_by-put}
-use Rattle.tree_model.specs.TreeLaws.{same_id, same_id_itself}
+use Rattle.tree_model.proofs.EntryLaws.{front, back, sum_by-put}
+use Rattle.tree_model.proofs.TreeLaws.{same_id, same_id_itself}
 
 abbrev pub room_total : List (ℕ × ℕ) → ℕ
 room_total es = sum_by (λ e. e.1) es

@@ -1,2 +1,3 @@
+pub mod EntryLaws
 mod Places
 mod Nodes

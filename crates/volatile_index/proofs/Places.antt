@@ -11,7 +11,7 @@ use Rattle.std.proofs.lemmas.List.Kept.{AllPairs-cons}
 use Rattle.std.proofs.lemmas.List.Sorted.{searchable_from_sorted}
 use Rattle.volatile_index.specs.declared.entry.Entry.{Entry}
 use Rattle.volatile_index.specs.Entries.{name_cmp, IsSorted, IsAbsent, IsPresent, IsWithEntry}
-use Rattle.volatile_index.specs.EntryLaws.{contains_more, differs, turned, turned_back, sorted_head, sorted_tail}
+use Rattle.volatile_index.proofs.EntryLaws.{contains_more, differs, turned, turned_back, sorted_head, sorted_tail}
 use Rattle.volatile_index.specs.Place.{IsGap}
 
 abbrev pub against : List ℕ → Entry → Ordering

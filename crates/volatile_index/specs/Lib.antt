@@ -1,4 +1,3 @@
 pub mod Entries
-pub mod EntryLaws
 pub mod Index
 pub mod Place

@@ -11,14 +11,14 @@ use Rattle.layout.specs.Geometry.{inodes_of}
 use Rattle.layout.specs.Fields.{slot_inode}
 use Rattle.tree_model.specs.PathText.{Route}
 use Rattle.tree_model.specs.Tree.{Tree, IsTree, route_cmp, is_root, parent, last_name, id_at, is_directory, is_in, is_number, entries_in}
-use Rattle.tree_model.specs.TreeLaws.{parent-below, not_root-below, is_in-at}
+use Rattle.tree_model.proofs.TreeLaws.{parent-below, not_root-below, is_in-at}
 use Rattle.tree_model.specs.Step.{names_in}
 use Rattle.tree_model.specs.Run.{State}
 use Rattle.image_counts.specs.Laws.{EntryLaw, SizeLaw, InodeCountLaw, StateLaw}
 use Rattle.image_counts.proofs.Counting.{Among}
 use Rattle.image_counts.proofs.Slots.{all_names, some_names}
 use Rattle.volatile_index.specs.Entries.{name_cmp, IsSorted}
-use Rattle.volatile_index.specs.EntryLaws.{differs, turned, sorted_tail}
+use Rattle.volatile_index.proofs.EntryLaws.{differs, turned, sorted_tail}
 use Rattle.volatile_index.specs.Index.{entries_of}
 use Rattle.volatile_index.specs.declared.entry.Entry.{Entry}
 use Rattle.volume.specs.Volume.{VolumeView}

@@ -5,7 +5,7 @@ use Rattle.std.proofs.lemmas.List.Elements.{Contains-append_left, Contains-appen
 use Rattle.std.proofs.lemmas.Option.{slice_get_within}
 use Rattle.pm_trait.specs.Trail.{Trail}
 use Rattle.layout.specs.Geometry.{inodes_of, data_pages_of, page_of_slot}
-use Rattle.layout.specs.GeometryLaws.{page_of_slot_below, slot_below}
+use Rattle.layout.proofs.GeometryLaws.{page_of_slot_below, slot_below}
 use Rattle.layout.specs.Fields.{page_owner}
 use Rattle.image_reading.specs.Reading.{slot_owner}
 use Rattle.image_counts.specs.Entries.{IsFreePage}

@@ -4,7 +4,7 @@ use Rattle.pm_trait.specs.Trail.{Trail}
 use Rattle.tree_model.specs.PathText.{Route}
 use Rattle.tree_model.specs.Tree.{Node, Directory, File, root_id, id_at, node_at, is_directory, is_file, is_directory_node, is_file_node}
 use Rattle.tree_model.specs.Walk.{walk}
-use Rattle.tree_model.specs.WalkLaws.{id_at-from_walk}
+use Rattle.tree_model.proofs.WalkLaws.{id_at-from_walk}
 use Rattle.tree_model.specs.Step.{first, at, fault_of, id_of, refusal_of}
 use Rattle.tree_model.specs.Run.{State}
 use Rattle.tree_model.specs.declared.command.Command.TheVariants.{Stat as Tell, List as Show}

@@ -6,7 +6,7 @@ use Rattle.pm_trait.specs.Trail.{Trail}
 use Rattle.tree_model.specs.PathText.{Route}
 use Rattle.tree_model.specs.Tree.{root_id, is_root, parent, last_name, id_at, is_directory, name_count, pages_in}
 use Rattle.tree_model.specs.Walk.{root_place, walk_to_parent}
-use Rattle.tree_model.specs.WalkLaws.{holder-from_walk}
+use Rattle.tree_model.proofs.WalkLaws.{holder-from_walk}
 use Rattle.tree_model.specs.Capacity.{free_inodes, free_pages, untaken}
 use Rattle.tree_model.specs.Step.{first, at, fault_of, id_of, is_there, is_full, page_for_name, lacks_inodes, refusal_of}
 use Rattle.tree_model.specs.Run.{State}
@@ -16,7 +16,7 @@ use Rattle.image_reading.specs.Reading.{IsDirectory, Reached}
 use Rattle.image_counts.specs.Entries.{IsFreePage}
 use Rattle.image_counts.specs.Laws.{EntryLaw, AbsenceLaw, SizeLaw, InodeCountLaw, FreeInodeLaw, RoomLaw, PageCountLaw, StateLaw}
 use Rattle.allocators.specs.Numbers.{IsFree, IsLowest, free_in}
-use Rattle.allocators.specs.NumbersLaws.{none_is_free, some_is_free}
+use Rattle.allocators.proofs.NumbersLaws.{none_is_free, some_is_free}
 use Rattle.volatile_index.specs.Entries.{IsAbsent, IsPresent}
 use Rattle.volatile_index.specs.Index.{entries_of}
 use Rattle.volume.specs.Volume.{VolumeView}

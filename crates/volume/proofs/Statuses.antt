@@ -13,7 +13,7 @@ use Rattle.image_counts.specs.Entries.{IsEntryOf, IsSlotOf}
 use Rattle.image_counts.specs.Laws.{NameCountLaw, SizeLaw, LinkWordLaw, InodeCountLaw}
 use Rattle.image_counts.proofs.Counting.{Among, AreApart, IsMatching, IsMatched, count_matched, count_alike}
 use Rattle.volatile_index.specs.Entries.{name_cmp, IsSorted}
-use Rattle.volatile_index.specs.EntryLaws.{differs, sorted_head, sorted_tail, contains_here, contains_more, contains_none, contains_cases}
+use Rattle.volatile_index.proofs.EntryLaws.{differs, sorted_head, sorted_tail, contains_here, contains_more, contains_none, contains_cases}
 use Rattle.volatile_index.specs.Index.{entries_of}
 use Rattle.volatile_index.specs.declared.entry.Entry.{Entry}
 use Rattle.volume.specs.Volume.{VolumeView}

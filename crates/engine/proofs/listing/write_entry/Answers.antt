@@ -1,5 +1,5 @@
 use Rattle.std.proofs.Common.{[], ◌∷◌}
-use Rattle.io_edge.specs.BytesLaws.{whole_then_front}
+use Rattle.io_edge.proofs.BytesLaws.{whole_then_front}
 use Rattle.script.specs.Lines.{space}
 use Rattle.script.specs.Texts.{name_text}
 use Rattle.std.proofs.lemmas.Result.{on_err_weaker}

@@ -1,5 +1,5 @@
 use Rattle.std.proofs.Common.{refl}
-use Rattle.fence_token.specs.ObjectLaws.{goes_on_stays, goes_on_events, goes_on_fence, stands_clean_by_token}
+use Rattle.fence_token.proofs.ObjectLaws.{goes_on_stays, goes_on_events, goes_on_fence, stands_clean_by_token}
 use Rattle.fence_token.proofs.tokens.object_law.Goals as goal
 
 pub returns-clause-others : goal.returns-clause-others

@@ -1,4 +1,4 @@
-use Rattle.fence_token.specs.Ticket.{clean_by_token}
+use Rattle.fence_token.proofs.ObjectLaws.{clean_by_token}
 use Rattle.fence_token.proofs.tokens.token_law.Goals as goal
 
 pub returns : goal.returns

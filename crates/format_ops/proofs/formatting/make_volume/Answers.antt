@@ -1,6 +1,6 @@
 use Rattle.std.proofs.Common.{◌<◌, inl, inr, length, arith}
 use Rattle.std.specs.Prelude.{Ok, Err, Result, OnOk}
-use Rattle.pm_trait.specs.DeviceLaws.{fenced_leaves, leaves_then}
+use Rattle.pm_trait.proofs.DeviceLaws.{fenced_leaves, leaves_then}
 use Rattle.format_ops.specs.Stops.{IsOldHiddenOrFormatted}
 use Rattle.format_ops.proofs.Stops.{cleared, hidden_tables, hiding, writing, publishing, formatted}
 use Rattle.format_ops.proofs.formatting.make_volume.Goals as goal
@@ -13,14 +13,14 @@ pub returns-in_err-set_first_word-clause-any_moment : goal.returns-in_err-set_fi
 returns-in_err-set_first_word-clause-any_moment g c =
     let pages = c.args.geometry.now.pages in
     let size = c.args.geometry.now.volume_size in
-    let some : 0 < length (g.P.Pm.now c.args.pm.now) = omega (arith, c.requires.long, size) in
-    fenced_leaves {P = λ _. IsOldHiddenOrFormatted pages (g.P.Pm.now c.args.pm.now)} c.set_first_word.ensures.fenced (hiding pages some c.set_first_word.ensures.words)
+    let some : 0 < length (g.P.Pm.view c.args.pm.now).words = omega (arith, c.requires.long, size) in
+    fenced_leaves {P = λ _. IsOldHiddenOrFormatted pages (g.P.Pm.view c.args.pm.now).words} c.set_first_word.ensures.fenced (hiding pages some c.set_first_word.ensures.words)
 
 pub returns-in_err-write_tables-clause-any_moment : goal.returns-in_err-write_tables-clause-any_moment
 returns-in_err-write_tables-clause-any_moment g c =
     let pages = c.args.geometry.now.pages in
     let size = c.args.geometry.now.volume_size in
-    let old = g.P.Pm.now c.args.pm.now in
+    let old = (g.P.Pm.view c.args.pm.now).words in
     let some : 0 < length old = omega (arith, c.requires.long, size) in
     let hide = c.set_first_word.ensures in
     let write = c.write_tables.ensures in
@@ -32,7 +32,7 @@ pub returns-clause-formatted : goal.returns-clause-formatted
 returns-clause-formatted g c =
     let pages = c.args.geometry.now.pages in
     let size = c.args.geometry.now.volume_size in
-    let old = g.P.Pm.now c.args.pm.now in
+    let old = (g.P.Pm.view c.args.pm.now).words in
     let some : 0 < length old = omega (arith, c.requires.long, size) in
     let write = c.write_tables.ensures in
     on_ok c.set_first_word-2.result (formatted pages some size c.requires.long c.set_first_word.ensures.words write.beside write.long write.written c.set_first_word-2.ensures.words)
@@ -41,7 +41,7 @@ pub returns-clause-any_moment : goal.returns-clause-any_moment
 returns-clause-any_moment g c =
     let pages = c.args.geometry.now.pages in
     let size = c.args.geometry.now.volume_size in
-    let old = g.P.Pm.now c.args.pm.now in
+    let old = (g.P.Pm.view c.args.pm.now).words in
     let some : 0 < length old = omega (arith, c.requires.long, size) in
     let hide = c.set_first_word.ensures in
     let write = c.write_tables.ensures in
@@ -56,13 +56,13 @@ returns-clause-any_moment g c =
 pub returns-in_err-set_first_word-clause-words : goal.returns-in_err-set_first_word-clause-words
 returns-in_err-set_first_word-clause-words g c =
     let size = c.args.geometry.now.volume_size in
-    let some : 0 < length (g.P.Pm.now c.args.pm.now) = omega (arith, c.requires.long, size) in
+    let some : 0 < length (g.P.Pm.view c.args.pm.now).words = omega (arith, c.requires.long, size) in
     inr (inl (cleared c.args.geometry.now.pages some c.set_first_word.ensures.words))
 
 pub returns-in_err-write_tables-clause-words : goal.returns-in_err-write_tables-clause-words
 returns-in_err-write_tables-clause-words g c =
     let size = c.args.geometry.now.volume_size in
-    let some : 0 < length (g.P.Pm.now c.args.pm.now) = omega (arith, c.requires.long, size) in
+    let some : 0 < length (g.P.Pm.view c.args.pm.now).words = omega (arith, c.requires.long, size) in
     let write = c.write_tables.ensures in
     inr (inl (hidden_tables c.args.geometry.now.pages some c.set_first_word.ensures.words write.beside write.long))
 
@@ -70,6 +70,6 @@ pub returns-clause-words : goal.returns-clause-words
 returns-clause-words g c =
     let pages = c.args.geometry.now.pages in
     let size = c.args.geometry.now.volume_size in
-    let some : 0 < length (g.P.Pm.now c.args.pm.now) = omega (arith, c.requires.long, size) in
+    let some : 0 < length (g.P.Pm.view c.args.pm.now).words = omega (arith, c.requires.long, size) in
     let write = c.write_tables.ensures in
     inr (inr (formatted pages some size c.requires.long c.set_first_word.ensures.words write.beside write.long write.written c.set_first_word-2.ensures.words))

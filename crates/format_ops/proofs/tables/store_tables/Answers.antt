@@ -1,6 +1,6 @@
 use Rattle.std.proofs.Common.{◌≡◌, ◌⊎◌, inl, inr, ℕ, ◌+◌, ◌<◌, ◌≤◌, List, length, get_or, slice_set, ◌∙◌, ap, sym, subst, arith, get_or-set_same, get_or-set_other, length-set}
 use Rattle.std.proofs.lemmas.Bool.{cases_eq}
-use Rattle.pm_trait.specs.DeviceLaws.{interval_weaker, then_store}
+use Rattle.pm_trait.proofs.DeviceLaws.{interval_weaker, then_store}
 use Rattle.format_ops.specs.Tables.{IsWithin, IsTableValue, HasTableValues}
 use Rattle.format_ops.proofs.tables.store_tables.Goals as goal
 
@@ -23,12 +23,12 @@ pub loop-word-preserved : goal.loop-word-preserved
 loop-word-preserved g c =
     let so_far = c.loop-word.invariant in
     let word = c.loop-word.word in
-    let before = g.P.Pm.now c.loop-word.pm in
+    let before = (g.P.Pm.view c.loop-word.pm).words in
     let inside : word < length before = omega (arith, so_far.long) in
     record {
       stores = interval_weaker (λ other either. wider word other (omega arith) either) (then_store word c.table_word.result so_far.stores (λ within. omega (arith, within.high)) c.store.ensures.words c.store.ensures.trail);
-      written = written_more c.args.geometry.now.pages word c.table_word.result before (g.P.Pm.now c.store.new.self) inside c.store.ensures.words c.table_word.ensures so_far.written;
-      long = same_length word c.table_word.result before (g.P.Pm.now c.store.new.self) c.store.ensures.words ∙ so_far.long;
+      written = written_more c.args.geometry.now.pages word c.table_word.result before (g.P.Pm.view c.store.new.self).words inside c.store.ensures.words c.table_word.ensures so_far.written;
+      long = same_length word c.table_word.result before (g.P.Pm.view c.store.new.self).words c.store.ensures.words ∙ so_far.long;
       room = omega arith;
       faults = c.store.ensures.faults ∙ so_far.faults;
       refused = c.store.ensures.refused ∙ so_far.refused;

@@ -1,6 +1,6 @@
 use Rattle.std.proofs.Common.{◌<◌, sym, subst, arith}
 use Rattle.layout.specs.Geometry.{data_pages_of}
-use Rattle.layout.specs.GeometryLaws.{data_pages_below, page_of_entry, slot_below}
+use Rattle.layout.proofs.GeometryLaws.{data_pages_below, page_of_entry, slot_below}
 use Rattle.image_reading.proofs.slots.slot_in.Goals as goal
 
 pub overflow_mul-result : goal.overflow_mul-result

@@ -1,11 +1,11 @@
 use Rattle.std.proofs.Common.{◌∙◌, arith}
-use Rattle.fence_token.specs.ObjectLaws.{stands_in_flight_fence}
+use Rattle.fence_token.proofs.ObjectLaws.{stands_in_flight_fence}
 use Rattle.inode_state.proofs.Zeros.{zero_fields}
 use Rattle.inode_state.proofs.tests.an_empty_directory.Goals as goal
 
 pub at-free-requires-clause-reads : goal.at-free-requires-clause-reads
 at-free-requires-clause-reads g c =
-    zero_fields 8192 3 _ (omega arith) (c.reserve.ensures.words ∙ c.in_ok-pm.ensures.words ∙ c.as_slice.ensures.value ∙ c.in_ok-old.ensures.items_if_clones_equal (λ x same. same))
+    zero_fields 8192 3 _ (omega arith) (c.reserve.ensures.device.words ∙ c.in_ok-pm.ensures.device.words ∙ c.as_slice.ensures.value ∙ c.in_ok-old.ensures.items_if_clones_equal (λ x same. same))
 
 pub settle-requires-clause-in_flight : goal.settle-requires-clause-in_flight
-settle-requires-clause-in_flight g c = stands_in_flight_fence c.fence.ensures.words c.in_ok-token.ensures.ok c.flush-directory.ensures.in_flight
+settle-requires-clause-in_flight g c = stands_in_flight_fence c.fence.ensures.device.words c.in_ok-token.ensures.device.ok c.flush-directory.ensures.in_flight

@@ -1,4 +1,4 @@
-use Rattle.layout.specs.GeometryLaws.{differ}
+use Rattle.layout.proofs.GeometryLaws.{differ}
 use Rattle.layout.proofs.geometry.addresses_differ.Goals as goal
 
 pub returns : goal.returns

@@ -1,4 +1,4 @@
-use Rattle.layout.specs.GeometryLaws.{in_range}
+use Rattle.layout.proofs.GeometryLaws.{in_range}
 use Rattle.layout.proofs.geometry.addresses_in_range.Goals as goal
 
 pub returns : goal.returns

@@ -1,6 +1,6 @@
 use Rattle.std.proofs.Common.{ap, ◌∙◌}
 use Rattle.layout.specs.Name.{name_in_words, words_of}
-use Rattle.layout.specs.NameLaws.{name_in_words-words_of_name, IsNameWords-of}
+use Rattle.layout.proofs.NameLaws.{name_in_words-words_of_name, IsNameWords-of}
 use Rattle.layout.proofs.name.name_words.Goals as goal
 
 pub returns-clause-valid : goal.returns-clause-valid

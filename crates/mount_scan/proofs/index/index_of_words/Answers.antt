@@ -1,6 +1,6 @@
 use Rattle.std.proofs.Common.{◌≡◌, ℕ, ◌*◌, subst, arith}
 use Rattle.layout.specs.Geometry.{data_pages_of, slots_of}
-use Rattle.layout.specs.GeometryLaws.{slots_in_pages}
+use Rattle.layout.proofs.GeometryLaws.{slots_in_pages}
 use Rattle.mount_scan.specs.Building.{Holds}
 use Rattle.mount_scan.proofs.Holding.{knows_nodes}
 use Rattle.mount_scan.proofs.index.index_of_words.Goals as goal

@@ -1,4 +1,4 @@
-use Rattle.tree_model.specs.WalkLaws.{id_at-from_walk}
+use Rattle.tree_model.proofs.WalkLaws.{id_at-from_walk}
 use Rattle.image_laws.proofs.Trees.{form_law}
 use Rattle.mount_scan.proofs.tests.stat_at.Goals as goal
 

@@ -1,6 +1,6 @@
 use Rattle.std.proofs.Common.{ap, arith}
 use Rattle.layout.specs.Geometry.{inodes_of}
-use Rattle.layout.specs.GeometryLaws.{some_inodes}
+use Rattle.layout.proofs.GeometryLaws.{some_inodes}
 use Rattle.volume.specs.Volume.{VolumeView}
 use Rattle.mount_scan.proofs.volume_tests.a_directory_is_planned_beside_a_file.Goals as goal
 

@@ -1,8 +1,8 @@
 use Rattle.std.proofs.Common.{ℕ, ◌<◌, slice_index, sym, subst}
 use Rattle.layout.specs.Geometry.{data_pages_of}
-use Rattle.fence_token.specs.ObjectLaws.{goes_on_events, goes_on_stays}
+use Rattle.fence_token.proofs.ObjectLaws.{goes_on_events, goes_on_stays}
 use Rattle.page_state.specs.Page.{EachPage, IsWordOf}
-use Rattle.page_state.specs.PageLaws.{pages_are_local, dirty_stays, dirty_events, objects_apart, own_word_not_inode_word, own_word_not_slot_word}
+use Rattle.page_state.proofs.PageLaws.{pages_are_local, dirty_stays, dirty_events, objects_apart, own_word_not_inode_word, own_word_not_slot_word}
 use Rattle.page_state.specs.Laws.{IsOfInode, IsOfSlot}
 use Rattle.page_state.proofs.laws.page_law.Goals as goal
 

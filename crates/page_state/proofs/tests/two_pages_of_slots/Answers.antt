@@ -1,8 +1,8 @@
 use Rattle.std.proofs.Common.{◌≡◌, ℕ, zero, suc, ◌<◌, [], ◌∷◌, slice_index, ◌∙◌, ap, arith, rules}
 use Rattle.layout.specs.Geometry.{first_data_word_of, data_pages_of}
 use Rattle.page_state.specs.Page.{EachPage}
-use Rattle.fence_token.specs.ObjectLaws.{stands_in_flight_fence}
-use Rattle.page_state.specs.PageLaws.{free_pages_alike}
+use Rattle.fence_token.proofs.ObjectLaws.{stands_in_flight_fence}
+use Rattle.page_state.proofs.PageLaws.{free_pages_alike}
 use Rattle.page_state.proofs.Zeros.{free_pages, sixteen_pages}
 use Rattle.page_state.proofs.tests.two_pages_of_slots.Goals as goal
 
@@ -16,7 +16,7 @@ at-free-requires-clause-reads g c =
     let geometry = c.in_ok-geometry.geometry in
     let sixteen : geometry.pages ≡ 16 = search rules in
     let thirteen : geometry.data_pages ≡ 13 = search rules in
-    let words = c.in_ok-reserve.ensures.words ∙ c.in_ok-pm.ensures.words ∙ c.as_slice-2.ensures.value ∙ c.in_ok-extend_from_slice.ensures.items in
+    let words = c.in_ok-reserve.ensures.device.words ∙ c.in_ok-pm.ensures.device.words ∙ c.as_slice-2.ensures.value ∙ c.in_ok-extend_from_slice.ensures.items in
     let in_range : EachPage (4 ∷ 2 ∷ []) (λ page. page < data_pages_of geometry.pages) = record { each = λ index inside. omega (arith, below index inside, thirteen, geometry.data_pages_exact) } in
     free_pages geometry.pages 1536 (4 ∷ 2 ∷ []) _ _ _ in_range (ap first_data_word_of sixteen ∙ sixteen_pages) words (c.in_ok-old.ensures.items_if_clones_equal (λ x same. same))
 
@@ -24,7 +24,7 @@ pub at-free-requires-clause-alike : goal.at-free-requires-clause-alike
 at-free-requires-clause-alike g c = free_pages_alike _ _ _ (at-free-requires-clause-reads g c)
 
 pub settle-filled-requires-clause-in_flight : goal.settle-filled-requires-clause-in_flight
-settle-filled-requires-clause-in_flight g c = stands_in_flight_fence c.fence.ensures.words c.in_ok-token.ensures.ok c.flush-filled.ensures.in_flight
+settle-filled-requires-clause-in_flight g c = stands_in_flight_fence c.fence.ensures.device.words c.in_ok-token.ensures.device.ok c.flush-filled.ensures.in_flight
 
 pub settle-live-requires-clause-in_flight : goal.settle-live-requires-clause-in_flight
-settle-live-requires-clause-in_flight g c = stands_in_flight_fence c.fence-2.ensures.words c.in_ok-token-2.ensures.ok c.flush-live.ensures.in_flight
+settle-live-requires-clause-in_flight g c = stands_in_flight_fence c.fence-2.ensures.device.words c.in_ok-token-2.ensures.device.ok c.flush-live.ensures.in_flight

@@ -1,7 +1,7 @@
 use Rattle.std.proofs.Common.{◌≡◌, inr, ℕ, ◌<◌, length, slice_index, refl, ◌∙◌, ap, subst, arith}
 use Rattle.pm_trait.specs.declared.event.Event.TheVariants.{Store}
-use Rattle.pm_trait.specs.ContinuesLaws.{with_events-nil}
-use Rattle.pm_trait.specs.DeviceLaws.{interval_length}
+use Rattle.pm_trait.proofs.ContinuesLaws.{with_events-nil}
+use Rattle.pm_trait.proofs.DeviceLaws.{interval_length}
 use Rattle.pm_trait.specs.Device.{IsInterval, with_event}
 use Rattle.layout.specs.Fields.{page_owner}
 use Rattle.page_state.specs.Page.{AreDataPages, IsOwnerWord}
@@ -13,9 +13,9 @@ use Rattle.page_state.proofs.words.claim_pages.Goals as goal
 
 pub loop-page-init : goal.loop-page-init
 loop-page-init g c = record {
-  stores = no_pages (IsOwnerWord c.args.geometry.now.pages) c.args.pages.now (g.P.Pm.now c.args.pm.now) (g.P.Pm.trail c.args.pm.now);
+  stores = no_pages (IsOwnerWord c.args.geometry.now.pages) c.args.pages.now (g.P.Pm.view c.args.pm.now).words (g.P.Pm.view c.args.pm.now).trail;
   owner = λ index below. absurd (omega (arith, below));
-  trail = with_events-nil (g.P.Pm.trail c.args.pm.now);
+  trail = with_events-nil (g.P.Pm.view c.args.pm.now).trail;
   room = omega arith;
   faults = refl;
   refused = refl;
@@ -37,12 +37,12 @@ loop-page-preserved g c =
     let index = c.loop-page.page-index in
     let word = c.descriptor_word.result in
     let at = c.descriptor_word.ensures.value in
-    let old = g.P.Pm.now c.loop-page.pm in
-    let new = g.P.Pm.now c.store.new.self in
+    let old = (g.P.Pm.view c.loop-page.pm).words in
+    let new = (g.P.Pm.view c.store.new.self).words in
     let valid = subst (λ (d : ℕ). AreDataPages d pages) geometry.data_pages_exact c.requires.data_pages in
     let inside : index < length pages = omega arith in
     let page = slice_index pages index in
-    let step : IsInterval (IsOwnerWord volume_pages page) old (g.P.Pm.trail c.loop-page.pm) new (g.P.Pm.trail c.store.new.self) = owner_stores volume_pages page c.args.owner word at c.store.ensures.words c.store.ensures.trail in
+    let step : IsInterval (IsOwnerWord volume_pages page) old (g.P.Pm.view c.loop-page.pm).trail new (g.P.Pm.view c.store.new.self).trail = owner_stores volume_pages page c.args.owner word at c.store.ensures.words c.store.ensures.trail in
     let before = c.requires.inside word (record { index = index; before = inside; is = inr (record { field = 0; is_field = omega arith; at = at }) }) in
     let in_device : word < length old = omega (arith, before, interval_length so_far.stores) in
     record {
@@ -50,7 +50,7 @@ loop-page-preserved g c =
       owner = each_more (λ page. page_owner volume_pages old page ≡ c.args.owner) (λ page. page_owner volume_pages new page ≡ c.args.owner) pages index
           (λ earlier order. owner_stays volume_pages (slice_index pages earlier) c.args.owner old new (λ other. earlier_kept (IsOwnerWord volume_pages) volume_pages index pages (owner_is_own volume_pages) valid inside step earlier other order))
           (owner_stored volume_pages page c.args.owner word old new at in_device c.store.ensures.words) so_far.owner;
-      trail = page_told (g.P.Pm.trail c.args.pm.now) (claim_of_page volume_pages c.args.owner) pages index inside so_far.trail (c.store.ensures.trail ∙ ap (λ (a : ℕ). with_event (g.P.Pm.trail c.loop-page.pm) (Store a c.args.owner)) at);
+      trail = page_told (g.P.Pm.view c.args.pm.now).trail (claim_of_page volume_pages c.args.owner) pages index inside so_far.trail (c.store.ensures.trail ∙ ap (λ (a : ℕ). with_event (g.P.Pm.view c.loop-page.pm).trail (Store a c.args.owner)) at);
       room = omega arith;
       faults = c.store.ensures.faults ∙ so_far.faults;
       refused = c.store.ensures.refused ∙ so_far.refused;
@@ -60,4 +60,4 @@ loop-page-preserved g c =
 
 pub returns-clause-trail : goal.returns-clause-trail
 returns-clause-trail g c =
-    pages_told (g.P.Pm.trail c.args.pm.now) (claim_of_page c.args.geometry.now.pages c.args.owner) c.args.pages.now c.loop-page.page-index (omega arith) c.loop-page.invariant.trail
+    pages_told (g.P.Pm.view c.args.pm.now).trail (claim_of_page c.args.geometry.now.pages c.args.owner) c.args.pages.now c.loop-page.page-index (omega arith) c.loop-page.invariant.trail

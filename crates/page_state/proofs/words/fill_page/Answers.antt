@@ -1,5 +1,5 @@
 use Rattle.std.proofs.Common.{inl, inr, ℕ, ◌<◌, subst, arith}
-use Rattle.pm_trait.specs.DeviceLaws.{interval_length}
+use Rattle.pm_trait.proofs.DeviceLaws.{interval_length}
 use Rattle.page_state.proofs.Contents.{same_length, fill_stores, fill_reads}
 use Rattle.page_state.proofs.Told.{fill_told}
 use Rattle.page_state.proofs.words.fill_page.Goals as goal
@@ -24,7 +24,7 @@ returns-clause-filled g c =
     let first = c.requires.inside c.descriptor_word.result (inr (record { field = 1; is_field = omega arith; at = c.descriptor_word.ensures.value })) in
     let second = c.requires.inside c.descriptor_word-2.result (inr (record { field = 2; is_field = omega arith; at = c.descriptor_word-2.ensures.value })) in
     let long = interval_length c.zero_page.ensures.stores in
-    fill_reads (g.P.Pm.now c.zero_page.new.pm) (g.P.Pm.now c.store.new.self) (g.P.Pm.now c.store-2.new.self) geometry.pages c.args.page c.descriptor_word.result c.descriptor_word-2.result in_range
+    fill_reads (g.P.Pm.view c.zero_page.new.pm).words (g.P.Pm.view c.store.new.self).words (g.P.Pm.view c.store-2.new.self).words geometry.pages c.args.page c.descriptor_word.result c.descriptor_word-2.result in_range
     c.descriptor_word.ensures.value c.descriptor_word-2.ensures.value (omega (arith, first, long)) (omega (arith, second, long)) c.store.ensures.words c.store-2.ensures.words c.zero_page.ensures.zero
 
 pub returns-clause-stores : goal.returns-clause-stores
@@ -35,5 +35,5 @@ returns-clause-stores g c =
 
 pub returns-clause-trail : goal.returns-clause-trail
 returns-clause-trail g c =
-    fill_told (g.P.Pm.trail c.args.pm.now) c.args.geometry.now.pages c.args.page c.descriptor_word.result c.descriptor_word-2.result c.descriptor_word.ensures.value c.descriptor_word-2.ensures.value
+    fill_told (g.P.Pm.view c.args.pm.now).trail c.args.geometry.now.pages c.args.page c.descriptor_word.result c.descriptor_word-2.result c.descriptor_word.ensures.value c.descriptor_word-2.ensures.value
     c.zero_page.ensures.trail c.store.ensures.trail c.store-2.ensures.trail

@@ -1,6 +1,6 @@
 use Rattle.std.proofs.Common.{ℕ, ◌<◌, length, slice_index, refl, ◌∙◌, subst, arith}
-use Rattle.pm_trait.specs.ContinuesLaws.{with_events-nil}
-use Rattle.pm_trait.specs.DeviceLaws.{interval_length}
+use Rattle.pm_trait.proofs.ContinuesLaws.{with_events-nil}
+use Rattle.pm_trait.proofs.DeviceLaws.{interval_length}
 use Rattle.page_state.specs.Page.{AreDataPages, IsFilledWord, IsSlotPage}
 use Rattle.page_state.specs.Events.{fill_of_page}
 use Rattle.page_state.proofs.Contents.{slot_page_stays, filled_is_own}
@@ -10,9 +10,9 @@ use Rattle.page_state.proofs.words.fill_pages.Goals as goal
 
 pub loop-page-init : goal.loop-page-init
 loop-page-init g c = record {
-  stores = no_pages (IsFilledWord c.args.geometry.now.pages) c.args.pages.now (g.P.Pm.now c.args.pm.now) (g.P.Pm.trail c.args.pm.now);
+  stores = no_pages (IsFilledWord c.args.geometry.now.pages) c.args.pages.now (g.P.Pm.view c.args.pm.now).words (g.P.Pm.view c.args.pm.now).trail;
   filled = λ index below. absurd (omega (arith, below));
-  trail = with_events-nil (g.P.Pm.trail c.args.pm.now);
+  trail = with_events-nil (g.P.Pm.view c.args.pm.now).trail;
   room = omega arith;
   faults = refl;
   refused = refl;
@@ -32,8 +32,8 @@ loop-page-preserved g c =
     let volume_pages = geometry.pages in
     let pages = c.args.pages.now in
     let index = c.loop-page.page-index in
-    let old = g.P.Pm.now c.loop-page.pm in
-    let new = g.P.Pm.now c.fill_page.new.pm in
+    let old = (g.P.Pm.view c.loop-page.pm).words in
+    let new = (g.P.Pm.view c.fill_page.new.pm).words in
     let valid = subst (λ (d : ℕ). AreDataPages d pages) geometry.data_pages_exact c.requires.data_pages in
     let inside : index < length pages = omega arith in
     record {
@@ -41,7 +41,7 @@ loop-page-preserved g c =
       filled = each_more (IsSlotPage volume_pages old) (IsSlotPage volume_pages new) pages index
           (λ earlier before. slot_page_stays volume_pages (slice_index pages earlier) old new (λ word. earlier_kept (IsFilledWord volume_pages) volume_pages index pages (filled_is_own volume_pages) valid inside c.fill_page.ensures.stores earlier word before))
           c.fill_page.ensures.filled so_far.filled;
-      trail = page_told (g.P.Pm.trail c.args.pm.now) (fill_of_page volume_pages) pages index inside so_far.trail c.fill_page.ensures.trail;
+      trail = page_told (g.P.Pm.view c.args.pm.now).trail (fill_of_page volume_pages) pages index inside so_far.trail c.fill_page.ensures.trail;
       room = omega arith;
       faults = c.fill_page.ensures.faults ∙ so_far.faults;
       refused = c.fill_page.ensures.refused ∙ so_far.refused;
@@ -51,4 +51,4 @@ loop-page-preserved g c =
 
 pub returns-clause-trail : goal.returns-clause-trail
 returns-clause-trail g c =
-    pages_told (g.P.Pm.trail c.args.pm.now) (fill_of_page c.args.geometry.now.pages) c.args.pages.now c.loop-page.page-index (omega arith) c.loop-page.invariant.trail
+    pages_told (g.P.Pm.view c.args.pm.now).trail (fill_of_page c.args.geometry.now.pages) c.args.pages.now c.loop-page.page-index (omega arith) c.loop-page.invariant.trail

@@ -1,6 +1,6 @@
 use Rattle.std.proofs.Common.{◌≡◌, inl, inr, sym, subst, arith}
 use Rattle.pm_trait.specs.Device.{with_events}
-use Rattle.pm_trait.specs.DeviceLaws.{flushed_stays, then_nothing, interval_length}
+use Rattle.pm_trait.proofs.DeviceLaws.{flushed_stays, then_nothing, interval_length}
 use Rattle.page_state.specs.declared.page.Touched.{Touched}
 use Rattle.page_state.specs.Page.{IsTouched}
 use Rattle.page_state.specs.Events.{flushes_of_page}
@@ -31,11 +31,11 @@ returns-in-Whole-clause-stores_none g c = then_nothing c.flush_contents-contents
 
 pub returns-in-Descriptors-clause-trail : goal.returns-in-Descriptors-clause-trail
 returns-in-Descriptors-clause-trail g c =
-    let trail = g.P.Pm.trail c.args.pm.now in
-    subst (λ (touched : Touched). g.P.Pm.trail c.flush_descriptor.new.pm ≡ with_events trail (flushes_of_page touched c.args.geometry.now.pages c.args.page)) (sym c.in-Descriptors.is) c.flush_descriptor.ensures.trail
+    let trail = (g.P.Pm.view c.args.pm.now).trail in
+    subst (λ (touched : Touched). (g.P.Pm.view c.flush_descriptor.new.pm).trail ≡ with_events trail (flushes_of_page touched c.args.geometry.now.pages c.args.page)) (sym c.in-Descriptors.is) c.flush_descriptor.ensures.trail
 
 pub returns-in-Whole-clause-trail : goal.returns-in-Whole-clause-trail
 returns-in-Whole-clause-trail g c =
-    let trail = g.P.Pm.trail c.args.pm.now in
-    subst (λ (touched : Touched). g.P.Pm.trail c.flush_descriptor-in-Whole.new.pm ≡ with_events trail (flushes_of_page touched c.args.geometry.now.pages c.args.page)) (sym c.in-Whole.is)
+    let trail = (g.P.Pm.view c.args.pm.now).trail in
+    subst (λ (touched : Touched). (g.P.Pm.view c.flush_descriptor-in-Whole.new.pm).trail ≡ with_events trail (flushes_of_page touched c.args.geometry.now.pages c.args.page)) (sym c.in-Whole.is)
     (whole_flushed trail c.args.geometry.now.pages c.args.page c.flush_contents-contents.ensures.trail c.flush_descriptor-in-Whole.ensures.trail)

@@ -1,8 +1,8 @@
 use Rattle.std.proofs.Common.{inl, inr, ℕ, slice_index, refl, ◌∙◌, ap, subst, arith}
 use Rattle.std.specs.Prelude.{Some}
 use Rattle.std.proofs.lemmas.Bool.{cases_eq}
-use Rattle.pm_trait.specs.ContinuesLaws.{with_events-nil}
-use Rattle.pm_trait.specs.DeviceLaws.{interval_empty, flushed_stays, then_nothing, interval_length}
+use Rattle.pm_trait.proofs.ContinuesLaws.{with_events-nil}
+use Rattle.pm_trait.proofs.DeviceLaws.{interval_empty, flushed_stays, then_nothing, interval_length}
 use Rattle.page_state.specs.Page.{IsTouched}
 use Rattle.page_state.specs.Events.{flushes_of_page}
 use Rattle.page_state.proofs.Told.{page_told, pages_told}
@@ -12,9 +12,9 @@ pub loop-page-init : goal.loop-page-init
 loop-page-init g c = record {
   ticket = λ some. absurd (omega (arith, some));
   flushed = λ word is. let before = is.before in absurd (omega (arith, before));
-  stores_none = interval_empty (g.P.Pm.now c.args.pm.now) (g.P.Pm.trail c.args.pm.now);
+  stores_none = interval_empty (g.P.Pm.view c.args.pm.now).words (g.P.Pm.view c.args.pm.now).trail;
   words = refl;
-  trail = with_events-nil (g.P.Pm.trail c.args.pm.now);
+  trail = with_events-nil (g.P.Pm.view c.args.pm.now).trail;
   room = omega arith;
   faults = refl;
   refused = refl;
@@ -40,7 +40,7 @@ loop-page-preserved g c =
       ];
       stores_none = then_nothing so_far.stores_none c.flush_page.ensures.stores_none;
       words = c.flush_page.ensures.words ∙ so_far.words;
-      trail = page_told (g.P.Pm.trail c.args.pm.now) (flushes_of_page c.args.touched c.args.geometry.now.pages) pages index (omega arith) so_far.trail c.flush_page.ensures.trail;
+      trail = page_told (g.P.Pm.view c.args.pm.now).trail (flushes_of_page c.args.touched c.args.geometry.now.pages) pages index (omega arith) so_far.trail c.flush_page.ensures.trail;
       room = omega arith;
       faults = c.flush_page.ensures.faults ∙ so_far.faults;
       refused = c.flush_page.ensures.refused ∙ so_far.refused;
@@ -50,4 +50,4 @@ loop-page-preserved g c =
 
 pub returns-clause-trail : goal.returns-clause-trail
 returns-clause-trail g c =
-    pages_told (g.P.Pm.trail c.args.pm.now) (flushes_of_page c.args.touched c.args.geometry.now.pages) c.args.pages.now c.loop-page.page-index (omega arith) c.loop-page.invariant.trail
+    pages_told (g.P.Pm.view c.args.pm.now).trail (flushes_of_page c.args.touched c.args.geometry.now.pages) c.args.pages.now c.loop-page.page-index (omega arith) c.loop-page.invariant.trail

@@ -1,5 +1,5 @@
 use Rattle.std.proofs.Common.{refl, arith}
-use Rattle.pm_trait.specs.AckLaws.{settled_ack, leaves_ack, acks_ack}
+use Rattle.pm_trait.proofs.AckLaws.{settled_ack, leaves_ack, acks_ack}
 use Rattle.pm_trait.proofs.laws.ack_law.Goals as goal
 
 pub returns : goal.returns

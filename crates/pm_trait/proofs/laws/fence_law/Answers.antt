@@ -1,6 +1,6 @@
 use Rattle.std.proofs.Common.{ℕ, refl}
 use Rattle.std.specs.Prelude.{Ok}
-use Rattle.pm_trait.specs.DeviceLaws.{fence_ends, fenced_leaves}
+use Rattle.pm_trait.proofs.DeviceLaws.{fence_ends, fenced_leaves}
 use Rattle.pm_trait.proofs.laws.fence_law.Goals as goal
 
 pub returns : goal.returns

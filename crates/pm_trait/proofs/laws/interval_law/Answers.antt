@@ -1,5 +1,5 @@
 use Rattle.std.proofs.Common.{refl}
-use Rattle.pm_trait.specs.DeviceLaws.{interval_leaves, interval_acks, leaves_quiet}
+use Rattle.pm_trait.proofs.DeviceLaws.{interval_leaves, interval_acks, leaves_quiet}
 use Rattle.pm_trait.proofs.laws.interval_law.Goals as goal
 
 pub returns : goal.returns

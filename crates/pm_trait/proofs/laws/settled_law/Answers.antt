@@ -1,5 +1,5 @@
 use Rattle.std.proofs.Common.{refl}
-use Rattle.pm_trait.specs.DeviceLaws.{settled_leaves}
+use Rattle.pm_trait.proofs.DeviceLaws.{settled_leaves}
 use Rattle.pm_trait.proofs.laws.settled_law.Goals as goal
 
 pub returns : goal.returns

@@ -1,4 +1,4 @@
-use Rattle.pm_trait.specs.DeviceLaws.{clean_after_ticket}
+use Rattle.pm_trait.proofs.DeviceLaws.{clean_after_ticket}
 use Rattle.pm_trait.proofs.laws.ticket_law.Goals as goal
 
 pub returns : goal.returns

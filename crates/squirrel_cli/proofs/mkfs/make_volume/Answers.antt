@@ -2,7 +2,7 @@ use Rattle.std.proofs.Common.{◌≡◌, ℕ, ◌*◌, ◌/◌, List, length, ap
 use Rattle.std.specs.Prelude.{Option}
 use Rattle.pm_trait.specs.Trail.{Trail}
 use Rattle.pm_trait.specs.Device.{LeavesOnly, IsHonest}
-use Rattle.pm_trait.specs.ContinuesLaws.{no_acks_told}
+use Rattle.pm_trait.proofs.ContinuesLaws.{no_acks_told}
 use Rattle.format_ops.specs.Stops.{IsOldHiddenOrFormatted}
 use Rattle.layout.specs.Format.{IsFormattedFrom}
 use Rattle.image_reading.specs.Laws.{IsFresh}
@@ -36,13 +36,13 @@ returns-in-Err-PmFault-clause-any_moment g c long =
 
 pub returns-in-Ok-write_all-clause-formatted : goal.returns-in-Ok-write_all-clause-formatted
 returns-in-Ok-write_all-clause-formatted g c ends =
-    subst (λ (p : ℕ). IsFormattedFrom p (g.P.Pm.now c.args.pm.now) (g.P.Pm.now c.format.new.pm))
-    (pages_of (g.P.Pm.now c.args.pm.now) c.image.result.now c.args.pages c.image.ensures c.in-Some.ensures.words) c.in-Ok.ensures.formatted
+    subst (λ (p : ℕ). IsFormattedFrom p (g.P.Pm.view c.args.pm.now).words (g.P.Pm.view c.format.new.pm).words)
+    (pages_of (g.P.Pm.view c.args.pm.now).words c.image.result.now c.args.pages c.image.ensures c.in-Some.ensures.words) c.in-Ok.ensures.formatted
 
 pub returns-in-Ok-write_all-clause-fresh : goal.returns-in-Ok-write_all-clause-fresh
 returns-in-Ok-write_all-clause-fresh g c ends =
-    subst (λ (p : ℕ). IsFresh p (g.P.Pm.now c.format.new.pm))
-    (pages_of (g.P.Pm.now c.args.pm.now) c.image.result.now c.args.pages c.image.ensures c.in-Some.ensures.words) c.in-Ok.ensures.fresh
+    subst (λ (p : ℕ). IsFresh p (g.P.Pm.view c.format.new.pm).words)
+    (pages_of (g.P.Pm.view c.args.pm.now).words c.image.result.now c.args.pages c.image.ensures c.in-Some.ensures.words) c.in-Ok.ensures.fresh
 
 pub returns-in-Ok-write_all-clause-told : goal.returns-in-Ok-write_all-clause-told
 returns-in-Ok-write_all-clause-told g c ends =
@@ -50,10 +50,10 @@ returns-in-Ok-write_all-clause-told g c ends =
 
 pub returns-in-Err-clause-formatted : goal.returns-in-Err-clause-formatted
 returns-in-Err-clause-formatted g c ends =
-    subst (λ (p : ℕ). IsFormattedFrom p (g.P.Pm.now c.args.pm.now) (g.P.Pm.now c.format.new.pm))
-    (pages_of (g.P.Pm.now c.args.pm.now) c.image.result.now c.args.pages c.image.ensures c.in-Some.ensures.words) c.in-Ok.ensures.formatted
+    subst (λ (p : ℕ). IsFormattedFrom p (g.P.Pm.view c.args.pm.now).words (g.P.Pm.view c.format.new.pm).words)
+    (pages_of (g.P.Pm.view c.args.pm.now).words c.image.result.now c.args.pages c.image.ensures c.in-Some.ensures.words) c.in-Ok.ensures.formatted
 
 pub returns-in-Err-clause-fresh : goal.returns-in-Err-clause-fresh
 returns-in-Err-clause-fresh g c ends =
-    subst (λ (p : ℕ). IsFresh p (g.P.Pm.now c.format.new.pm))
-    (pages_of (g.P.Pm.now c.args.pm.now) c.image.result.now c.args.pages c.image.ensures c.in-Some.ensures.words) c.in-Ok.ensures.fresh
+    subst (λ (p : ℕ). IsFresh p (g.P.Pm.view c.format.new.pm).words)
+    (pages_of (g.P.Pm.view c.args.pm.now).words c.image.result.now c.args.pages c.image.ensures c.in-Some.ensures.words) c.in-Ok.ensures.fresh

@@ -1,4 +1,4 @@
-use Rattle.volatile_index.specs.EntryLaws.{same_by_contents}
+use Rattle.volatile_index.proofs.EntryLaws.{same_by_contents}
 use Rattle.volatile_index.proofs.laws.same_entries.Goals as goal
 
 pub returns : goal.returns

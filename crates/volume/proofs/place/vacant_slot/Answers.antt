@@ -1,6 +1,6 @@
 use Rattle.std.proofs.Common.{sym, ◌∙◌, arith}
 use Rattle.layout.specs.Geometry.{page_of_slot}
-use Rattle.layout.specs.GeometryLaws.{data_pages_below, slot_below}
+use Rattle.layout.proofs.GeometryLaws.{data_pages_below, slot_below}
 use Rattle.volume.proofs.Places.{page_is, slots_of_page, contains_one, in_one}
 use Rattle.volume.proofs.place.vacant_slot.Goals as goal
 

@@ -1,6 +1,6 @@
 use Rattle.std.proofs.Common.{◌+◌, ◌<◌, length, ◌∙◌, ap, sym}
 use Rattle.allocators.specs.Numbers.{IsFree}
-use Rattle.allocators.specs.NumbersLaws.{free_after_give, count_after_give}
+use Rattle.allocators.proofs.NumbersLaws.{free_after_give, count_after_give}
 use Rattle.allocators.proofs.Lists.{lowest_after_give, given_is_lowest}
 use Rattle.allocators.proofs.numbers.Numbers.give.Goals as goal
 

@@ -1,5 +1,5 @@
 use Rattle.std.proofs.Common.{sym}
-use Rattle.allocators.specs.NumbersLaws.{count_of_all}
+use Rattle.allocators.proofs.NumbersLaws.{count_of_all}
 use Rattle.allocators.proofs.Lists.{first_of_all}
 use Rattle.allocators.proofs.numbers.Numbers.new.Goals as goal
 

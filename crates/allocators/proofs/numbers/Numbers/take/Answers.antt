@@ -2,7 +2,7 @@ use Rattle.std.proofs.Common.{true, sym, subst, arith}
 use Rattle.std.proofs.lemmas.Option.{slice_get_within}
 use Rattle.allocators.specs.Numbers.{IsFree}
 use Rattle.allocators.specs.NumbersKept.{IsLowestPlace}
-use Rattle.allocators.specs.NumbersLaws.{taken_after_take, count_after_take}
+use Rattle.allocators.proofs.NumbersLaws.{taken_after_take, count_after_take}
 use Rattle.allocators.proofs.Lists.{lowest_after_take, next_is_lowest}
 use Rattle.allocators.proofs.numbers.Numbers.take.Goals as goal
 

@@ -1,28 +1,28 @@
 use Rattle.std.proofs.Common.{sym, ◌∙◌, ap, subst, arith}
-use Rattle.pm_trait.specs.DeviceLaws.{interval_store, clean_stays}
+use Rattle.pm_trait.proofs.DeviceLaws.{interval_store, clean_stays}
 use Rattle.layout.specs.declared.fields.SlotFields.{SlotFields}
-use Rattle.fence_token.specs.ObjectLaws.{stands_clean_stays}
-use Rattle.inode_state.specs.InodeLaws.{inode_is_local}
+use Rattle.fence_token.proofs.ObjectLaws.{stands_clean_stays}
+use Rattle.inode_state.proofs.InodeLaws.{inode_is_local}
 use Rattle.dentry_state.specs.Dentry.{DentryView, DentryIsDirty, DentryIsClean}
-use Rattle.dentry_state.specs.DentryLaws.{slot_word_is}
+use Rattle.dentry_state.proofs.DentryLaws.{slot_word_is}
 use Rattle.dentry_state.proofs.Stored.{word_inside, differs, number_stored, new_inode_apart}
 use Rattle.dentry_state.proofs.dentry.DentryH+Clean+Named.commit.Goals as goal
 
 pub store-requires-clause-in_range : goal.store-requires-clause-in_range
 store-requires-clause-in_range g c =
     let inside = c.self.inside in
-    let clean = subst (λ (view : DentryView). DentryIsClean view (g.P.Pm.now c.args.pm.now) (g.P.Pm.trail c.args.pm.now)) (sym c.self.view_is) c.requires.clean in
-    word_inside inside.geometry.pages inside.slot 0 c.slot_word.result (g.P.Pm.now c.args.pm.now) c.slot_word.ensures.value (omega arith) clean.stands.inside
+    let clean = subst (λ (view : DentryView). DentryIsClean view (g.P.Pm.view c.args.pm.now)) (sym c.self.view_is) c.requires.clean in
+    word_inside inside.geometry.pages inside.slot 0 c.slot_word.result (g.P.Pm.view c.args.pm.now).words c.slot_word.ensures.value (omega arith) clean.stands.inside
 
 pub returns-clause-dirty : goal.returns-clause-dirty
 returns-clause-dirty g c =
     let inside = c.self.inside in
-    let clean = subst (λ (view : DentryView). DentryIsClean view (g.P.Pm.now c.args.pm.now) (g.P.Pm.trail c.args.pm.now)) (sym c.self.view_is) c.requires.clean in
+    let clean = subst (λ (view : DentryView). DentryIsClean view (g.P.Pm.view c.args.pm.now)) (sym c.self.view_is) c.requires.clean in
     let word = c.slot_word.result in
     let number = c.number-number.result in
-    subst (λ (view : DentryView). DentryIsDirty view (g.P.Pm.now c.store.new.self) (g.P.Pm.trail c.store.new.self)) (sym c.of.ensures)
+    subst (λ (view : DentryView). DentryIsDirty view (g.P.Pm.view c.store.new.self)) (sym c.of.ensures)
     (record {
-      stands = number_stored inside.geometry.pages inside.slot inside.fields (g.P.Pm.now c.args.pm.now) (g.P.Pm.now c.store.new.self) word number c.slot_word.ensures.value c.store.ensures.words clean.stands;
+      stands = number_stored inside.geometry.pages inside.slot inside.fields (g.P.Pm.view c.args.pm.now).words (g.P.Pm.view c.store.new.self).words word number c.slot_word.ensures.value c.store.ensures.words clean.stands;
       untouched = λ field past few.
           clean_stays _ (interval_store word number c.store.ensures.words c.store.ensures.trail)
           (differs inside.geometry.pages inside.slot field 0 word c.slot_word.ensures.value (λ none. omega (arith, past, none)))
@@ -33,8 +33,8 @@ pub returns-clause-inode_clean : goal.returns-clause-inode_clean
 returns-clause-inode_clean g c =
     let inside = c.self.inside in
     let inode = c.args.inode.now in
-    let now = g.P.Pm.now c.args.pm.now in
-    let clean = subst (λ (view : DentryView). DentryIsClean view now (g.P.Pm.trail c.args.pm.now)) (sym c.self.view_is) c.requires.clean in
+    let now = (g.P.Pm.view c.args.pm.now).words in
+    let clean = subst (λ (view : DentryView). DentryIsClean view (g.P.Pm.view c.args.pm.now)) (sym c.self.view_is) c.requires.clean in
     stands_clean_stays (inode_is_local inode) (interval_store c.slot_word.result c.number-number.result c.store.ensures.words c.store.ensures.trail)
     (λ word own is. new_inode_apart inside.geometry.pages inside.slot inode.number word now inode.fields c.number-number.ensures.reads c.requires.inode_clean.stands.reads
     (ap (λ (f : SlotFields). f.inode) clean.stands.reads ∙ c.self.invariant.1.0) own (is ∙ c.slot_word.ensures.value)) c.requires.inode_clean

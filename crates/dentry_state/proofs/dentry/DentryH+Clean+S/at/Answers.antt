@@ -1,12 +1,12 @@
 use Rattle.std.proofs.Common.{◌∙◌, ap, refl, arith, ℕ, List}
 use Rattle.dentry_state.specs.Dentry.{DentryView, slot_fields_at}
-use Rattle.dentry_state.specs.DentryLaws.{same_fields, slot_word_in_volume}
+use Rattle.dentry_state.proofs.DentryLaws.{same_fields, slot_word_in_volume}
 use Rattle.dentry_state.proofs.Stored.{clean_as}
 use Rattle.dentry_state.proofs.dentry.DentryH+Clean+S.at.Goals as goal
 
 pub returns-clause-clean : goal.returns-clause-clean
 returns-clause-clean g c =
-    let now = g.P.Pm.now c.args.pm.now in
+    let now = (g.P.Pm.view c.args.pm.now).words in
     let pages = c.args.geometry.now.pages in
     let read = c.slot_at-fields.ensures in
     clean_as pages c.of.result.pages c.args.slot c.of.result.slot (slot_fields_at pages now c.args.slot) c.of.result.fields

@@ -1,5 +1,5 @@
 use Rattle.std.proofs.Common.{◌∙◌, ap}
-use Rattle.fence_token.specs.ObjectLaws.{stands_clean_by_token}
+use Rattle.fence_token.proofs.ObjectLaws.{stands_clean_by_token}
 use Rattle.dentry_state.specs.Dentry.{DentryView}
 use Rattle.dentry_state.proofs.Stored.{clean_as}
 use Rattle.dentry_state.proofs.dentry.DentryH+InFlight+S.settle.Goals as goal
@@ -12,4 +12,4 @@ returns-clause-clean g c =
     (ap (λ (dentry : DentryView). dentry.pages) new ∙ ap (λ (dentry : DentryView). dentry.pages) old)
     (ap (λ (dentry : DentryView). dentry.slot) new ∙ ap (λ (dentry : DentryView). dentry.slot) old)
     (ap (λ (dentry : DentryView). dentry.fields) new ∙ ap (λ (dentry : DentryView). dentry.fields) old)
-    (stands_clean_by_token (g.P.Pm.trail c.args.pm.now) (g.met.P.Pm.honest c.args.pm.now) c.requires.in_flight c.requires.settles)
+    (stands_clean_by_token (g.P.Pm.view c.args.pm.now).trail (g.met.P.Pm.honest c.args.pm.now) c.requires.in_flight c.requires.settles)

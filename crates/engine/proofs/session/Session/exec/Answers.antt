@@ -11,7 +11,7 @@ use Rattle.volume.specs.Stands.{StandsFor}
 use Rattle.engine.specs.Session.{SessionView}
 use Rattle.engine.specs.Exec.{Executed, HasAnswered}
 use Rattle.engine.specs.Run.{tree_after_line}
-use Rattle.pm_trait.specs.DeviceLaws.{stays_then}
+use Rattle.pm_trait.proofs.DeviceLaws.{stays_then}
 use Rattle.engine.proofs.Acknowledged.{acknowledged}
 use Rattle.engine.proofs.Causes.{goes_on}
 use Rattle.engine.proofs.Stays.{stays_ack}
@@ -29,20 +29,20 @@ line_reply-requires-clause-stands g c =
     let volume = ap (λ (v : SessionView). v.volume) c.self.view_is in
     let going = ap (λ (v : VolumeView). v.stopped) (sym volume) ∙ sym c.if-stopped.ensures in
     let (state, stands) = c.requires.stands going in
-    (state, subst (λ (v : VolumeView). StandsFor v (g.P.Pm.now c.args.pm.now) (g.P.Pm.trail c.args.pm.now) state) (sym volume) stands)
+    (state, subst (λ (v : VolumeView). StandsFor v (g.P.Pm.view c.args.pm.now).words (g.P.Pm.view c.args.pm.now).trail state) (sym volume) stands)
 
 pub returns-clause-answered : goal.returns-clause-answered
 returns-clause-answered g c = λ state stands was is. elim c.match-line_reply.branch [
   | in-Ok w ↦
       let volume = ap (λ (v : SessionView). v.volume) c.self.view_is in
       let size = ap (λ (v : VolumeView). v.size) volume in
-      let inside = subst (λ (v : VolumeView). StandsFor v (g.P.Pm.now c.args.pm.now) (g.P.Pm.trail c.args.pm.now) state) (sym volume) stands in
-      let done = subst (λ (p : ℕ). Executed p state (line_of_call c.args.call.now) c.line_reply.new.volume w.in-Ok.reply (g.P.Pm.trail c.args.pm.now) (g.P.Pm.now c.line_reply.new.pm) (g.P.Pm.trail c.line_reply.new.pm) (g.P.Pm.fences c.args.pm.now) (g.P.Pm.fences c.line_reply.new.pm))
+      let inside = subst (λ (v : VolumeView). StandsFor v (g.P.Pm.view c.args.pm.now).words (g.P.Pm.view c.args.pm.now).trail state) (sym volume) stands in
+      let done = subst (λ (p : ℕ). Executed p state (line_of_call c.args.call.now) c.line_reply.new.volume w.in-Ok.reply (g.P.Pm.view c.args.pm.now).trail (g.P.Pm.view c.line_reply.new.pm).words (g.P.Pm.view c.line_reply.new.pm).trail (g.P.Pm.view c.args.pm.now).fences (g.P.Pm.view c.line_reply.new.pm).fences)
       size (w.in-Ok.ensures.ok state inside) in
-      subst (λ (replied : Reply). HasAnswered c.args.self.now.volume.size state (line_of_call c.args.call.now) c.line_reply.new.volume replied (g.P.Pm.trail c.args.pm.now) (g.P.Pm.now c.match-line_reply.pm) (g.P.Pm.trail c.match-line_reply.pm) (g.P.Pm.fences c.args.pm.now) (g.P.Pm.fences c.match-line_reply.pm))
+      subst (λ (replied : Reply). HasAnswered c.args.self.now.volume.size state (line_of_call c.args.call.now) c.line_reply.new.volume replied (g.P.Pm.view c.args.pm.now).trail (g.P.Pm.view c.match-line_reply.pm).words (g.P.Pm.view c.match-line_reply.pm).trail (g.P.Pm.view c.args.pm.now).fences (g.P.Pm.view c.match-line_reply.pm).fences)
       (sym w.result-is)
       (acknowledged (c.line_reply.ensures.size ∙ size) done (λ not. (w.in-Ok.ensures.quiet not).1)
-      (ap g.P.Pm.now w.pm-is ∙ w.ack.ensures.words) (ap g.P.Pm.trail w.pm-is ∙ w.ack.ensures.trail) (ap g.P.Pm.fences w.pm-is ∙ w.ack.ensures.fences))
+      (ap (λ (pm : g.row.P.Denot). (g.P.Pm.view pm).words) w.pm-is ∙ w.ack.ensures.words) (ap (λ (pm : g.row.P.Denot). (g.P.Pm.view pm).trail) w.pm-is ∙ w.ack.ensures.trail) (ap (λ (pm : g.row.P.Denot). (g.P.Pm.view pm).fences) w.pm-is ∙ w.ack.ensures.fences))
   | in-Err w ↦ absurd (not_both c.line_reply.new.volume.stopped w.in-Err.ensures.stopped is)
 ]
 
@@ -57,13 +57,13 @@ pub returns-clause-stays : goal.returns-clause-stays
 returns-clause-stays g c = λ state stands was.
     let volume = ap (λ (v : SessionView). v.volume) c.self.view_is in
     let size = ap (λ (v : VolumeView). v.size) volume in
-    let inside = subst (λ (v : VolumeView). StandsFor v (g.P.Pm.now c.args.pm.now) (g.P.Pm.trail c.args.pm.now) state) (sym volume) stands in
-    let first = subst (λ (p : ℕ). StaysOnce (g.P.Pm.trail c.args.pm.now) (g.P.Pm.trail c.line_reply.new.pm) (λ image. Reads p image (tree_after_line p state (line_of_call c.args.call.now)))) size (c.line_reply.ensures.stays state inside) in
+    let inside = subst (λ (v : VolumeView). StandsFor v (g.P.Pm.view c.args.pm.now).words (g.P.Pm.view c.args.pm.now).trail state) (sym volume) stands in
+    let first = subst (λ (p : ℕ). StaysOnce (g.P.Pm.view c.args.pm.now).trail (g.P.Pm.view c.line_reply.new.pm).trail (λ image. Reads p image (tree_after_line p state (line_of_call c.args.call.now)))) size (c.line_reply.ensures.stays state inside) in
     elim c.match-line_reply.branch [
-      | in-Ok w ↦ stays_then first (stays_ack _ (w.in-Ok.ensures.ok state inside).stands.settled (ap g.P.Pm.trail w.pm-is ∙ w.ack.ensures.trail))
+      | in-Ok w ↦ stays_then first (stays_ack _ (w.in-Ok.ensures.ok state inside).stands.settled (ap (λ (pm : g.row.P.Denot). (g.P.Pm.view pm).trail) w.pm-is ∙ w.ack.ensures.trail))
       | in-Err w ↦
-          subst (λ (t : Option Trail). StaysOnce (g.P.Pm.trail c.args.pm.now) t (λ image. Reads c.args.self.now.volume.size image (tree_after_line c.args.self.now.volume.size state (line_of_call c.args.call.now))))
-          (sym (ap g.P.Pm.trail w.pm-is)) first
+          subst (λ (t : Option Trail). StaysOnce (g.P.Pm.view c.args.pm.now).trail t (λ image. Reads c.args.self.now.volume.size image (tree_after_line c.args.self.now.volume.size state (line_of_call c.args.call.now))))
+          (sym (ap (λ (pm : g.row.P.Denot). (g.P.Pm.view pm).trail) w.pm-is)) first
     ]
 
 pub returns-clause-told : goal.returns-clause-told
@@ -116,5 +116,5 @@ returns-clause-fault_cause g c = λ is.
       | in-Ok w ↦
           let answered = returns-clause-answered g c state stands going w.in-Ok.ensures.going in
           absurd ((goes_on _ state (line_of_call c.args.call.now) answered.answer answered.new c.match-line_reply.result answered.step answered.replied.reply_is).0 is)
-      | in-Err w ↦ subst (λ (faults : ℕ). HasRisen (g.P.Pm.faults c.args.pm.now) faults) (sym (ap g.P.Pm.faults w.pm-is)) w.in-Err.ensures.cause
+      | in-Err w ↦ subst (λ (faults : ℕ). HasRisen (g.P.Pm.view c.args.pm.now).faults faults) (sym (ap (λ (pm : g.row.P.Denot). (g.P.Pm.view pm).faults) w.pm-is)) w.in-Err.ensures.cause
     ]

@@ -1,5 +1,5 @@
 use Rattle.std.proofs.Common.{◌+◌, ◌<◌, length, sym, subst, arith, rules}
-use Rattle.layout.specs.GeometryLaws.{inodes_below}
+use Rattle.layout.proofs.GeometryLaws.{inodes_below}
 use Rattle.std.proofs.lemmas.Bool.{iff_false}
 use Rattle.image_reading.specs.Reading.{slot_owner}
 use Rattle.image_reading.proofs.Places.{one_inode}

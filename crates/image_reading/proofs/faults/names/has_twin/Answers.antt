@@ -1,6 +1,6 @@
 use Rattle.std.proofs.Common.{◌-◌, ◌<◌, get_or, refl, sym, subst, arith, rules}
 use Rattle.std.proofs.lemmas.Bool.{false≢true, iff_false}
-use Rattle.layout.specs.GeometryLaws.{inodes_below}
+use Rattle.layout.proofs.GeometryLaws.{inodes_below}
 use Rattle.image_reading.specs.Reading.{slot_owner}
 use Rattle.image_reading.specs.Scan.{IsNextPage}
 use Rattle.image_reading.proofs.Places.{one_inode}

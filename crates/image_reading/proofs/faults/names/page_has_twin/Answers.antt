@@ -1,6 +1,6 @@
 use Rattle.std.proofs.Common.{◌*◌, ◌+◌, refl, rules}
 use Rattle.std.proofs.lemmas.Bool.{false≢true}
-use Rattle.layout.specs.GeometryLaws.{page_of_entry}
+use Rattle.layout.proofs.GeometryLaws.{page_of_entry}
 use Rattle.image_reading.proofs.Places.{few_pages}
 use Rattle.image_reading.proofs.Twins as lemmas
 use Rattle.image_reading.proofs.faults.names.page_has_twin.Goals as goal

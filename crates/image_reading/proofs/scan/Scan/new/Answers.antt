@@ -1,5 +1,5 @@
 use Rattle.std.proofs.Common.{◌<◌, arith, rules}
-use Rattle.layout.specs.GeometryLaws.{inodes_below}
+use Rattle.layout.proofs.GeometryLaws.{inodes_below}
 use Rattle.image_reading.proofs.scan.Scan.new.Goals as goal
 
 pub overflow_add-inodes : goal.overflow_add-inodes

@@ -1,12 +1,12 @@
 use Rattle.std.proofs.Common.{◌∙◌, ap, subst, refl, arith, ◌≤◌, ℕ, List}
 use Rattle.inode_state.specs.Inode.{InodeView, fields_at}
-use Rattle.inode_state.specs.InodeLaws.{same_fields, inode_word_in_volume}
+use Rattle.inode_state.proofs.InodeLaws.{same_fields, inode_word_in_volume}
 use Rattle.inode_state.proofs.Stored.{clean_as}
 use Rattle.inode_state.proofs.inode.InodeH+Clean+S.at.Goals as goal
 
 pub returns-clause-clean : goal.returns-clause-clean
 returns-clause-clean g c =
-    let now = g.P.Pm.now c.args.pm.now in
+    let now = (g.P.Pm.view c.args.pm.now).words in
     let geometry = c.args.geometry.now in
     let read = c.inode_at-fields.ensures in
     let in_range = subst (λ (k : ℕ). c.args.inode ≤ k) geometry.inodes_exact c.requires.in_range in

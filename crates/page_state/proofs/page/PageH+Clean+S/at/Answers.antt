@@ -1,14 +1,14 @@
 use Rattle.std.proofs.Common.{ℕ, ◌<◌, slice_index, sym, subst, arith}
 use Rattle.layout.specs.declared.fields.DescriptorFields.{DescriptorFields}
 use Rattle.page_state.specs.Page.{PageView, EachPage, SayFields, PageIsClean}
-use Rattle.page_state.specs.PageLaws.{own_word_within}
+use Rattle.page_state.proofs.PageLaws.{own_word_within}
 use Rattle.page_state.proofs.Changes.{descriptor_read}
 use Rattle.page_state.proofs.page.PageH+Clean+S.at.Goals as goal
 
 pub returns-clause-clean : goal.returns-clause-clean
 returns-clause-clean g c =
-    let now = g.P.Pm.now c.args.pm.now in
-    let trail = g.P.Pm.trail c.args.pm.now in
+    let now = (g.P.Pm.view c.args.pm.now).words in
+    let trail = (g.P.Pm.view c.args.pm.now).trail in
     let geometry = c.args.geometry.now in
     let pages = c.args.pages.now in
     let read = c.descriptor_at-fields.ensures in

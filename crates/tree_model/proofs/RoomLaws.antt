@@ -9,8 +9,8 @@ use Rattle.tree_model.specs.Table.{get, contains_key, get-table_of}
 use Rattle.tree_model.specs.Tree.{Tree, Node, Directory, File, Room, IsRoom, node_at, is_directory, is_directory_node, is_number, name_count, pages_in, may_have}
 use Rattle.tree_model.specs.Step.{tree_after, directories, directory_of, gaining, losing, page_for_name, pages_after, room_after}
 use Rattle.tree_model.specs.declared.command.Command.{Command}
-use Rattle.tree_model.specs.EntryLaws.{front, back, find-below, find-first}
-use Rattle.tree_model.specs.TreeLaws.{same_id, not_true, same_room}
+use Rattle.tree_model.proofs.EntryLaws.{front, back, find-below, find-first}
+use Rattle.tree_model.proofs.TreeLaws.{same_id, not_true, same_room}
 
 -- ---- a test of all entries, and what is found among them
 

@@ -1,19 +1,19 @@
 -- Laws of slots: what one says hangs on its own words, which no other slot and no inode has.
-use Rattle.std.proofs.Common.{◌≡◌, ◌≢◌, ℕ, ◌+◌, ◌*◌, ◌<◌, ◌≤◌, List, slice_index, refl, sym, ◌∙◌, ap, arith}
-use Rattle.std.specs.Prelude.{Option}
+use Rattle.std.proofs.Common.{◌≡◌, ◌≢◌, ℕ, suc, ◌+◌, ◌*◌, ◌<◌, ◌≤◌, List, [], ◌∷◌, length, slice_index, refl, sym, ◌∙◌, ap, arith}
 use Rattle.pm_trait.specs.declared.event.Event.{Event}
-use Rattle.pm_trait.specs.Trail.{Trail, after_stores}
-use Rattle.pm_trait.specs.Device.{with_events, IsInterval}
-use Rattle.pm_trait.specs.DeviceLaws.{clean_stays}
+use Rattle.pm_trait.specs.Trail.{after_stores}
+use Rattle.pm_trait.specs.Device.{with_events}
+use Rattle.pm_trait.specs.DeviceView.{DeviceView, StoresOnly}
+use Rattle.pm_trait.proofs.DeviceLaws.{clean_stays}
 use Rattle.layout.specs.declared.fields.SlotFields.{SlotFields}
 use Rattle.layout.specs.Geometry.{inodes_of, slots_of, slot_word_of}
-use Rattle.layout.specs.GeometryLaws.{same_slot_word, inode_word_not_slot_word, slot_word_within}
+use Rattle.layout.proofs.GeometryLaws.{same_slot_word, inode_word_not_slot_word, slot_word_within}
 use Rattle.layout.specs.Fields.{word, slot_inode, slot_pointer, slot_words}
-use Rattle.layout.specs.FieldLaws.{same_words_from}
+use Rattle.layout.proofs.FieldLaws.{same_words_from}
 use Rattle.fence_token.specs.Objects.{IsLocal, StoreNoneOf}
-use Rattle.fence_token.specs.ObjectLaws.{stands_stays, stands_events, clean_events}
+use Rattle.fence_token.proofs.ObjectLaws.{stands_stays, goes_on_as, clean_as_events}
 use Rattle.inode_state.specs.Inode.{IsInodeWord}
-use Rattle.dentry_state.specs.Dentry.{DentryView, IsSlotWord, IsNameWord, slot_fields_at, DentryIsDirty}
+use Rattle.dentry_state.specs.Dentry.{DentryView, IsSlotWord, IsNameWord, slot_fields_at, stores_from, DentryIsDirty}
 
 pub same_fields : (one two : SlotFields) → one.inode ≡ two.inode → one.pointer ≡ two.pointer → one.name ≡ two.name → one ≡ two
 same_fields one two inode pointer name = rw (inode, pointer, name) refl
@@ -49,18 +49,23 @@ dentry_is_local dentry = record {
 }
 
 -- a slot that was stored to stays so while others are stored
-pub dirty_stays : {W : ℕ → Type 0} {a b : List ℕ} {ta tb : Option Trail} (dentry : DentryView) → IsInterval W a ta b tb → ((word : ℕ) → IsSlotWord dentry.pages dentry.slot word → ¬ W word) → DentryIsDirty dentry a ta → DentryIsDirty dentry b tb
+pub dirty_stays : {W : ℕ → Type 0} {a b : DeviceView} (dentry : DentryView) → StoresOnly W a b → ((word : ℕ) → IsSlotWord dentry.pages dentry.slot word → ¬ W word) → DentryIsDirty dentry a → DentryIsDirty dentry b
 dirty_stays dentry run apart dirty = record {
   stands = stands_stays (dentry_is_local dentry) run apart dirty.stands;
   untouched = λ field past few. clean_stays (slot_word_of dentry.pages dentry.slot field) run (apart (slot_word_of dentry.pages dentry.slot field) (slot_word_is dentry.pages dentry.slot field few)) (dirty.untouched field past few);
 }
 
 -- and over all events that store none of its words
-pub dirty_events : (dentry : DentryView) (now : List ℕ) (trail : Option Trail) (events : List Event) → StoreNoneOf (IsSlotWord dentry.pages dentry.slot) events → DentryIsDirty dentry now trail → DentryIsDirty dentry (after_stores now events) (with_events trail events)
-dirty_events dentry now trail events none dirty = record {
-  stands = stands_events now events (dentry_is_local dentry) none dirty.stands;
-  untouched = λ field past few. clean_events trail events (slot_word_of dentry.pages dentry.slot field) (none.each (slot_word_of dentry.pages dentry.slot field) (slot_word_is dentry.pages dentry.slot field few)) (dirty.untouched field past few);
+pub dirty_events : {a b : DeviceView} (dentry : DentryView) (events : List Event) → StoreNoneOf (IsSlotWord dentry.pages dentry.slot) events → b.words ≡ after_stores a.words events → b.trail ≡ with_events a.trail events → DentryIsDirty dentry a → DentryIsDirty dentry b
+dirty_events {a} {b} dentry events none words trail dirty = record {
+  stands = (goes_on_as events (dentry_is_local dentry) none words trail).stands dirty.stands;
+  untouched = λ field past few. clean_as_events events (slot_word_of dentry.pages dentry.slot field) (none.each (slot_word_of dentry.pages dentry.slot field) (slot_word_is dentry.pages dentry.slot field few)) words trail (dirty.untouched field past few);
 }
+
+-- so many stores
+pub length-stores_from : (word : ℕ) (values : List ℕ) → length (stores_from word values) ≡ length values
+length-stores_from word [] = refl
+length-stores_from word (value ∷ values) = ap (λ (n : ℕ). suc n) (length-stores_from (word + 1) values)
 
 -- no word is of two slots
 pub slot_words_apart : (pages one two word : ℕ) → one ≢ two → IsSlotWord pages one word → ¬ IsSlotWord pages two word

@@ -6,7 +6,7 @@ use Rattle.tree_model.specs.Tree.{Tree, Room, IsTree, root_id, is_root, parent, 
 use Rattle.tree_model.specs.Capacity.{Supply, free_inodes, free_pages}
 use Rattle.tree_model.specs.Walk.{Place, walk_to_parent}
 use Rattle.tree_model.specs.Step.{first, at, fault_of, id_of, is_there, page_for_name, lacks_inodes, lacks_pages, refusal_with}
-use Rattle.tree_model.specs.WalkLaws.{holder-from_walk}
+use Rattle.tree_model.proofs.WalkLaws.{holder-from_walk}
 use Rattle.tree_model.specs.declared.command.Command.TheVariants.{Create, Mkdir}
 use Rattle.tree_model.specs.declared.reply.Refusal.{Refusal}
 use Rattle.tree_model.specs.declared.reply.Refusal.TheVariants.{Root, Exists, NoInodes, NoPages}

@@ -3,7 +3,7 @@ use Rattle.std.proofs.Common.{◌≡◌, ℕ, Bool, true, false, cond, List, [],
 use Rattle.tree_model.specs.PathText.{Route}
 use Rattle.tree_model.specs.Tree.{Tree, IsTree, root_id, id_at, is_directory, parent}
 use Rattle.tree_model.specs.Walk.{Place, root_place, place_at, walk, walk_on, walk_to_parent, step_into, only_directory}
-use Rattle.tree_model.specs.TreeLaws.{above, there-front, parent-below, not_root-below}
+use Rattle.tree_model.proofs.TreeLaws.{above, there-front, parent-below, not_root-below}
 use Rattle.tree_model.specs.declared.reply.Refusal.{Refusal}
 use Rattle.tree_model.specs.declared.reply.Refusal.TheVariants.{NotDir}
 

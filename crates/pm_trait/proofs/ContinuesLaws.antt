@@ -7,7 +7,7 @@ use Rattle.std.proofs.Math.Seq.{take-append-add, drop-append_seam, take-append_s
 use Rattle.pm_trait.specs.declared.event.Event.{Event}
 use Rattle.pm_trait.specs.declared.event.Event.TheVariants.{Store, Flush, Fence, BadFence, Ack}
 use Rattle.pm_trait.specs.Trail.{Trail, IsCrashImage, count_acks}
-use Rattle.pm_trait.specs.TrailLaws.{count_acks-append}
+use Rattle.pm_trait.proofs.TrailLaws.{count_acks-append}
 use Rattle.pm_trait.specs.Device.{with_events, with_event, moment_of, at_moment, acks_from, IsAckAt, MayLeave, Continues, IsHonest}
 
 -- Trails with more events

@@ -2,7 +2,7 @@
 use Rattle.std.proofs.Common.{◌≡◌, ◌≢◌, ℕ, ◌*◌, ◌<◌, ◌≤◌, List, slice_index, refl, sym, ◌∙◌, arith}
 use Rattle.layout.specs.declared.fields.InodeFields.{InodeFields}
 use Rattle.layout.specs.Geometry.{IsVolumeSize, inodes_of, inode_word_of}
-use Rattle.layout.specs.GeometryLaws.{same_inode_word, inode_word_within}
+use Rattle.layout.proofs.GeometryLaws.{same_inode_word, inode_word_within}
 use Rattle.layout.specs.Fields.{word, inode_kind, inode_links, inode_size, inode_own}
 use Rattle.fence_token.specs.Objects.{IsLocal}
 use Rattle.inode_state.specs.Inode.{InodeView, IsInodeWord, fields_at}

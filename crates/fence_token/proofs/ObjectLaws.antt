@@ -5,12 +5,19 @@ use Rattle.std.specs.Option.{ForSome}
 use Rattle.pm_trait.specs.declared.event.Event.{Event}
 use Rattle.pm_trait.specs.declared.event.Event.TheVariants.{Flush, Fence, BadFence, Ack}
 use Rattle.pm_trait.specs.Trail.{Trail, stores_to, settled_value, unsettled_stores, after_stores}
-use Rattle.pm_trait.specs.TrailLaws.{after_stores-none, length-after_stores, settled_value-later, unsettled_stores-later}
+use Rattle.pm_trait.proofs.TrailLaws.{after_stores-none, length-after_stores, settled_value-later, unsettled_stores-later}
 use Rattle.pm_trait.specs.Device.{with_event, with_events, IsClean, IsFlushed, IsInFlight, IsSettledAt, IsHonest, IsInterval}
-use Rattle.pm_trait.specs.DeviceLaws.{interval_keeps, interval_length, clean_stays, in_flight_more, in_flight_stays, in_flight_event, in_flight_now}
-use Rattle.pm_trait.specs.AckLaws.{clean_event}
-use Rattle.fence_token.specs.Ticket.{Settles, clean_by_token}
+use Rattle.pm_trait.proofs.DeviceLaws.{clean_after_ticket, interval_keeps, interval_length, clean_stays, in_flight_more, in_flight_stays, in_flight_event, in_flight_now}
+use Rattle.pm_trait.proofs.AckLaws.{clean_event}
+use Rattle.fence_token.specs.Ticket.{Settles}
+use Rattle.pm_trait.specs.DeviceView.{DeviceView, Stores}
+use Rattle.fence_token.specs.Flushes.{FlushesLines}
 use Rattle.fence_token.specs.Objects.{IsLocal, Stands, StandsClean, StandsInFlight, GoesOn, StoreNoneOf}
+
+-- a word on its way is clean once a token settles its ticket
+pub clean_by_token : {now : List ℕ} {fences acks ticket token : ℕ} (trail : Option Trail) (word : ℕ) → IsHonest now trail fences acks → IsInFlight trail ticket word → Settles ticket token fences → word < length now → IsClean now trail word
+clean_by_token trail word honest flight settles inside =
+    clean_after_ticket trail word honest flight (omega (arith, settles.later, settles.made)) inside
 
 -- a ticket whose words are on their way still has them so where each of them goes on so
 flight_goes_on : {Owns : ℕ → Type 0} {old new : Option Trail} (ticket : Option ℕ) → ((fences word : ℕ) → Owns word → IsInFlight old fences word → IsInFlight new fences word) → IsSomeAnd ticket (λ fences. (word : ℕ) → Owns word → IsInFlight old fences word) → IsSomeAnd ticket (λ fences. (word : ℕ) → Owns word → IsInFlight new fences word)
@@ -148,3 +155,18 @@ goes_on_events {Owns} now trail events local none = record {
     flight = flight_goes_on {Owns = Owns} {old = trail} {new = with_events trail events} ticket (λ fences word own flight. in_flight_more trail events word flight (none.each word own)) flying.flight;
   };
 }
+
+-- flushes of lines are an interval without stores
+pub lines_stores : {a b : DeviceView} {line count : ℕ} → FlushesLines a b line count → Stores (λ _. ⊥) a b count
+lines_stores flushes = record { stores = flushes.stores_none; room = flushes.room; counts = flushes.counts }
+
+-- the words and the trail by whatever names
+pub goes_on_as : {Owns : ℕ → Type 0} {Reads : List ℕ → Type 0} {a b : List ℕ} {ta tb : Option Trail} (events : List Event) → IsLocal Owns Reads → StoreNoneOf Owns events → b ≡ after_stores a events → tb ≡ with_events ta events → GoesOn Owns Reads a ta b tb
+goes_on_as {Owns} {Reads} {a} {b} {ta} {tb} events local none words trail =
+    subst (λ (t : Option Trail). GoesOn Owns Reads a ta b t) (sym trail)
+    (subst (λ (l : List ℕ). GoesOn Owns Reads a ta l (with_events ta events)) (sym words) (goes_on_events a ta events local none))
+
+pub clean_as_events : {a b : List ℕ} {ta tb : Option Trail} (events : List Event) (word : ℕ) → stores_to word events ≡ [] → b ≡ after_stores a events → tb ≡ with_events ta events → IsClean a ta word → IsClean b tb word
+clean_as_events {a} {b} {ta} {tb} events word none words trail clean =
+    subst (λ (t : Option Trail). IsClean b t word) (sym trail)
+    (subst (λ (l : List ℕ). IsClean l (with_events ta events) word) (sym words) (clean_events ta events word none clean))

@@ -4,13 +4,13 @@ use Rattle.std.specs.Prelude.{Option}
 use Rattle.pm_trait.specs.declared.event.Event.{Event}
 use Rattle.pm_trait.specs.Trail.{Trail, after_stores}
 use Rattle.pm_trait.specs.Device.{with_events, IsInterval}
-use Rattle.pm_trait.specs.DeviceLaws.{clean_stays}
+use Rattle.pm_trait.proofs.DeviceLaws.{clean_stays}
 use Rattle.layout.specs.declared.fields.DescriptorFields.{DescriptorFields}
 use Rattle.layout.specs.Geometry.{IsVolumeSize, data_pages_of, descriptor_word_of, inodes_of, inode_word_of, slot_word_of, page_of_slot}
-use Rattle.layout.specs.GeometryLaws.{same_descriptor_word, same_page_word, descriptor_word_within, page_word_within, descriptor_word_not_page_word, slot_word_in_page, descriptor_word_not_slot_word, inode_word_not_descriptor_word, inode_word_not_page_word}
+use Rattle.layout.proofs.GeometryLaws.{same_descriptor_word, same_page_word, descriptor_word_within, page_word_within, descriptor_word_not_page_word, slot_word_in_page, descriptor_word_not_slot_word, inode_word_not_descriptor_word, inode_word_not_page_word}
 use Rattle.layout.specs.Fields.{word, page_owner, page_kind, page_offset}
 use Rattle.fence_token.specs.Objects.{IsLocal, StoreNoneOf}
-use Rattle.fence_token.specs.ObjectLaws.{stands_stays, stands_events, clean_events}
+use Rattle.fence_token.proofs.ObjectLaws.{stands_stays, stands_events, clean_events}
 use Rattle.page_state.specs.States.{IsFree}
 use Rattle.page_state.specs.Page.{PageView, EachPage, IsDescriptorWord, IsOwnWord, descriptor_of, fields_of_page, SayFields, HaveMeaning, IsWordOf, ReadAs, PageIsDirty}
 
