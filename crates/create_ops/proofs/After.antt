@@ -12,6 +12,7 @@ use Rattle.tree_model.specs.PathText.{Route}
 use Rattle.tree_model.specs.Run.{State}
 use Rattle.image_reading.specs.Reading.{IsDirectory, slot_owner, Reached, ReadsAs}
 use Rattle.image_reading.specs.Tidy.{Tidy}
+use Rattle.image_reading.proofs.Tidied.{tidied}
 use Rattle.image_counts.specs.Entries.{IsEntryOf}
 use Rattle.image_laws.specs.Create.{MakesNode, committed}
 use Rattle.volume.specs.declared.plan.NewEntry.{NewEntry}
@@ -43,7 +44,7 @@ entry_words P I e bytes t is = record {
 
 entry_by_words : (P : ℕ) (I : List ℕ) (state : State) (laws : ImageLaws) → Tidy P I → ReadsAs P I state → (e : ℕ) (bytes : List ℕ) (t : ℕ) → HasEntryWords P I e bytes t → IsEntryOf P I e bytes t
 entry_by_words P I state laws tidy reads e bytes t has = record {
-  slot = ((laws.rooms P I state tidy reads e has.reached has.directory).live t (record { in_range = has.in_range; owner = has.owner })).1 has.number;
+  slot = ((laws.rooms P I state (tidied tidy) reads e has.reached has.directory).live t (record { in_range = has.in_range; owner = has.owner })).1 has.number;
   owner = has.owner;
   name = has.name;
 }
@@ -93,7 +94,7 @@ module _ (laws : ImageLaws) (P : ℕ) (W : List ℕ) (state : State) (path : Rou
   pub no_pages : (j : ℕ) → j < data_pages_of P → page_owner P W j ≢ entry.inode
   no_pages j low is =
       let two = i_least in
-      let kept = ((laws.pages P W state at.tidy at.reads).kept j low).1 (λ none. omega (arith, two, sym is ∙ none)) in
+      let kept = ((laws.pages P W state (tidied at.tidy) at.reads).kept j low).1 (λ none. omega (arith, two, sym is ∙ none)) in
       Plans.unreached laws P W state path entry at (subst (λ (x : ℕ). Reached P W x) is (elim kept [ inl file ↦ file.owner | inr room ↦ room.reached ]))
 
   -- the slot is vacant, or in the new page
@@ -189,11 +190,11 @@ module _ (laws : ImageLaws) (P : ℕ) (W : List ℕ) (state : State) (path : Rou
       reached_after : (x : ℕ) → 1 ≤ x → x ≤ inodes_of P → Reached P W x → Reached P J x
       reached_after x some most reached =
           let other : x ≢ entry.inode = λ same. Plans.unreached laws P W state path entry at (subst (λ (y : ℕ). Reached P W y) same reached) in
-          ((laws.free_inodes P J after tidy reads).used x some most).1 (λ none. ((laws.free_inodes P W state at.tidy at.reads).used x some most).0 reached (sym (after_kind x some most other) ∙ none))
+          ((laws.free_inodes P J after (tidied tidy) reads).used x some most).1 (λ none. ((laws.free_inodes P W state (tidied at.tidy) at.reads).used x some most).0 reached (sym (after_kind x some most other) ∙ none))
 
       pub reached_before : (x : ℕ) → 1 ≤ x → x ≤ inodes_of P → x ≢ entry.inode → Reached P J x → Reached P W x
       reached_before x some most other reached =
-          ((laws.free_inodes P W state at.tidy at.reads).used x some most).1 (λ none. ((laws.free_inodes P J after tidy reads).used x some most).0 reached (after_kind x some most other ∙ none))
+          ((laws.free_inodes P W state (tidied at.tidy) at.reads).used x some most).1 (λ none. ((laws.free_inodes P J after (tidied tidy) reads).used x some most).0 reached (after_kind x some most other ∙ none))
 
       pub entry_after : (e : ℕ) (bytes : List ℕ) (t : ℕ) → 1 ≤ e → e ≤ inodes_of P → IsEntryOf P W e bytes t → IsEntryOf P J e bytes t
       unfolding slot_owner

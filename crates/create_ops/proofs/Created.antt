@@ -70,7 +70,7 @@ module _ (laws : ImageLaws) (P : ℕ) (W : List ℕ) (state : State) (path : Rou
 
   -- what means the same may be left
   pub may_same : (image : List ℕ) → SameMeaning P W image → MayReadAs P state (Some (making entry.kind path)) image
-  may_same image same = record { sound = same.sound; tree = state.tree; reads = same.reads state.tree at.reads.tree; allowed = inl refl }
+  may_same image same = record { sound = same.coherent; tree = state.tree; reads = same.reads state.tree at.reads.tree; allowed = inl refl }
 
   module _ (B : List ℕ) (opened : IsOpened P W B entry.directory entry.new_page) where
     may_take : MayTake P W entry.new_page
@@ -173,5 +173,5 @@ module _ (laws : ImageLaws) (P : ℕ) (W : List ℕ) (state : State) (path : Rou
       committing J is image mix = elim (created.commit image (subst (λ (l : List ℕ). IsMix I l image) is (is_mix I J image mix))) [
         | inl same ↦ may_same image same
         | inr new ↦ subst (λ (l : List ℕ). MayReadAs P state (Some (making entry.kind path)) l) (sym new)
-            (record { sound = created.tidy.sound; tree = (step P state.tree state.room (making entry.kind path)).tree; reads = new_reads; allowed = inr (inl refl) })
+            (record { sound = created.tidy.coherent; tree = (step P state.tree state.room (making entry.kind path)).tree; reads = new_reads; allowed = inr (inl refl) })
       ]

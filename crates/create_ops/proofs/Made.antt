@@ -12,6 +12,7 @@ use Rattle.tree_model.specs.Step.{Done, step, least_free_id, with_new}
 use Rattle.tree_model.specs.Run.{State, Steps}
 use Rattle.image_reading.specs.Reading.{Reads, HasRoom, ReadsAs}
 use Rattle.image_reading.specs.Tidy.{Tidy}
+use Rattle.image_reading.proofs.Tidied.{as_tidy}
 use Rattle.image_laws.specs.Create.{IsCreate, committed}
 use Rattle.volume.specs.declared.plan.NewEntry.{NewEntry}
 use Rattle.volume.specs.declared.plan.Action.TheVariants.{Make}
@@ -51,7 +52,7 @@ module _ (laws : ImageLaws) (P : ℕ) (W : List ℕ) (state : State) (path : Rou
   back = sym made.placed.commit
 
   tidy_after : Tidy P J
-  tidy_after = subst (λ (l : List ℕ). Tidy P l) back created.tidy
+  tidy_after = subst (λ (l : List ℕ). Tidy P l) back (as_tidy created.tidy)
 
   reads_after : ReadsAs P J (record { tree = (step P state.tree state.room (making entry.kind path)).tree; room = room_of entry entry.new_page state.room })
   reads_after = record {

@@ -16,6 +16,7 @@ use Rattle.tree_model.proofs.TreeLaws.{least_free_id-ge, least_free_id-free}
 use Rattle.image_reading.specs.Reading.{IsDirectory, slot_owner, Names, Reached, IsChildOf}
 use Rattle.image_reading.specs.Repairs.{IsLitterInode, IsLitterPage}
 use Rattle.image_reading.specs.Soundness.{Rule, Sound}
+use Rattle.image_reading.proofs.Tidied.{tidied}
 use Rattle.image_counts.specs.Entries.{IsEntryOf, IsFreePage}
 use Rattle.image_counts.specs.Laws.{HasRoomWords, HasInodes}
 use Rattle.image_laws.specs.Create.{CanMake, IsVacant}
@@ -131,7 +132,7 @@ module _ (laws : ImageLaws) (P : ℕ) (W : List ℕ) (state : State) (path : Rou
   few_links : inode_links W entry.directory < 2 ^ 64 - 1
   few_links =
       let counted = ((laws.links P W state sound at.reads).counted entry.directory holds.0).directory holds.1 in
-      let word_is = laws.link_words P W state at.tidy at.reads entry.directory holds.0 in
+      let word_is = laws.link_words P W state (tidied at.tidy) at.reads entry.directory holds.0 in
       let most = count_below (IsChildOf P W entry.directory) (slots_of P) counted.0 (λ s child. child.slot.live.held.in_range) counted.1 in
       let few = data_pages_below P size in
       omega (arith, counted.2, word_is, most, slots_in_pages P, few, size.1)
@@ -177,7 +178,7 @@ module _ (laws : ImageLaws) (P : ℕ) (W : List ℕ) (state : State) (path : Rou
     pub can : CanMake P W (reverse (parent path)) entry.directory entry.inode (words_of_name entry.name)
     can = record {
       place = record {
-        tidy = at.tidy;
+        tidy = tidied at.tidy;
         path = named;
         directory = holds.1;
         is_name = IsNameWords-words_of_name entry.name is_name of_bytes;
@@ -195,7 +196,7 @@ module _ (laws : ImageLaws) (P : ℕ) (W : List ℕ) (state : State) (path : Rou
   -- ---- the place
 
   pub room_words : HasRoomWords P W state entry.directory
-  room_words = laws.rooms P W state at.tidy at.reads entry.directory holds.0 holds.1
+  room_words = laws.rooms P W state (tidied at.tidy) at.reads entry.directory holds.0 holds.1
 
   pub vacant : IsVacantSlot P W entry.directory entry.slot → IsVacant P W entry.directory entry.slot
   unfolding slot_owner
@@ -221,7 +222,7 @@ module _ (laws : ImageLaws) (P : ℕ) (W : List ℕ) (state : State) (path : Rou
     zero_descriptor P W page (λ f lt. elim (cases_eq (word W (descriptor_word_of P page f)) 0) [
       | inl is ↦ is
       | inr ne ↦ absurd (none_of (IsLitterPage P W) page at.tidy.repaired.of_pages
-          (record { in_range = free.0; free = λ kept. ((laws.pages P W state at.tidy at.reads).kept page free.0).0 kept free.1; nonzero = (f, lt, ne) }))
+          (record { in_range = free.0; free = λ kept. ((laws.pages P W state (tidied at.tidy) at.reads).kept page free.0).0 kept free.1; nonzero = (f, lt, ne) }))
     ]),
   )
 

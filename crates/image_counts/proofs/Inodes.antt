@@ -12,8 +12,8 @@ use Rattle.tree_model.proofs.TreeLaws.{least_free_id-only}
 use Rattle.image_reading.specs.Counts.{Count}
 use Rattle.image_reading.specs.Reading.{Reached, Reads}
 use Rattle.image_reading.specs.Repairs.{IsLitterInode}
-use Rattle.image_reading.specs.Soundness.{Rule, Sound}
-use Rattle.image_reading.specs.Tidy.{Tidy}
+use Rattle.image_reading.specs.Soundness.{Rule, IsCoherent}
+use Rattle.image_reading.specs.Tidy.{IsTidied}
 use Rattle.image_reading.proofs.Counts.{count_one}
 use Rattle.image_counts.specs.Entries.{IsFreeInode}
 use Rattle.image_counts.specs.Laws.{HasInodes, HasUsedInodes, InodeCountLaw, FreeInodeLaw}
@@ -33,12 +33,12 @@ some_of : (o : Option Node) → is_some o ≡ true → (x : Node) × (o ≡ Some
 some_of None e = cc
 some_of (Some x) e = (x, refl)
 
-module _ (P : ℕ) (I : List ℕ) (T : Tree) (sound : Sound P I) (reads : Reads P I T) where
+module _ (P : ℕ) (I : List ℕ) (T : Tree) (coherent : IsCoherent P I) (reads : Reads P I T) where
   -- whether an inode is reached can be told from the tree
   pub reached_or_not : (i : ℕ) → Reached P I i ⊎ ¬ Reached P I i
   reached_or_not i = elim (true_or_false (is_some (node_at T i))) [
-    | inl there ↦ inl (node_reached P I T sound reads i there)
-    | inr none ↦ inr (λ reached. not_both (is_some (node_at T i)) (reached_node P I T sound reads i reached) none)
+    | inl there ↦ inl (node_reached P I T coherent reads i there)
+    | inr none ↦ inr (λ reached. not_both (is_some (node_at T i)) (reached_node P I T coherent reads i reached) none)
   ]
 
   abbrev IsKey : ℕ × Node → ℕ → Type 0
@@ -54,11 +54,11 @@ module _ (P : ℕ) (I : List ℕ) (T : Tree) (sound : Sound P I) (reads : Reads 
 
   key_reached : (i : ℕ) → IsMatched IsKey T.nodes.entries i → Reached P I i
   key_reached i (e, among, is) =
-      node_reached P I T sound reads i (ap (λ z. is_some (node_at T z)) is ∙ ap is_some (find_among nat_cmp nat_cmp_total T.nodes.entries e T.nodes.sorted among))
+      node_reached P I T coherent reads i (ap (λ z. is_some (node_at T z)) is ∙ ap is_some (find_among nat_cmp nat_cmp_total T.nodes.entries e T.nodes.sorted among))
 
   reached_key : (i : ℕ) → Reached P I i → IsMatched IsKey T.nodes.entries i
   reached_key i reached =
-      let (x, is) = some_of (node_at T i) (reached_node P I T sound reads i reached) in
+      let (x, is) = some_of (node_at T i) (reached_node P I T coherent reads i reached) in
       ((i, x), among_find nat_cmp nat_cmp_total nat_cmp-IsAntisymmetric T.nodes.entries i x is, refl)
 
   pub count_reached : Count (Reached P I) (inodes_in_use T)
@@ -67,33 +67,33 @@ module _ (P : ℕ) (I : List ℕ) (T : Tree) (sound : Sound P I) (reads : Reads 
   pub has_inodes : HasInodes P I T
   has_inodes = record {
     count = count_reached;
-    least = λ i reached. (in_range P I sound i reached).0;
-    most = λ i reached. (in_range P I sound i reached).1;
+    least = λ i reached. (in_range P I coherent i reached).0;
+    most = λ i reached. (in_range P I coherent i reached).1;
   }
 
-module _ (P : ℕ) (I : List ℕ) (T : Tree) (tidy : Tidy P I) (reads : Reads P I T) where
-  sound : Sound P I
-  sound = tidy.sound
+module _ (P : ℕ) (I : List ℕ) (T : Tree) (tidy : IsTidied P I) (reads : Reads P I T) where
+  coherent : IsCoherent P I
+  coherent = tidy.coherent
 
   litter_inode : (i : ℕ) → 1 ≤ i → i ≤ inodes_of P → inode_kind I i ≢ 0 → ¬ Reached P I i → IsLitterInode P I i
   unfolding inode_kind
   litter_inode i least most kind unreached = record { least = least; most = most; unreached = unreached; nonzero = (0, omega arith, kind) }
 
   kind_reached : (i : ℕ) → 1 ≤ i → i ≤ inodes_of P → inode_kind I i ≢ 0 → Reached P I i
-  kind_reached i least most kind = elim (reached_or_not P I T sound reads i) [
+  kind_reached i least most kind = elim (reached_or_not P I T coherent reads i) [
     | inl reached ↦ reached
     | inr unreached ↦ absurd (none_counted (IsLitterInode P I) tidy.repaired.of_inodes i (litter_inode i least most kind unreached))
   ]
 
   reached_kind : (i : ℕ) → Reached P I i → inode_kind I i ≢ 0
-  reached_kind i reached zero = elim ((sound Rule.kinds i).kind reached) [
+  reached_kind i reached zero = elim ((coherent Rule.kinds i).kind reached) [
     | inl file ↦ let one : inode_kind I i ≡ 1 = file in omega (arith, one, zero)
     | inr directory ↦ let two : inode_kind I i ≡ 2 = directory in omega (arith, two, zero)
   ]
 
   free_inodes_are : (n : ℕ) → Count (IsFreeInode P I) n → free_inodes (untaken P) T ≡ n
   free_inodes_are n free =
-      let all = count_either (Reached P I) (IsFreeInode P I) (inodes_in_use T) n (λ i reached is. reached_kind i reached is.2) (count_reached P I T sound reads) free in
+      let all = count_either (Reached P I) (IsFreeInode P I) (inodes_in_use T) n (λ i reached is. reached_kind i reached is.2) (count_reached P I T coherent reads) free in
       let total = count_one (λ i. (1 ≤ i) × (i < 1 + inodes_of P)) (inodes_in_use T + n) (inodes_of P)
       (count_alike (λ i. Reached P I i ⊎ IsFreeInode P I i) (λ i. (1 ≤ i) × (i < 1 + inodes_of P)) (inodes_in_use T + n) in_table either all)
       (count_run 1 (inodes_of P)) in
@@ -101,7 +101,7 @@ module _ (P : ℕ) (I : List ℕ) (T : Tree) (tidy : Tidy P I) (reads : Reads P 
     where
       in_table : (i : ℕ) → Reached P I i ⊎ IsFreeInode P I i → (1 ≤ i) × (i < 1 + inodes_of P)
       in_table i has = elim has [
-        | inl reached ↦ let range = in_range P I sound i reached in (range.0, omega (arith, range.1))
+        | inl reached ↦ let range = in_range P I coherent i reached in (range.0, omega (arith, range.1))
         | inr is ↦ let most = is.1 in (is.0, omega (arith, most))
       ]
 
@@ -116,12 +116,12 @@ module _ (P : ℕ) (I : List ℕ) (T : Tree) (tidy : Tidy P I) (reads : Reads P 
     where
       none : (o : Option Node) → node_at T i ≡ o → o ≡ None
       none None is = refl
-      none (Some x) is = absurd (reached_kind i (node_reached P I T sound reads i (ap is_some is)) free.2)
+      none (Some x) is = absurd (reached_kind i (node_reached P I T coherent reads i (ap is_some is)) free.2)
 
       each : (j : ℕ) → 2 ≤ j → j < i → is_some (node_at T j) ≡ true
       each j least less =
           let most = free.1 in
-          reached_node P I T sound reads j (kind_reached j (omega (arith, least)) (omega (arith, less, most)) (below j least less))
+          reached_node P I T coherent reads j (kind_reached j (omega (arith, least)) (omega (arith, less, most)) (below j least less))
 
   pub has_used_inodes : HasUsedInodes P I T
   has_used_inodes = record {
@@ -131,7 +131,7 @@ module _ (P : ℕ) (I : List ℕ) (T : Tree) (tidy : Tidy P I) (reads : Reads P 
   }
 
 pub inode_count_law : InodeCountLaw
-inode_count_law P I state sound reads = has_inodes P I state.tree sound reads.tree
+inode_count_law P I state coherent reads = has_inodes P I state.tree coherent reads.tree
 
 pub free_inode_law : FreeInodeLaw
 free_inode_law P I state tidy reads = has_used_inodes P I state.tree tidy reads.tree

@@ -9,8 +9,8 @@ use Rattle.tree_model.proofs.TreeLaws.{not_true}
 use Rattle.image_reading.specs.Counts.{Count}
 use Rattle.image_reading.specs.Reading.{IsDirectory, IsFile, slot_owner, Reached, IsNameOf, IsChildOf, IsLinkCount, Reads}
 use Rattle.image_reading.specs.Repairs.{IsLitterCount}
-use Rattle.image_reading.specs.Soundness.{Rule, Sound}
-use Rattle.image_reading.specs.Tidy.{Tidy}
+use Rattle.image_reading.specs.Soundness.{Rule, IsCoherent}
+use Rattle.image_reading.specs.Tidy.{IsTidied}
 use Rattle.image_reading.proofs.Counts.{count_one}
 use Rattle.image_counts.specs.Laws.{HasLinkCounts, LinkLaw, LinkWordLaw}
 use Rattle.image_counts.proofs.Paths.{IsLastSlot, reached_slot, inode_reached}
@@ -25,15 +25,15 @@ last_inode P I (n ∷ p) i s (names, leads) = leads.inode
 pub not_both_kinds : (I : List ℕ) (i : ℕ) → IsFile I i → IsDirectory I i → ⊥
 not_both_kinds I i file directory = let one : inode_kind I i ≡ 1 = file in let two : inode_kind I i ≡ 2 = directory in omega (arith, one, two)
 
-module _ (P : ℕ) (I : List ℕ) (T : Tree) (sound : Sound P I) (reads : Reads P I T) where
+module _ (P : ℕ) (I : List ℕ) (T : Tree) (coherent : IsCoherent P I) (reads : Reads P I T) where
   count_paths : (i : ℕ) → IsFile I i → Count (IsNameOf P I i) (path_count T i)
   count_paths i file =
       subst (Count (IsNameOf P I i)) (length-filter (λ e. e.1 == i) T.names.entries)
-      (count_slots P I T sound reads (λ e. Unit {0} × (e.1 == i ≡ true)) (IsNameOf P I i) (filter (λ e. e.1 == i) T.names.entries)
+      (count_slots P I T coherent reads (λ e. Unit {0} × (e.1 == i ≡ true)) (IsNameOf P I i) (filter (λ e. e.1 == i) T.names.entries)
       (some_names T (λ e. Unit {0}) T.names.entries (λ e. e.1 == i) (all_names T))
       (λ j is same.
       let root : j ≡ 1 = (reads.names [] j).0 is in
-      let directory = (sound Rule.root 1).directory refl in
+      let directory = (coherent Rule.root 1).directory refl in
       not_both_kinds I i file (subst (IsDirectory I) (sym root ∙ equal_numbers j i same.1) directory))
       (λ p j s last same. record { slot = reached_slot P I (reverse p) j s last; inode = last_inode P I (reverse p) j s last ∙ equal_numbers j i same.1 })
       (λ s q. q.slot)
@@ -45,19 +45,19 @@ module _ (P : ℕ) (I : List ℕ) (T : Tree) (sound : Sound P I) (reads : Reads 
   count_children : (i : ℕ) → Count (IsChildOf P I i) (count_by (λ e. is_directory T e.1) (entries_in T i))
   count_children i =
       subst (Count (IsChildOf P I i)) (length-filter (λ e. is_directory T e.1) (entries_in T i))
-      (count_slots P I T sound reads (IsChild i) (IsChildOf P I i) (filter (λ e. is_directory T e.1) (entries_in T i))
-      (some_names T (λ e. Unit {0} × (is_in T i e.0 ≡ true)) (entries_in T i) (λ e. is_directory T e.1) (names_in P I T sound reads i))
+      (count_slots P I T coherent reads (IsChild i) (IsChildOf P I i) (filter (λ e. is_directory T e.1) (entries_in T i))
+      (some_names T (λ e. Unit {0} × (is_in T i e.0 ≡ true)) (entries_in T i) (λ e. is_directory T e.1) (names_in P I T coherent reads i))
       (λ j is child. (let clash : false ≡ true = child.0.1 in cc))
       (λ p j s last child. record {
         slot = reached_slot P I (reverse p) j s last;
-        owner = equal_numbers (slot_owner P I s) i (sym (in_owner P I T sound reads i p j s last) ∙ child.0.1);
-        directory = subst (IsDirectory I) (sym (last_inode P I (reverse p) j s last)) (((has_sizes P I T sound reads).directories j).0 child.1).1;
+        owner = equal_numbers (slot_owner P I s) i (sym (in_owner P I T coherent reads i p j s last) ∙ child.0.1);
+        directory = subst (IsDirectory I) (sym (last_inode P I (reverse p) j s last)) (((has_sizes P I T coherent reads).directories j).0 child.1).1;
       })
       (λ s q. q.slot)
       (λ p j s last q. (
-        (tt, in_owner P I T sound reads i p j s last ∙ same_numbers (slot_owner P I s) i q.owner),
+        (tt, in_owner P I T coherent reads i p j s last ∙ same_numbers (slot_owner P I s) i q.owner),
         ap (is_directory T) (sym (last_inode P I (reverse p) j s last))
-            ∙ ((has_sizes P I T sound reads).directories (slot_inode P I s)).1 (inode_reached P I sound s q.slot, q.directory),
+            ∙ ((has_sizes P I T coherent reads).directories (slot_inode P I s)).1 (inode_reached P I coherent s q.slot, q.directory),
       )))
 
   directory_links : (i : ℕ) → is_directory T i ≡ true → link_count T i ≡ 2 + count_by (λ e. is_directory T e.1) (entries_in T i)
@@ -67,21 +67,21 @@ module _ (P : ℕ) (I : List ℕ) (T : Tree) (sound : Sound P I) (reads : Reads 
   file_links i is = ap (λ b. cond b (2 + count_by (λ e. is_directory T e.1) (entries_in T i)) (path_count T i)) is
 
   not_directory : (i : ℕ) → IsFile I i → is_directory T i ≡ false
-  not_directory i file = not_true (is_directory T i) (λ is. not_both_kinds I i file (((has_sizes P I T sound reads).directories i).0 is).1)
+  not_directory i file = not_true (is_directory T i) (λ is. not_both_kinds I i file (((has_sizes P I T coherent reads).directories i).0 is).1)
 
   -- the links of a reached inode are counted,
   pub links_counted : (i : ℕ) → Reached P I i → IsLinkCount P I i (link_count T i)
   links_counted i reached = record {
     file = λ file. subst (Count (IsNameOf P I i)) (sym (file_links i (not_directory i file))) (count_paths i file);
     directory = λ directory.
-        (count_by (λ e. is_directory T e.1) (entries_in T i), count_children i, directory_links i (((has_sizes P I T sound reads).directories i).1 (reached, directory)));
+        (count_by (λ e. is_directory T e.1) (entries_in T i), count_children i, directory_links i (((has_sizes P I T coherent reads).directories i).1 (reached, directory)));
   }
 
   -- and have one number
   pub only_links : (i n : ℕ) → Reached P I i → IsLinkCount P I i n → link_count T i ≡ n
   only_links i n reached links =
       let counted = links_counted i reached in
-      elim ((sound Rule.kinds i).kind reached) [
+      elim ((coherent Rule.kinds i).kind reached) [
         | inl file ↦ count_one (IsNameOf P I i) (link_count T i) n (counted.file file) (links.file file)
         | inr directory ↦
             let (m, children, is) = counted.directory directory in
@@ -93,17 +93,17 @@ module _ (P : ℕ) (I : List ℕ) (T : Tree) (sound : Sound P I) (reads : Reads 
   has_link_counts = record { counted = links_counted; only = only_links }
 
 -- a tidy image's link words are right
-link_word : (P : ℕ) (I : List ℕ) (T : Tree) → Tidy P I → Reads P I T → (i : ℕ) → Reached P I i → link_count T i ≡ inode_links I i
+link_word : (P : ℕ) (I : List ℕ) (T : Tree) → IsTidied P I → Reads P I T → (i : ℕ) → Reached P I i → link_count T i ≡ inode_links I i
 link_word P I T tidy reads i reached = elim (cases_eq (link_count T i) (inode_links I i)) [
   | inl same ↦ same
   | inr other ↦ absurd (none_counted (IsLitterCount P I) tidy.repaired.of_counts i (record {
     reached = reached;
-    other = λ links. other (only_links P I T tidy.sound reads i (inode_links I i) reached links);
+    other = λ links. other (only_links P I T tidy.coherent reads i (inode_links I i) reached links);
   }))
 ]
 
 pub link_law : LinkLaw
-link_law P I state sound reads = has_link_counts P I state.tree sound reads.tree
+link_law P I state coherent reads = has_link_counts P I state.tree coherent reads.tree
 
 pub link_word_law : LinkWordLaw
 link_word_law P I state tidy reads i reached = link_word P I state.tree tidy reads.tree i reached

@@ -1,9 +1,9 @@
--- The nodes of the tree that a sound image reads as.
+-- The nodes of the tree that a coherent image reads as.
 use Rattle.std.proofs.Common.{◌≡◌, inl, inr, ℕ, zero, suc, ◌/◌, ◌%◌, ◌<◌, true, List, [], ◌∷◌, length, slice_index, Option, Some, None, is_some, refl, ap, arith}
 use Rattle.layout.specs.Fields.{inode_size, page_byte}
 use Rattle.tree_model.specs.Tree.{Tree, Node, Directory, File, node_at, is_directory_node, is_file_node}
 use Rattle.image_reading.specs.Reading.{IsFile, IsDirectory, HasBytes, Reached, IsPageOf, pages_of_size, IsContent, Reads}
-use Rattle.image_reading.specs.Soundness.{Rule, Sound}
+use Rattle.image_reading.specs.Soundness.{Rule, IsCoherent}
 use Rattle.image_counts.specs.Laws.{HasSizes, SizeLaw}
 use Rattle.image_counts.proofs.Paths.{three_cases}
 
@@ -23,7 +23,7 @@ offset_below : (size o : ℕ) → o < size → o / 4096 < pages_of_size size
 unfolding pages_of_size
 offset_below size o lt = omega arith
 
-module _ (P : ℕ) (I : List ℕ) (sound : Sound P I) where
+module _ (P : ℕ) (I : List ℕ) (coherent : IsCoherent P I) where
   -- ---- the bytes of a file
 
   -- an offset below the file's end is one page's
@@ -31,8 +31,8 @@ module _ (P : ℕ) (I : List ℕ) (sound : Sound P I) where
   one_page i k h j reached file below a b = elim (three_cases h j) [
     | inl e ↦ e
     | inr other ↦ elim other [
-      | inl lt ↦ absurd (sound Rule.own_offsets j h i k lt reached file below a b)
-      | inr lt ↦ absurd (sound Rule.own_offsets h j i k lt reached file below b a)
+      | inl lt ↦ absurd (coherent Rule.own_offsets j h i k lt reached file below a b)
+      | inr lt ↦ absurd (coherent Rule.own_offsets h j i k lt reached file below b a)
     ]
   ]
 
@@ -42,7 +42,7 @@ module _ (P : ℕ) (I : List ℕ) (sound : Sound P I) where
   one_byte : (i o : ℕ) → Reached P I i → HasBytes I i → o < inode_size I i → (v : ℕ) × IsByte i o v
   one_byte i o reached file lt =
       let below = offset_below (inode_size I i) o lt in
-      let (h, page) = sound Rule.all_pages i reached file (o / 4096) below in
+      let (h, page) = coherent Rule.all_pages i reached file (o / 4096) below in
       (page_byte P I h (o % 4096), (λ j other. ap (λ z. page_byte P I z (o % 4096)) (one_page i (o / 4096) h j reached file below page other)))
 
   pub some_content : (i : ℕ) → Reached P I i → HasBytes I i → (bytes : List ℕ) × IsContent P I i bytes
@@ -52,10 +52,10 @@ module _ (P : ℕ) (I : List ℕ) (sound : Sound P I) where
 
 -- ---- the nodes
 
-module _ (P : ℕ) (I : List ℕ) (T : Tree) (sound : Sound P I) (reads : Reads P I T) where
+module _ (P : ℕ) (I : List ℕ) (T : Tree) (coherent : IsCoherent P I) (reads : Reads P I T) where
   pub file_node : (i : ℕ) → Reached P I i → IsFile I i → (bytes : List ℕ) × (node_at T i ≡ Some (File bytes))
   file_node i reached file =
-      let (bytes, content) = some_content P I sound i reached file in
+      let (bytes, content) = some_content P I coherent i reached file in
       (bytes, (reads.nodes i (File bytes)).1 (reached, (file, content)))
 
   pub directory_node : (i : ℕ) → Reached P I i → IsDirectory I i → node_at T i ≡ Some Directory
@@ -70,7 +70,7 @@ module _ (P : ℕ) (I : List ℕ) (T : Tree) (sound : Sound P I) (reads : Reads 
       of (Some x) is there = ((reads.nodes i x).0 is).0
 
   pub reached_node : (i : ℕ) → Reached P I i → is_some (node_at T i) ≡ true
-  reached_node i reached = elim ((sound Rule.kinds i).kind reached) [
+  reached_node i reached = elim ((coherent Rule.kinds i).kind reached) [
     | inl file ↦ ap is_some (file_node i reached file).1
     | inr directory ↦ ap is_some (directory_node i reached directory)
   ]
@@ -93,4 +93,4 @@ module _ (P : ℕ) (I : List ℕ) (T : Tree) (sound : Sound P I) (reads : Reads 
   }
 
 pub size_law : SizeLaw
-size_law P I state sound reads = has_sizes P I state.tree sound reads.tree
+size_law P I state coherent reads = has_sizes P I state.tree coherent reads.tree

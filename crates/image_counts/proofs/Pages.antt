@@ -9,7 +9,7 @@ use Rattle.tree_model.specs.Capacity.{pages_in_use}
 use Rattle.image_reading.specs.Counts.{IsIn, IsDistinct, Count}
 use Rattle.image_reading.specs.Reading.{IsDirectory, IsFile, Reached, IsPageOf, IsRoomOf, pages_of_size, Reads, HasRoom}
 use Rattle.image_reading.specs.Repairs.{IsKeptFilePage, IsKeptDirectoryPage, IsKept}
-use Rattle.image_reading.specs.Soundness.{Rule, Sound}
+use Rattle.image_reading.specs.Soundness.{Rule, IsCoherent}
 use Rattle.image_reading.proofs.Counts.{count_none}
 use Rattle.image_counts.specs.Laws.{KeptPageLaw}
 use Rattle.image_counts.proofs.Nodes.{one_page, file_node}
@@ -40,7 +40,7 @@ pages_of_bytes bytes size long = ap (λ n. pages_of_size n) long
 abbrev pub IsFilePage : ℕ → List ℕ → ℕ → ℕ → Type 0
 IsFilePage P I i j = IsKeptFilePage P I j × (page_owner P I j ≡ i)
 
-module _ (P : ℕ) (I : List ℕ) (sound : Sound P I) where
+module _ (P : ℕ) (I : List ℕ) (coherent : IsCoherent P I) where
   -- ---- a file has one kept page for each offset below its end
 
   offsets : (i : ℕ) → List ℕ
@@ -65,8 +65,8 @@ module _ (P : ℕ) (I : List ℕ) (sound : Sound P I) where
   matching : (i : ℕ) → Reached P I i → IsFile I i → IsMatching (IsPageOf P I i) (offsets i)
   matching i reached file = record {
     apart = offsets_apart i;
-    each = λ k among. sound Rule.all_pages i reached file k (offset_within i k among);
-    one = λ k h j among a b. one_page P I sound i k h j reached file (offset_within i k among) a b;
+    each = λ k among. coherent Rule.all_pages i reached file k (offset_within i k among);
+    one = λ k h j among a b. one_page P I coherent i k h j reached file (offset_within i k among) a b;
     own = λ k l j among there a b. sym a.offset ∙ b.offset;
   }
 
@@ -90,7 +90,7 @@ module _ (P : ℕ) (I : List ℕ) (sound : Sound P I) where
       from j (kept, owner) = (
         page_offset P I j,
         offset_among i (page_offset P I j) (subst (λ z. page_offset P I j < pages_of_size (inode_size I z)) owner kept.below),
-        record { in_range = kept.in_range; owner = owner; kind = (sound Rule.page_kinds j).file kept.in_range kept.owner kept.file; offset = refl },
+        record { in_range = kept.in_range; owner = owner; kind = (coherent Rule.page_kinds j).file kept.in_range kept.owner kept.file; offset = refl },
       )
 
 module _ (P : ℕ) (I : List ℕ) (room : Room) (rooms : HasRoom P I room) where
@@ -103,7 +103,7 @@ module _ (P : ℕ) (I : List ℕ) (room : Room) (rooms : HasRoom P I room) where
       let (k, is, count) = room_at d reached directory in
       subst (Count (IsRoomOf P I d)) (sym (ap (λ o. unwrap_or o 0) is)) count
 
-module _ (P : ℕ) (I : List ℕ) (T : Tree) (room : Room) (sound : Sound P I) (reads : Reads P I T) (rooms : HasRoom P I room) where
+module _ (P : ℕ) (I : List ℕ) (T : Tree) (room : Room) (coherent : IsCoherent P I) (reads : Reads P I T) (rooms : HasRoom P I room) where
   -- ---- the pages of files
 
   abbrev IsPageOfNode : ℕ × Node → ℕ → Type 0
@@ -114,7 +114,7 @@ module _ (P : ℕ) (I : List ℕ) (T : Tree) (room : Room) (sound : Sound P I) (
       not_both_kinds I i (subst (IsFile I) owner kept.file) ((reads.nodes i Directory).0 is).1)
   count_node i (File bytes) is =
       let (reached, node) = (reads.nodes i (File bytes)).0 is in
-      subst (Count (IsFilePage P I i)) (sym (pages_of_bytes bytes (inode_size I i) node.1.size)) (count_file_pages P I sound i reached node.0)
+      subst (Count (IsFilePage P I i)) (sym (pages_of_bytes bytes (inode_size I i) node.1.size)) (count_file_pages P I coherent i reached node.0)
 
   sharing_nodes : IsSharing IsPageOfNode (λ e. node_pages e.1) T.nodes.entries
   sharing_nodes = record {
@@ -125,7 +125,7 @@ module _ (P : ℕ) (I : List ℕ) (T : Tree) (room : Room) (sound : Sound P I) (
 
   file_entry : (j : ℕ) → IsKeptFilePage P I j → IsMatched IsPageOfNode T.nodes.entries j
   file_entry j kept =
-      let (bytes, is) = file_node P I T sound reads (page_owner P I j) kept.owner kept.file in
+      let (bytes, is) = file_node P I T coherent reads (page_owner P I j) kept.owner kept.file in
       ((page_owner P I j, File bytes), among_find nat_cmp nat_cmp_total nat_cmp-IsAntisymmetric T.nodes.entries (page_owner P I j) (File bytes) is, (kept, refl))
 
   count_in_files : Count (IsKeptFilePage P I) (sum_by (λ e. node_pages e.1) T.nodes.entries)
@@ -160,4 +160,4 @@ module _ (P : ℕ) (I : List ℕ) (T : Tree) (room : Room) (sound : Sound P I) (
       (λ j kept other. not_both_kinds I (page_owner P I j) kept.file other.directory) count_in_files count_in_rooms
 
 pub kept_page_law : KeptPageLaw
-kept_page_law P I state sound reads = count_kept P I state.tree state.room sound reads.tree reads.room
+kept_page_law P I state coherent reads = count_kept P I state.tree state.room coherent reads.tree reads.room

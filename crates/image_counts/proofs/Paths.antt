@@ -1,4 +1,4 @@
--- The paths along the slots of a sound image.
+-- The paths along the slots of a coherent image.
 use Rattle.std.proofs.Common.{◌≡◌, ◌⊎◌, inl, inr, ℕ, ◌<◌, ◌≤◌, List, [], ◌∷◌, ◌++◌, reverse, refl, sym, ap, subst, ◌∙◌, arith}
 use Rattle.std.proofs.lemmas.List.{reverse-append}
 use Rattle.layout.specs.Geometry.{inodes_of}
@@ -7,7 +7,7 @@ use Rattle.layout.specs.Fields.{slot_inode, slot_name}
 use Rattle.tree_model.specs.PathText.{Route}
 use Rattle.tree_model.specs.Tree.{Tree}
 use Rattle.image_reading.specs.Reading.{IsDirectory, slot_owner, Leads, Names, Reached, IsReachedSlot, Reads}
-use Rattle.image_reading.specs.Soundness.{Rule, Sound}
+use Rattle.image_reading.specs.Soundness.{Rule, IsCoherent}
 use Rattle.image_counts.specs.Laws.{HasEntries, EntryLaw}
 
 pub three_cases : (a b : ℕ) → (a ≡ b) ⊎ ((a < b) ⊎ (b < a))
@@ -22,7 +22,7 @@ pub reached_slot : (P : ℕ) (I : List ℕ) (r : Route) (i s : ℕ) → IsLastSl
 reached_slot P I [] i s last = absurd last
 reached_slot P I (n ∷ p) i s (names, leads) = record { owner = (p, names); directory = leads.directory; live = leads.live }
 
-module _ (P : ℕ) (I : List ℕ) (sound : Sound P I) where
+module _ (P : ℕ) (I : List ℕ) (coherent : IsCoherent P I) where
   -- ---- slots
 
   -- a name in a directory is one slot's
@@ -30,8 +30,8 @@ module _ (P : ℕ) (I : List ℕ) (sound : Sound P I) where
   same_slot s t a b owners names = elim (three_cases s t) [
     | inl e ↦ e
     | inr h ↦ elim h [
-      | inl lt ↦ absurd (sound Rule.own_names t s lt a b owners names)
-      | inr lt ↦ absurd (sound Rule.own_names s t lt b a (sym owners) (sym names))
+      | inl lt ↦ absurd (coherent Rule.own_names t s lt a b owners names)
+      | inr lt ↦ absurd (coherent Rule.own_names s t lt b a (sym owners) (sym names))
     ]
   ]
 
@@ -40,13 +40,13 @@ module _ (P : ℕ) (I : List ℕ) (sound : Sound P I) where
   same_directory s t a b directory inodes = elim (three_cases s t) [
     | inl e ↦ e
     | inr h ↦ elim h [
-      | inl lt ↦ absurd (sound Rule.own_directories t s lt a b (subst (IsDirectory I) inodes directory) inodes)
-      | inr lt ↦ absurd (sound Rule.own_directories s t lt b a directory (sym inodes))
+      | inl lt ↦ absurd (coherent Rule.own_directories t s lt a b (subst (IsDirectory I) inodes directory) inodes)
+      | inr lt ↦ absurd (coherent Rule.own_directories s t lt b a directory (sym inodes))
     ]
   ]
 
   pub slot_leads : (s : ℕ) → IsReachedSlot P I s → Leads P I s (slot_name P I s) (slot_inode P I s)
-  slot_leads s r = record { directory = r.directory; live = r.live; name = refl; inode = refl; in_range = (sound Rule.inodes s).most r }
+  slot_leads s r = record { directory = r.directory; live = r.live; name = refl; inode = refl; in_range = (coherent Rule.inodes s).most r }
 
   -- ---- paths
 
@@ -65,7 +65,7 @@ module _ (P : ℕ) (I : List ℕ) (sound : Sound P I) where
       same_slot s t (reached_slot P I (n ∷ p) i s (a, leads)) (reached_slot P I (n ∷ p) j t (b, others)) owners (leads.name ∙ sym others.name)
 
   pub not_root : (s : ℕ) → IsReachedSlot P I s → slot_inode P I s ≡ 1 → ⊥
-  not_root s r e = let least = (sound Rule.inodes s).least r in omega (arith, least, e)
+  not_root s r e = let least = (coherent Rule.inodes s).least r in omega (arith, least, e)
 
   -- a directory has one path
   pub one_path : (p q : Route) (d : ℕ) → IsDirectory I d → Names P I p d → Names P I q d → p ≡ q
@@ -98,9 +98,9 @@ module _ (P : ℕ) (I : List ℕ) (sound : Sound P I) where
   inode_reached s r = let (p, names) = r.owner in (slot_name P I s ∷ p, (s, names, slot_leads s r))
 
   pub in_range : (i : ℕ) → Reached P I i → (1 ≤ i) × (i ≤ inodes_of P)
-  in_range i ([], e) = let some = some_inodes P ((sound Rule.head 0).size refl) in (omega (arith, e), omega (arith, e, some))
+  in_range i ([], e) = let some = some_inodes P ((coherent Rule.head 0).size refl) in (omega (arith, e), omega (arith, e, some))
   in_range i (n ∷ p, (s, names, leads)) =
-      let least = (sound Rule.inodes s).least (reached_slot P I (n ∷ p) i s (names, leads)) in
+      let least = (coherent Rule.inodes s).least (reached_slot P I (n ∷ p) i s (names, leads)) in
       let same = leads.inode in
       (omega (arith, least, same), leads.in_range)
 
@@ -109,12 +109,12 @@ module _ (P : ℕ) (I : List ℕ) (sound : Sound P I) where
 pub reverse_below : (p : Route) (name : List ℕ) → reverse (p ++ name ∷ []) ≡ name ∷ reverse p
 reverse_below p name = reverse-append p (name ∷ [])
 
-module _ (P : ℕ) (I : List ℕ) (T : Tree) (sound : Sound P I) (reads : Reads P I T) where
+module _ (P : ℕ) (I : List ℕ) (T : Tree) (coherent : IsCoherent P I) (reads : Reads P I T) where
   pub has_entries : HasEntries P I T
   has_entries p d i name at = (
     (λ below.
         let (s, names, leads) = subst (λ r. Names P I r i) (reverse_below p name) ((reads.names (p ++ name ∷ []) i).0 below) in
-        let owner = one_inode P I sound (reverse p) (slot_owner P I s) d names ((reads.names p d).0 at) in
+        let owner = one_inode P I coherent (reverse p) (slot_owner P I s) d names ((reads.names p d).0 at) in
         (s, record { slot = reached_slot P I (name ∷ reverse p) i s (names, leads); owner = owner; name = leads.name }, leads.inode)),
     (λ (s, entry, inode).
         let names = subst (Names P I (reverse p)) (sym entry.owner) ((reads.names p d).0 at) in
@@ -123,10 +123,10 @@ module _ (P : ℕ) (I : List ℕ) (T : Tree) (sound : Sound P I) (reads : Reads 
           live = entry.slot.live;
           name = entry.name;
           inode = inode;
-          in_range = subst (λ z. z ≤ inodes_of P) inode ((sound Rule.inodes s).most entry.slot);
+          in_range = subst (λ z. z ≤ inodes_of P) inode ((coherent Rule.inodes s).most entry.slot);
         } in
         (reads.names (p ++ name ∷ []) i).1 (subst (λ r. Names P I r i) (sym (reverse_below p name)) (s, names, leads))),
   )
 
 pub entry_law : EntryLaw
-entry_law P I state sound reads = has_entries P I state.tree sound reads.tree
+entry_law P I state coherent reads = has_entries P I state.tree coherent reads.tree

@@ -8,7 +8,7 @@ use Rattle.tree_model.specs.Tree.{Tree, route_cmp, route_cmp_total, route_cmp-Is
 use Rattle.tree_model.proofs.TreeLaws.{parent-below, not_root-below, is_in-at}
 use Rattle.image_reading.specs.Counts.{Count}
 use Rattle.image_reading.specs.Reading.{slot_owner, Names, IsReachedSlot, Reads}
-use Rattle.image_reading.specs.Soundness.{Sound}
+use Rattle.image_reading.specs.Soundness.{IsCoherent}
 use Rattle.image_reading.proofs.Counts.{count_none-zero}
 use Rattle.image_counts.specs.Entries.{IsEntryOf, IsSlotOf}
 use Rattle.image_counts.specs.Laws.{HasAbsences, NameCountLaw, AbsenceLaw}
@@ -45,7 +45,7 @@ some_names T K es t names = record {
 pub same_reverse : (p q : Route) → reverse p ≡ reverse q → p ≡ q
 same_reverse p q e = sym (reverse-reverse p) ∙ ap reverse e ∙ reverse-reverse q
 
-module _ (P : ℕ) (I : List ℕ) (T : Tree) (sound : Sound P I) (reads : Reads P I T) where
+module _ (P : ℕ) (I : List ℕ) (T : Tree) (coherent : IsCoherent P I) (reads : Reads P I T) where
   -- the last slot of a name
   abbrev pub IsSlotOfName : Route × ℕ → ℕ → Type 0
   IsSlotOfName e s = IsLastSlot P I (reverse e.0) e.1 s
@@ -65,7 +65,7 @@ module _ (P : ℕ) (I : List ℕ) (T : Tree) (sound : Sound P I) (reads : Reads 
   name_of_slot s r =
       let (q, names) = r.owner in
       let path : Route = slot_name P I s ∷ q in
-      let leads = slot_leads P I sound s r in
+      let leads = slot_leads P I coherent s r in
       (reverse path, subst (λ z. IsLastSlot P I z (slot_inode P I s) s) (sym (reverse-reverse path)) (names, leads))
 
   -- So many slots have a property as there are names with one that says the same.
@@ -87,9 +87,9 @@ module _ (P : ℕ) (I : List ℕ) (T : Tree) (sound : Sound P I) (reads : Reads 
       matching = record {
         apart = names.apart;
         each = λ e among. last_slot (reverse e.0) e.1 ((reads.names e.0 e.1).0 (names.are e among).0) (some_name e among);
-        one = λ e s t among a b. one_slot P I sound (reverse e.0) e.1 e.1 s t a b;
+        one = λ e s t among a b. one_slot P I coherent (reverse e.0) e.1 e.1 s t a b;
         own = λ e f s among there a b. (
-            let (routes, inodes) = one_last P I sound (reverse e.0) (reverse f.0) e.1 f.1 s a b in
+            let (routes, inodes) = one_last P I coherent (reverse e.0) (reverse f.0) e.1 f.1 s a b in
             let paths = same_reverse e.0 f.0 routes in
             λ k. (paths k, inodes k));
       }
@@ -145,8 +145,8 @@ module _ (P : ℕ) (I : List ℕ) (T : Tree) (sound : Sound P I) (reads : Reads 
   pub has_absences : HasAbsences P I T
   has_absences = record {
     absent = λ p d name at. (
-      (λ none s entry. some_none (id_at T (p ++ name ∷ [])) (slot_inode P I s) none ((has_entries P I T sound reads p d (slot_inode P I s) name at).1 (s, entry, refl))),
-      (λ none. no_entry (p ++ name ∷ []) d name (id_at T (p ++ name ∷ [])) refl (λ i is. (has_entries P I T sound reads p d i name at).0 is) none),
+      (λ none s entry. some_none (id_at T (p ++ name ∷ [])) (slot_inode P I s) none ((has_entries P I T coherent reads p d (slot_inode P I s) name at).1 (s, entry, refl))),
+      (λ none. no_entry (p ++ name ∷ []) d name (id_at T (p ++ name ∷ [])) refl (λ i is. (has_entries P I T coherent reads p d i name at).0 is) none),
     );
     empty = λ d. (
       (λ zero. none_counted (IsSlotOf P I d) (subst (Count (IsSlotOf P I d)) zero (count_names d))),
@@ -155,7 +155,7 @@ module _ (P : ℕ) (I : List ℕ) (T : Tree) (sound : Sound P I) (reads : Reads 
   }
 
 pub name_count_law : NameCountLaw
-name_count_law P I state sound reads d = count_names P I state.tree sound reads.tree d
+name_count_law P I state coherent reads d = count_names P I state.tree coherent reads.tree d
 
 pub absence_law : AbsenceLaw
-absence_law P I state sound reads = has_absences P I state.tree sound reads.tree
+absence_law P I state coherent reads = has_absences P I state.tree coherent reads.tree

@@ -1,4 +1,4 @@
--- What a sound image reads as is a state of a volume.
+-- What a coherent image reads as is a state of a volume.
 use Rattle.std.proofs.Common.{◌≡◌, ◌≢◌, ◌⊎◌, inl, inr, ℕ, ◌+◌, ◌*◌, ◌<◌, ◌≤◌, true, List, [], ◌∷◌, map, reverse, Option, Some, None, is_some, refl, sym, ap, subst, arith}
 use Rattle.std.proofs.lemmas.List.{reverse-reverse, length-map}
 use Rattle.layout.specs.Geometry.{inodes_of, data_pages_of, page_of_slot}
@@ -10,7 +10,7 @@ use Rattle.tree_model.proofs.RoomLaws.{IsPageCount, IsRoom-from}
 use Rattle.image_reading.specs.Counts.{IsIn, Count}
 use Rattle.image_reading.specs.Reading.{IsDirectory, slot_owner, Names, Reached, IsRoomOf, Reads, HasRoom}
 use Rattle.image_reading.specs.Repairs.{IsKept}
-use Rattle.image_reading.specs.Soundness.{Rule, Sound}
+use Rattle.image_reading.specs.Soundness.{Rule, IsCoherent}
 use Rattle.image_counts.specs.Entries.{IsSlotOf}
 use Rattle.image_counts.specs.Laws.{StateLaw}
 use Rattle.image_counts.proofs.Paths.{root_reached, one_path, in_range, reached_slot}
@@ -44,33 +44,33 @@ some_id (Some i) e = (i, refl)
 below_root : (n : List ℕ) (p : Route) → reverse (n ∷ p) ≢ []
 below_root n p empty = let clash : n ∷ p ≡ [] = same_reverse (n ∷ p) [] empty in cc
 
-module _ (P : ℕ) (I : List ℕ) (T : Tree) (sound : Sound P I) (reads : Reads P I T) where
+module _ (P : ℕ) (I : List ℕ) (T : Tree) (coherent : IsCoherent P I) (reads : Reads P I T) where
   -- ---- the tree
 
   directory_is : (d : ℕ) → Reached P I d → IsDirectory I d → is_directory T d ≡ true
-  directory_is d reached directory = ((has_sizes P I T sound reads).directories d).1 (reached, directory)
+  directory_is d reached directory = ((has_sizes P I T coherent reads).directories d).1 (reached, directory)
 
   is_directory_is : (d : ℕ) → is_directory T d ≡ true → Reached P I d × IsDirectory I d
-  is_directory_is d is = ((has_sizes P I T sound reads).directories d).0 is
+  is_directory_is d is = ((has_sizes P I T coherent reads).directories d).0 is
 
   parents : (path : Route) → is_some (id_at T path) ≡ true → (is_root path ≡ true) ⊎ ((id : ℕ) × (id_at T (parent path) ≡ Some id) × (is_directory T id ≡ true))
   parents [] there = inl refl
   parents (n ∷ p) there =
       let (i, is) = some_id (id_at T (n ∷ p)) there in
-      let (s, last) = last_slot P I T sound reads (reverse (n ∷ p)) i ((reads.names (n ∷ p) i).0 is) (below_root n p) in
+      let (s, last) = last_slot P I T coherent reads (reverse (n ∷ p)) i ((reads.names (n ∷ p) i).0 is) (below_root n p) in
       let slot = reached_slot P I (reverse (n ∷ p)) i s last in
-      inr (slot_owner P I s, above_name P I T sound reads (n ∷ p) i s last, directory_is (slot_owner P I s) slot.owner slot.directory)
+      inr (slot_owner P I s, above_name P I T coherent reads (n ∷ p) i s last, directory_is (slot_owner P I s) slot.owner slot.directory)
 
   pub is_tree : IsTree T
   is_tree = record {
     root = (reads.names [] 1).1 refl;
-    root_directory = directory_node P I T sound reads 1 (root_reached P I sound) ((sound Rule.root 1).directory refl);
+    root_directory = directory_node P I T coherent reads 1 (root_reached P I coherent) ((coherent Rule.root 1).directory refl);
     parents = parents;
-    one_path = λ d is p q a b. same_reverse p q (one_path P I sound (reverse p) (reverse q) d (is_directory_is d is).1 ((reads.names p d).0 a) ((reads.names q d).0 b));
+    one_path = λ d is p q a b. same_reverse p q (one_path P I coherent (reverse p) (reverse q) d (is_directory_is d is).1 ((reads.names p d).0 a) ((reads.names q d).0 b));
     named = λ i there. (
-        let (r, names) = node_reached P I T sound reads i there in
+        let (r, names) = node_reached P I T coherent reads i there in
         (reverse r, (reads.names (reverse r) i).1 (subst (λ z. Names P I z i) (sym (reverse-reverse r)) names)));
-    present = λ p i is. reached_node P I T sound reads i (reverse p, (reads.names p i).0 is);
+    present = λ p i is. reached_node P I T coherent reads i (reverse p, (reads.names p i).0 is);
   }
 
   -- ---- the room
@@ -86,7 +86,7 @@ module _ (P : ℕ) (I : List ℕ) (T : Tree) (sound : Sound P I) (reads : Reads 
 
     page_count : (d k : ℕ) → Reached P I d → IsDirectory I d → Count (IsRoomOf P I d) k → IsPageCount (name_count T d) k
     page_count d k reached directory count =
-        let names = count_names P I T sound reads d in
+        let names = count_names P I T coherent reads d in
         record {
           most = count_onto page_of_slot (IsSlotOf P I d) (IsRoomOf P I d) (name_count T d) k (room_slot d) names count;
           least = count_fewer (IsSlotOf P I d) (λ s. IsRoomOf P I d (page_of_slot s)) (name_count T d) (32 * k) (λ s named. slot_room d s reached directory named)
@@ -107,23 +107,23 @@ module _ (P : ℕ) (I : List ℕ) (T : Tree) (sound : Sound P I) (reads : Reads 
     ]
 
     reached_below : (i : ℕ) → Reached P I i → (1 ≤ i) × (i < 1 + inodes_of P)
-    reached_below i reached = let range = in_range P I sound i reached in (range.0, omega (arith, range.1))
+    reached_below i reached = let range = in_range P I coherent i reached in (range.0, omega (arith, range.1))
 
     pub fits : Fits P T room
     fits = record {
-      ids = λ i there. in_range P I sound i (node_reached P I T sound reads i there);
-      inodes = count_fewer (Reached P I) (λ i. (1 ≤ i) × (i < 1 + inodes_of P)) (inodes_in_use T) (inodes_of P) reached_below (count_reached P I T sound reads) (count_run 1 (inodes_of P));
-      pages = count_fewer (IsKept P I) (λ j. (0 ≤ j) × (j < 0 + data_pages_of P)) (pages_in_use T room) (data_pages_of P) kept_below (count_kept P I T room sound reads rooms) (count_run 0 (data_pages_of P));
+      ids = λ i there. in_range P I coherent i (node_reached P I T coherent reads i there);
+      inodes = count_fewer (Reached P I) (λ i. (1 ≤ i) × (i < 1 + inodes_of P)) (inodes_in_use T) (inodes_of P) reached_below (count_reached P I T coherent reads) (count_run 1 (inodes_of P));
+      pages = count_fewer (IsKept P I) (λ j. (0 ≤ j) × (j < 0 + data_pages_of P)) (pages_in_use T room) (data_pages_of P) kept_below (count_kept P I T room coherent reads rooms) (count_run 0 (data_pages_of P));
       sizes = λ i bytes is. (
           let (reached, node) = (reads.nodes i (File bytes)).0 is in
-          let small = sound Rule.sizes i reached node.0 in
+          let small = coherent Rule.sizes i reached node.0 in
           let size = node.1.size in
           subst (λ n. n ≤ file_limit) (sym size) small);
     }
 
 pub state_law : StateLaw
-state_law P I state sound reads = record {
-  tree = is_tree P I state.tree sound reads.tree;
-  room = is_room P I state.tree sound reads.tree state.room reads.room;
-  fits = fits P I state.tree sound reads.tree state.room reads.room;
+state_law P I state coherent reads = record {
+  tree = is_tree P I state.tree coherent reads.tree;
+  room = is_room P I state.tree coherent reads.tree state.room reads.room;
+  fits = fits P I state.tree coherent reads.tree state.room reads.room;
 }

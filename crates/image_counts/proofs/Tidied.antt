@@ -10,8 +10,8 @@ use Rattle.tree_model.specs.Run.{State}
 use Rattle.image_reading.specs.Counts.{Count}
 use Rattle.image_reading.specs.Reading.{IsDirectory, IsFile, HasBytes, slot_owner, IsLive, Reached, IsReachedSlot, IsRoomOf, pages_of_size, ReadsAs}
 use Rattle.image_reading.specs.Repairs.{IsKept, IsLitterPage, IsLitterSlot}
-use Rattle.image_reading.specs.Soundness.{Rule, Sound}
-use Rattle.image_reading.specs.Tidy.{Tidy}
+use Rattle.image_reading.specs.Soundness.{Rule, IsCoherent}
+use Rattle.image_reading.specs.Tidy.{IsTidied}
 use Rattle.image_reading.proofs.Counts.{count_one}
 use Rattle.image_counts.specs.Entries.{IsSlotOf, IsSlotIn, IsPageIn, IsOwnedPage, IsFreePage}
 use Rattle.image_counts.specs.Laws.{HasRoomWords, HasUsedPages, RoomLaw, FilePagesLaw, PageCountLaw}
@@ -24,9 +24,9 @@ use Rattle.image_counts.proofs.Decided.{IsDecided, live_or_not, room_or_not, roo
 use Rattle.image_counts.proofs.Pages.{IsFilePage, count_file_pages, count_kept, count_room}
 use Rattle.image_counts.proofs.PageSlots.{count_slots_of}
 
-module _ (P : ℕ) (I : List ℕ) (state : State) (tidy : Tidy P I) (reads : ReadsAs P I state) where
-  sound : Sound P I
-  sound = tidy.sound
+module _ (P : ℕ) (I : List ℕ) (state : State) (tidy : IsTidied P I) (reads : ReadsAs P I state) where
+  coherent : IsCoherent P I
+  coherent = tidy.coherent
 
   -- ---- kept pages
 
@@ -49,8 +49,8 @@ module _ (P : ℕ) (I : List ℕ) (state : State) (tidy : Tidy P I) (reads : Rea
   ]
 
   kept_or_not : (j : ℕ) → j < data_pages_of P → IsDecided (IsKept P I j)
-  kept_or_not j within = elim (reached_or_not P I state.tree sound reads.tree (page_owner P I j)) [
-    | inl reached ↦ elim ((sound Rule.kinds (page_owner P I j)).kind reached) [
+  kept_or_not j within = elim (reached_or_not P I state.tree coherent reads.tree (page_owner P I j)) [
+    | inl reached ↦ elim ((coherent Rule.kinds (page_owner P I j)).kind reached) [
       | inl file ↦ file_page_or_not j within reached file
       | inr directory ↦ directory_page_or_not j reached directory
     ]
@@ -68,7 +68,7 @@ module _ (P : ℕ) (I : List ℕ) (state : State) (tidy : Tidy P I) (reads : Rea
   ]
 
   reached_nonzero : (i : ℕ) → Reached P I i → i ≢ 0
-  reached_nonzero i reached zero = let least = (in_range P I sound i reached).0 in omega (arith, least, zero)
+  reached_nonzero i reached zero = let least = (in_range P I coherent i reached).0 in omega (arith, least, zero)
 
   pub kept_owned : (j : ℕ) → IsKept P I j → IsOwnedPage P I j
   kept_owned j kept = elim kept [
@@ -78,7 +78,7 @@ module _ (P : ℕ) (I : List ℕ) (state : State) (tidy : Tidy P I) (reads : Rea
 
   count_owned : Count (IsOwnedPage P I) (pages_in_use state.tree state.room)
   count_owned = count_alike (IsKept P I) (IsOwnedPage P I) (pages_in_use state.tree state.room) kept_owned (λ j page. owned_kept j page.0 page.1)
-      (count_kept P I state.tree state.room sound reads.tree reads.room)
+      (count_kept P I state.tree state.room coherent reads.tree reads.room)
 
   free_pages_are : (n : ℕ) → Count (IsFreePage P I) n → free_pages (untaken P) state.tree state.room ≡ n
   free_pages_are n free =
@@ -109,7 +109,7 @@ module _ (P : ℕ) (I : List ℕ) (state : State) (tidy : Tidy P I) (reads : Rea
 
   -- a file's pages are one for each page of its size
   count_pages_of_file : (i : ℕ) → Reached P I i → IsFile I i → Count (IsPageIn P I i) (pages_of_size (inode_size I i))
-  count_pages_of_file i reached file = count_alike (IsFilePage P I i) (IsPageIn P I i) (pages_of_size (inode_size I i)) to from (count_file_pages P I sound i reached file)
+  count_pages_of_file i reached file = count_alike (IsFilePage P I i) (IsPageIn P I i) (pages_of_size (inode_size I i)) to from (count_file_pages P I coherent i reached file)
     where
       to : (j : ℕ) → IsFilePage P I i j → IsPageIn P I i j
       to j page = record { in_range = page.0.in_range; owner = page.1 }
@@ -178,14 +178,14 @@ module _ (P : ℕ) (I : List ℕ) (state : State) (tidy : Tidy P I) (reads : Rea
     full_numbered : name_count state.tree d ≡ 32 * pages_in state.room d → (s : ℕ) → IsSlotIn P I d s → slot_inode P I s ≢ 0
     full_numbered full s slot none =
         let less = count_less (IsSlotOf P I d) (IsSlotIn P I d) (name_count state.tree d) (32 * pages_in state.room d) s named_slot slot
-        (λ named. named.0.live.names none) (count_names P I state.tree sound reads.tree d) count_all_slots in
+        (λ named. named.0.live.names none) (count_names P I state.tree coherent reads.tree d) count_all_slots in
         omega (arith, less, full)
 
     numbered_full : ((s : ℕ) → IsSlotIn P I d s → slot_inode P I s ≢ 0) → name_count state.tree d ≡ 32 * pages_in state.room d
     numbered_full all = count_one (IsSlotIn P I d) (name_count state.tree d) (32 * pages_in state.room d)
         (count_alike (IsSlotOf P I d) (IsSlotIn P I d) (name_count state.tree d) named_slot
         (λ s slot. (numbered_live s slot (all s slot), slot.owner))
-        (count_names P I state.tree sound reads.tree d))
+        (count_names P I state.tree coherent reads.tree d))
         count_all_slots
 
     pub has_room_words : HasRoomWords P I state d

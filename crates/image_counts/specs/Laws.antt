@@ -10,8 +10,8 @@ use Rattle.tree_model.specs.Run.{State, IsVolumeState}
 use Rattle.image_reading.specs.Counts.{Count}
 use Rattle.image_reading.specs.Reading.{IsFile, IsDirectory, Reached, IsReachedSlot, IsLinkCount, pages_of_size, ReadsAs}
 use Rattle.image_reading.specs.Repairs.{IsKept}
-use Rattle.image_reading.specs.Soundness.{Sound}
-use Rattle.image_reading.specs.Tidy.{Tidy}
+use Rattle.image_reading.specs.Soundness.{IsCoherent}
+use Rattle.image_reading.specs.Tidy.{IsTidied}
 use Rattle.image_counts.specs.Entries.{IsEntryOf, IsSlotOf, IsSlotIn, IsPageIn, IsOwnedPage, IsFreePage, IsFreeInode}
 
 -- ---- names
@@ -22,11 +22,11 @@ HasEntries P I T = (p : Route) (d i : ℕ) (name : List ℕ) → id_at T p ≡ S
     → (id_at T (p ++ name ∷ []) ≡ Some i) ↔ ((s : ℕ) × IsEntryOf P I d name s × (slot_inode P I s ≡ i))
 
 abbrev pub EntryLaw : Type 0
-EntryLaw = (P : ℕ) (I : List ℕ) (state : State) → Sound P I → ReadsAs P I state → HasEntries P I state.tree
+EntryLaw = (P : ℕ) (I : List ℕ) (state : State) → IsCoherent P I → ReadsAs P I state → HasEntries P I state.tree
 
 -- A directory has as many names as reached slots.
 abbrev pub NameCountLaw : Type 0
-NameCountLaw = (P : ℕ) (I : List ℕ) (state : State) → Sound P I → ReadsAs P I state → (d : ℕ) → Count (IsSlotOf P I d) (name_count state.tree d)
+NameCountLaw = (P : ℕ) (I : List ℕ) (state : State) → IsCoherent P I → ReadsAs P I state → (d : ℕ) → Count (IsSlotOf P I d) (name_count state.tree d)
 
 -- There is no such path where the directory has no such slot, and the directory is empty where it has none.
 pub record HasAbsences (P : ℕ) (I : List ℕ) (T : Tree) : Type 0 where
@@ -34,7 +34,7 @@ pub record HasAbsences (P : ℕ) (I : List ℕ) (T : Tree) : Type 0 where
   pub empty : (d : ℕ) → (name_count T d ≡ 0) ↔ ((s : ℕ) → ¬ IsSlotOf P I d s)
 
 abbrev pub AbsenceLaw : Type 0
-AbsenceLaw = (P : ℕ) (I : List ℕ) (state : State) → Sound P I → ReadsAs P I state → HasAbsences P I state.tree
+AbsenceLaw = (P : ℕ) (I : List ℕ) (state : State) → IsCoherent P I → ReadsAs P I state → HasAbsences P I state.tree
 
 -- ---- nodes
 
@@ -45,7 +45,7 @@ pub record HasSizes (P : ℕ) (I : List ℕ) (T : Tree) : Type 0 where
   pub files : (i : ℕ) → (is_file T i ≡ true) ↔ (Reached P I i × IsFile I i)
 
 abbrev pub SizeLaw : Type 0
-SizeLaw = (P : ℕ) (I : List ℕ) (state : State) → Sound P I → ReadsAs P I state → HasSizes P I state.tree
+SizeLaw = (P : ℕ) (I : List ℕ) (state : State) → IsCoherent P I → ReadsAs P I state → HasSizes P I state.tree
 
 -- The inodes in use are those that are reached, and each is in the inode table.
 pub record HasInodes (P : ℕ) (I : List ℕ) (T : Tree) : Type 0 where
@@ -54,7 +54,7 @@ pub record HasInodes (P : ℕ) (I : List ℕ) (T : Tree) : Type 0 where
   pub most : (i : ℕ) → Reached P I i → i ≤ inodes_of P
 
 abbrev pub InodeCountLaw : Type 0
-InodeCountLaw = (P : ℕ) (I : List ℕ) (state : State) → Sound P I → ReadsAs P I state → HasInodes P I state.tree
+InodeCountLaw = (P : ℕ) (I : List ℕ) (state : State) → IsCoherent P I → ReadsAs P I state → HasInodes P I state.tree
 
 -- In a tidy image an inode is free exactly where its kind is 0.
 pub record HasUsedInodes (P : ℕ) (I : List ℕ) (T : Tree) : Type 0 where
@@ -64,7 +64,7 @@ pub record HasUsedInodes (P : ℕ) (I : List ℕ) (T : Tree) : Type 0 where
   pub least : (i : ℕ) → 2 ≤ i → IsFreeInode P I i → ((j : ℕ) → 2 ≤ j → j < i → inode_kind I j ≢ 0) → least_free_id T ≡ i
 
 abbrev pub FreeInodeLaw : Type 0
-FreeInodeLaw = (P : ℕ) (I : List ℕ) (state : State) → Tidy P I → ReadsAs P I state → HasUsedInodes P I state.tree
+FreeInodeLaw = (P : ℕ) (I : List ℕ) (state : State) → IsTidied P I → ReadsAs P I state → HasUsedInodes P I state.tree
 
 -- ---- links
 
@@ -74,11 +74,11 @@ pub record HasLinkCounts (P : ℕ) (I : List ℕ) (T : Tree) : Type 0 where
   pub only : (i n : ℕ) → Reached P I i → IsLinkCount P I i n → link_count T i ≡ n
 
 abbrev pub LinkLaw : Type 0
-LinkLaw = (P : ℕ) (I : List ℕ) (state : State) → Sound P I → ReadsAs P I state → HasLinkCounts P I state.tree
+LinkLaw = (P : ℕ) (I : List ℕ) (state : State) → IsCoherent P I → ReadsAs P I state → HasLinkCounts P I state.tree
 
 -- In a tidy image it has as many as its link word says.
 abbrev pub LinkWordLaw : Type 0
-LinkWordLaw = (P : ℕ) (I : List ℕ) (state : State) → Tidy P I → ReadsAs P I state → (i : ℕ) → Reached P I i → link_count state.tree i ≡ inode_links I i
+LinkWordLaw = (P : ℕ) (I : List ℕ) (state : State) → IsTidied P I → ReadsAs P I state → (i : ℕ) → Reached P I i → link_count state.tree i ≡ inode_links I i
 
 -- ---- pages
 
@@ -92,16 +92,16 @@ pub record HasRoomWords (P : ℕ) (I : List ℕ) (state : State) (d : ℕ) : Typ
   pub full : (name_count state.tree d ≡ 32 * pages_in state.room d) ↔ ((s : ℕ) → IsSlotIn P I d s → slot_inode P I s ≢ 0)
 
 abbrev pub RoomLaw : Type 0
-RoomLaw = (P : ℕ) (I : List ℕ) (state : State) → Tidy P I → ReadsAs P I state → (d : ℕ) → Reached P I d → IsDirectory I d → HasRoomWords P I state d
+RoomLaw = (P : ℕ) (I : List ℕ) (state : State) → IsTidied P I → ReadsAs P I state → (d : ℕ) → Reached P I d → IsDirectory I d → HasRoomWords P I state d
 
 -- A file's pages are one for each page of its size.
 abbrev pub FilePagesLaw : Type 0
-FilePagesLaw = (P : ℕ) (I : List ℕ) (state : State) → Tidy P I → ReadsAs P I state → (i : ℕ) → Reached P I i → IsFile I i
+FilePagesLaw = (P : ℕ) (I : List ℕ) (state : State) → IsTidied P I → ReadsAs P I state → (i : ℕ) → Reached P I i → IsFile I i
     → Count (IsPageIn P I i) (pages_of_size (inode_size I i))
 
 -- The pages in use are those that recovery would keep.
 abbrev pub KeptPageLaw : Type 0
-KeptPageLaw = (P : ℕ) (I : List ℕ) (state : State) → Sound P I → ReadsAs P I state → Count (IsKept P I) (pages_in_use state.tree state.room)
+KeptPageLaw = (P : ℕ) (I : List ℕ) (state : State) → IsCoherent P I → ReadsAs P I state → Count (IsKept P I) (pages_in_use state.tree state.room)
 
 -- In a tidy image they are the pages that have an owner.
 pub record HasUsedPages (P : ℕ) (I : List ℕ) (state : State) : Type 0 where
@@ -110,10 +110,10 @@ pub record HasUsedPages (P : ℕ) (I : List ℕ) (state : State) : Type 0 where
   pub free : (n : ℕ) → Count (IsFreePage P I) n → free_pages (untaken P) state.tree state.room ≡ n
 
 abbrev pub PageCountLaw : Type 0
-PageCountLaw = (P : ℕ) (I : List ℕ) (state : State) → Tidy P I → ReadsAs P I state → HasUsedPages P I state
+PageCountLaw = (P : ℕ) (I : List ℕ) (state : State) → IsTidied P I → ReadsAs P I state → HasUsedPages P I state
 
 -- ---- states
 
--- What a sound image reads as is a state of a volume of its size.
+-- What a coherent image reads as is a state of a volume of its size.
 abbrev pub StateLaw : Type 0
-StateLaw = (P : ℕ) (I : List ℕ) (state : State) → Sound P I → ReadsAs P I state → IsVolumeState P state
+StateLaw = (P : ℕ) (I : List ℕ) (state : State) → IsCoherent P I → ReadsAs P I state → IsVolumeState P state

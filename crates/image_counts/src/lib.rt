@@ -63,7 +63,7 @@ pub fn file_pages_law()
     ensures { FilePagesLaw }
 {}
 
-/// What a sound image reads as is a state that a volume of its size may have.
+/// What a coherent image reads as is a state that a volume of its size may have.
 pub fn state_law()
     ensures { StateLaw }
 {}

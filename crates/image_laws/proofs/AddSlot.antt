@@ -9,7 +9,7 @@ use Rattle.tree_model.specs.PathText.{Route}
 use Rattle.tree_model.specs.Tree.{Node}
 use Rattle.image_reading.specs.Counts.{AtMost}
 use Rattle.image_reading.specs.Reading.{slot_owner, IsHeld, IsLive, Names, Reached, IsReachedSlot, IsPageOf, IsNode, pages_of_size, IsNameOf, IsChildOf}
-use Rattle.image_reading.specs.Soundness.{Rule, Obeys, Sound, HasLinks}
+use Rattle.image_reading.specs.Soundness.{Rule, Obeys, IsCoherent, HasLinks}
 use Rattle.image_counts.proofs.Paths.{one_path}
 use Rattle.image_laws.specs.Add.{IsNewNode, CanAdd}
 use Rattle.image_laws.proofs.Counts.{at_most, at_most_more}
@@ -74,7 +74,7 @@ module _ (P : ℕ) (I J : List ℕ) (p : Route) (d s i : ℕ) (c : CanAdd P I p 
   ]
 
   pub kind_reached : (x : ℕ) → Reached P I x → inode_kind J x ≡ inode_kind I x
-  kind_reached x r = only.node_kind x (reached-le P I c.sound x r)
+  kind_reached x r = only.node_kind x (reached-le P I c.coherent x r)
 
   names_forward : (q : Route) (x : ℕ) → Names P I q x → Names P J q x
   names_forward [] x e = e
@@ -116,7 +116,7 @@ module _ (P : ℕ) (I J : List ℕ) (p : Route) (d s i : ℕ) (c : CanAdd P I p 
             let directory : inode_kind I (slot_owner P I t) ≡ 2 = sym (kind_reached (slot_owner P I t) (q, old)) ∙ ap (inode_kind J) (sym o) ∙ l.directory in
             elim (live_cases t l.live) [
               | inl e ↦
-                  let path : q ≡ p = one_path P I c.sound q p d c.slot.directory (subst (Names P I q) (ap (slot_owner P I) e ∙ c.slot.owner) old) c.slot.path in
+                  let path : q ≡ p = one_path P I c.coherent q p d c.slot.directory (subst (Names P I q) (ap (slot_owner P I) e ∙ c.slot.owner) old) c.slot.path in
                   let name : n ≡ slot_name P I s = sym l.name ∙ same_name t ∙ ap (slot_name P I) e in
                   inr (cc, sym l.inode ∙ ap (slot_inode P J) e ∙ stored)
               | inr live ↦ inl (
@@ -154,7 +154,7 @@ module _ (P : ℕ) (I J : List ℕ) (p : Route) (d s i : ℕ) (c : CanAdd P I p 
   same_inode t r = only.inode t (λ e. r.live.names (ap (slot_inode P I) e ∙ c.slot.free))
 
   slot_range : (t : ℕ) → IsReachedSlot P I t → slot_inode P I t ≤ inodes_of P
-  slot_range t r = (c.sound Rule.inodes t).most r
+  slot_range t r = (c.coherent Rule.inodes t).most r
 
   page_back : (x k j : ℕ) → IsPageOf P J x k j → IsPageOf P I x k j
   page_back = slots.page_back P I J s only
@@ -182,7 +182,7 @@ module _ (P : ℕ) (I J : List ℕ) (p : Route) (d s i : ℕ) (c : CanAdd P I p 
         ]
         | inr old ↦ elim (slot_cases t ht) [
           | inl f ↦ c.new r old (owners' ∙ ap (slot_owner P I) f ∙ c.slot.owner) (names' ∙ ap (slot_name P I) f)
-          | inr old' ↦ c.sound Rule.own_names t r lt old old' owners' names'
+          | inr old' ↦ c.coherent Rule.own_names t r lt old old' owners' names'
         ]
       ]
 
@@ -208,7 +208,7 @@ module _ (P : ℕ) (I J : List ℕ) (p : Route) (d s i : ℕ) (c : CanAdd P I p 
               no_second r old (sym (same_inode r old) ∙ same ∙ is_i) (sym (only.node_kind i c.most) ∙ ap (inode_kind J) (sym is_i) ∙ directory)
           | inr old' ↦
               let es = same_inode t old' in
-              c.sound Rule.own_directories t r lt old old' (sym (kind_reached (slot_inode P I t) (reach P I t old' (slot_range t old'))) ∙ ap (inode_kind J) (sym es) ∙ directory)
+              c.coherent Rule.own_directories t r lt old old' (sym (kind_reached (slot_inode P I t) (reach P I t old' (slot_range t old'))) ∙ ap (inode_kind J) (sym es) ∙ directory)
               (sym (same_inode r old) ∙ same ∙ es)
         ]
       ]
@@ -225,7 +225,7 @@ module _ (P : ℕ) (I J : List ℕ) (p : Route) (d s i : ℕ) (c : CanAdd P I p 
       ]
     where
       same_kind_old : (j : ℕ) → j < data_pages_of P → Reached P I (page_owner P I j) → page_kind P J j ≡ inode_kind J (page_owner P J j)
-      same_kind_old j lt old = only.kind j lt ∙ page_kind_is P I c.sound j lt old ∙ sym (kind_reached (page_owner P I j) old) ∙ ap (inode_kind J) (sym (only.owner j lt))
+      same_kind_old j lt old = only.kind j lt ∙ page_kind_is P I c.coherent j lt old ∙ sym (kind_reached (page_owner P I j) old) ∙ ap (inode_kind J) (sym (only.owner j lt))
 
   -- each reached inode of J is one of I, or new
   pub inode_cases : (x : ℕ) → Reached P J x → Reached P I x ⊎ ((x ≡ i) × IsNewNode P I i)
@@ -236,7 +236,7 @@ module _ (P : ℕ) (I J : List ℕ) (p : Route) (d s i : ℕ) (c : CanAdd P I p 
 
   pub in_range : (x : ℕ) → Reached P J x → x ≤ inodes_of P
   in_range x r = elim (inode_cases x r) [
-    | inl old ↦ reached-le P I c.sound x old
+    | inl old ↦ reached-le P I c.coherent x old
     | inr new ↦ subst (λ z. z ≤ inodes_of P) (sym new.0) c.most
   ]
 
@@ -266,7 +266,7 @@ module _ (P : ℕ) (I J : List ℕ) (p : Route) (d s i : ℕ) (c : CanAdd P I p 
   slot_names : (x : ℕ) → IsReachedSlot P J x → (2 ≤ slot_inode P J x) × (slot_inode P J x ≤ inodes_of P)
   slot_names x r = elim (slot_cases x r) [
     | inl e ↦ subst (λ z. (2 ≤ z) × (z ≤ inodes_of P)) (sym (ap (slot_inode P J) e ∙ stored)) (c.least, c.most)
-    | inr old ↦ subst (λ z. (2 ≤ z) × (z ≤ inodes_of P)) (sym (same_inode x old)) ((c.sound Rule.inodes x).least old, (c.sound Rule.inodes x).most old)
+    | inr old ↦ subst (λ z. (2 ≤ z) × (z ≤ inodes_of P)) (sym (same_inode x old)) ((c.coherent Rule.inodes x).least old, (c.coherent Rule.inodes x).most old)
   ]
 
   kind_of : (inode_kind I i ≡ 1) ⊎ (inode_kind I i ≡ 2)
@@ -279,7 +279,7 @@ module _ (P : ℕ) (I J : List ℕ) (p : Route) (d s i : ℕ) (c : CanAdd P I p 
 
   links_file : (x : ℕ) → Reached P I x → x ≢ i → inode_kind I x ≡ 1 → AtMost 0 (IsNameOf P J x) (inode_links I x)
   links_file x r ne k = at_most 0 (inode_links I x) (IsNameOf P I x) (IsNameOf P J x)
-      (λ t n. elim (name_of x t n) [ inl e ↦ absurd (ne e.1) | inr old ↦ old ]) ((c.sound Rule.links x r).file k)
+      (λ t n. elim (name_of x t n) [ inl e ↦ absurd (ne e.1) | inr old ↦ old ]) ((c.coherent Rule.links x r).file k)
 
   links_new : IsNewNode P I i → inode_kind I i ≡ 2 → AtMost 2 (IsChildOf P J i) (inode_links I i)
   links_new f k = at_most_none 2 (inode_links I i) (IsChildOf P J i)
@@ -292,13 +292,13 @@ module _ (P : ℕ) (I J : List ℕ) (p : Route) (d s i : ℕ) (c : CanAdd P I p 
   links_directory : (x : ℕ) → Reached P I x → inode_kind I x ≡ 2 → AtMost 2 (IsChildOf P J x) (inode_links I x)
   links_directory x r k = elim kind_of [
     | inl one ↦ at_most 2 (inode_links I x) (IsChildOf P I x) (IsChildOf P J x)
-        (λ t n. elim (child_of x t n) [ inl e ↦ (let two = e.2 in absurd (omega (arith, one, two))) | inr old ↦ old ]) ((c.sound Rule.links x r).directory k)
+        (λ t n. elim (child_of x t n) [ inl e ↦ (let two = e.2 in absurd (omega (arith, one, two))) | inr old ↦ old ]) ((c.coherent Rule.links x r).directory k)
     | inr two ↦ elim (cases_eq x d) [
       | inl e ↦ subst (λ z. AtMost 2 (IsChildOf P J z) (inode_links I z)) (sym e)
           (at_most_more 2 (inode_links I d) s (IsChildOf P I d) (IsChildOf P J d)
           (λ t n. elim (child_of d t n) [ inl e ↦ inl e.0 | inr old ↦ inr old ]) (c.child_link two))
       | inr ne ↦ at_most 2 (inode_links I x) (IsChildOf P I x) (IsChildOf P J x)
-          (λ t n. elim (child_of x t n) [ inl e ↦ absurd (ne e.1) | inr old ↦ old ]) ((c.sound Rule.links x r).directory k)
+          (λ t n. elim (child_of x t n) [ inl e ↦ absurd (ne e.1) | inr old ↦ old ]) ((c.coherent Rule.links x r).directory k)
     ]
   ]
 
@@ -317,56 +317,56 @@ module _ (P : ℕ) (I J : List ℕ) (p : Route) (d s i : ℕ) (c : CanAdd P I p 
     })
   ]
 
-  pub added_sound : Sound P J
-  added_sound Rule.head x = same_head P I J x only.size only.head (c.sound Rule.head x)
-  added_sound Rule.root x = record {
-    directory = λ z. only.node_kind x (root_range z) ∙ (c.sound Rule.root x).directory z;
-    own = λ z. only.own x (root_range z) ∙ (c.sound Rule.root x).own z;
+  pub added_coherent : IsCoherent P J
+  added_coherent Rule.head x = same_head P I J x only.size only.head (c.coherent Rule.head x)
+  added_coherent Rule.root x = record {
+    directory = λ z. only.node_kind x (root_range z) ∙ (c.coherent Rule.root x).directory z;
+    own = λ z. only.own x (root_range z) ∙ (c.coherent Rule.root x).own z;
   }
     where
       root_range : x ≡ 1 → x ≤ inodes_of P
-      root_range z = reached-le P I c.sound x ([], z)
-  added_sound Rule.pointers x = slots.pointers_kept P I J s only c.sound x
-  added_sound Rule.one_pointer x = slots.one_pointer_kept P I J s only c.sound x
-  added_sound Rule.inodes x = record { least = λ r. (slot_names x r).0; most = λ r. (slot_names x r).1 }
-  added_sound Rule.names x = λ r. subst IsNameWords (sym (only.words x)) (elim (slot_cases x r) [
+      root_range z = reached-le P I c.coherent x ([], z)
+  added_coherent Rule.pointers x = slots.pointers_kept P I J s only c.coherent x
+  added_coherent Rule.one_pointer x = slots.one_pointer_kept P I J s only c.coherent x
+  added_coherent Rule.inodes x = record { least = λ r. (slot_names x r).0; most = λ r. (slot_names x r).1 }
+  added_coherent Rule.names x = λ r. subst IsNameWords (sym (only.words x)) (elim (slot_cases x r) [
     | inl e ↦ subst IsNameWords (ap (slot_words P I) (sym e)) c.name
-    | inr old ↦ c.sound Rule.names x old
+    | inr old ↦ c.coherent Rule.names x old
   ])
-  added_sound Rule.kinds x = record {
+  added_coherent Rule.kinds x = record {
     kind = λ r. subst (λ k. (k ≡ 1) ⊎ (k ≡ 2)) (sym (only.node_kind x (in_range x r))) (elim (inode_cases x r) [
-      | inl old ↦ (c.sound Rule.kinds x).kind old
+      | inl old ↦ (c.coherent Rule.kinds x).kind old
       | inr new ↦ subst (λ z. (inode_kind I z ≡ 1) ⊎ (inode_kind I z ≡ 2)) (sym new.0) new.1.kind
     ]);
     own = λ r. only.own x (in_range x r) ∙ elim (inode_cases x r) [
-      | inl old ↦ (c.sound Rule.kinds x).own old
+      | inl old ↦ (c.coherent Rule.kinds x).own old
       | inr new ↦ ap (inode_own I) new.0 ∙ new.1.own ∙ sym new.0
     ];
   }
-  added_sound Rule.own_names x = rule8 x
-  added_sound Rule.own_directories x = rule9 x
-  added_sound Rule.page_kinds x = record { file = λ lt r k. same_kind x lt r ∙ k; directory = λ lt r k. same_kind x lt r ∙ k }
-  added_sound Rule.sizes x = λ r k. let l = in_range x r in
+  added_coherent Rule.own_names x = rule8 x
+  added_coherent Rule.own_directories x = rule9 x
+  added_coherent Rule.page_kinds x = record { file = λ lt r k. same_kind x lt r ∙ k; directory = λ lt r k. same_kind x lt r ∙ k }
+  added_coherent Rule.sizes x = λ r k. let l = in_range x r in
       let k' = sym (only.node_kind x l) ∙ k in
       subst (λ z. z ≤ 2 ^ 40) (sym (only.node_size x l)) (elim (inode_cases x r) [
-        | inl old ↦ c.sound Rule.sizes x old k'
+        | inl old ↦ c.coherent Rule.sizes x old k'
         | inr new ↦ let z = ap (inode_size I) new.0 ∙ new.1.empty (ap (inode_kind I) (sym new.0) ∙ k') in omega (arith, z)
       ])
-  added_sound Rule.all_pages x = λ r file k lt. let l = in_range x r in
+  added_coherent Rule.all_pages x = λ r file k lt. let l = in_range x r in
       let file' : inode_kind I x ≡ 1 = sym (only.node_kind x l) ∙ file in
       let lt' : k < pages_of_size (inode_size I x) = subst (λ z. k < pages_of_size z) (only.node_size x l) lt in
       elim (inode_cases x r) [
-        | inl old ↦ (let (j, g) = c.sound Rule.all_pages x old file' k lt' in (j, page_forward x k j g))
+        | inl old ↦ (let (j, g) = c.coherent Rule.all_pages x old file' k lt' in (j, page_forward x k j g))
         | inr new ↦ absurd (fresh_empty new.1 k (ap (inode_kind I) (sym new.0) ∙ file') (subst (λ z. k < pages_of_size (inode_size I z)) new.0 lt'))
       ]
-  added_sound Rule.own_offsets x = λ h y k lt r file below g1 g2. let l = in_range y r in
+  added_coherent Rule.own_offsets x = λ h y k lt r file below g1 g2. let l = in_range y r in
       let file' : inode_kind I y ≡ 1 = sym (only.node_kind y l) ∙ file in
       let lt' : k < pages_of_size (inode_size I y) = subst (λ z. k < pages_of_size z) (only.node_size y l) below in
       elim (inode_cases y r) [
-        | inl old ↦ c.sound Rule.own_offsets x h y k lt old file' lt' (page_back y k h g1) (page_back y k x g2)
+        | inl old ↦ c.coherent Rule.own_offsets x h y k lt old file' lt' (page_back y k h g1) (page_back y k x g2)
         | inr new ↦ fresh_empty new.1 k (ap (inode_kind I) (sym new.0) ∙ file') (subst (λ z. k < pages_of_size (inode_size I z)) new.0 lt')
       ]
-  added_sound Rule.links x = λ r. subst (HasLinks P J x) (sym (only.links x (in_range x r))) (links_of x r)
+  added_coherent Rule.links x = λ r. subst (HasLinks P J x) (sym (only.links x (in_range x r))) (links_of x r)
 
   pub added_names : (q : Route) (x : ℕ) → Names P J q x ↔ (Names P I q x ⊎ ((q ≡ slot_name P I s ∷ p) × (x ≡ i)))
   added_names q x = (

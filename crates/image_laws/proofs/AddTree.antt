@@ -20,7 +20,7 @@ module _ (P : ℕ) (I J : List ℕ) (p path : Route) (d s i : ℕ) (can : CanAdd
   -- the path is new
   absent : (x : ℕ) → Names P I (slot_name P I s ∷ p) x → ⊥
   absent x (t, above, leads) =
-      can.new t (slot_of P I t p (slot_name P I s) x above leads) (one_inode P I can.sound p (slot_owner P I t) d above can.slot.path) leads.name
+      can.new t (slot_of P I t p (slot_name P I s) x above leads) (one_inode P I can.coherent p (slot_owner P I t) d above can.slot.path) leads.name
 
   -- which number a path names after
   names_after : (T : Tree) (q : Route) (x : ℕ) → Reads P I T → (cond (is_same q path) (Some i) (id_at T q) ≡ Some x) ↔ Names P J (reverse q) x
@@ -57,15 +57,15 @@ module _ (P : ℕ) (I J : List ℕ) (p path : Route) (d s i : ℕ) (can : CanAdd
   -- the node of any other number
   other_node : (T : Tree) (x : ℕ) (z : Node) → Reads P I T → x ≢ i → (node_at T x ≡ Some z) ↔ (Reached P J x × IsNode P J x z)
   other_node T x z reads other = (
-    (λ e. let (r, k) = (reads.nodes x z).0 e in (reached_before x r, (added.nodes x z (reached-le P I can.sound x r)).0 k)),
-    (λ (r, k). let old = reached_after x r other in (reads.nodes x z).1 (old, (added.nodes x z (reached-le P I can.sound x old)).1 k)),
+    (λ e. let (r, k) = (reads.nodes x z).0 e in (reached_before x r, (added.nodes x z (reached-le P I can.coherent x r)).0 k)),
+    (λ (r, k). let old = reached_after x r other in (reads.nodes x z).1 (old, (added.nodes x z (reached-le P I can.coherent x old)).1 k)),
   )
 
   new_node_here : (T : Tree) (node z : Node) → IsNode P I i node → (node_at (with_new T path i node) i ≡ Some z) ↔ (Reached P J i × IsNode P J i z)
   new_node_here T node z is_node =
       let here : IsNode P J i node = (added.nodes i node can.most).0 is_node in (
         (λ e. (reached_new, subst (IsNode P J i) (some_same node z (sym (node_at-with_new_here T path i node) ∙ e)) here)),
-        (λ (r, k). node_at-with_new_here T path i node ∙ ap Some (one_node P J added.sound i node z r here k)),
+        (λ (r, k). node_at-with_new_here T path i node ∙ ap Some (one_node P J added.coherent i node z r here k)),
       )
 
   new_node_reads : (T : Tree) (node : Node) → Reads P I T → IsNode P I i node → Reads P J (with_new T path i node)
@@ -85,10 +85,10 @@ module _ (P : ℕ) (I J : List ℕ) (p path : Route) (d s i : ℕ) (can : CanAdd
 
   old_file_node : (T : Tree) (x : ℕ) (z : Node) → Reads P I T → IsOldFile P I i → (node_at T x ≡ Some z) ↔ (Reached P J x × IsNode P J x z)
   old_file_node T x z reads file = (
-    (λ e. let (r, k) = (reads.nodes x z).0 e in (reached_before x r, (added.nodes x z (reached-le P I can.sound x r)).0 k)),
+    (λ e. let (r, k) = (reads.nodes x z).0 e in (reached_before x r, (added.nodes x z (reached-le P I can.coherent x r)).0 k)),
     (λ (r, k).
         let old : Reached P I x = elim (cases_eq x i) [ inl same ↦ subst (Reached P I) (sym same) file.reached | inr other ↦ reached_after x r other ] in
-        (reads.nodes x z).1 (old, (added.nodes x z (reached-le P I can.sound x old)).1 k)),
+        (reads.nodes x z).1 (old, (added.nodes x z (reached-le P I can.coherent x old)).1 k)),
   )
 
   old_file_reads : (T : Tree) → Reads P I T → IsOldFile P I i → Reads P J (with_path T path i)

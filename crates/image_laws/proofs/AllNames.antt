@@ -1,4 +1,4 @@
--- The paths of a sound image are finitely many.
+-- The paths of a coherent image are finitely many.
 use Rattle.std.proofs.Common.{◌≡◌, ◌↔◌, inl, inr, ℕ, zero, suc, ◌+◌, ◌<◌, ◌≤◌, List, [], ◌∷◌, ◌++◌, length, refl, sym, ap, subst, ◌∙◌, arith}
 use Rattle.std.proofs.lemmas.Bool.{cases_eq}
 use Rattle.layout.specs.Fields.{inode_kind, slot_inode, slot_name}
@@ -6,7 +6,7 @@ use Rattle.layout.specs.Geometry.{inodes_of, slots_of}
 use Rattle.tree_model.specs.PathText.{Route}
 use Rattle.image_reading.specs.Counts.{IsIn, IsDistinct}
 use Rattle.image_reading.specs.Reading.{slot_owner, Names}
-use Rattle.image_reading.specs.Soundness.{Sound}
+use Rattle.image_reading.specs.Soundness.{IsCoherent}
 use Rattle.image_counts.proofs.Paths.{one_path}
 use Rattle.image_laws.proofs.Counts.{at_most_below}
 use Rattle.image_laws.proofs.Decide.{IsStep, dec_step}
@@ -155,13 +155,13 @@ module _ (P : ℕ) (I : List ℕ) where
     | inr g ↦ let (p, c, k, lt) = through_path q (slot_owner P I s) b y g in (p, c, k, omega (arith, lt))
   ]
 
-  module _ (sound : Sound P I) where
+  module _ (coherent : IsCoherent P I) where
     through_distinct : (q : Route) (x : ℕ) (b : Names P I q x) → IsDistinct (through q x b)
     unfolding through
     through_distinct [] x e = tt
     through_distinct (n ∷ q) x (s, b, l) = (
       (λ h. let (p, c, k, lt) = through_path q (slot_owner P I s) b (slot_owner P I s) h in
-          let e = ap length (one_path P I sound p q (slot_owner P I s) k c b) in omega (arith, e, lt)),
+          let e = ap length (one_path P I coherent p q (slot_owner P I s) k c b) in omega (arith, e, lt)),
       through_distinct q (slot_owner P I s) b,
     )
 
@@ -169,7 +169,7 @@ module _ (P : ℕ) (I : List ℕ) where
     pub path-le : (q : Route) (x : ℕ) → Names P I q x → length q ≤ inodes_of P + 1
     path-le q x b =
         let h : length (through q x b) ≤ inodes_of P + 1 = at_most_below (inodes_of P + 1) (through q x b) (through_distinct q x b)
-        (λ y c. let (p, d, k, lt) = through_path q x b y c in let r = reached-le P I sound y (p, d) in omega (arith, r)) in
+        (λ y c. let (p, d, k, lt) = through_path q x b y c in let r = reached-le P I coherent y (p, d) in omega (arith, r)) in
         let e = length-through q x b in omega (arith, h, e)
 
     pub all_names : List (Route × ℕ)

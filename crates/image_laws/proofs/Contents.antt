@@ -1,4 +1,4 @@
--- The nodes of a sound image.
+-- The nodes of a coherent image.
 use Rattle.std.proofs.Common.{◌≡◌, ◌⊎◌, inl, inr, ℕ, zero, suc, ◌/◌, ◌<◌, List, [], ◌∷◌, refl, sym, ap, subst, ◌∙◌, arith}
 use Rattle.std.proofs.lemmas.Bool.{cases_eq}
 use Rattle.std.proofs.lemmas.List.{ext_get_or}
@@ -6,38 +6,38 @@ use Rattle.layout.specs.Fields.{inode_kind, inode_size}
 use Rattle.tree_model.specs.PathText.{Route}
 use Rattle.tree_model.specs.Tree.{Node, Directory, File}
 use Rattle.image_reading.specs.Reading.{Reached, IsNode}
-use Rattle.image_reading.specs.Soundness.{Rule, Sound}
+use Rattle.image_reading.specs.Soundness.{Rule, IsCoherent}
 use Rattle.image_counts.proofs.Nodes.{some_content}
 use Rattle.image_laws.proofs.Addresses.{page_of_byte-lt}
 use Rattle.image_laws.proofs.AllNames.{all_names, all_names_are}
 use Rattle.image_laws.proofs.Decide.{dec_eq}
 use Rattle.image_laws.proofs.Entries.{Listed}
 
-module _ (P : ℕ) (I : List ℕ) (sound : Sound P I) where
+module _ (P : ℕ) (I : List ℕ) (coherent : IsCoherent P I) where
   node_in : (i : ℕ) (r : Reached P I i) → (inode_kind I i ≡ 1) ⊎ (inode_kind I i ≡ 2) → Node
-  node_in i r (inl k) = File (some_content P I sound i r k).0
+  node_in i r (inl k) = File (some_content P I coherent i r k).0
   node_in i r (inr k) = Directory
 
   node_in_is : (i : ℕ) (r : Reached P I i) (c : (inode_kind I i ≡ 1) ⊎ (inode_kind I i ≡ 2)) → IsNode P I i (node_in i r c)
   unfolding node_in
-  node_in_is i r (inl k) = (k, (some_content P I sound i r k).1)
+  node_in_is i r (inl k) = (k, (some_content P I coherent i r k).1)
   node_in_is i r (inr k) = k
 
   pub node_of : (i : ℕ) → Reached P I i → Node
-  node_of i r = node_in i r ((sound Rule.kinds i).kind r)
+  node_of i r = node_in i r ((coherent Rule.kinds i).kind r)
 
   pub node_is : (i : ℕ) (r : Reached P I i) → IsNode P I i (node_of i r)
   unfolding node_of
-  node_is i r = node_in_is i r ((sound Rule.kinds i).kind r)
+  node_is i r = node_in_is i r ((coherent Rule.kinds i).kind r)
 
-  -- a sound image determines the node
+  -- a coherent image determines the node
   pub one_node : (i : ℕ) (x y : Node) → Reached P I i → IsNode P I i x → IsNode P I i y → x ≡ y
   one_node i Directory Directory r a b = refl
   one_node i Directory (File bs) r a (k, b) = absurd (omega (arith, a, k))
   one_node i (File bs) Directory r (k, a) b = absurd (omega (arith, k, b))
   one_node i (File bs) (File cs) r (k, a) (l, b) = ap File (ext_get_or 0 bs cs (a.size ∙ sym b.size) (λ o lt.
       let lt' : o < inode_size I i = let e = a.size in omega (arith, lt, e) in
-      let (j, g) = sound Rule.all_pages i r k (o / 4096) (page_of_byte-lt o (inode_size I i) lt') in
+      let (j, g) = coherent Rule.all_pages i r k (o / 4096) (page_of_byte-lt o (inode_size I i) lt') in
       a.bytes_at o j lt' g ∙ sym (b.bytes_at o j lt' g)))
 
   find : (es : List (Route × ℕ)) (i : ℕ) → Dec ((p : Route) × Listed es p i)
@@ -51,9 +51,9 @@ module _ (P : ℕ) (I : List ℕ) (sound : Sound P I) where
   ]
 
   pub dec_reached : (i : ℕ) → Dec (Reached P I i)
-  dec_reached i = elim (find (all_names P I sound) i) [
-    | yes (p, h) ↦ yes (p, (all_names_are P I sound p i).0 h)
-    | no f ↦ no (λ (p, b). f (p, (all_names_are P I sound p i).1 b))
+  dec_reached i = elim (find (all_names P I coherent) i) [
+    | yes (p, h) ↦ yes (p, (all_names_are P I coherent p i).0 h)
+    | no f ↦ no (λ (p, b). f (p, (all_names_are P I coherent p i).1 b))
   ]
 
   add_node : (n : ℕ) → Dec (Reached P I n) → List (ℕ × Node) → List (ℕ × Node)

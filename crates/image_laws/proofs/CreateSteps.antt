@@ -34,10 +34,10 @@ parent_is (name ∷ names) p n e =
 module _ (P : ℕ) (W : List ℕ) (old : State) (p path : Route) (d i : ℕ) (name : List ℕ) (can : CanMake P W p d i name) (is : reverse path ≡ name_in_words name ∷ p) (reads : ReadsAs P W old) where
   can_be_made : CanBeMade old.tree old.room path d i
   can_be_made = record {
-    formed = is_tree P W old.tree can.place.tidy.sound reads.tree;
-    fits = is_room P W old.tree can.place.tidy.sound reads.tree old.room reads.room;
+    formed = is_tree P W old.tree can.place.tidy.coherent reads.tree;
+    fits = is_room P W old.tree can.place.tidy.coherent reads.tree old.room reads.room;
     above = (reads.tree.names (parent path) d).1 (subst (λ q. Names P W q d) (sym (parent_is path p (name_in_words name) is)) can.place.path);
-    directory = is_directory-reached P W old.tree can.place.tidy.sound reads.tree d (p, can.place.path) can.place.directory;
+    directory = is_directory-reached P W old.tree can.place.tidy.coherent reads.tree d (p, can.place.path) can.place.directory;
     absent = none_if (node_at old.tree i) (λ x e. can.unreached ((reads.tree.nodes i x).0 e).0);
   }
 
@@ -51,7 +51,7 @@ module _ (P : ℕ) (W : List ℕ) (old : State) (p path : Route) (d i : ℕ) (na
         new = record { tree = with_new old.tree path i node; room = after old.room };
         reads = record { tree = read; room = has };
         tree = tree;
-        room = (false, room, subst (λ T. IsRoom T (after old.room)) tree (is_room P J (with_new old.tree path i node) created.tidy.sound read (after old.room) has));
+        room = (false, room, subst (λ T. IsRoom T (after old.room)) tree (is_room P J (with_new old.tree path i node) created.tidy.coherent read (after old.room) has));
       }
 
 not_true : (b : Bool) → (b ≡ true → ⊥) → b ≡ false

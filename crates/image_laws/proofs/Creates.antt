@@ -11,7 +11,7 @@ use Rattle.tree_model.specs.Step.{with_new}
 use Rattle.image_reading.specs.Reading.{slot_owner, IsLive, Reached, IsRoomOf, Reads, HasRoom}
 use Rattle.image_reading.specs.Repairs.{IsLitterPage}
 use Rattle.image_reading.specs.Soundness.{Rule}
-use Rattle.image_reading.specs.Tidy.{Tidy}
+use Rattle.image_reading.specs.Tidy.{IsTidied}
 use Rattle.image_counts.proofs.Counting.{none_counted}
 use Rattle.image_laws.specs.Add.{IsFreeSlot, with_node}
 use Rattle.image_laws.specs.Create.{IsEmptyNode, MakesNode, CanName, CanMake, IsVacant, committed, IsCreate, CreateLaw}
@@ -32,7 +32,7 @@ module _ (P : ℕ) (W B C : List ℕ) (p path : Route) (node : Node) (d s i : �
     (empty : IsEmptyNode node) (makes : MakesNode P B C node d s i name) (is : reverse path ≡ name_in_words name ∷ p) where
   in_image : slot_word_of P s 0 < length C
   in_image = let below = slot_word_within P s 0 ready.place.slot.held.in_range (omega arith) in
-      let size = makes.size ∙ (ready.place.sound Rule.head 0).whole refl in omega (arith, below, size)
+      let size = makes.size ∙ (ready.place.coherent Rule.head 0).whole refl in omega (arith, below, size)
 
   pub other_words : (a : ℕ) → a ≢ slot_word_of P s 0 → word (committed P C s i) a ≡ word C a
   unfolding word
@@ -47,11 +47,11 @@ module _ (P : ℕ) (W B C : List ℕ) (p path : Route) (node : Node) (d s i : �
     | inr e ↦ inr e
   ]
 
-  tidy : Tidy P (committed P C s i)
+  tidy : IsTidied P (committed P C s i)
   tidy =
       let can = making.can_add P B C p node d s i name ready makes in
-      tidy_after P B C (committed P C s i) p node d s i name ready makes can (only P C s i can.sound) (stored P C s i can.sound can.slot.held.in_range) other_words
-      (add_law P C p d s i can).sound
+      tidy_after P B C (committed P C s i) p node d s i name ready makes can (only P C s i can.coherent) (stored P C s i can.coherent can.slot.held.in_range) other_words
+      (add_law P C p d s i can).coherent
 
   reads : (T : Tree) → Reads P W T → Reads P (committed P C s i) (with_new T path i node)
   reads T h =
@@ -99,7 +99,7 @@ module _ (P : ℕ) (W : List ℕ) (p : Route) (d s : ℕ) (name : List ℕ) (can
     | no none ↦ absurd (none_counted (IsLitterPage P W) can.tidy.repaired.of_pages (page_of_slot s) (record {
       in_range = below;
       free = λ kept. elim kept [
-        | inl file ↦ (let one = (can.tidy.sound Rule.page_kinds (page_of_slot s)).file below file.owner file.file in let two = vacant.held.kind in omega (arith, one, two))
+        | inl file ↦ (let one = (can.tidy.coherent Rule.page_kinds (page_of_slot s)).file below file.owner file.file in let two = vacant.held.kind in omega (arith, one, two))
         | inr room ↦ none (subst (λ x. IsRoomOf P W x (page_of_slot s)) vacant.owner room)
       ];
       nonzero = (0, omega arith, vacant.held.owned);
@@ -136,7 +136,7 @@ module _ (P : ℕ) (W : List ℕ) (p : Route) (d s : ℕ) (name : List ℕ) (can
 
   pub ready_slot : IsReadySlot P W p d s name
   ready_slot = record {
-    sound = can.tidy.sound;
+    coherent = can.tidy.coherent;
     slot = free_slot;
     is_name = can.is_name;
     new = can.new;
@@ -152,5 +152,5 @@ create_law P W I p path node d s i name can vacant empty makes is =
     let ready = is_ready P W p d s i name can vacant in
     let add = making.can_add P W I p node d s i name ready makes in
     let room = ((making.shape_made P W I p node d s i name ready makes).directories d (page_of_slot s)).0 (room_here P W p d s name can.place vacant) in
-    created P W W I p path node d s i name (same_itself P W can.place.tidy.sound) ready empty makes is (λ r. with_node r i node)
+    created P W W I p path node d s i name (same_itself P W can.place.tidy.coherent) ready empty makes is (λ r. with_node r i node)
     (λ r h. (add_room_law P I p d s i add).old_page r node h (making.node_made P W I p node d s i name ready makes empty) room)

@@ -7,7 +7,7 @@ use Rattle.layout.proofs.GeometryLaws.{page_of_slot_below, slot_below}
 use Rattle.tree_model.specs.PathText.{Route}
 use Rattle.image_reading.specs.Reading.{IsDirectory, slot_owner, IsHeld, Reached, IsReachedSlot, IsRoomOf}
 use Rattle.image_reading.specs.Repairs.{IsKept, IsLitterPage}
-use Rattle.image_reading.specs.Soundness.{Rule, Sound}
+use Rattle.image_reading.specs.Soundness.{Rule, IsCoherent}
 use Rattle.image_counts.proofs.Counting.{none_counted}
 use Rattle.image_laws.specs.Drop.{CanDrop, dropped, IsGiven, Drops}
 use Rattle.image_laws.specs.Exempt.{IsExempt}
@@ -46,7 +46,7 @@ module _ (P : ℕ) (W I J K : List ℕ) (p : Route) (s y : ℕ) (can : CanDrop P
       of_inode : (j : ℕ) → Dec ((page_owner P (dropped P W s) j ≡ slot_inode P W s) × (Reached P (dropped P W s) (slot_inode P W s) → ⊥))
       of_inode j = elim (dec_eq (page_owner P (dropped P W s) j) (slot_inode P W s)) [
         | no n ↦ no (λ a. n a.0)
-        | yes e ↦ elim (dec_reached P (dropped P W s) (steps.removed P W I J K p s y can h).sound (slot_inode P W s)) [ yes r ↦ no (λ a. a.1 r) | no n ↦ yes (e, n) ]
+        | yes e ↦ elim (dec_reached P (dropped P W s) (steps.removed P W I J K p s y can h).coherent (slot_inode P W s)) [ yes r ↦ no (λ a. a.1 r) | no n ↦ yes (e, n) ]
       ]
 
       of_slot : (j : ℕ) → Dec ((j ≡ page_of_slot s) × (IsRoomOf P (dropped P W s) (slot_owner P W s) j → ⊥))
@@ -67,8 +67,8 @@ module _ (P : ℕ) (W I J K : List ℕ) (p : Route) (s y : ℕ) (can : CanDrop P
   file_page j lt o =
       let before : page_owner P W j ≡ slot_inode P W s = sym (only.owner j lt) ∙ o in
       let reached : Reached P W (page_owner P W j) = subst (Reached P W) (sym before) (steps.i_reached P W I J K p s y can h) in
-      only.kind j lt ∙ elim ((can.tidy.sound Rule.kinds (page_owner P W j)).kind reached) [
-        | inl file ↦ (can.tidy.sound Rule.page_kinds j).file lt reached file
+      only.kind j lt ∙ elim ((can.tidy.coherent Rule.kinds (page_owner P W j)).kind reached) [
+        | inl file ↦ (can.tidy.coherent Rule.page_kinds j).file lt reached file
         | inr two ↦ absurd (litter j lt (reached_pos P W (page_owner P W j) reached) (λ kept. elim kept [
           | inl file ↦ (let one = file.file in omega (arith, one, two))
           | inr room ↦
@@ -98,7 +98,7 @@ module _ (P : ℕ) (W I J K : List ℕ) (p : Route) (s y : ℕ) (can : CanDrop P
   empty_page : (IsRoomOf P (dropped P W s) (slot_owner P W s) (page_of_slot s) → ⊥) → (t : ℕ) → page_of_slot t ≡ page_of_slot s → slot_inode P (dropped P W s) t ≡ 0
   unfolding slot_inode slot_owner
   empty_page none t at = elim (cases_eq t s) [
-    | inl e ↦ ap (slot_inode P (dropped P W s)) e ∙ stored P W s 0 can.tidy.sound can.slot.live.held.in_range
+    | inl e ↦ ap (slot_inode P (dropped P W s)) e ∙ stored P W s 0 can.tidy.coherent can.slot.live.held.in_range
     | inr ne ↦ only.inode t ne ∙ elim (dec_live P W t) [
       | yes live ↦
           let o = same_page_owner t at in
@@ -166,8 +166,8 @@ module _ (P : ℕ) (W I J K : List ℕ) (p : Route) (s y : ℕ) (can : CanDrop P
   pub give_slot : (t f : ℕ) → word J (slot_word_of P t f) ≡ word I (slot_word_of P t f)
   give_slot t f = give_word (slot_word_of P t f) (λ j g e. descriptor-ne_slot P j 0 t f g.in_range (omega arith) (sym e))
 
-  clear_sound : Sound P I
-  clear_sound = (steps.same_clear P W I J K p s y can h).sound
+  clear_coherent : IsCoherent P I
+  clear_coherent = (steps.same_clear P W I J K p s y can h).coherent
 
   -- what is reached before the clearing is reached after it
   forth : (x : ℕ) → Reached P (dropped P W s) x → Reached P I x
@@ -180,7 +180,7 @@ module _ (P : ℕ) (W I J K : List ℕ) (p : Route) (s y : ℕ) (can : CanDrop P
   unfolding inode_kind
   d_kind =
       let some = reached_pos P W (slot_owner P W s) (p, can.path) in
-      steps.clear_inode P W I J K p s y can h (slot_owner P W s) 0 (omega (arith, some)) (reached-le P W can.tidy.sound (slot_owner P W s) (p, can.path)) (omega arith) (inl (λ e. omega (arith, e))) ∙ d_directory
+      steps.clear_inode P W I J K p s y can h (slot_owner P W s) 0 (omega (arith, some)) (reached-le P W can.tidy.coherent (slot_owner P W s) (p, can.path)) (omega arith) (inl (λ e. omega (arith, e))) ∙ d_directory
 
   exempt_file : (j : ℕ) → j < data_pages_of P → IsGiven P (dropped P W s) (slot_owner P W s) s (slot_inode P W s) j → page_owner P (dropped P W s) j ≡ slot_inode P W s
       → (Reached P (dropped P W s) (slot_inode P W s) → ⊥) → IsExempt P I J j (slot_inode P W s)
@@ -226,7 +226,7 @@ module _ (P : ℕ) (W I J K : List ℕ) (p : Route) (s y : ℕ) (can : CanDrop P
 
   give_links : (x : ℕ) → Reached P I x → inode_links J x ≡ inode_links I x
   unfolding inode_links
-  give_links x r = let some = reached_pos P I x r in give_inode x 1 (omega (arith, some)) (reached-le P I clear_sound x r) (omega arith)
+  give_links x r = let some = reached_pos P I x r in give_inode x 1 (omega (arith, some)) (reached-le P I clear_coherent x r) (omega arith)
 
   -- an owner word that is taken away
   record IsTaken (a j : ℕ) : Type 0 where
@@ -251,14 +251,14 @@ module _ (P : ℕ) (W I J K : List ℕ) (p : Route) (s y : ℕ) (can : CanDrop P
       | yes g ↦ inr (given_exempt x lt g)
       | no n ↦ inl (give_descriptor x 0 (omega arith) (inr n))
     ];
-    links = links_kept P I J clear_sound give_links;
+    links = links_kept P I J clear_coherent give_links;
   }
 
   pub same_give : SameMeaning P I J
-  same_give = same_stores P I J clear_sound give_stores
+  same_give = same_stores P I J clear_coherent give_stores
 
-  give_sound : Sound P J
-  give_sound = same_give.sound
+  give_coherent : IsCoherent P J
+  give_coherent = same_give.coherent
 
   -- ---- interval 4
 
@@ -269,7 +269,7 @@ module _ (P : ℕ) (W I J K : List ℕ) (p : Route) (s y : ℕ) (can : CanDrop P
   i_pos = let some = reached_pos P W (slot_inode P W s) (steps.i_reached P W I J K p s y can h) in omega (arith, some)
 
   i_most : slot_inode P W s ≤ inodes_of P
-  i_most = reached-le P W can.tidy.sound (slot_inode P W s) (steps.i_reached P W I J K p s y can h)
+  i_most = reached-le P W can.tidy.coherent (slot_inode P W s) (steps.i_reached P W I J K p s y can h)
 
   rest_word : (a : ℕ) → ((j f : ℕ) → IsGiven P (dropped P W s) (slot_owner P W s) s (slot_inode P W s) j → 1 ≤ f → f < 3 → a ≢ descriptor_word_of P j f)
       → ((Reached P (dropped P W s) (slot_inode P W s) → ⊥) → (f : ℕ) → f < 4 → a ≢ inode_word_of (slot_inode P W s) f) → word K a ≡ word J a
@@ -295,7 +295,7 @@ module _ (P : ℕ) (W I J K : List ℕ) (p : Route) (s y : ℕ) (can : CanDrop P
   rest_links : (x : ℕ) → Reached P J x → inode_links K x ≡ inode_links J x
   unfolding inode_links
   rest_links x r = let some = reached_pos P J x r in
-      rest_inode x 1 (omega (arith, some)) (reached-le P J give_sound x r) (omega arith) (λ gone e. gone_after gone (subst (Reached P J) e r))
+      rest_inode x 1 (omega (arith, some)) (reached-le P J give_coherent x r) (omega arith) (λ gone e. gone_after gone (subst (Reached P J) e r))
 
   -- a descriptor's word that is cleared
   record IsCleared (a j : ℕ) : Type 0 where
@@ -323,7 +323,7 @@ module _ (P : ℕ) (W I J K : List ℕ) (p : Route) (s y : ℕ) (can : CanDrop P
       | inl e ↦ subst (IsFree P J) (sym e) (IsFree.descriptor j 1 t.given.in_range (omega arith) (h.gives.owners j t.given))
       | inr e ↦ subst (IsFree P J) (sym e) (IsFree.descriptor j 2 t.given.in_range (omega arith) (h.gives.owners j t.given))
     ])
-    | no n ↦ elim (dec_reached P (dropped P W s) (steps.removed P W I J K p s y can h).sound (slot_inode P W s)) [
+    | no n ↦ elim (dec_reached P (dropped P W s) (steps.removed P W I J K p s y can h).coherent (slot_inode P W s)) [
       | yes r ↦ inl (rest_word a (λ j f g low high e. n (j, record { given = g; is = which a j f low high e })) (λ gone. absurd (gone r)))
       | no gone ↦ elim (dec_among (inode_word_of (slot_inode P W s)) 4 a) [
         | yes (f, lt, e) ↦ inr (subst (IsFree P J) (sym e) (IsFree.inode (slot_inode P W s) f i_pos i_most (omega (arith, lt)) (gone_after gone)))
@@ -338,5 +338,5 @@ module _ (P : ℕ) (W I J K : List ℕ) (p : Route) (s y : ℕ) (can : CanDrop P
     size = h.rest.size;
     words = rest_cases;
     owners = λ x lt. inl (rest_descriptor x 0 lt (omega arith) (inl refl));
-    links = links_kept P J K give_sound rest_links;
+    links = links_kept P J K give_coherent rest_links;
   }

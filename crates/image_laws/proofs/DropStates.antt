@@ -11,7 +11,7 @@ use Rattle.tree_model.specs.Table.{get, remove}
 use Rattle.tree_model.specs.Tree.{Tree, Room, IsRoom, root_id, parent, id_at, is_directory, is_number, pages_in}
 use Rattle.tree_model.proofs.TreeLaws.{same_room}
 use Rattle.image_reading.specs.Reading.{slot_owner, Names, Reads, HasRoom, ReadsAs}
-use Rattle.image_reading.specs.Soundness.{Sound}
+use Rattle.image_reading.specs.Soundness.{IsCoherent}
 use Rattle.image_counts.proofs.Decided.{room_counted}
 use Rattle.image_counts.proofs.States.{is_room}
 use Rattle.image_laws.specs.CreateStep.{IsStepped}
@@ -65,14 +65,14 @@ module _ (P : ℕ) (W I J K : List ℕ) (old : State) (p path : Route) (s y n : 
   read : Reads P K (without_unnamed (without_path old.tree path))
   read = (drop_law P W I J K p s y can h).reads old.tree path is reads.tree
 
-  tidy_sound : Sound P K
-  tidy_sound = (drop_law P W I J K p s y can h).tidy.sound
+  tidy_coherent : IsCoherent P K
+  tidy_coherent = (drop_law P W I J K p s y can h).tidy.coherent
 
   above : id_at old.tree (parent path) ≡ Some (slot_owner P W s)
   above = (reads.tree.names (parent path) (slot_owner P W s)).1 (subst (λ q. Names P W q (slot_owner P W s)) (sym (parent_is path p (slot_name P W s) is)) can.path)
 
   old_fits : IsRoom old.tree old.room
-  old_fits = is_room P W old.tree can.tidy.sound reads.tree old.room reads.room
+  old_fits = is_room P W old.tree can.tidy.coherent reads.tree old.room reads.room
 
   -- the room after, at each number
   after_at : (gives : Bool) (x : ℕ) → get (room_after n old.tree old.room (removing kind path) gives) x
@@ -93,7 +93,7 @@ module _ (P : ℕ) (W I J K : List ℕ) (old : State) (p path : Route) (s y n : 
     where
       entry : (x : ℕ) → is_directory (without_unnamed (without_path old.tree path)) x ≡ true → (k : ℕ) × (get (remove R (slot_inode P W s)) x ≡ Some k)
       entry x dir =
-          let (r, two) = directory_is P K (without_unnamed (without_path old.tree path)) tidy_sound read x dir in
+          let (r, two) = directory_is P K (without_unnamed (without_path old.tree path)) tidy_coherent read x dir in
           let (k, pages) = room_counted P K x r two in
           (k, (has x k).1 (r, two, pages))
 
@@ -101,7 +101,7 @@ module _ (P : ℕ) (W I J K : List ℕ) (old : State) (p path : Route) (s y n : 
       none x None e dir = refl
       none x (Some k) e dir =
           let (r, two, pages) = (has x k).0 e in
-          absurd (clash (sym (is_directory-reached P K (without_unnamed (without_path old.tree path)) tidy_sound read x r two) ∙ dir))
+          absurd (clash (sym (is_directory-reached P K (without_unnamed (without_path old.tree path)) tidy_coherent read x r two) ∙ dir))
 
       other : (x : ℕ) → is_directory (without_unnamed (without_path old.tree path)) x ≡ true → x ≢ slot_inode P W s
       other x dir e =
@@ -131,7 +131,7 @@ module _ (P : ℕ) (W I J K : List ℕ) (old : State) (p path : Route) (s y n : 
         room = (
           gives,
           same_after gives R has each,
-          subst (λ T. IsRoom T (remove R (slot_inode P W s))) tree (is_room P K (without_unnamed (without_path old.tree path)) tidy_sound read (remove R (slot_inode P W s)) has),
+          subst (λ T. IsRoom T (remove R (slot_inode P W s))) tree (is_room P K (without_unnamed (without_path old.tree path)) tidy_coherent read (remove R (slot_inode P W s)) has),
         );
       }
 

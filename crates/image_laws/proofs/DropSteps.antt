@@ -6,7 +6,7 @@ use Rattle.layout.specs.Fields.{word, inode_kind, inode_links, page_owner, slot_
 use Rattle.layout.specs.Geometry.{inodes_of, data_pages_of, inode_word_of, descriptor_word_of, slot_word_of}
 use Rattle.tree_model.specs.PathText.{Route}
 use Rattle.image_reading.specs.Reading.{slot_owner, IsHeld, Reached, IsReachedSlot, IsNameOf, IsChildOf}
-use Rattle.image_reading.specs.Soundness.{Rule, Sound, HasLinks}
+use Rattle.image_reading.specs.Soundness.{Rule, IsCoherent, HasLinks}
 use Rattle.image_laws.specs.Drop.{CanDrop, dropped, Drops}
 use Rattle.image_laws.specs.Free.{IsFree, Stores}
 use Rattle.image_laws.specs.Frame.{SameMeaning}
@@ -24,14 +24,14 @@ use Rattle.image_laws.proofs.Removes.{removes, remove_law}
 -- a reached slot of an image in which no slot points may be removed
 pub can_remove : (P : ℕ) (W : List ℕ) (p : Route) (s : ℕ) → CanDrop P W p s → CanRemove P W p s
 can_remove P W p s can = record {
-  sound = can.tidy.sound;
+  coherent = can.tidy.coherent;
   path = can.path;
   directory = can.slot.directory;
   live = can.slot.live;
   no_pointer = no_pointer P W 0 (tidy_but P W 0 can.tidy) s can.slot.live.held;
   leaf = λ two t live e. can.empty two t (
     record {
-      owner = subst (Reached P W) (sym e) (slot_names P W s can.slot can.tidy.sound);
+      owner = subst (Reached P W) (sym e) (slot_names P W s can.slot can.tidy.coherent);
       directory = ap (inode_kind W) e ∙ two;
       live = live;
     },
@@ -39,8 +39,8 @@ can_remove P W p s can = record {
   );
 }
   where
-    slot_names : (P : ℕ) (W : List ℕ) (s : ℕ) → IsReachedSlot P W s → Sound P W → Reached P W (slot_inode P W s)
-    slot_names P W s r sound = reach P W s r ((sound Rule.inodes s).most r)
+    slot_names : (P : ℕ) (W : List ℕ) (s : ℕ) → IsReachedSlot P W s → IsCoherent P W → Reached P W (slot_inode P W s)
+    slot_names P W s r coherent = reach P W s r ((coherent Rule.inodes s).most r)
 
 module _ (P : ℕ) (W I J K : List ℕ) (p : Route) (s y : ℕ) (can : CanDrop P W p s) (h : Drops P W I J K s y) where
   rm : CanRemove P W p s
@@ -59,7 +59,7 @@ module _ (P : ℕ) (W I J K : List ℕ) (p : Route) (s y : ℕ) (can : CanDrop P
   i_pos = let z = reached_pos P W (slot_inode P W s) i_reached in omega (arith, z)
 
   i_most : slot_inode P W s ≤ inodes_of P
-  i_most = reached-le P W can.tidy.sound (slot_inode P W s) i_reached
+  i_most = reached-le P W can.tidy.coherent (slot_inode P W s) i_reached
 
   d_before : Reached P W (slot_owner P W s)
   d_before = (p, can.path)
@@ -74,7 +74,7 @@ module _ (P : ℕ) (W I J K : List ℕ) (p : Route) (s y : ℕ) (can : CanDrop P
   y_pos = let z = reached_pos P W y y_before in omega (arith, z)
 
   y_most : y ≤ inodes_of P
-  y_most = reached-le P W can.tidy.sound y y_before
+  y_most = reached-le P W can.tidy.coherent y y_before
 
   -- ---- the words after the commit
 
@@ -141,7 +141,7 @@ module _ (P : ℕ) (W I J K : List ℕ) (p : Route) (s y : ℕ) (can : CanDrop P
   child_back : (t : ℕ) → IsChildOf P (dropped P W s) (slot_owner P W s) t → IsChildOf P W (slot_owner P W s) t × (t ≢ s)
   child_back t n =
       let (r, ne) = facts.slot_back P W p s rm t n.slot in
-      let named = reach P W t r ((can.tidy.sound Rule.inodes t).most r) in (
+      let named = reach P W t r ((can.tidy.coherent Rule.inodes t).most r) in (
         record {
           slot = r;
           owner = sym (facts.owner_same P W p s rm t r) ∙ n.owner;
@@ -155,7 +155,7 @@ module _ (P : ℕ) (W I J K : List ℕ) (p : Route) (s y : ℕ) (can : CanDrop P
   enough r = elim h.falls [
     | inl (file, e) ↦ subst (λ z. HasLinks P (dropped P W s) z (inode_links I z)) (sym e) (record {
       file = λ one xs distinct all.
-          let le = (can.tidy.sound Rule.links (slot_inode P W s) i_reached).file file (s ∷ xs) ((λ c. (name_back s (all s c)).1 refl), distinct)
+          let le = (can.tidy.coherent Rule.links (slot_inode P W s) i_reached).file file (s ∷ xs) ((λ c. (name_back s (all s c)).1 refl), distinct)
           (λ x c. elim c [ inl z ↦ subst (IsNameOf P W (slot_inode P W s)) (sym z) (record { slot = can.slot; inode = refl }) | inr g ↦ (name_back x (all x g)).0 ]) in
           let fallen = ap (λ z. inode_links I z + 1) (sym e) ∙ h.clears.links ∙ ap (inode_links (dropped P W s)) e ∙ links_dropped (slot_inode P W s) i_most in
           omega (arith, le, fallen);
@@ -164,9 +164,9 @@ module _ (P : ℕ) (W I J K : List ℕ) (p : Route) (s y : ℕ) (can : CanDrop P
     | inr (directory, e) ↦ subst (λ z. HasLinks P (dropped P W s) z (inode_links I z)) (sym e) (record {
       file = λ one. let k = sym (facts.kind_same P W p s rm (slot_owner P W s) d_before) ∙ one in let two = can.slot.directory in absurd (omega (arith, two, k));
       directory = λ two xs distinct all.
-          let le = (can.tidy.sound Rule.links (slot_owner P W s) d_before).directory can.slot.directory (s ∷ xs) ((λ c. (child_back s (all s c)).1 refl), distinct)
+          let le = (can.tidy.coherent Rule.links (slot_owner P W s) d_before).directory can.slot.directory (s ∷ xs) ((λ c. (child_back s (all s c)).1 refl), distinct)
           (λ x c. elim c [ inl z ↦ subst (IsChildOf P W (slot_owner P W s)) (sym z) (record { slot = can.slot; owner = refl; directory = directory }) | inr g ↦ (child_back x (all x g)).0 ]) in
-          let fallen = ap (λ z. inode_links I z + 1) (sym e) ∙ h.clears.links ∙ ap (inode_links (dropped P W s)) e ∙ links_dropped (slot_owner P W s) (reached-le P W can.tidy.sound (slot_owner P W s) d_before) in
+          let fallen = ap (λ z. inode_links I z + 1) (sym e) ∙ h.clears.links ∙ ap (inode_links (dropped P W s)) e ∙ links_dropped (slot_owner P W s) (reached-le P W can.tidy.coherent (slot_owner P W s) d_before) in
           omega (arith, le, fallen);
     })
   ]
@@ -177,7 +177,7 @@ module _ (P : ℕ) (W I J K : List ℕ) (p : Route) (s y : ℕ) (can : CanDrop P
     | inl e ↦ subst (λ z. HasLinks P (dropped P W s) z (inode_links I z)) (sym e) (enough (subst (Reached P (dropped P W s)) e r))
     | inr ne ↦
         let some = reached_pos P (dropped P W s) x r in
-        subst (HasLinks P (dropped P W s) x) (sym (clear_inode x 1 (omega (arith, some)) (reached-le P (dropped P W s) removed.sound x r) (omega arith) (inr ne))) (removed.sound Rule.links x r)
+        subst (HasLinks P (dropped P W s) x) (sym (clear_inode x 1 (omega (arith, some)) (reached-le P (dropped P W s) removed.coherent x r) (omega arith) (inr ne))) (removed.coherent Rule.links x r)
   ]
 
   pub clear_stores : Stores P (dropped P W s) I
@@ -190,4 +190,4 @@ module _ (P : ℕ) (W I J K : List ℕ) (p : Route) (s y : ℕ) (can : CanDrop P
   }
 
   pub same_clear : SameMeaning P (dropped P W s) I
-  same_clear = same_stores P (dropped P W s) I removed.sound clear_stores
+  same_clear = same_stores P (dropped P W s) I removed.coherent clear_stores

@@ -12,7 +12,7 @@ use Rattle.image_reading.specs.Counts.{Count}
 use Rattle.image_reading.specs.Reading.{HasBytes, IsDirectory, slot_owner, IsHeld, Reached, IsReachedSlot, IsNameOf, IsChildOf, IsRoomOf, pages_of_size, Names, IsPageOf}
 use Rattle.image_reading.specs.Repairs.{IsKeptFilePage, IsPointer, IsLitterSlot, IsLitterPage, IsLitterInode, IsLitterCount}
 use Rattle.image_reading.specs.Soundness.{Rule}
-use Rattle.image_reading.specs.Tidy.{Tidy}
+use Rattle.image_reading.specs.Tidy.{IsTidied}
 use Rattle.image_reading.proofs.Credits.{count_same}
 use Rattle.image_counts.specs.Entries.{IsSlotOf}
 use Rattle.image_counts.proofs.Decided.{room_below}
@@ -54,19 +54,19 @@ module _ (P : ℕ) (W I J K : List ℕ) (p : Route) (s y : ℕ) (can : CanDrop P
   same_two = same_chained P (dropped P W s) I J (steps.same_clear P W I J K p s y can h) (gives.same_give P W I J K p s y can h)
 
   same_rest : SameMeaning P J K
-  same_rest = same_stores P J K same_two.sound (gives.rest_stores P W I J K p s y can h)
+  same_rest = same_stores P J K same_two.coherent (gives.rest_stores P W I J K p s y can h)
 
   same_end : SameMeaning P (dropped P W s) K
   same_end = same_chained P (dropped P W s) J K same_two same_rest
 
   alike_one : Alike P (dropped P W s) I
-  alike_one = alike_stores P (dropped P W s) I (steps.removed P W I J K p s y can h).sound (steps.clear_stores P W I J K p s y can h)
+  alike_one = alike_stores P (dropped P W s) I (steps.removed P W I J K p s y can h).coherent (steps.clear_stores P W I J K p s y can h)
 
   alike_two : Alike P I J
-  alike_two = alike_stores P I J (steps.same_clear P W I J K p s y can h).sound (gives.give_stores P W I J K p s y can h)
+  alike_two = alike_stores P I J (steps.same_clear P W I J K p s y can h).coherent (gives.give_stores P W I J K p s y can h)
 
   alike_three : Alike P J K
-  alike_three = alike_stores P J K same_two.sound (gives.rest_stores P W I J K p s y can h)
+  alike_three = alike_stores P J K same_two.coherent (gives.rest_stores P W I J K p s y can h)
 
   forth : (x : ℕ) → Reached P (dropped P W s) x → Reached P K x
   forth x (q, b) = (q, (same_end.names q x).0 b)
@@ -83,9 +83,9 @@ module _ (P : ℕ) (W I J K : List ℕ) (p : Route) (s y : ℕ) (can : CanDrop P
 
   rooms : (x j : ℕ) → IsRoomOf P (dropped P W s) x j ↔ IsRoomOf P K x j
   rooms x j =
-      let one = (shape P (dropped P W s) I (steps.removed P W I J K p s y can h).sound alike_one).directories x j in
-      let two = (shape P I J (steps.same_clear P W I J K p s y can h).sound alike_two).directories x j in
-      let three = (shape P J K same_two.sound alike_three).directories x j in
+      let one = (shape P (dropped P W s) I (steps.removed P W I J K p s y can h).coherent alike_one).directories x j in
+      let two = (shape P I J (steps.same_clear P W I J K p s y can h).coherent alike_two).directories x j in
+      let three = (shape P J K same_two.coherent alike_three).directories x j in
       ((λ r. three.0 (two.0 (one.0 r))), (λ r. one.1 (two.1 (three.1 r))))
 
   -- ---- its words
@@ -119,7 +119,7 @@ module _ (P : ℕ) (W I J K : List ℕ) (p : Route) (s y : ℕ) (can : CanDrop P
   slot_zero : (f : ℕ) → f < 16 → word K (slot_word_of P s f) ≡ 0
   unfolding slot_inode
   slot_zero f lt = gives.rest_slot P W I J K p s y can h s f ∙ gives.give_slot P W I J K p s y can h s f ∙ elim (cases_eq f 0) [
-    | inl e ↦ ap (λ k. word I (slot_word_of P s k)) e ∙ steps.clear_slot P W I J K p s y can h s 0 (omega arith) (inl refl) ∙ stored P W s 0 can.tidy.sound can.slot.live.held.in_range
+    | inl e ↦ ap (λ k. word I (slot_word_of P s k)) e ∙ steps.clear_slot P W I J K p s y can h s 0 (omega arith) (inl refl) ∙ stored P W s 0 can.tidy.coherent can.slot.live.held.in_range
     | inr ne ↦ h.clears.zeros f (omega (arith, ne)) lt
   ]
 
@@ -135,7 +135,7 @@ module _ (P : ℕ) (W I J K : List ℕ) (p : Route) (s y : ℕ) (can : CanDrop P
   pos x r = let some = reached_pos P W x r in omega (arith, some)
 
   range : (x : ℕ) → Reached P W x → x ≤ inodes_of P
-  range x r = reached-le P W can.tidy.sound x r
+  range x r = reached-le P W can.tidy.coherent x r
 
   inode_kind_same : (x : ℕ) → Reached P (dropped P W s) x → inode_kind K x ≡ inode_kind W x
   unfolding inode_kind
@@ -226,7 +226,7 @@ module _ (P : ℕ) (W I J K : List ℕ) (p : Route) (s y : ℕ) (can : CanDrop P
   kept_owner : (j : ℕ) → j < data_pages_of P → (IsGiven P (dropped P W s) (slot_owner P W s) s (slot_inode P W s) j → ⊥) → Reached P W (page_owner P W j) → Reached P (dropped P W s) (page_owner P W j)
   kept_owner j lt none r = elim (cases_eq (page_owner P W j) (slot_inode P W s)) [
     | inr ne ↦ facts.reached_forward P W p s (can_remove P W p s can) (page_owner P W j) ne r
-    | inl e ↦ elim (dec_reached P (dropped P W s) (steps.removed P W I J K p s y can h).sound (slot_inode P W s)) [
+    | inl e ↦ elim (dec_reached P (dropped P W s) (steps.removed P W I J K p s y can h).coherent (slot_inode P W s)) [
       | yes there ↦ subst (Reached P (dropped P W s)) (sym e) there
       | no gone ↦ absurd (none (record { in_range = lt; why = inl (only.owner j lt ∙ e, gone) }))
     ]
@@ -298,7 +298,7 @@ module _ (P : ℕ) (W I J K : List ℕ) (p : Route) (s y : ℕ) (can : CanDrop P
 
   kind_named : (t : ℕ) → IsReachedSlot P K t → t ≢ s → inode_kind K (slot_inode P K t) ≡ inode_kind W (slot_inode P W t)
   kind_named t r ne =
-      let named = reach P K t r ((same_end.sound Rule.inodes t).most r) in
+      let named = reach P K t r ((same_end.coherent Rule.inodes t).most r) in
       inode_kind_same (slot_inode P K t) (back (slot_inode P K t) named) ∙ ap (inode_kind W) (slot_inode_same t ne)
 
   children_left : (x t : ℕ) → IsChildOf P K x t ↔ (IsChildOf P W x t × (t ≢ s))
@@ -367,14 +367,14 @@ module _ (P : ℕ) (W I J K : List ℕ) (p : Route) (s y : ℕ) (can : CanDrop P
         });
       })
 
-  tidy : Tidy P K
-  tidy = tidy_from P K 0 same_end.sound (record { pointers = no_pointer; slots = no_slot; pages = λ x l. absurd (no_page x l); inodes = no_inode; counts = no_count }) (no_page 0)
+  tidy : IsTidied P K
+  tidy = tidy_from P K 0 same_end.coherent (record { pointers = no_pointer; slots = no_slot; pages = λ x l. absurd (no_page x l); inodes = no_inode; counts = no_count }) (no_page 0)
 
   -- ---- the chain
 
   in_image : slot_word_of P s 0 < length W
   in_image = let below = slot_word_within P s 0 can.slot.live.held.in_range (omega arith) in
-      let size = (can.tidy.sound Rule.head 0).whole refl in omega (arith, below, size)
+      let size = (can.tidy.coherent Rule.head 0).whole refl in omega (arith, below, size)
 
   room : HasRoomRemoved P W K (slot_owner P W s) s (slot_inode P W s)
   room =
@@ -392,10 +392,10 @@ module _ (P : ℕ) (W I J K : List ℕ) (p : Route) (s y : ℕ) (can : CanDrop P
   pub drop : IsDrop P W I J K p s
   drop = record {
     commit = λ M m. mix_one W M (slot_word_of P s 0) 0 in_image m;
-    clearing = λ M m. stores_law P (dropped P W s) I M (steps.removed P W I J K p s y can h).sound (steps.clear_stores P W I J K p s y can h) m;
+    clearing = λ M m. stores_law P (dropped P W s) I M (steps.removed P W I J K p s y can h).coherent (steps.clear_stores P W I J K p s y can h) m;
     giving = λ M m. same_chained P (dropped P W s) I M (steps.same_clear P W I J K p s y can h)
-        (stores_law P I J M (steps.same_clear P W I J K p s y can h).sound (gives.give_stores P W I J K p s y can h) m);
-    freeing = λ M m. same_chained P (dropped P W s) J M same_two (stores_law P J K M same_two.sound (gives.rest_stores P W I J K p s y can h) m);
+        (stores_law P I J M (steps.same_clear P W I J K p s y can h).coherent (gives.give_stores P W I J K p s y can h) m);
+    freeing = λ M m. same_chained P (dropped P W s) J M same_two (stores_law P J K M same_two.coherent (gives.rest_stores P W I J K p s y can h) m);
     tidy = tidy;
     reads = λ T path is h. same_end.reads (without_unnamed (without_path T path)) (remove_tree_law P W p path s T (can_remove P W p s can) is h);
     room = room;
@@ -411,7 +411,7 @@ module _ (P : ℕ) (W I J K : List ℕ) (p : Route) (s y : ℕ) (can : CanDrop P
 
   -- what has another name stays
   named_again : (q : Route) → Names P K q (slot_inode P W s) → (t : ℕ) × IsNameOf P W (slot_inode P W s) t × (t ≢ s)
-  named_again [] e = let least = (can.tidy.sound Rule.inodes s).least can.slot in absurd (omega (arith, least, e))
+  named_again [] e = let least = (can.tidy.coherent Rule.inodes s).least can.slot in absurd (omega (arith, least, e))
   named_again (n ∷ q) (t, b, leads) =
       let (r, ne) = reached_before t (slot_of P K t q n (slot_inode P W s) b leads) in
       (t, record { slot = r; inode = sym (slot_inode_same t ne) ∙ leads.inode }, ne)
@@ -419,7 +419,7 @@ module _ (P : ℕ) (W I J K : List ℕ) (p : Route) (s y : ℕ) (can : CanDrop P
   stays_named : (t : ℕ) → IsNameOf P W (slot_inode P W s) t → t ≢ s → Reached P K (slot_inode P W s)
   stays_named t n ne =
       let after = reached_after t ne n.slot in
-      subst (Reached P K) (slot_inode_same t ne ∙ n.inode) (reach P K t after ((same_end.sound Rule.inodes t).most after))
+      subst (Reached P K) (slot_inode_same t ne ∙ n.inode) (reach P K t after ((same_end.coherent Rule.inodes t).most after))
 
   name_same : (t : ℕ) → t ≢ s → slot_name P K t ≡ slot_name P W t
   unfolding slot_name

@@ -1,10 +1,10 @@
--- An image that agrees with a sound one on what is used means the same.
+-- An image that agrees with a coherent one on what is used means the same.
 use Rattle.std.proofs.Common.{◌≡◌, ◌≢◌, ◌⊎◌, inl, inr, ℕ, ◌+◌, ◌-◌, ◌<◌, List, refl, sym, subst, ◌∙◌, arith}
 use Rattle.layout.specs.Fields.{page_owner, slot_inode, slot_pointer}
 use Rattle.layout.specs.Geometry.{slots_of, page_of_slot}
 use Rattle.layout.proofs.GeometryLaws.{page_of_slot_below}
 use Rattle.image_reading.specs.Reading.{slot_owner, IsHeld, IsLive, Reached}
-use Rattle.image_reading.specs.Soundness.{Rule, Obeys, Sound}
+use Rattle.image_reading.specs.Soundness.{Rule, Obeys, IsCoherent}
 use Rattle.image_laws.specs.Frame.{SamePage, IsIdle, AreIdle, SameDescriptor, SameSlot, Alike, Agrees, FrameLaw}
 use Rattle.image_laws.proofs.Meaning.{shape, meaning}
 
@@ -74,11 +74,11 @@ module _ (P : ℕ) (I J : List ℕ) (a : Agrees P I J) where
   descriptor : (j : ℕ) → SamePage P I J j → SameDescriptor P I J j
   descriptor j h = record { owner = h.owner; kind = h.kind; offset = h.offset }
 
-  module _ (sound : Sound P I) where
+  module _ (coherent : IsCoherent P I) where
     other_held : (s : ℕ) → IsHeld P J s → slot_pointer P J s ≢ s + 1
     other_held s held = elim (page_case s held.in_range) [
       | inr k ↦ λ z. (let none = k.after.pointers s refl held in omega (arith, none, z))
-      | inl k ↦ let mine = held_back s k held in λ z. (sound Rule.pointers s).other mine (sym (k.pointer s refl mine) ∙ z)
+      | inl k ↦ let mine = held_back s k held in λ z. (coherent Rule.pointers s).other mine (sym (k.pointer s refl mine) ∙ z)
     ]
 
     target_held : (s : ℕ) → IsHeld P J s → slot_pointer P J s ≢ 0 → IsHeld P J (slot_pointer P J s - 1)
@@ -87,7 +87,7 @@ module _ (P : ℕ) (I J : List ℕ) (a : Agrees P I J) where
       | inl k ↦
           let mine = held_back s k held in
           let e = k.pointer s refl mine in
-          let target = (sound Rule.pointers s).held mine (λ z. nonzero (e ∙ z)) in (
+          let target = (coherent Rule.pointers s).held mine (λ z. nonzero (e ∙ z)) in (
           subst (λ x. IsHeld P J (x - 1)) (sym e)
           (elim (page_case (slot_pointer P I s - 1) target.in_range) [
             | inl t ↦ held_forward (slot_pointer P I s - 1) t target
@@ -105,7 +105,7 @@ module _ (P : ℕ) (I J : List ℕ) (a : Agrees P I J) where
         | inl q ↦
             let mine_s = held_back s k held_s in
             let mine_r = held_back r q held_r in
-            k.pointer s refl mine_s ∙ sound Rule.one_pointer s r lt mine_r mine_s (λ z. nonzero (q.pointer r refl mine_r ∙ z))
+            k.pointer s refl mine_s ∙ coherent Rule.one_pointer s r lt mine_r mine_s (λ z. nonzero (q.pointer r refl mine_r ∙ z))
       ]
     ]
 
@@ -123,4 +123,4 @@ module _ (P : ℕ) (I J : List ℕ) (a : Agrees P I J) where
     }
 
 pub frame : FrameLaw
-frame P I J sound a b = meaning P I J (shape P I J sound (alike P I J a sound)) b
+frame P I J coherent a b = meaning P I J (shape P I J coherent (alike P I J a coherent)) b

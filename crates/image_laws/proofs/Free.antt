@@ -5,7 +5,7 @@ use Rattle.std.proofs.lemmas.List.{get_or-set_other, ext_get_or}
 use Rattle.layout.specs.Fields.{word, inode_size, page_owner, page_kind}
 use Rattle.layout.specs.Geometry.{inodes_of, data_pages_of, page_of_slot, inode_word_of, descriptor_word_of, page_word_of, slot_word_of}
 use Rattle.image_reading.specs.Reading.{slot_owner, IsHeld, Reached, IsReachedSlot, IsPageOf}
-use Rattle.image_reading.specs.Soundness.{Sound}
+use Rattle.image_reading.specs.Soundness.{IsCoherent}
 use Rattle.image_laws.specs.Free.{IsFree, FreeLaw, StoresLaw}
 use Rattle.image_laws.specs.Quiet.{IsMix}
 use Rattle.image_laws.specs.Words.{IsUsed, IsByteOf}
@@ -13,7 +13,7 @@ use Rattle.image_laws.proofs.Addresses.{head-ne_inode, head-ne_slot, descriptor-
 use Rattle.image_laws.proofs.Quiet.{mix_law}
 use Rattle.image_laws.proofs.Paths.{reached_pos, reached-le}
 
-module _ (P : ℕ) (I : List ℕ) (sound : Sound P I) where
+module _ (P : ℕ) (I : List ℕ) (coherent : IsCoherent P I) where
   pos : (i : ℕ) → Reached P I i → 1 ≤ i
   pos i r = let h = reached_pos P I i r in omega arith
 
@@ -41,9 +41,9 @@ module _ (P : ℕ) (I : List ℕ) (sound : Sound P I) where
   used_descriptor j f lt l8 (IsUsed.slot_inode s h) e = absurd (descriptor-ne_slot P j f s 0 lt l8 (sym e))
   used_descriptor j f lt l8 (IsUsed.pointer s h) e = absurd (descriptor-ne_slot P j f s 1 lt l8 (sym e))
   used_descriptor j f lt l8 (IsUsed.name s g l r) e = absurd (descriptor-ne_slot P j f s (2 + g) lt l8 (sym e))
-  used_descriptor j f lt l8 (IsUsed.node_kind k r) e = absurd (descriptor-ne_inode P j f k 0 (pos k r) (reached-le P I sound k r) (omega arith) (sym e))
-  used_descriptor j f lt l8 (IsUsed.size k r) e = absurd (descriptor-ne_inode P j f k 2 (pos k r) (reached-le P I sound k r) (omega arith) (sym e))
-  used_descriptor j f lt l8 (IsUsed.own k r) e = absurd (descriptor-ne_inode P j f k 3 (pos k r) (reached-le P I sound k r) (omega arith) (sym e))
+  used_descriptor j f lt l8 (IsUsed.node_kind k r) e = absurd (descriptor-ne_inode P j f k 0 (pos k r) (reached-le P I coherent k r) (omega arith) (sym e))
+  used_descriptor j f lt l8 (IsUsed.size k r) e = absurd (descriptor-ne_inode P j f k 2 (pos k r) (reached-le P I coherent k r) (omega arith) (sym e))
+  used_descriptor j f lt l8 (IsUsed.own k r) e = absurd (descriptor-ne_inode P j f k 3 (pos k r) (reached-le P I coherent k r) (omega arith) (sym e))
 
   -- in a data page a used word is of a held slot, and its own if it is a name's of a reached one
   used_page : (j w : ℕ) → w < 512 → {a : ℕ} → IsUsed P I a → a ≡ page_word_of P j w →
@@ -54,9 +54,9 @@ module _ (P : ℕ) (I : List ℕ) (sound : Sound P I) where
   used_page j w lt (IsUsed.slot_inode s h) e = (s, 0, omega arith, refl, h, slot_in_page P s 0 j w (omega arith) lt e, inl (omega arith))
   used_page j w lt (IsUsed.pointer s h) e = (s, 1, omega arith, refl, h, slot_in_page P s 1 j w (omega arith) lt e, inl (omega arith))
   used_page j w lt (IsUsed.name s g l r) e = (s, 2 + g, omega arith, refl, r.live.held, slot_in_page P s (2 + g) j w (omega arith) lt e, inr r)
-  used_page j w lt (IsUsed.node_kind k r) e = absurd (page-ne_inode P j w k 0 (pos k r) (reached-le P I sound k r) (omega arith) (sym e))
-  used_page j w lt (IsUsed.size k r) e = absurd (page-ne_inode P j w k 2 (pos k r) (reached-le P I sound k r) (omega arith) (sym e))
-  used_page j w lt (IsUsed.own k r) e = absurd (page-ne_inode P j w k 3 (pos k r) (reached-le P I sound k r) (omega arith) (sym e))
+  used_page j w lt (IsUsed.node_kind k r) e = absurd (page-ne_inode P j w k 0 (pos k r) (reached-le P I coherent k r) (omega arith) (sym e))
+  used_page j w lt (IsUsed.size k r) e = absurd (page-ne_inode P j w k 2 (pos k r) (reached-le P I coherent k r) (omega arith) (sym e))
+  used_page j w lt (IsUsed.own k r) e = absurd (page-ne_inode P j w k 3 (pos k r) (reached-le P I coherent k r) (omega arith) (sym e))
 
   not_head : (b : ℕ) → 5 ≤ b → b < 512 → {a : ℕ} → IsUsed P I a → a ≡ b → ⊥
   not_head b low high (IsUsed.head a l) e = omega arith
@@ -120,18 +120,18 @@ module _ (P : ℕ) (I : List ℕ) (sound : Sound P I) where
       omega (arith, past', below, offset)
 
 pub free_law : FreeLaw
-free_law P I J sound t = (
+free_law P I J coherent t = (
   record {
     size = t.size;
-    words = λ a u. elim (t.words a) [ inl e ↦ e | inr f ↦ absurd (free_used P I sound f u) ];
+    words = λ a u. elim (t.words a) [ inl e ↦ e | inr f ↦ absurd (free_used P I coherent f u) ];
     owners = t.owners;
     links = t.links;
   },
-  (λ i r k a b. elim (t.words a) [ inl e ↦ e | inr f ↦ absurd (free_byte P I sound i r f b) ]),
+  (λ i r k a b. elim (t.words a) [ inl e ↦ e | inr f ↦ absurd (free_byte P I coherent i r f b) ]),
 )
 
 pub stores_law : StoresLaw
-stores_law P I J M sound t m = let (quiet, bytes) = free_law P I J sound t in mix_law P I J M sound quiet bytes m
+stores_law P I J M coherent t m = let (quiet, bytes) = free_law P I J coherent t in mix_law P I J M coherent quiet bytes m
 
 -- a mix of a list and the list with one word stored is one of the two
 pub mix_one : (A M : List ℕ) (x v : ℕ) → x < length A → IsMix A (set A x v) M → (M ≡ A) ⊎ (M ≡ set A x v)

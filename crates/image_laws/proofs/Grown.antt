@@ -24,7 +24,7 @@ other_words P I s i a ne = get_or-set_other I (slot_word_of P s 0) a i 0 ne
 grown_from : (P : ℕ) (B I : List ℕ) (p : Route) (node : Node) (d s i : ℕ) (name : List ℕ) → IsReady P B p d s i name → MakesNode P B I node d s i name → HasGrown P B (committed P I s i) d s i name
 grown_from P B I p node d s i name ready makes =
     let can = making.can_add P B I p node d s i name ready makes in
-    grown_after P B I (committed P I s i) p node d s i name ready makes can (only P I s i can.sound) (stored P I s i can.sound can.slot.held.in_range) (other_words P I s i) (add_law P I p d s i can).sound
+    grown_after P B I (committed P I s i) p node d s i name ready makes can (only P I s i can.coherent) (stored P I s i can.coherent can.slot.held.in_range) (other_words P I s i) (add_law P I p d s i can).coherent
 
 pub grown_law : GrownLaw
 grown_law P W I p node d s i name can vacant makes = grown_from P W I p node d s i name (is_ready P W p d s i name can vacant) makes

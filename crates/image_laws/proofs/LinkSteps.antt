@@ -59,9 +59,9 @@ link_room_law T room from path d n fits above directory = room_linked T room fro
 module _ (P : ℕ) (W : List ℕ) (old : State) (p from path : Route) (d i n : ℕ) (name : List ℕ) (can : CanName P W p d name) (is : reverse path ≡ name_in_words name ∷ p) (reads : ReadsAs P W old) (source : id_at old.tree from ≡ Some i) where
   room_is_linked : HasRoomLinked old.tree old.room from path d n
   room_is_linked = link_room_law old.tree old.room from path d n
-      (is_room P W old.tree can.tidy.sound reads.tree old.room reads.room)
+      (is_room P W old.tree can.tidy.coherent reads.tree old.room reads.room)
       ((reads.tree.names (parent path) d).1 (subst (λ q. Names P W q d) (sym (parent_is path p (name_in_words name) is)) can.path))
-      (is_directory-reached P W old.tree can.tidy.sound reads.tree d (p, can.path) can.directory)
+      (is_directory-reached P W old.tree can.tidy.coherent reads.tree d (p, can.path) can.directory)
 
   stepped : (B I J : List ℕ) (after : Room → Room) → IsLink P W B I J path i after → after old.room ≡ room_after n old.tree old.room (Link from path) false → IsStepped P J old (Link from path) n
   stepped B I J after linked room =
@@ -72,7 +72,7 @@ module _ (P : ℕ) (W : List ℕ) (old : State) (p from path : Route) (d i n : �
         new = record { tree = with_path old.tree path i; room = after old.room };
         reads = record { tree = read; room = has };
         tree = tree;
-        room = (false, room, subst (λ T. IsRoom T (after old.room)) tree (is_room P J (with_path old.tree path i) linked.tidy.sound read (after old.room) has));
+        room = (false, room, subst (λ T. IsRoom T (after old.room)) tree (is_room P J (with_path old.tree path i) linked.tidy.coherent read (after old.room) has));
       }
 
 pub link_step_law : LinkStepLaw

@@ -9,8 +9,8 @@ use Rattle.tree_model.specs.PathText.{Route}
 use Rattle.image_reading.specs.Counts.{Count}
 use Rattle.image_reading.specs.Reading.{slot_owner, IsHeld, IsLive, Reached, IsReachedSlot, IsNameOf, IsChildOf, IsLinkCount, IsRoomOf, pages_of_size, IsPageOf}
 use Rattle.image_reading.specs.Repairs.{IsKeptFilePage, IsKept, IsPointer, IsLitterSlot, IsLitterPage, IsLitterInode, IsLitterCount}
-use Rattle.image_reading.specs.Soundness.{Rule, Sound}
-use Rattle.image_reading.specs.Tidy.{Tidy}
+use Rattle.image_reading.specs.Soundness.{Rule, IsCoherent}
+use Rattle.image_reading.specs.Tidy.{IsTidied}
 use Rattle.image_reading.proofs.Credits.{count_same, count_more}
 use Rattle.image_counts.specs.Entries.{IsSlotOf}
 use Rattle.image_counts.proofs.Decided.{room_below}
@@ -29,7 +29,7 @@ use Rattle.image_laws.proofs.Ready.{IsReadySlot, tidy_from}
 use Rattle.image_laws.proofs.Words.{slot_words-same}
 
 module _ (P : ℕ) (B C D : List ℕ) (p : Route) (d s i : ℕ) (name : List ℕ) (place : IsReadySlot P B p d s name) (of_file : IsOldFile P B i) (makes : MakesLink P B C s i name)
-    (can : CanAdd P C p d s i) (only : OnlySlot P C D s) (stored : slot_inode P D s ≡ i) (others : (a : ℕ) → a ≢ slot_word_of P s 0 → word D a ≡ word C a) (sound : Sound P D) where
+    (can : CanAdd P C p d s i) (only : OnlySlot P C D s) (stored : slot_inode P D s ≡ i) (others : (a : ℕ) → a ≢ slot_word_of P s 0 → word D a ≡ word C a) (coherent : IsCoherent P D) where
   -- ---- which words stay
 
   descriptor_same : (j f : ℕ) → j < data_pages_of P → f < 8 → word D (descriptor_word_of P j f) ≡ word B (descriptor_word_of P j f)
@@ -74,7 +74,7 @@ module _ (P : ℕ) (B C D : List ℕ) (p : Route) (d s i : ℕ) (name : List ℕ
   pos x r = let h = reached_pos P B x r in omega (arith, h)
 
   range : (x : ℕ) → Reached P B x → x ≤ inodes_of P
-  range x r = reached-le P B place.sound x r
+  range x r = reached-le P B place.coherent x r
 
   node_kind_same : (x : ℕ) → Reached P B x → inode_kind D x ≡ inode_kind B x
   unfolding inode_kind
@@ -130,7 +130,7 @@ module _ (P : ℕ) (B C D : List ℕ) (p : Route) (d s i : ℕ) (name : List ℕ
 
   -- what an old slot names
   named_old : (t : ℕ) → IsReachedSlot P B t → Reached P B (slot_inode P B t)
-  named_old t r = reach P B t r ((place.sound Rule.inodes t).most r)
+  named_old t r = reach P B t r ((place.coherent Rule.inodes t).most r)
 
   room_forth : (x j : ℕ) → IsRoomOf P B x j → IsRoomOf P D x j
   room_forth x j room = room_forward P C D p d s i can only stored x j (((linking.shape_linked P B C p d s i name place of_file makes).directories x j).0 room)
@@ -264,8 +264,8 @@ module _ (P : ℕ) (B C D : List ℕ) (p : Route) (d s i : ℕ) (name : List ℕ
       let r = reached_back x l.reached in
       place.but.counts x (record { reached = r; other = λ count. l.other (old_links x r count) })
 
-  pub tidy_after : Tidy P D
-  tidy_after = tidy_from P D (page_of_slot s) sound (record { pointers = no_pointer; slots = no_slot; pages = page_cases; inodes = no_inode; counts = no_count }) no_slot_page
+  pub tidy_after : IsTidied P D
+  tidy_after = tidy_from P D (page_of_slot s) coherent (record { pointers = no_pointer; slots = no_slot; pages = page_cases; inodes = no_inode; counts = no_count }) no_slot_page
 
   -- ---- what an index holds
 

@@ -35,12 +35,12 @@ module _ (P : ℕ) (B C : List ℕ) (p : Route) (d s i : ℕ) (name : List ℕ) 
   i_pos = let h = reached_pos P B i file.reached in omega (arith, h)
 
   i_most : i ≤ inodes_of P
-  i_most = reached-le P B place.sound i file.reached
+  i_most = reached-le P B place.coherent i file.reached
 
   -- a file isn't the root
   pub i_least : 2 ≤ i
   i_least = elim (cases_eq i 1) [
-    | inl e ↦ (let two = (place.sound Rule.root i).directory e in let one = file.file in absurd (omega (arith, one, two)))
+    | inl e ↦ (let two = (place.coherent Rule.root i).directory e in let one = file.file in absurd (omega (arith, one, two)))
     | inr ne ↦ let some = i_pos in omega (arith, some, ne)
   ]
 
@@ -51,7 +51,7 @@ module _ (P : ℕ) (B C : List ℕ) (p : Route) (d s i : ℕ) (name : List ℕ) 
   pos x r = let h = reached_pos P B x r in omega (arith, h)
 
   range : (x : ℕ) → Reached P B x → x ≤ inodes_of P
-  range x r = reached-le P B place.sound x r
+  range x r = reached-le P B place.coherent x r
 
   not_live : (t : ℕ) → IsLive P B t → t ≢ s
   not_live t l e = l.names (ap (slot_inode P B) e ∙ place.slot.free)
@@ -122,8 +122,8 @@ module _ (P : ℕ) (B C : List ℕ) (p : Route) (d s i : ℕ) (name : List ℕ) 
 
   enough_links : (x : ℕ) → Reached P B x → HasLinks P B x (inode_links C x)
   enough_links x r = elim (cases_eq x i) [
-    | inl e ↦ subst (λ y. HasLinks P B y (inode_links C y)) (sym e) (subst (HasLinks P B i) (sym makes.links) (links_more P B i (inode_links B i) (place.sound Rule.links i file.reached)))
-    | inr ne ↦ subst (HasLinks P B x) (sym (links_same x r ne)) (place.sound Rule.links x r)
+    | inl e ↦ subst (λ y. HasLinks P B y (inode_links C y)) (sym e) (subst (HasLinks P B i) (sym makes.links) (links_more P B i (inode_links B i) (place.coherent Rule.links i file.reached)))
+    | inr ne ↦ subst (HasLinks P B x) (sym (links_same x r ne)) (place.coherent Rule.links x r)
   ]
 
   stores : Stores P B C
@@ -135,16 +135,16 @@ module _ (P : ℕ) (B C : List ℕ) (p : Route) (d s i : ℕ) (name : List ℕ) 
   }
 
   pub mixes : (M : List ℕ) → IsMix B C M → SameMeaning P B M
-  mixes M m = stores_law P B C M place.sound stores m
+  mixes M m = stores_law P B C M place.coherent stores m
 
   pub same : SameMeaning P B C
   same = mixes C (mix_itself B C makes.size)
 
   pub alike_linked : Alike P B C
-  alike_linked = alike_stores P B C place.sound stores
+  alike_linked = alike_stores P B C place.coherent stores
 
   pub shape_linked : SameShape P B C
-  shape_linked = shape P B C place.sound alike_linked
+  shape_linked = shape P B C place.coherent alike_linked
 
   -- ---- held and live slots
 
@@ -194,12 +194,12 @@ module _ (P : ℕ) (B C : List ℕ) (p : Route) (d s i : ℕ) (name : List ℕ) 
 
   name_room : AtMost 1 (IsNameOf P C i) (inode_links C i)
   name_room xs distinct all =
-      let le = at_most 0 (inode_links B i) (IsNameOf P B i) (IsNameOf P C i) name_back ((place.sound Rule.links i file.reached).file file.file) xs distinct all in
+      let le = at_most 0 (inode_links B i) (IsNameOf P B i) (IsNameOf P C i) name_back ((place.coherent Rule.links i file.reached).file file.file) xs distinct all in
       let links = makes.links in omega (arith, le, links)
 
   pub can_add : CanAdd P C p d s i
   can_add = record {
-    sound = same.sound;
+    coherent = same.coherent;
     slot = free_slot;
     name = subst IsNameWords (sym makes.words) place.is_name;
     new = λ t r o e.

@@ -10,7 +10,7 @@ use Rattle.tree_model.specs.Step.{with_path}
 use Rattle.tree_model.specs.Tree.{Node, Directory, File, Tree, Room}
 use Rattle.image_reading.specs.Reading.{HasBytes, IsNode, IsRoomOf, Reads, HasRoom}
 use Rattle.image_reading.specs.Soundness.{Rule}
-use Rattle.image_reading.specs.Tidy.{Tidy}
+use Rattle.image_reading.specs.Tidy.{IsTidied}
 use Rattle.image_laws.specs.Add.{CanAdd, IsOldFile, with_page, with_node}
 use Rattle.image_laws.specs.Create.{committed, owned}
 use Rattle.image_laws.specs.Frame.{SameMeaning}
@@ -45,7 +45,7 @@ module _ (P : ℕ) (W B C : List ℕ) (p path : Route) (d s i : ℕ) (name : Lis
 
   in_image : slot_word_of P s 0 < length C
   in_image = let below = slot_word_within P s 0 place.slot.held.in_range (omega arith) in
-      let size = makes.size ∙ (place.sound Rule.head 0).whole refl in omega (arith, below, size)
+      let size = makes.size ∙ (place.coherent Rule.head 0).whole refl in omega (arith, below, size)
 
   same_linked : SameMeaning P W C
   same_linked = same_chained P W B C start (linking.same P B C p d s i name place file makes)
@@ -56,13 +56,13 @@ module _ (P : ℕ) (W B C : List ℕ) (p path : Route) (d s i : ℕ) (name : Lis
     | inr e ↦ inr e
   ]
 
-  tidy : Tidy P (committed P C s i)
-  tidy = linked.tidy_after P B C (committed P C s i) p d s i name place file makes can (only P C s i can.sound) (stored P C s i can.sound can.slot.held.in_range) other_words
-      (add_law P C p d s i can).sound
+  tidy : IsTidied P (committed P C s i)
+  tidy = linked.tidy_after P B C (committed P C s i) p d s i name place file makes can (only P C s i can.coherent) (stored P C s i can.coherent can.slot.held.in_range) other_words
+      (add_law P C p d s i can).coherent
 
   pub grown : HasGrown P B (committed P C s i) d s i name
-  grown = linked.grown_after P B C (committed P C s i) p d s i name place file makes can (only P C s i can.sound) (stored P C s i can.sound can.slot.held.in_range) other_words
-      (add_law P C p d s i can).sound
+  grown = linked.grown_after P B C (committed P C s i) p d s i name place file makes can (only P C s i can.coherent) (stored P C s i can.coherent can.slot.held.in_range) other_words
+      (add_law P C p d s i can).coherent
 
   reads : (T : Tree) → Reads P W T → Reads P (committed P C s i) (with_path T path i)
   reads T h =
@@ -71,11 +71,11 @@ module _ (P : ℕ) (W B C : List ℕ) (p path : Route) (d s i : ℕ) (name : Lis
 
   -- the node that the file is
   node : Node
-  node = node_of P C can.sound i (linking.old_file P B C p d s i name place file makes).reached
+  node = node_of P C can.coherent i (linking.old_file P B C p d s i name place file makes).reached
 
   node_here : IsNode P C i node
   unfolding node
-  node_here = node_is P C can.sound i (linking.old_file P B C p d s i name place file makes).reached
+  node_here = node_is P C can.coherent i (linking.old_file P B C p d s i name place file makes).reached
 
   forget : (room : Room) → with_node room i node ≡ room
   forget room = no_place P C i node room (linking.old_file P B C p d s i name place file makes).file node_here
@@ -98,7 +98,7 @@ module _ (P : ℕ) (W B C : List ℕ) (p path : Route) (d s i : ℕ) (name : Lis
 pub link_law : LinkLaw
 link_law P W I p path d s i name can vacant makes is =
     let place = ready_slot P W p d s name can.place vacant in
-    let start = same_itself P W can.place.tidy.sound in
+    let start = same_itself P W can.place.tidy.coherent in
     let here = ((linking.shape_linked P W I p d s i name place can.file makes).directories d (page_of_slot s)).0 (room_here P W p d s name can.place vacant) in (
       is_link P W W I p path d s i name start place can.file makes is (λ room. room) (old_page_room P W W I p path d s i name start place can.file makes is here),
       grown P W W I p path d s i name start place can.file makes is,

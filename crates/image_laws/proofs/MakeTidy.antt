@@ -10,8 +10,8 @@ use Rattle.tree_model.specs.Tree.{Node, Directory, File}
 use Rattle.image_reading.specs.Counts.{Count}
 use Rattle.image_reading.specs.Reading.{HasBytes, slot_owner, IsHeld, IsLive, Reached, IsReachedSlot, IsNameOf, IsChildOf, IsLinkCount, IsRoomOf, pages_of_size, IsPageOf}
 use Rattle.image_reading.specs.Repairs.{IsKeptFilePage, IsKept, IsPointer, IsLitterSlot, IsLitterPage, IsLitterInode, IsLitterCount}
-use Rattle.image_reading.specs.Soundness.{Rule, Sound}
-use Rattle.image_reading.specs.Tidy.{Tidy}
+use Rattle.image_reading.specs.Soundness.{Rule, IsCoherent}
+use Rattle.image_reading.specs.Tidy.{IsTidied}
 use Rattle.image_reading.proofs.Counts.{count_none}
 use Rattle.image_reading.proofs.Credits.{count_same, count_more}
 use Rattle.image_counts.specs.Entries.{IsSlotOf}
@@ -35,7 +35,7 @@ count_single : (Q : ℕ → Type 0) (s : ℕ) → ((x : ℕ) → Q x ↔ (x ≡ 
 count_single Q s is = (s ∷ [], ((λ c. c), tt), (λ x. ((λ c. elim c [ inl e ↦ (is x).1 e | inr n ↦ absurd n ]), (λ q. inl ((is x).0 q)))), refl)
 
 module _ (P : ℕ) (B C D : List ℕ) (p : Route) (node : Node) (d s i : ℕ) (name : List ℕ) (ready : IsReady P B p d s i name) (makes : MakesNode P B C node d s i name)
-    (can : CanAdd P C p d s i) (only : OnlySlot P C D s) (stored : slot_inode P D s ≡ i) (others : (a : ℕ) → a ≢ slot_word_of P s 0 → word D a ≡ word C a) (sound : Sound P D) where
+    (can : CanAdd P C p d s i) (only : OnlySlot P C D s) (stored : slot_inode P D s ≡ i) (others : (a : ℕ) → a ≢ slot_word_of P s 0 → word D a ≡ word C a) (coherent : IsCoherent P D) where
   i_pos : 1 ≤ i
   i_pos = let least = ready.inode.least in omega (arith, least)
 
@@ -83,7 +83,7 @@ module _ (P : ℕ) (B C D : List ℕ) (p : Route) (node : Node) (d s i : ℕ) (n
   pos x r = let h = reached_pos P B x r in omega (arith, h)
 
   range : (x : ℕ) → Reached P B x → x ≤ inodes_of P
-  range x r = reached-le P B ready.place.sound x r
+  range x r = reached-le P B ready.place.coherent x r
 
   other_inode : (x : ℕ) → Reached P B x → x ≢ i
   other_inode x r e = ready.inode.unreached (subst (Reached P B) e r)
@@ -148,7 +148,7 @@ module _ (P : ℕ) (B C D : List ℕ) (p : Route) (node : Node) (d s i : ℕ) (n
 
   -- what an old slot names
   named_old : (t : ℕ) → IsReachedSlot P B t → Reached P B (slot_inode P B t)
-  named_old t r = reach P B t r ((ready.place.sound Rule.inodes t).most r)
+  named_old t r = reach P B t r ((ready.place.coherent Rule.inodes t).most r)
 
   room_forth : (x j : ℕ) → IsRoomOf P B x j → IsRoomOf P D x j
   room_forth x j room = room_forward P C D p d s i can only stored x j (((making.shape_made P B C p node d s i name ready makes).directories x j).0 room)
@@ -328,8 +328,8 @@ module _ (P : ℕ) (B C D : List ℕ) (p : Route) (node : Node) (d s i : ℕ) (n
     | inr e ↦ l.other (subst (λ y. IsLinkCount P D y (inode_links D y)) (sym e) (new_links node made_kind made_links))
   ]
 
-  pub tidy_after : Tidy P D
-  tidy_after = tidy_from P D (page_of_slot s) sound (record { pointers = no_pointer; slots = no_slot; pages = page_cases; inodes = no_inode; counts = no_count }) no_slot_page
+  pub tidy_after : IsTidied P D
+  tidy_after = tidy_from P D (page_of_slot s) coherent (record { pointers = no_pointer; slots = no_slot; pages = page_cases; inodes = no_inode; counts = no_count }) no_slot_page
 
   -- ---- what an index holds
 

@@ -69,7 +69,7 @@ module _ (P : ℕ) (B C : List ℕ) (p : Route) (node : Node) (d s i : ℕ) (nam
   pos x r = let h = reached_pos P B x r in omega (arith, h)
 
   range : (x : ℕ) → Reached P B x → x ≤ inodes_of P
-  range x r = reached-le P B ready.place.sound x r
+  range x r = reached-le P B ready.place.coherent x r
 
   other_inode : (x : ℕ) → Reached P B x → x ≢ i
   other_inode x r e = ready.inode.unreached (subst (Reached P B) e r)
@@ -170,8 +170,8 @@ module _ (P : ℕ) (B C : List ℕ) (p : Route) (node : Node) (d s i : ℕ) (nam
 
   enough_links : (x : ℕ) → Reached P B x → HasLinks P B x (inode_links C x)
   enough_links x r = elim (cases_eq x d) [
-    | inl e ↦ subst (λ y. HasLinks P B y (inode_links C y)) (sym e) (subst (HasLinks P B d) (sym makes.parent) (links_for node P B d (inode_links B d) (ready.place.sound Rule.links d d_reached)))
-    | inr ne ↦ subst (HasLinks P B x) (sym (links_same x r ne)) (ready.place.sound Rule.links x r)
+    | inl e ↦ subst (λ y. HasLinks P B y (inode_links C y)) (sym e) (subst (HasLinks P B d) (sym makes.parent) (links_for node P B d (inode_links B d) (ready.place.coherent Rule.links d d_reached)))
+    | inr ne ↦ subst (HasLinks P B x) (sym (links_same x r ne)) (ready.place.coherent Rule.links x r)
   ]
 
   pub stores : Stores P B C
@@ -183,16 +183,16 @@ module _ (P : ℕ) (B C : List ℕ) (p : Route) (node : Node) (d s i : ℕ) (nam
   }
 
   pub mixes : (M : List ℕ) → IsMix B C M → SameMeaning P B M
-  mixes M m = stores_law P B C M ready.place.sound stores m
+  mixes M m = stores_law P B C M ready.place.coherent stores m
 
   pub same : SameMeaning P B C
   same = mixes C (mix_itself B C makes.size)
 
   pub alike_made : Alike P B C
-  alike_made = alike P B C (agrees_from_words P B C (quiet_agrees P B C ready.place.sound (free_law P B C ready.place.sound stores).0)) ready.place.sound
+  alike_made = alike P B C (agrees_from_words P B C (quiet_agrees P B C ready.place.coherent (free_law P B C ready.place.coherent stores).0)) ready.place.coherent
 
   pub shape_made : SameShape P B C
-  shape_made = shape P B C ready.place.sound alike_made
+  shape_made = shape P B C ready.place.coherent alike_made
 
   -- ---- held and live slots
 
@@ -248,7 +248,7 @@ module _ (P : ℕ) (B C : List ℕ) (p : Route) (node : Node) (d s i : ℕ) (nam
   }
 
   no_name : (t : ℕ) → IsNameOf P C i t → ⊥
-  no_name t n = unreached_after (subst (Reached P C) n.inode (reach P C t n.slot ((same.sound Rule.inodes t).most n.slot)))
+  no_name t n = unreached_after (subst (Reached P C) n.inode (reach P C t n.slot ((same.coherent Rule.inodes t).most n.slot)))
 
   one_link : 1 ≤ inode_links C i
   one_link = let e = made_links in elim (kind_word node i) [ inl k ↦ omega (arith, e, k) | inr k ↦ omega (arith, e, k) ]
@@ -260,7 +260,7 @@ module _ (P : ℕ) (B C : List ℕ) (p : Route) (node : Node) (d s i : ℕ) (nam
   child_back : (t : ℕ) → IsChildOf P C d t → IsChildOf P B d t
   child_back t n =
       let (k, m) = reached_slot P B C alike_made t n.slot in
-      let r = reach P B t m ((ready.place.sound Rule.inodes t).most m) in
+      let r = reach P B t m ((ready.place.coherent Rule.inodes t).most m) in
       record {
         slot = m;
         owner = sym (slot_owner_same t m.live.held.in_range) ∙ n.owner;
@@ -269,7 +269,7 @@ module _ (P : ℕ) (B C : List ℕ) (p : Route) (node : Node) (d s i : ℕ) (nam
 
   pub can_add : CanAdd P C p d s i
   can_add = record {
-    sound = same.sound;
+    coherent = same.coherent;
     slot = free_slot;
     name = subst IsNameWords (sym makes.words) ready.place.is_name;
     new = λ t r o e.
@@ -279,7 +279,7 @@ module _ (P : ℕ) (B C : List ℕ) (p : Route) (node : Node) (d s i : ℕ) (nam
     most = ready.inode.most;
     node = inl new_node;
     name_link = λ _. at_most_none 1 (inode_links C i) (IsNameOf P C i) no_name one_link;
-    child_link = λ two. child_room node makes.parent (sym made_kind ∙ two) (at_most 2 (inode_links B d) (IsChildOf P B d) (IsChildOf P C d) child_back ((ready.place.sound Rule.links d d_reached).directory ready.place.slot.directory));
+    child_link = λ two. child_room node makes.parent (sym made_kind ∙ two) (at_most 2 (inode_links B d) (IsChildOf P B d) (IsChildOf P C d) child_back ((ready.place.coherent Rule.links d d_reached).directory ready.place.slot.directory));
   }
 
   -- the made inode is the node

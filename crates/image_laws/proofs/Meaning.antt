@@ -1,4 +1,4 @@
--- An image that is alike to a sound one means the same.
+-- An image that is alike to a coherent one means the same.
 use Rattle.std.proofs.Common.{◌≡◌, ◌≢◌, ◌↔◌, ◌⊎◌, inl, inr, ℕ, ◌/◌, ◌^◌, ◌<◌, ◌≤◌, List, [], ◌∷◌, length, reverse, refl, sym, ap, subst, ◌∙◌, arith}
 use Rattle.layout.specs.Fields.{word, inode_kind, inode_links, inode_size, page_owner, page_kind, page_offset, slot_inode, slot_name}
 use Rattle.layout.specs.Geometry.{inodes_of, data_pages_of, slots_of, page_of_slot}
@@ -7,7 +7,7 @@ use Rattle.layout.specs.Name.{name_in_words, IsNameWords}
 use Rattle.tree_model.specs.PathText.{Route}
 use Rattle.tree_model.specs.Tree.{Node, Directory, File}
 use Rattle.image_reading.specs.Reading.{slot_owner, IsLive, Leads, Names, Reached, IsReachedSlot, IsPageOf, IsContent, IsNode, pages_of_size, IsRoomOf, IsNameOf, IsChildOf}
-use Rattle.image_reading.specs.Soundness.{Rule, Obeys, Sound, HasHead, HasLinks}
+use Rattle.image_reading.specs.Soundness.{Rule, Obeys, IsCoherent, HasHead, HasLinks}
 use Rattle.image_reading.proofs.Credits.{count_same}
 use Rattle.image_laws.specs.Frame.{IsUnneeded, SameDescriptor, Alike, SameBytes, AllSameBytes, SameShape, SameMeaning, ShapeLaw, NodeLaw, MeaningLaw, MeaningsChain}
 use Rattle.image_laws.proofs.Addresses.{page_of_byte-lt}
@@ -23,10 +23,10 @@ same_head P I J x size head h = record {
 }
 
 -- rule 10, as one fact
-pub page_kind_is : (P : ℕ) (I : List ℕ) → Sound P I → (j : ℕ) → j < data_pages_of P → Reached P I (page_owner P I j) → page_kind P I j ≡ inode_kind I (page_owner P I j)
-page_kind_is P I sound j lt r = elim ((sound Rule.kinds (page_owner P I j)).kind r) [
-  | inl file ↦ (sound Rule.page_kinds j).file lt r file ∙ sym file
-  | inr directory ↦ (sound Rule.page_kinds j).directory lt r directory ∙ sym directory
+pub page_kind_is : (P : ℕ) (I : List ℕ) → IsCoherent P I → (j : ℕ) → j < data_pages_of P → Reached P I (page_owner P I j) → page_kind P I j ≡ inode_kind I (page_owner P I j)
+page_kind_is P I coherent j lt r = elim ((coherent Rule.kinds (page_owner P I j)).kind r) [
+  | inl file ↦ (coherent Rule.page_kinds j).file lt r file ∙ sym file
+  | inr directory ↦ (coherent Rule.page_kinds j).directory lt r directory ∙ sym directory
 ]
 
 module _ (P : ℕ) (I J : List ℕ) (a : Alike P I J) where
@@ -162,12 +162,12 @@ module _ (P : ℕ) (I J : List ℕ) (a : Alike P I J) where
         ]
       ]
 
-  module _ (sound : Sound P I) where
+  module _ (coherent : IsCoherent P I) where
     rule8 : (s : ℕ) → Obeys P J Rule.own_names s
     rule8 s r lt hr hs owners names =
         let (kr, mr) = reached_slot r hr in
         let (ks, ms) = reached_slot s hs in
-        sound Rule.own_names s r lt mr ms (sym (same_owner r kr) ∙ owners ∙ same_owner s ks) (sym (slot_name_same r mr) ∙ names ∙ slot_name_same s ms)
+        coherent Rule.own_names s r lt mr ms (sym (same_owner r kr) ∙ owners ∙ same_owner s ks) (sym (slot_name_same r mr) ∙ names ∙ slot_name_same s ms)
 
     rule9 : (s : ℕ) → Obeys P J Rule.own_directories s
     rule9 s r lt hr hs directory same =
@@ -176,18 +176,18 @@ module _ (P : ℕ) (I J : List ℕ) (a : Alike P I J) where
         let er = same_inode r kr mr in
         let es = same_inode s ks ms in
         let reached : Reached P I (slot_inode P I s) = reach s ms in
-        sound Rule.own_directories s r lt mr ms (sym (a.inodes (slot_inode P I s) reached).kind ∙ ap (inode_kind J) (sym es) ∙ directory) (sym er ∙ same ∙ es)
+        coherent Rule.own_directories s r lt mr ms (sym (a.inodes (slot_inode P I s) reached).kind ∙ ap (inode_kind J) (sym es) ∙ directory) (sym er ∙ same ∙ es)
       where
         reach : (s : ℕ) → IsReachedSlot P I s → Reached P I (slot_inode P I s)
         reach s r = let (p, q) = r.owner in
-            (slot_name P I s ∷ p, (s, q, record { directory = r.directory; live = r.live; name = refl; inode = refl; in_range = (sound Rule.inodes s).most r }))
+            (slot_name P I s ∷ p, (s, q, record { directory = r.directory; live = r.live; name = refl; inode = refl; in_range = (coherent Rule.inodes s).most r }))
 
     -- a page that a reached inode of J owns has its owner's kind in I
     owners_kind : (j : ℕ) → j < data_pages_of P → Reached P I (page_owner P J j) → page_kind P J j ≡ inode_kind I (page_owner P J j)
     owners_kind j lt mine = elim (a.pages j lt) [
       | inl k ↦
           let mine' : Reached P I (page_owner P I j) = subst (Reached P I) k.owner mine in
-          k.kind (reached_pos P I (page_owner P I j) mine') ∙ page_kind_is P I sound j lt mine' ∙ ap (inode_kind I) (sym k.owner)
+          k.kind (reached_pos P I (page_owner P I j) mine') ∙ page_kind_is P I coherent j lt mine' ∙ ap (inode_kind I) (sym k.owner)
       | inr k ↦ elim (k.1 (reached_pos P I (page_owner P J j) mine) mine) [
         | inl e ↦ e.kind ∙ sym e.file
         | inr e ↦ e.kind ∙ sym e.directory
@@ -214,44 +214,44 @@ module _ (P : ℕ) (I J : List ℕ) (a : Alike P I J) where
         child : (s : ℕ) → IsChildOf P J i s → IsChildOf P I i s
         child s n = let (h, m) = reached_slot s n.slot in
             let (p, q) = m.owner in
-            let reached : Reached P I (slot_inode P I s) = (slot_name P I s ∷ p, (s, q, record { directory = m.directory; live = m.live; name = refl; inode = refl; in_range = (sound Rule.inodes s).most m })) in
+            let reached : Reached P I (slot_inode P I s) = (slot_name P I s ∷ p, (s, q, record { directory = m.directory; live = m.live; name = refl; inode = refl; in_range = (coherent Rule.inodes s).most m })) in
             record { slot = m; owner = sym (same_owner s h) ∙ n.owner; directory = sym (a.inodes (slot_inode P I s) reached).kind ∙ ap (inode_kind J) (sym (same_inode s h m)) ∙ n.directory }
 
-    sound_after : Sound P J
-    sound_after Rule.head x = same_head P I J x a.size a.head (sound Rule.head x)
-    sound_after Rule.root x = record {
-      directory = λ z. (a.inodes x ([], z)).kind ∙ (sound Rule.root x).directory z;
-      own = λ z. (a.inodes x ([], z)).own ∙ (sound Rule.root x).own z;
+    coherent_after : IsCoherent P J
+    coherent_after Rule.head x = same_head P I J x a.size a.head (coherent Rule.head x)
+    coherent_after Rule.root x = record {
+      directory = λ z. (a.inodes x ([], z)).kind ∙ (coherent Rule.root x).directory z;
+      own = λ z. (a.inodes x ([], z)).own ∙ (coherent Rule.root x).own z;
     }
-    sound_after Rule.pointers x = a.pointers x
-    sound_after Rule.one_pointer x = a.one_pointer x
-    sound_after Rule.inodes x = record {
-      least = λ r. let (h, m) = reached_slot x r in subst (λ i. 2 ≤ i) (sym (same_inode x h m)) ((sound Rule.inodes x).least m);
-      most = λ r. let (h, m) = reached_slot x r in subst (λ i. i ≤ inodes_of P) (sym (same_inode x h m)) ((sound Rule.inodes x).most m);
+    coherent_after Rule.pointers x = a.pointers x
+    coherent_after Rule.one_pointer x = a.one_pointer x
+    coherent_after Rule.inodes x = record {
+      least = λ r. let (h, m) = reached_slot x r in subst (λ i. 2 ≤ i) (sym (same_inode x h m)) ((coherent Rule.inodes x).least m);
+      most = λ r. let (h, m) = reached_slot x r in subst (λ i. i ≤ inodes_of P) (sym (same_inode x h m)) ((coherent Rule.inodes x).most m);
     }
-    sound_after Rule.names x = λ r. let (h, m) = reached_slot x r in subst IsNameWords (sym (a.names x m)) (sound Rule.names x m)
-    sound_after Rule.kinds x = record {
-      kind = λ r. let m = reached_back x r in subst (λ k. (k ≡ 1) ⊎ (k ≡ 2)) (sym (a.inodes x m).kind) ((sound Rule.kinds x).kind m);
-      own = λ r. let m = reached_back x r in (a.inodes x m).own ∙ (sound Rule.kinds x).own m;
+    coherent_after Rule.names x = λ r. let (h, m) = reached_slot x r in subst IsNameWords (sym (a.names x m)) (coherent Rule.names x m)
+    coherent_after Rule.kinds x = record {
+      kind = λ r. let m = reached_back x r in subst (λ k. (k ≡ 1) ⊎ (k ≡ 2)) (sym (a.inodes x m).kind) ((coherent Rule.kinds x).kind m);
+      own = λ r. let m = reached_back x r in (a.inodes x m).own ∙ (coherent Rule.kinds x).own m;
     }
-    sound_after Rule.own_names x = rule8 x
-    sound_after Rule.own_directories x = rule9 x
-    sound_after Rule.page_kinds x = record { file = λ lt r k. same_kind x lt r ∙ k; directory = λ lt r k. same_kind x lt r ∙ k }
-    sound_after Rule.sizes x = λ r k. let m = reached_back x r in
+    coherent_after Rule.own_names x = rule8 x
+    coherent_after Rule.own_directories x = rule9 x
+    coherent_after Rule.page_kinds x = record { file = λ lt r k. same_kind x lt r ∙ k; directory = λ lt r k. same_kind x lt r ∙ k }
+    coherent_after Rule.sizes x = λ r k. let m = reached_back x r in
         let same = a.inodes x m in
-        subst (λ z. z ≤ 2 ^ 40) (sym same.size) (sound Rule.sizes x m (sym same.kind ∙ k))
-    sound_after Rule.all_pages x = λ r file k lt. let m = reached_back x r in
+        subst (λ z. z ≤ 2 ^ 40) (sym same.size) (coherent Rule.sizes x m (sym same.kind ∙ k))
+    coherent_after Rule.all_pages x = λ r file k lt. let m = reached_back x r in
         let same = a.inodes x m in
         let lt' : k < pages_of_size (inode_size I x) = subst (λ z. k < pages_of_size z) same.size lt in
         let file' : inode_kind I x ≡ 1 = sym same.kind ∙ file in
-        let (j, g) = sound Rule.all_pages x m file' k lt' in
+        let (j, g) = coherent Rule.all_pages x m file' k lt' in
         (j, page_forward x k j m file' lt' g)
-    sound_after Rule.own_offsets x = λ h i k lt r file below g1 g2. let m = reached_back i r in
+    coherent_after Rule.own_offsets x = λ h i k lt r file below g1 g2. let m = reached_back i r in
         let same = a.inodes i m in
         let below' : k < pages_of_size (inode_size I i) = subst (λ z. k < pages_of_size z) same.size below in
         let file' : inode_kind I i ≡ 1 = sym same.kind ∙ file in
-        sound Rule.own_offsets x h i k lt m file' below' (page_back i k h m file' below' g1) (page_back i k x m file' below' g2)
-    sound_after Rule.links x = has_links x
+        coherent Rule.own_offsets x h i k lt m file' below' (page_back i k h m file' below' g1) (page_back i k x m file' below' g2)
+    coherent_after Rule.links x = has_links x
 
     room_forward : (d j : ℕ) → IsRoomOf P I d j → IsRoomOf P J d j
     room_forward d j r =
@@ -268,7 +268,7 @@ module _ (P : ℕ) (I J : List ℕ) (a : Alike P I J) where
 
     same_shape : SameShape P I J
     same_shape = record {
-      sound = sound_after;
+      coherent = coherent_after;
       names = λ p i. (names_forward p i, names_back p i);
       inodes = a.inodes;
       pages = λ i k j r file lt. (page_forward i k j r file lt, page_back i k j r file lt);
@@ -276,7 +276,7 @@ module _ (P : ℕ) (I J : List ℕ) (a : Alike P I J) where
     }
 
 pub shape : ShapeLaw
-shape P I J sound a = same_shape P I J a sound
+shape P I J coherent a = same_shape P I J a coherent
 
 module _ (P : ℕ) (I J : List ℕ) (h : SameShape P I J) where
   content_forward : (i : ℕ) (bs : List ℕ) → Reached P I i → inode_kind I i ≡ 1 → SameBytes P I J i → IsContent P I i bs → IsContent P J i bs
@@ -309,7 +309,7 @@ module _ (P : ℕ) (I J : List ℕ) (h : SameShape P I J) where
 
   same_meaning : AllSameBytes P I J → SameMeaning P I J
   same_meaning b = record {
-    sound = h.sound;
+    coherent = h.coherent;
     names = h.names;
     nodes = λ i x r. same_node i x r (b i r);
     room = λ room g d k. (
@@ -333,9 +333,9 @@ node P I J h i x r b = same_node P I J h i x r b
 pub meaning : MeaningLaw
 meaning P I J h b = same_meaning P I J h b
 
-pub same_itself : (P : ℕ) (I : List ℕ) → Sound P I → SameMeaning P I I
-same_itself P I sound = record {
-  sound = sound;
+pub same_itself : (P : ℕ) (I : List ℕ) → IsCoherent P I → SameMeaning P I I
+same_itself P I coherent = record {
+  coherent = coherent;
   names = λ p i. ((λ h. h), (λ h. h));
   nodes = λ i x r. ((λ h. h), (λ h. h));
   reads = λ T h. h;
@@ -344,7 +344,7 @@ same_itself P I sound = record {
 
 pub same_chained : (P : ℕ) (I J K : List ℕ) → SameMeaning P I J → SameMeaning P J K → SameMeaning P I K
 same_chained P I J K g h = record {
-  sound = h.sound;
+  coherent = h.coherent;
   names = λ p i. ((λ b. (h.names p i).0 ((g.names p i).0 b)), (λ b. (g.names p i).1 ((h.names p i).1 b)));
   nodes = λ i x r.
       let after : Reached P J i = (r.0, (g.names r.0 i).0 r.1) in

@@ -7,7 +7,7 @@ use Rattle.layout.specs.Name.{IsNameWords}
 use Rattle.tree_model.specs.PathText.{Route}
 use Rattle.image_reading.specs.Counts.{AtMost}
 use Rattle.image_reading.specs.Reading.{slot_owner, IsHeld, IsLive, Leads, Names, Reached, IsReachedSlot, IsNameOf, IsChildOf}
-use Rattle.image_reading.specs.Soundness.{Rule, Obeys, Sound, HasLinks}
+use Rattle.image_reading.specs.Soundness.{Rule, Obeys, IsCoherent, HasLinks}
 use Rattle.image_counts.proofs.Paths.{one_path, one_inode, same_slot, same_directory}
 use Rattle.image_laws.proofs.Counts.{at_most, at_most_swap}
 use Rattle.image_laws.proofs.Meaning.{same_head, page_kind_is}
@@ -40,7 +40,7 @@ pub record Moves (P : ℕ) (I J : List ℕ) (pa pb : Route) (s d i : ℕ) : Type
 not_longer : (r : Route) (n : List ℕ) (p : Route) → p ≡ r ++ n ∷ p → ⊥
 not_longer r n p e = let h = ap length e ∙ length-append r (n ∷ p) in omega (arith, h)
 
-module _ (P : ℕ) (I J : List ℕ) (pa pb : Route) (s d i : ℕ) (sound : Sound P I) (a : Moves P I J pa pb s d i) where
+module _ (P : ℕ) (I J : List ℕ) (pa pb : Route) (s d i : ℕ) (coherent : IsCoherent P I) (a : Moves P I J pa pb s d i) where
   new_path : Route
   new_path = slot_name P I d ∷ pb
 
@@ -51,7 +51,7 @@ module _ (P : ℕ) (I J : List ℕ) (pa pb : Route) (s d i : ℕ) (sound : Sound
   name_same = same_name P I J d a.only
 
   apart : s ≢ d
-  apart e = (sound Rule.pointers d).other a.held (a.pointer ∙ ap (λ x. x + 1) e)
+  apart e = (coherent Rule.pointers d).other a.held (a.pointer ∙ ap (λ x. x + 1) e)
 
   source_slot : IsReachedSlot P I s
   source_slot = record { owner = (pa, a.source_path); directory = a.source_directory; live = a.source }
@@ -93,7 +93,7 @@ module _ (P : ℕ) (I J : List ℕ) (pa pb : Route) (s d i : ℕ) (sound : Sound
   }
 
   kind_reached : (x : ℕ) → Reached P I x → inode_kind J x ≡ inode_kind I x
-  kind_reached x r = a.only.node_kind x (reached-le P I sound x r)
+  kind_reached x r = a.only.node_kind x (reached-le P I coherent x r)
 
   -- the step from a directory that J and I reach by paths q and q'
   leads_forward : (t : ℕ) (n : List ℕ) (x : ℕ) → t ≢ s → t ≢ d → Reached P I (slot_owner P I t) → Leads P I t n x → Leads P J t n x
@@ -116,10 +116,10 @@ module _ (P : ℕ) (I J : List ℕ) (pa pb : Route) (s d i : ℕ) (sound : Sound
 
   -- paths to the directories of the two slots are theirs
   to_source : (q : Route) (t : ℕ) → t ≡ s → Names P I q (slot_owner P I t) → q ≡ pa
-  to_source q t e b = one_path P I sound q pa (slot_owner P I s) a.source_directory (subst (Names P I q) (ap (slot_owner P I) e) b) a.source_path
+  to_source q t e b = one_path P I coherent q pa (slot_owner P I s) a.source_directory (subst (Names P I q) (ap (slot_owner P I) e) b) a.source_path
 
   to_target : (q : Route) (t : ℕ) → t ≡ d → Names P I q (slot_owner P I t) → q ≡ pb
-  to_target q t e b = one_path P I sound q pb (slot_owner P I d) a.target_directory (subst (Names P I q) (ap (slot_owner P I) e) b) a.target_path
+  to_target q t e b = one_path P I coherent q pb (slot_owner P I d) a.target_directory (subst (Names P I q) (ap (slot_owner P I) e) b) a.target_path
 
   IsUnder : Route → Type 0
   IsUnder q = (r : Route) × (q ≡ r ++ slot_name P I s ∷ pa)
@@ -148,7 +148,7 @@ module _ (P : ℕ) (I J : List ℕ) (pa pb : Route) (s d i : ℕ) (sound : Sound
       not_new : (t : ℕ) (q : Route) → q ≡ slot_name P I d ∷ pb → Names P I q (slot_owner P I t) → {n : List ℕ} {y : ℕ} → Leads P I t n y → ⊥
       not_new t q e b l =
           let (w, c, k) = subst (λ z. Names P I z (slot_owner P I t)) e b in
-          let same : slot_owner P I w ≡ slot_owner P I d = one_inode P I sound pb (slot_owner P I w) (slot_owner P I d) c a.target_path in
+          let same : slot_owner P I w ≡ slot_owner P I d = one_inode P I coherent pb (slot_owner P I w) (slot_owner P I d) c a.target_path in
           elim (cases_eq w d) [
             | inl f ↦
                 let is : slot_inode P I d ≡ slot_owner P I t = ap (slot_inode P I) (sym f) ∙ k.inode in
@@ -162,8 +162,8 @@ module _ (P : ℕ) (I J : List ℕ) (pa pb : Route) (s d i : ℕ) (sound : Sound
 
   names_move : (r : Route) (x : ℕ) → Names P I (r ++ slot_name P I s ∷ pa) x → Names P J (r ++ slot_name P I d ∷ pb) x
   names_move [] x (t, b, l) =
-      let same : slot_owner P I t ≡ slot_owner P I s = one_inode P I sound pa (slot_owner P I t) (slot_owner P I s) b a.source_path in
-      let e : t ≡ s = same_slot P I sound t s (slot_of P I t pa (slot_name P I s) x b l) source_slot same l.name in
+      let same : slot_owner P I t ≡ slot_owner P I s = one_inode P I coherent pa (slot_owner P I t) (slot_owner P I s) b a.source_path in
+      let e : t ≡ s = same_slot P I coherent t s (slot_of P I t pa (slot_name P I s) x b l) source_slot same l.name in
       let is : i ≡ x = sym a.inode ∙ ap (slot_inode P I) (sym e) ∙ l.inode in (
         d,
         pb_stays,
@@ -222,15 +222,15 @@ module _ (P : ℕ) (I J : List ℕ) (pa pb : Route) (s d i : ℕ) (sound : Sound
       under t q m x b k ns u [] h =
           let path : q ≡ pa = cc in
           let name : m ≡ slot_name P I s = cc in
-          let same : slot_owner P I t ≡ slot_owner P I s = one_inode P I sound pa (slot_owner P I t) (slot_owner P I s) (subst (λ z. Names P I z (slot_owner P I t)) path b) a.source_path in
-          ns (same_slot P I sound t s (slot_of P I t q m x b k) source_slot same (k.name ∙ name))
+          let same : slot_owner P I t ≡ slot_owner P I s = one_inode P I coherent pa (slot_owner P I t) (slot_owner P I s) (subst (λ z. Names P I z (slot_owner P I t)) path b) a.source_path in
+          ns (same_slot P I coherent t s (slot_of P I t q m x b k) source_slot same (k.name ∙ name))
       under t q m x b k ns u (n ∷ r) h = let rest : q ≡ r ++ slot_name P I s ∷ pa = cc in u (r, rest)
 
       at_new : (t : ℕ) (q : Route) (m : List ℕ) (x : ℕ) → Names P I q (slot_owner P I t) → Leads P I t m x → t ≢ d → m ∷ q ≡ slot_name P I d ∷ pb → ⊥
       at_new t q m x b k nd h =
           let path : q ≡ pb = cc in
           let name : m ≡ slot_name P I d = cc in
-          let same : slot_owner P I t ≡ slot_owner P I d = one_inode P I sound pb (slot_owner P I t) (slot_owner P I d) (subst (λ z. Names P I z (slot_owner P I t)) path b) a.target_path in
+          let same : slot_owner P I t ≡ slot_owner P I d = one_inode P I coherent pb (slot_owner P I t) (slot_owner P I d) (subst (λ z. Names P I z (slot_owner P I t)) path b) a.target_path in
           a.new t (slot_of P I t q m x b k) nd same (k.name ∙ name)
 
   pub moved_names : (q : Route) (x : ℕ) → Names P J q x ↔
@@ -268,16 +268,16 @@ module _ (P : ℕ) (I J : List ℕ) (pa pb : Route) (s d i : ℕ) (sound : Sound
       ]
 
   i_range : (2 ≤ i) × (i ≤ inodes_of P)
-  i_range = subst (λ z. (2 ≤ z) × (z ≤ inodes_of P)) a.inode ((sound Rule.inodes s).least source_slot, (sound Rule.inodes s).most source_slot)
+  i_range = subst (λ z. (2 ≤ z) × (z ≤ inodes_of P)) a.inode ((coherent Rule.inodes s).least source_slot, (coherent Rule.inodes s).most source_slot)
 
   reached_i : Reached P I i
-  reached_i = subst (Reached P I) a.inode (reach P I s source_slot ((sound Rule.inodes s).most source_slot))
+  reached_i = subst (Reached P I) a.inode (reach P I s source_slot ((coherent Rule.inodes s).most source_slot))
 
   kind_i : inode_kind J i ≡ inode_kind I i
   kind_i = a.only.node_kind i i_range.1
 
   kind_named : (t : ℕ) → IsReachedSlot P I t → t ≢ d → inode_kind J (slot_inode P J t) ≡ inode_kind I (slot_inode P I t)
-  kind_named t r nd = ap (inode_kind J) (a.only.inode t nd) ∙ a.only.node_kind (slot_inode P I t) ((sound Rule.inodes t).most r)
+  kind_named t r nd = ap (inode_kind J) (a.only.inode t nd) ∙ a.only.node_kind (slot_inode P I t) ((coherent Rule.inodes t).most r)
 
   name_of : (x t : ℕ) → IsNameOf P J x t → ((t ≡ d) × (x ≡ i)) ⊎ (IsNameOf P I x t × (t ≢ s))
   name_of x t n = elim (slot_cases t n.slot) [
@@ -296,29 +296,29 @@ module _ (P : ℕ) (I J : List ℕ) (pa pb : Route) (s d i : ℕ) (sound : Sound
   links_file : (x : ℕ) → Reached P I x → inode_kind I x ≡ 1 → AtMost 0 (IsNameOf P J x) (inode_links I x)
   links_file x r k = elim (cases_eq x i) [
     | inl e ↦ at_most_swap 0 (inode_links I x) s d (IsNameOf P I x) (IsNameOf P J x) (record { slot = source_slot; inode = a.inode ∙ sym e })
-        (λ t n. elim (name_of x t n) [ inl h ↦ inl h.0 | inr old ↦ inr old ]) ((sound Rule.links x r).file k)
+        (λ t n. elim (name_of x t n) [ inl h ↦ inl h.0 | inr old ↦ inr old ]) ((coherent Rule.links x r).file k)
     | inr ne ↦ at_most 0 (inode_links I x) (IsNameOf P I x) (IsNameOf P J x)
-        (λ t n. elim (name_of x t n) [ inl h ↦ absurd (ne h.1) | inr old ↦ old.0 ]) ((sound Rule.links x r).file k)
+        (λ t n. elim (name_of x t n) [ inl h ↦ absurd (ne h.1) | inr old ↦ old.0 ]) ((coherent Rule.links x r).file k)
   ]
 
   -- children of x, where the moved slot isn't one
   links_other : (x : ℕ) → Reached P I x → inode_kind I x ≡ 2 → (x ≡ slot_owner P I d → inode_kind I i ≡ 2 → ⊥) → AtMost 2 (IsChildOf P J x) (inode_links I x)
   links_other x r k never = at_most 2 (inode_links I x) (IsChildOf P I x) (IsChildOf P J x)
-      (λ t n. elim (child_of x t n) [ inl h ↦ absurd (never h.1 h.2) | inr old ↦ old.0 ]) ((sound Rule.links x r).directory k)
+      (λ t n. elim (child_of x t n) [ inl h ↦ absurd (never h.1 h.2) | inr old ↦ old.0 ]) ((coherent Rule.links x r).directory k)
 
   links_parent : inode_kind I i ≡ 2 → AtMost 2 (IsChildOf P J (slot_owner P I d)) (inode_links I (slot_owner P I d))
   links_parent two = elim (cases_eq (slot_owner P I d) (slot_owner P I s)) [
     | inl e ↦ at_most_swap 2 (inode_links I (slot_owner P I d)) s d (IsChildOf P I (slot_owner P I d)) (IsChildOf P J (slot_owner P I d))
         (record { slot = source_slot; owner = sym e; directory = ap (inode_kind I) a.inode ∙ two })
         (λ t n. elim (child_of (slot_owner P I d) t n) [ inl h ↦ inl h.0 | inr old ↦ inr old ])
-        ((sound Rule.links (slot_owner P I d) (pb, a.target_path)).directory a.target_directory)
+        ((coherent Rule.links (slot_owner P I d) (pb, a.target_path)).directory a.target_directory)
     | inr ne ↦ at_most 2 (inode_links I (slot_owner P I d)) (λ t. (t ≡ d) ⊎ IsChildOf P I (slot_owner P I d) t) (IsChildOf P J (slot_owner P I d))
         (λ t n. elim (child_of (slot_owner P I d) t n) [ inl h ↦ inl h.0 | inr old ↦ inr old.0 ]) (a.child_link two ne)
   ]
 
   links_directory : (x : ℕ) → Reached P I x → inode_kind I x ≡ 2 → AtMost 2 (IsChildOf P J x) (inode_links I x)
   links_directory x r k = elim (cases_eq x (slot_owner P I d)) [
-    | inl e ↦ elim ((sound Rule.kinds i).kind reached_i) [
+    | inl e ↦ elim ((coherent Rule.kinds i).kind reached_i) [
       | inl one ↦ links_other x r k (λ h two. omega (arith, one, two))
       | inr two ↦ subst (λ z. AtMost 2 (IsChildOf P J z) (inode_links I z)) (sym e) (links_parent two)
     ]
@@ -326,7 +326,7 @@ module _ (P : ℕ) (I J : List ℕ) (pa pb : Route) (s d i : ℕ) (sound : Sound
   ]
 
   in_range : (x : ℕ) → Reached P J x → x ≤ inodes_of P
-  in_range x r = reached-le P I sound x (reached_back x r)
+  in_range x r = reached-le P I coherent x (reached_back x r)
 
   rule8 : (t : ℕ) → Obeys P J Rule.own_names t
   rule8 t r lt hr ht owners names =
@@ -341,13 +341,13 @@ module _ (P : ℕ) (I J : List ℕ) (pa pb : Route) (s d i : ℕ) (sound : Sound
         ]
         | inr old ↦ elim (slot_cases t ht) [
           | inl f ↦ a.new r old.0 old.2 (owners' ∙ ap (slot_owner P I) f) (names' ∙ ap (slot_name P I) f)
-          | inr old' ↦ sound Rule.own_names t r lt old.0 old'.0 owners' names'
+          | inr old' ↦ coherent Rule.own_names t r lt old.0 old'.0 owners' names'
         ]
       ]
 
   -- only the source named i, where i is a directory
   sole : (t : ℕ) → IsReachedSlot P I t → t ≢ s → t ≢ d → slot_inode P J t ≡ i → inode_kind J i ≡ 2 → ⊥
-  sole t r ns nd e k = ns (same_directory P I sound t s r source_slot
+  sole t r ns nd e k = ns (same_directory P I coherent t s r source_slot
       (ap (inode_kind I) (sym (a.only.inode t nd) ∙ e) ∙ sym kind_i ∙ k) (sym (a.only.inode t nd) ∙ e ∙ sym a.inode))
 
   rule9 : (t : ℕ) → Obeys P J Rule.own_directories t
@@ -363,7 +363,7 @@ module _ (P : ℕ) (I J : List ℕ) (pa pb : Route) (s d i : ℕ) (sound : Sound
           | inl f ↦
               let is : slot_inode P J t ≡ i = ap (slot_inode P J) f ∙ a.moved in
               sole r old.0 old.1 old.2 (same ∙ is) (ap (inode_kind J) (sym is) ∙ directory)
-          | inr old' ↦ sound Rule.own_directories t r lt old.0 old'.0 (sym (kind_named t old'.0 old'.2) ∙ directory)
+          | inr old' ↦ coherent Rule.own_directories t r lt old.0 old'.0 (sym (kind_named t old'.0 old'.2) ∙ directory)
               (sym (a.only.inode r old.2) ∙ same ∙ a.only.inode t old'.2)
         ]
       ]
@@ -371,45 +371,45 @@ module _ (P : ℕ) (I J : List ℕ) (pa pb : Route) (s d i : ℕ) (sound : Sound
   files : (x : ℕ) → Reached P J x → inode_kind J x ≡ 1 → IsWhole P J x
   files x r k = let m = reached_back x r in
       whole_same P I J x (a.only.node_size x (in_range x r)) (λ n j lt g. page_forward P I J d a.only x n j g) (λ n j lt g. page_back P I J d a.only x n j g)
-      (whole P I x sound m (sym (a.only.node_kind x (in_range x r)) ∙ k))
+      (whole P I x coherent m (sym (a.only.node_kind x (in_range x r)) ∙ k))
 
   same_kind : (j : ℕ) → j < data_pages_of P → Reached P J (page_owner P J j) → page_kind P J j ≡ inode_kind J (page_owner P J j)
   same_kind j lt r =
       let o = a.only.owner j lt in
       let m : Reached P I (page_owner P I j) = subst (Reached P I) o (reached_back (page_owner P J j) r) in
-      a.only.kind j lt ∙ page_kind_is P I sound j lt m ∙ sym (kind_reached (page_owner P I j) m) ∙ ap (inode_kind J) (sym o)
+      a.only.kind j lt ∙ page_kind_is P I coherent j lt m ∙ sym (kind_reached (page_owner P I j) m) ∙ ap (inode_kind J) (sym o)
 
   -- what a reached slot of J names
   slot_names : (x : ℕ) → IsReachedSlot P J x → (2 ≤ slot_inode P J x) × (slot_inode P J x ≤ inodes_of P)
   slot_names x r = elim (slot_cases x r) [
     | inl e ↦ subst (λ z. (2 ≤ z) × (z ≤ inodes_of P)) (sym (ap (slot_inode P J) e ∙ a.moved)) i_range
-    | inr old ↦ subst (λ z. (2 ≤ z) × (z ≤ inodes_of P)) (sym (a.only.inode x old.2)) ((sound Rule.inodes x).least old.0, (sound Rule.inodes x).most old.0)
+    | inr old ↦ subst (λ z. (2 ≤ z) × (z ≤ inodes_of P)) (sym (a.only.inode x old.2)) ((coherent Rule.inodes x).least old.0, (coherent Rule.inodes x).most old.0)
   ]
 
-  pub moved_sound : Sound P J
-  moved_sound Rule.head x = same_head P I J x a.only.size a.only.head (sound Rule.head x)
-  moved_sound Rule.root x = record {
-    directory = λ z. a.only.node_kind x (in_range x ([], z)) ∙ (sound Rule.root x).directory z;
-    own = λ z. a.only.own x (in_range x ([], z)) ∙ (sound Rule.root x).own z;
+  pub moved_coherent : IsCoherent P J
+  moved_coherent Rule.head x = same_head P I J x a.only.size a.only.head (coherent Rule.head x)
+  moved_coherent Rule.root x = record {
+    directory = λ z. a.only.node_kind x (in_range x ([], z)) ∙ (coherent Rule.root x).directory z;
+    own = λ z. a.only.own x (in_range x ([], z)) ∙ (coherent Rule.root x).own z;
   }
-  moved_sound Rule.pointers x = pointers_kept P I J d a.only sound x
-  moved_sound Rule.one_pointer x = one_pointer_kept P I J d a.only sound x
-  moved_sound Rule.inodes x = record { least = λ r. (slot_names x r).0; most = λ r. (slot_names x r).1 }
-  moved_sound Rule.names x = λ r. subst IsNameWords (sym (a.only.words x)) (elim (slot_cases x r) [
+  moved_coherent Rule.pointers x = pointers_kept P I J d a.only coherent x
+  moved_coherent Rule.one_pointer x = one_pointer_kept P I J d a.only coherent x
+  moved_coherent Rule.inodes x = record { least = λ r. (slot_names x r).0; most = λ r. (slot_names x r).1 }
+  moved_coherent Rule.names x = λ r. subst IsNameWords (sym (a.only.words x)) (elim (slot_cases x r) [
     | inl e ↦ subst IsNameWords (ap (slot_words P I) (sym e)) a.name
-    | inr old ↦ sound Rule.names x old.0
+    | inr old ↦ coherent Rule.names x old.0
   ])
-  moved_sound Rule.kinds x = record {
-    kind = λ r. subst (λ k. (k ≡ 1) ⊎ (k ≡ 2)) (sym (a.only.node_kind x (in_range x r))) ((sound Rule.kinds x).kind (reached_back x r));
-    own = λ r. a.only.own x (in_range x r) ∙ (sound Rule.kinds x).own (reached_back x r);
+  moved_coherent Rule.kinds x = record {
+    kind = λ r. subst (λ k. (k ≡ 1) ⊎ (k ≡ 2)) (sym (a.only.node_kind x (in_range x r))) ((coherent Rule.kinds x).kind (reached_back x r));
+    own = λ r. a.only.own x (in_range x r) ∙ (coherent Rule.kinds x).own (reached_back x r);
   }
-  moved_sound Rule.own_names x = rule8 x
-  moved_sound Rule.own_directories x = rule9 x
-  moved_sound Rule.page_kinds x = record { file = λ lt r k. same_kind x lt r ∙ k; directory = λ lt r k. same_kind x lt r ∙ k }
-  moved_sound Rule.sizes x = λ r k. (files x r k).small
-  moved_sound Rule.all_pages x = λ r k. (files x r k).full
-  moved_sound Rule.own_offsets x = λ h i k lt r file below. (files i r file).one h x k lt below
-  moved_sound Rule.links x = λ r. let m = reached_back x r in let l = in_range x r in
+  moved_coherent Rule.own_names x = rule8 x
+  moved_coherent Rule.own_directories x = rule9 x
+  moved_coherent Rule.page_kinds x = record { file = λ lt r k. same_kind x lt r ∙ k; directory = λ lt r k. same_kind x lt r ∙ k }
+  moved_coherent Rule.sizes x = λ r k. (files x r k).small
+  moved_coherent Rule.all_pages x = λ r k. (files x r k).full
+  moved_coherent Rule.own_offsets x = λ h i k lt r file below. (files i r file).one h x k lt below
+  moved_coherent Rule.links x = λ r. let m = reached_back x r in let l = in_range x r in
       subst (HasLinks P J x) (sym (a.only.links x l)) (record {
         file = λ k. links_file x m (sym (a.only.node_kind x l) ∙ k);
         directory = λ k. links_directory x m (sym (a.only.node_kind x l) ∙ k);

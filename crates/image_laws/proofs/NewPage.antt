@@ -6,7 +6,7 @@ use Rattle.layout.specs.Fields.{word, inode_links, page_owner, page_kind, page_o
 use Rattle.layout.specs.Geometry.{inodes_of, data_pages_of, page_of_slot, inode_word_of, descriptor_word_of, slot_word_of, page_word_of}
 use Rattle.layout.proofs.GeometryLaws.{descriptor_word_within}
 use Rattle.image_reading.specs.Reading.{IsDirectory, slot_owner, IsHeld, Reached}
-use Rattle.image_reading.specs.Soundness.{Rule, Sound, HasLinks}
+use Rattle.image_reading.specs.Soundness.{Rule, IsCoherent, HasLinks}
 use Rattle.image_counts.specs.Entries.{IsFreePage}
 use Rattle.image_laws.specs.Create.{IsPageMadeWord, MakesPage, owned}
 use Rattle.image_laws.specs.Exempt.{IsExempt}
@@ -32,12 +32,12 @@ not_page_made P j a f g m = elim m [
 ]
 
 -- what only reads inodes' links is carried over by equal words
-pub links_kept : (P : ℕ) (I J : List ℕ) → Sound P I → ((x : ℕ) → Reached P I x → inode_links J x ≡ inode_links I x) → (x : ℕ) → Reached P I x → HasLinks P I x (inode_links J x)
-links_kept P I J sound same x r = subst (HasLinks P I x) (sym (same x r)) (sound Rule.links x r)
+pub links_kept : (P : ℕ) (I J : List ℕ) → IsCoherent P I → ((x : ℕ) → Reached P I x → inode_links J x ≡ inode_links I x) → (x : ℕ) → Reached P I x → HasLinks P I x (inode_links J x)
+links_kept P I J coherent same x r = subst (HasLinks P I x) (sym (same x r)) (coherent Rule.links x r)
 
 -- ---- the page is made
 
-module _ (P : ℕ) (W A : List ℕ) (j : ℕ) (sound : Sound P W) (page : IsFreePage P W j) (makes : MakesPage P W A j) where
+module _ (P : ℕ) (W A : List ℕ) (j : ℕ) (coherent : IsCoherent P W) (page : IsFreePage P W j) (makes : MakesPage P W A j) where
   pub made_descriptor : (x f : ℕ) → x < data_pages_of P → f < 8 → (x ≢ j) ⊎ (f ≡ 0) → word A (descriptor_word_of P x f) ≡ word W (descriptor_word_of P x f)
   made_descriptor x f lt l8 other = makes.others (descriptor_word_of P x f) (not_page_made P j (descriptor_word_of P x f)
       (λ w l. descriptor-ne_page P x f j w lt l8)
@@ -74,27 +74,27 @@ module _ (P : ℕ) (W A : List ℕ) (j : ℕ) (sound : Sound P W) (page : IsFree
 
   made_links : (x : ℕ) → Reached P W x → inode_links A x ≡ inode_links W x
   unfolding inode_links
-  made_links x r = let h = reached_pos P W x r in made_inode x 1 (omega (arith, h)) (reached-le P W sound x r) (omega arith)
+  made_links x r = let h = reached_pos P W x r in made_inode x 1 (omega (arith, h)) (reached-le P W coherent x r) (omega arith)
 
   pub made_stores : Stores P W A
   made_stores = record {
     size = makes.size;
     words = λ a. elim (dec_page_made P j a) [ no n ↦ inl (makes.others a n) | yes m ↦ inr (free_page_word a m) ];
     owners = λ x lt. inl (made_owner x lt);
-    links = links_kept P W A sound made_links;
+    links = links_kept P W A coherent made_links;
   }
 
 -- ---- the page is owned
 
-module _ (P : ℕ) (A : List ℕ) (j d : ℕ) (sound : Sound P A) (reached : Reached P A d) (directory : IsDirectory A d) (lt_j : j < data_pages_of P) (unowned : page_owner P A j ≡ 0) (kind : page_kind P A j ≡ 2)
+module _ (P : ℕ) (A : List ℕ) (j d : ℕ) (coherent : IsCoherent P A) (reached : Reached P A d) (directory : IsDirectory A d) (lt_j : j < data_pages_of P) (unowned : page_owner P A j ≡ 0) (kind : page_kind P A j ≡ 2)
     (zero_inode : (t : ℕ) → page_of_slot t ≡ j → slot_inode P A t ≡ 0) (zero_pointer : (t : ℕ) → page_of_slot t ≡ j → slot_pointer P A t ≡ 0) where
   other_word : (a : ℕ) → a ≢ descriptor_word_of P j 0 → word (owned P A j d) a ≡ word A a
   unfolding word
   other_word a ne = get_or-set_other A (descriptor_word_of P j 0) a d 0 ne
 
   pub in_image : descriptor_word_of P j 0 < length A
-  in_image = let below = descriptor_word_within P j 0 ((sound Rule.head 0).size refl) lt_j (omega arith) in
-      let size = (sound Rule.head 0).whole refl in omega (arith, below, size)
+  in_image = let below = descriptor_word_within P j 0 ((coherent Rule.head 0).size refl) lt_j (omega arith) in
+      let size = (coherent Rule.head 0).whole refl in omega (arith, below, size)
 
   pub owned_owner : page_owner P (owned P A j d) j ≡ d
   unfolding page_owner word
@@ -121,7 +121,7 @@ module _ (P : ℕ) (A : List ℕ) (j d : ℕ) (sound : Sound P A) (reached : Rea
     file = λ other. absurd (other kind);
     pointers = λ _ t at. (zero_pointer t at, owned_slot t 1 ∙ zero_pointer t at);
     target = λ _ t q at held points.
-        let target = (sound Rule.pointers q).held held (λ z. omega (arith, z, points)) in
+        let target = (coherent Rule.pointers q).held held (λ z. omega (arith, z, points)) in
         let same : slot_pointer P A q - 1 ≡ t = omega (arith, points) in
         not_held t at (subst (IsHeld P A) same target);
     directory = λ _ _. directory;
@@ -133,7 +133,7 @@ module _ (P : ℕ) (A : List ℕ) (j d : ℕ) (sound : Sound P A) (reached : Rea
 
   owned_links : (x : ℕ) → Reached P A x → inode_links (owned P A j d) x ≡ inode_links A x
   unfolding inode_links
-  owned_links x r = let h = reached_pos P A x r in owned_inode x 1 (omega (arith, h)) (reached-le P A sound x r) (omega arith)
+  owned_links x r = let h = reached_pos P A x r in owned_inode x 1 (omega (arith, h)) (reached-le P A coherent x r) (omega arith)
 
   pub owned_stores : Stores P A (owned P A j d)
   unfolding page_owner
@@ -147,12 +147,12 @@ module _ (P : ℕ) (A : List ℕ) (j d : ℕ) (sound : Sound P A) (reached : Rea
       | inl e ↦ inr (d, subst (λ z. IsExempt P A (owned P A j d) z d) (sym e) exempt)
       | inr ne ↦ inl (owned_descriptor x 0 (omega arith) (inl ne))
     ];
-    links = links_kept P A (owned P A j d) sound owned_links;
+    links = links_kept P A (owned P A j d) coherent owned_links;
   }
 
 -- an interval that stores to free words leaves what is alike
-pub alike_stores : (P : ℕ) (I J : List ℕ) → Sound P I → Stores P I J → Alike P I J
-alike_stores P I J sound stores = alike P I J (agrees_from_words P I J (quiet_agrees P I J sound (free_law P I J sound stores).0)) sound
+pub alike_stores : (P : ℕ) (I J : List ℕ) → IsCoherent P I → Stores P I J → Alike P I J
+alike_stores P I J coherent stores = alike P I J (agrees_from_words P I J (quiet_agrees P I J coherent (free_law P I J coherent stores).0)) coherent
 
-pub same_stores : (P : ℕ) (I J : List ℕ) → Sound P I → Stores P I J → SameMeaning P I J
-same_stores P I J sound stores = stores_law P I J J sound stores (mix_itself I J stores.size)
+pub same_stores : (P : ℕ) (I J : List ℕ) → IsCoherent P I → Stores P I J → SameMeaning P I J
+same_stores P I J coherent stores = stores_law P I J J coherent stores (mix_itself I J stores.size)

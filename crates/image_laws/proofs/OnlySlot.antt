@@ -7,7 +7,7 @@ use Rattle.layout.proofs.GeometryLaws.{page_of_slot_below, slot_word_within}
 use Rattle.layout.specs.Name.{name_in_words}
 use Rattle.tree_model.specs.Tree.{Node, Directory, File}
 use Rattle.image_reading.specs.Reading.{slot_owner, IsHeld, IsPageOf, IsNode}
-use Rattle.image_reading.specs.Soundness.{Rule, PointsAtHeld, IsOnlyPointer, Sound}
+use Rattle.image_reading.specs.Soundness.{Rule, PointsAtHeld, IsOnlyPointer, IsCoherent}
 use Rattle.image_laws.proofs.Addresses.{head-ne_slot, descriptor-ne_slot, inode-ne_slot0, slot-ne_slot, slot-ne_field, page-ne_slot}
 use Rattle.image_laws.proofs.Words.{slot_words-same}
 
@@ -91,16 +91,16 @@ module _ (P : ℕ) (I J : List ℕ) (s : ℕ) (only : OnlySlot P I J s) where
     offset = only.offset j g.in_range ∙ g.offset;
   }
 
-  pub pointers_kept : Sound P I → (t : ℕ) → PointsAtHeld P J t
-  pointers_kept sound t = record {
-    other = λ held z. (sound Rule.pointers t).other (held_back t held) (sym (only.pointer t) ∙ z);
+  pub pointers_kept : IsCoherent P I → (t : ℕ) → PointsAtHeld P J t
+  pointers_kept coherent t = record {
+    other = λ held z. (coherent Rule.pointers t).other (held_back t held) (sym (only.pointer t) ∙ z);
     held = λ held nonzero.
         let e = only.pointer t in
-        subst (λ x. IsHeld P J (x - 1)) (sym e) (held_forward (slot_pointer P I t - 1) ((sound Rule.pointers t).held (held_back t held) (λ z. nonzero (e ∙ z))));
+        subst (λ x. IsHeld P J (x - 1)) (sym e) (held_forward (slot_pointer P I t - 1) ((coherent Rule.pointers t).held (held_back t held) (λ z. nonzero (e ∙ z))));
   }
 
-  pub one_pointer_kept : Sound P I → (t : ℕ) → IsOnlyPointer P J t
-  one_pointer_kept sound t r lt hr ht nonzero = only.pointer t ∙ sound Rule.one_pointer t r lt (held_back r hr) (held_back t ht) (λ z. nonzero (only.pointer r ∙ z))
+  pub one_pointer_kept : IsCoherent P I → (t : ℕ) → IsOnlyPointer P J t
+  one_pointer_kept coherent t r lt hr ht nonzero = only.pointer t ∙ coherent Rule.one_pointer t r lt (held_back r hr) (held_back t ht) (λ z. nonzero (only.pointer r ∙ z))
 
   module _ (held : IsHeld P I s) where
     -- no file has bytes where the slot stands

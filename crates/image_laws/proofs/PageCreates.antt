@@ -22,62 +22,62 @@ use Rattle.image_laws.proofs.Ready.{IsReady, IsFreeInode}
 
 module _ (P : ℕ) (W A : List ℕ) (p : Route) (d j s : ℕ) (name : List ℕ) (can : CanName P W p d name) (page : IsFreePage P W j) (at_s : page_of_slot s ≡ j) (makes : MakesPage P W A j) where
   making_stores : Stores P W A
-  making_stores = page_quiet.making_stores P W A p d j can.tidy.sound can.path can.directory page makes
+  making_stores = page_quiet.making_stores P W A p d j can.tidy.coherent can.path can.directory page makes
 
   same_page : SameMeaning P W A
-  same_page = page_quiet.same_page P W A p d j can.tidy.sound can.path can.directory page makes
+  same_page = page_quiet.same_page P W A p d j can.tidy.coherent can.path can.directory page makes
 
   alike_page : Alike P W A
-  alike_page = page_quiet.alike_page P W A p d j can.tidy.sound can.path can.directory page makes
+  alike_page = page_quiet.alike_page P W A p d j can.tidy.coherent can.path can.directory page makes
 
   d_reached : Reached P A d
-  d_reached = page_quiet.d_reached P W A p d j can.tidy.sound can.path can.directory page makes
+  d_reached = page_quiet.d_reached P W A p d j can.tidy.coherent can.path can.directory page makes
 
   d_directory : IsDirectory A d
-  d_directory = page_quiet.d_directory P W A p d j can.tidy.sound can.path can.directory page makes
+  d_directory = page_quiet.d_directory P W A p d j can.tidy.coherent can.path can.directory page makes
 
   unowned : page_owner P A j ≡ 0
-  unowned = page_quiet.unowned P W A p d j can.tidy.sound can.path can.directory page makes
+  unowned = page_quiet.unowned P W A p d j can.tidy.coherent can.path can.directory page makes
 
   zero_inode : (t : ℕ) → page_of_slot t ≡ j → slot_inode P A t ≡ 0
-  zero_inode = page_quiet.zero_inode P W A p d j can.tidy.sound can.path can.directory page makes
+  zero_inode = page_quiet.zero_inode P W A p d j can.tidy.coherent can.path can.directory page makes
 
   zero_pointer : (t : ℕ) → page_of_slot t ≡ j → slot_pointer P A t ≡ 0
-  zero_pointer = page_quiet.zero_pointer P W A p d j can.tidy.sound can.path can.directory page makes
+  zero_pointer = page_quiet.zero_pointer P W A p d j can.tidy.coherent can.path can.directory page makes
 
   owning_stores : Stores P A (owned P A j d)
-  owning_stores = page_quiet.owning_stores P W A p d j can.tidy.sound can.path can.directory page makes
+  owning_stores = page_quiet.owning_stores P W A p d j can.tidy.coherent can.path can.directory page makes
 
   same_owned : SameMeaning P A (owned P A j d)
-  same_owned = page_quiet.same_owned P W A p d j can.tidy.sound can.path can.directory page makes
+  same_owned = page_quiet.same_owned P W A p d j can.tidy.coherent can.path can.directory page makes
 
   alike_owned : Alike P A (owned P A j d)
-  alike_owned = alike_stores P A (owned P A j d) same_page.sound owning_stores
+  alike_owned = alike_stores P A (owned P A j d) same_page.coherent owning_stores
 
   pub taken : HasTaken P W (owned P A j d) j d
   unfolding page_kind
   taken = record {
-    owner = owned_owner P A j d same_page.sound d_reached d_directory page.0 unowned makes.kind zero_inode zero_pointer;
-    kind = owned_descriptor P A j d same_page.sound d_reached d_directory page.0 unowned makes.kind zero_inode zero_pointer j 1 (omega arith) (inr (omega arith)) ∙ makes.kind;
-    zeros = λ t f at lt. owned_slot P A j d same_page.sound d_reached d_directory page.0 unowned makes.kind zero_inode zero_pointer t f ∙ made_zero P W A j can.tidy.sound page makes t f at lt;
-    descriptors = λ x f lt l8 ne. owned_descriptor P A j d same_page.sound d_reached d_directory page.0 unowned makes.kind zero_inode zero_pointer x f l8 (inl ne)
-        ∙ made_descriptor P W A j can.tidy.sound page makes x f lt l8 (inl ne);
-    inodes = λ x f some most lt. owned_inode P A j d same_page.sound d_reached d_directory page.0 unowned makes.kind zero_inode zero_pointer x f some most lt
-        ∙ made_inode P W A j can.tidy.sound page makes x f some most lt;
-    slots = λ t f lt ne. owned_slot P A j d same_page.sound d_reached d_directory page.0 unowned makes.kind zero_inode zero_pointer t f ∙ made_slot P W A j can.tidy.sound page makes t f lt ne;
+    owner = owned_owner P A j d same_page.coherent d_reached d_directory page.0 unowned makes.kind zero_inode zero_pointer;
+    kind = owned_descriptor P A j d same_page.coherent d_reached d_directory page.0 unowned makes.kind zero_inode zero_pointer j 1 (omega arith) (inr (omega arith)) ∙ makes.kind;
+    zeros = λ t f at lt. owned_slot P A j d same_page.coherent d_reached d_directory page.0 unowned makes.kind zero_inode zero_pointer t f ∙ made_zero P W A j can.tidy.coherent page makes t f at lt;
+    descriptors = λ x f lt l8 ne. owned_descriptor P A j d same_page.coherent d_reached d_directory page.0 unowned makes.kind zero_inode zero_pointer x f l8 (inl ne)
+        ∙ made_descriptor P W A j can.tidy.coherent page makes x f lt l8 (inl ne);
+    inodes = λ x f some most lt. owned_inode P A j d same_page.coherent d_reached d_directory page.0 unowned makes.kind zero_inode zero_pointer x f some most lt
+        ∙ made_inode P W A j can.tidy.coherent page makes x f some most lt;
+    slots = λ t f lt ne. owned_slot P A j d same_page.coherent d_reached d_directory page.0 unowned makes.kind zero_inode zero_pointer t f ∙ made_slot P W A j can.tidy.coherent page makes t f lt ne;
     same = same_chained P W A (owned P A j d) same_page same_owned;
     reached_slots = λ t. (
       (λ r. (reached_slot_forward P A (owned P A j d) alike_owned t (reached_slot_forward P W A alike_page t r).1).1),
       (λ r. (reached_slot P W A alike_page t (reached_slot P A (owned P A j d) alike_owned t r).1).1),
     );
     rooms = λ x y.
-        let first = (shape P W A can.tidy.sound alike_page).directories x y in
-        let second = (shape P A (owned P A j d) same_page.sound alike_owned).directories x y in
+        let first = (shape P W A can.tidy.coherent alike_page).directories x y in
+        let second = (shape P A (owned P A j d) same_page.coherent alike_owned).directories x y in
         ((λ room. second.0 (first.0 room)), (λ room. first.1 (second.1 room)));
   }
 
   pub quiet : IsPageQuiet P W A (owned P A j d)
-  quiet = page_quiet.quiet P W A p d j can.tidy.sound can.path can.directory page makes
+  quiet = page_quiet.quiet P W A p d j can.tidy.coherent can.path can.directory page makes
 
   module _ (I : List ℕ) (path : Route) (node : Node) (i : ℕ) (free : IsFreeInode P W i) (empty : IsEmptyNode node) (made : MakesNode P (owned P A j d) I node d s i name) (is : reverse path ≡ name_in_words name ∷ p) where
     page_and_inode : IsReady P (owned P A j d) p d s i name

@@ -4,7 +4,7 @@ use Rattle.layout.specs.Fields.{page_owner, slot_inode, slot_pointer}
 use Rattle.layout.specs.Geometry.{page_of_slot}
 use Rattle.tree_model.specs.PathText.{Route}
 use Rattle.image_reading.specs.Reading.{IsDirectory, Names, Reached}
-use Rattle.image_reading.specs.Soundness.{Sound}
+use Rattle.image_reading.specs.Soundness.{IsCoherent}
 use Rattle.image_counts.specs.Entries.{IsFreePage}
 use Rattle.image_laws.specs.Create.{MakesPage, owned, IsPageQuiet, PageQuietLaw}
 use Rattle.image_laws.specs.Frame.{Alike, SameMeaning}
@@ -13,15 +13,15 @@ use Rattle.image_laws.proofs.Free.{stores_law}
 use Rattle.image_laws.proofs.Meaning.{same_chained}
 use Rattle.image_laws.proofs.NewPage.{made_stores, made_owner, made_zero, owned_stores, alike_stores, same_stores}
 
-module _ (P : ℕ) (W A : List ℕ) (p : Route) (d j : ℕ) (sound : Sound P W) (named : Names P W p d) (directory : IsDirectory W d) (page : IsFreePage P W j) (makes : MakesPage P W A j) where
+module _ (P : ℕ) (W A : List ℕ) (p : Route) (d j : ℕ) (coherent : IsCoherent P W) (named : Names P W p d) (directory : IsDirectory W d) (page : IsFreePage P W j) (makes : MakesPage P W A j) where
   pub making_stores : Stores P W A
-  making_stores = made_stores P W A j sound page makes
+  making_stores = made_stores P W A j coherent page makes
 
   pub same_page : SameMeaning P W A
-  same_page = same_stores P W A sound making_stores
+  same_page = same_stores P W A coherent making_stores
 
   pub alike_page : Alike P W A
-  alike_page = alike_stores P W A sound making_stores
+  alike_page = alike_stores P W A coherent making_stores
 
   pub d_reached : Reached P A d
   d_reached = (p, (same_page.names p d).0 named)
@@ -30,27 +30,27 @@ module _ (P : ℕ) (W A : List ℕ) (p : Route) (d j : ℕ) (sound : Sound P W) 
   d_directory = (alike_page.inodes d (p, named)).kind ∙ directory
 
   pub unowned : page_owner P A j ≡ 0
-  unowned = made_owner P W A j sound page makes j page.0 ∙ page.1
+  unowned = made_owner P W A j coherent page makes j page.0 ∙ page.1
 
   pub zero_inode : (t : ℕ) → page_of_slot t ≡ j → slot_inode P A t ≡ 0
   unfolding slot_inode
-  zero_inode t at = made_zero P W A j sound page makes t 0 at (omega arith)
+  zero_inode t at = made_zero P W A j coherent page makes t 0 at (omega arith)
 
   pub zero_pointer : (t : ℕ) → page_of_slot t ≡ j → slot_pointer P A t ≡ 0
   unfolding slot_pointer
-  zero_pointer t at = made_zero P W A j sound page makes t 1 at (omega arith)
+  zero_pointer t at = made_zero P W A j coherent page makes t 1 at (omega arith)
 
   pub owning_stores : Stores P A (owned P A j d)
-  owning_stores = owned_stores P A j d same_page.sound d_reached d_directory page.0 unowned makes.kind zero_inode zero_pointer
+  owning_stores = owned_stores P A j d same_page.coherent d_reached d_directory page.0 unowned makes.kind zero_inode zero_pointer
 
   pub same_owned : SameMeaning P A (owned P A j d)
-  same_owned = same_stores P A (owned P A j d) same_page.sound owning_stores
+  same_owned = same_stores P A (owned P A j d) same_page.coherent owning_stores
 
   pub quiet : IsPageQuiet P W A (owned P A j d)
   quiet = record {
-    making = λ M m. stores_law P W A M sound making_stores m;
-    owning = λ M m. same_chained P W A M same_page (stores_law P A (owned P A j d) M same_page.sound owning_stores m);
+    making = λ M m. stores_law P W A M coherent making_stores m;
+    owning = λ M m. same_chained P W A M same_page (stores_law P A (owned P A j d) M same_page.coherent owning_stores m);
   }
 
 pub page_quiet_law : PageQuietLaw
-page_quiet_law P W A p d j sound named directory page makes = quiet P W A p d j sound named directory page makes
+page_quiet_law P W A p d j coherent named directory page makes = quiet P W A p d j coherent named directory page makes

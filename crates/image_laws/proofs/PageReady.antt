@@ -45,7 +45,7 @@ module _ (P : ℕ) (W B : List ℕ) (p : Route) (d j s : ℕ) (name : List ℕ) 
   pos x r = let h = reached_pos P W x r in omega (arith, h)
 
   range : (x : ℕ) → Reached P W x → x ≤ inodes_of P
-  range x r = reached-le P W can.tidy.sound x r
+  range x r = reached-le P W can.tidy.coherent x r
 
   -- ---- fields
 
@@ -186,7 +186,7 @@ module _ (P : ℕ) (W B : List ℕ) (p : Route) (d j s : ℕ) (name : List ℕ) 
   name_back x t n = record { slot = (taken.reached_slots t).1 n.slot; inode = sym (slot_inode_same t (elsewhere t n.slot.live)) ∙ n.inode }
 
   named : (t : ℕ) → IsReachedSlot P W t → Reached P W (slot_inode P W t)
-  named t r = reach P W t r ((can.tidy.sound Rule.inodes t).most r)
+  named t r = reach P W t r ((can.tidy.coherent Rule.inodes t).most r)
 
   child_forth : (x t : ℕ) → IsChildOf P W x t → IsChildOf P B x t
   child_forth x t n = record {
@@ -253,7 +253,7 @@ module _ (P : ℕ) (W B : List ℕ) (p : Route) (d j s : ℕ) (name : List ℕ) 
 
   pub page_ready : IsReadySlot P B p d s name
   page_ready = record {
-    sound = taken.same.sound;
+    coherent = taken.same.coherent;
     slot = free_slot;
     is_name = can.is_name;
     new = λ t r o e.

@@ -6,7 +6,7 @@ use Rattle.layout.specs.Fields.{word, inode_kind, inode_links, inode_size, inode
 use Rattle.layout.specs.Geometry.{inodes_of, data_pages_of, page_of_slot, inode_word_of, descriptor_word_of, page_word_of, slot_word_of}
 use Rattle.layout.proofs.GeometryLaws.{page_of_slot_below, slot_word_within}
 use Rattle.image_reading.specs.Reading.{slot_owner, IsHeld, IsLive}
-use Rattle.image_reading.specs.Soundness.{Rule, PointsAtHeld, IsOnlyPointer, Sound, HasLinks}
+use Rattle.image_reading.specs.Soundness.{Rule, PointsAtHeld, IsOnlyPointer, IsCoherent, HasLinks}
 use Rattle.image_laws.specs.Frame.{SameSlot, SameInode, SameMeaning}
 use Rattle.image_laws.specs.Pointers.{CanPoint, PointerLaw, IsLeft, LeaveLaw}
 use Rattle.image_laws.proofs.Addresses.{head-ne_slot, descriptor-ne_slot, some_inode, slot-ne_slot, slot-ne_field, page-ne_slot, inode-ne_slot0}
@@ -51,7 +51,7 @@ near P I s f v some two = record {
     other : (a : ℕ) → a ≢ slot_word_of P s f → word (set I (slot_word_of P s f) v) a ≡ word I a
     other a ne = get_or-set_other I (slot_word_of P s f) a v 0 ne
 
-module _ (P : ℕ) (I J : List ℕ) (s : ℕ) (sound : Sound P I) (n : Near P I J s) (held : IsHeld P I s) where
+module _ (P : ℕ) (I J : List ℕ) (s : ℕ) (coherent : IsCoherent P I) (n : Near P I J s) (held : IsHeld P I s) where
   held_forward : (t : ℕ) → IsHeld P I t → IsHeld P J t
   unfolding slot_owner
   held_forward t h = let lt = page_of_slot_below P t h.in_range in record {
@@ -69,22 +69,22 @@ module _ (P : ℕ) (I J : List ℕ) (s : ℕ) (sound : Sound P I) (n : Near P I 
   }
 
   near_means : ((t : ℕ) → SameSlot P I J t) → ((t : ℕ) → PointsAtHeld P J t) → ((t : ℕ) → IsOnlyPointer P J t) → SameMeaning P I J
-  near_means slots three four = meaning P I J (shape P I J sound (record {
+  near_means slots three four = meaning P I J (shape P I J coherent (record {
     size = n.size;
     head = n.head;
     pages = λ j lt. inl (record { owner = n.owner j lt; kind = λ owned. n.kind j lt; offset = λ owned. n.offset j lt });
     slots = λ t lt e r. slots t;
     pointers = three;
     one_pointer = four;
-    inodes = λ i r. n.inodes i (reached-le P I sound i r);
-    links = λ i r. subst (HasLinks P I i) (sym (n.links i (reached-le P I sound i r))) (sound Rule.links i r);
+    inodes = λ i r. n.inodes i (reached-le P I coherent i r);
+    links = λ i r. subst (HasLinks P I i) (sym (n.links i (reached-le P I coherent i r))) (coherent Rule.links i r);
     names = λ t r. n.words t;
   }))
       (λ i r k. record { bytes = λ o j lt g. n.bytes j (o % 4096) (λ e. let one = g.kind in let two = ap (page_kind P I) e ∙ held.kind in omega (arith, one, two)) (omega arith) })
 
 module _ (P : ℕ) (I : List ℕ) (d v : ℕ) (c : CanPoint P I d v) where
   some : 1 ≤ inodes_of P
-  some = some_inode P ((c.sound Rule.head 0).size refl)
+  some = some_inode P ((c.coherent Rule.head 0).size refl)
 
   after : List ℕ
   after = set I (slot_word_of P d 1) v
@@ -99,13 +99,13 @@ module _ (P : ℕ) (I : List ℕ) (d v : ℕ) (c : CanPoint P I d v) where
 
   pointer_new : slot_pointer P after d ≡ v
   unfolding after slot_pointer word
-  pointer_new = get_or-set_same I (slot_word_of P d 1) v 0 (let b = slot_word_within P d 1 c.held.in_range (omega arith) in let e = (c.sound Rule.head 0).whole refl in omega (arith, b, e))
+  pointer_new = get_or-set_same I (slot_word_of P d 1) v 0 (let b = slot_word_within P d 1 c.held.in_range (omega arith) in let e = (c.coherent Rule.head 0).whole refl in omega (arith, b, e))
 
   forward : (t : ℕ) → IsHeld P I t → IsHeld P after t
-  forward = held_forward P I after d c.sound close c.held
+  forward = held_forward P I after d c.coherent close c.held
 
   back : (t : ℕ) → IsHeld P after t → IsHeld P I t
-  back = held_back P I after d c.sound close c.held
+  back = held_back P I after d c.coherent close c.held
 
   slots : (t : ℕ) → SameSlot P I after t
   slots t = record {
@@ -154,7 +154,7 @@ module _ (P : ℕ) (I : List ℕ) (d v : ℕ) (c : CanPoint P I d v) where
   ]
 
   point : SameMeaning P I after
-  point = near_means P I after d c.sound close c.held slots three four
+  point = near_means P I after d c.coherent close c.held slots three four
 
 pub pointer_law : PointerLaw
 unfolding after
@@ -162,7 +162,7 @@ pointer_law P I d v c = point P I d v c
 
 module _ (P : ℕ) (I : List ℕ) (s d : ℕ) (c : IsLeft P I s d) where
   few : 1 ≤ inodes_of P
-  few = some_inode P ((c.sound Rule.head 0).size refl)
+  few = some_inode P ((c.coherent Rule.head 0).size refl)
 
   left : List ℕ
   left = set I (slot_word_of P s 0) 0
@@ -177,7 +177,7 @@ module _ (P : ℕ) (I : List ℕ) (s d : ℕ) (c : IsLeft P I s d) where
 
   inode_gone : slot_inode P left s ≡ 0
   unfolding left slot_inode word
-  inode_gone = get_or-set_same I (slot_word_of P s 0) 0 0 (let b = slot_word_within P s 0 c.source.in_range (omega arith) in let e = (c.sound Rule.head 0).whole refl in omega (arith, b, e))
+  inode_gone = get_or-set_same I (slot_word_of P s 0) 0 0 (let b = slot_word_within P s 0 c.source.in_range (omega arith) in let e = (c.coherent Rule.head 0).whole refl in omega (arith, b, e))
 
   points : slot_pointer P I d ≢ 0
   points z = let h = c.pointer in omega (arith, h, z)
@@ -187,19 +187,19 @@ module _ (P : ℕ) (I : List ℕ) (s d : ℕ) (c : IsLeft P I s d) where
   none = elim (cases_eq (slot_pointer P I s) 0) [
     | inl e ↦ e
     | inr ne ↦ elim (cases_lt s d) [
-      | inl lt ↦ absurd (points (c.sound Rule.one_pointer d s lt c.source c.held ne))
+      | inl lt ↦ absurd (points (c.coherent Rule.one_pointer d s lt c.source c.held ne))
       | inr ge ↦ elim (cases_eq s d) [
-        | inl e ↦ absurd ((c.sound Rule.pointers d).other c.held (c.pointer ∙ ap (λ x. x + 1) e))
-        | inr other ↦ absurd (ne (c.sound Rule.one_pointer s d (omega arith) c.held c.source points))
+        | inl e ↦ absurd ((c.coherent Rule.pointers d).other c.held (c.pointer ∙ ap (λ x. x + 1) e))
+        | inr other ↦ absurd (ne (c.coherent Rule.one_pointer s d (omega arith) c.held c.source points))
       ]
     ]
   ]
 
   onward : (t : ℕ) → IsHeld P I t → IsHeld P left t
-  onward = held_forward P I left s c.sound by c.source
+  onward = held_forward P I left s c.coherent by c.source
 
   backward : (t : ℕ) → IsHeld P left t → IsHeld P I t
-  backward = held_back P I left s c.sound by c.source
+  backward = held_back P I left s c.coherent by c.source
 
   dead : (t : ℕ) → IsLive P I t → t ≢ s
   dead t l e = l.stays d c.held (c.pointer ∙ ap (λ x. x + 1) (sym e)) (c.same ∙ ap (slot_inode P I) (sym e))
@@ -229,14 +229,14 @@ module _ (P : ℕ) (I : List ℕ) (s d : ℕ) (c : IsLeft P I s d) where
   }
 
   leave : SameMeaning P I left
-  leave = near_means P I left s c.sound by c.source lives
+  leave = near_means P I left s c.coherent by c.source lives
       (λ t. record {
-        other = λ h z. (c.sound Rule.pointers t).other (backward t h) (sym (pointer_same t) ∙ z);
+        other = λ h z. (c.coherent Rule.pointers t).other (backward t h) (sym (pointer_same t) ∙ z);
         held = λ h nonzero.
             let e = pointer_same t in
-            subst (λ x. IsHeld P left (x - 1)) (sym e) (onward (slot_pointer P I t - 1) ((c.sound Rule.pointers t).held (backward t h) (λ z. nonzero (e ∙ z))));
+            subst (λ x. IsHeld P left (x - 1)) (sym e) (onward (slot_pointer P I t - 1) ((c.coherent Rule.pointers t).held (backward t h) (λ z. nonzero (e ∙ z))));
       })
-      (λ t r lt hr ht nonzero. pointer_same t ∙ c.sound Rule.one_pointer t r lt (backward r hr) (backward t ht) (λ z. nonzero (pointer_same r ∙ z)))
+      (λ t r lt hr ht nonzero. pointer_same t ∙ c.coherent Rule.one_pointer t r lt (backward r hr) (backward t ht) (λ z. nonzero (pointer_same r ∙ z)))
 
 pub leave_law : LeaveLaw
 unfolding left

@@ -2,7 +2,7 @@
 use Rattle.std.proofs.Common.{◌≡◌, ◌⊎◌, inl, inr, ℕ, ◌/◌, ◌%◌, ◌^◌, List, refl, sym, ap, subst}
 use Rattle.layout.specs.Fields.{word, inode_links, page_owner, page_kind, page_offset, slot_inode, slot_pointer, page_byte}
 use Rattle.layout.specs.Geometry.{inode_word_of, descriptor_word_of, page_word_of, slot_word_of}
-use Rattle.image_reading.specs.Soundness.{Rule, Sound, HasLinks}
+use Rattle.image_reading.specs.Soundness.{Rule, IsCoherent, HasLinks}
 use Rattle.image_laws.specs.Exempt.{IsExempt}
 use Rattle.image_laws.specs.Quiet.{IsMix, IsQuiet, MixLaw, WriteLaw}
 use Rattle.image_laws.specs.Words.{BytesAgree, WordsAgree}
@@ -10,11 +10,11 @@ use Rattle.image_laws.proofs.Exempt.{exempt_law}
 use Rattle.image_laws.proofs.Meaning.{node}
 use Rattle.image_laws.proofs.Words.{word_law, shape_from_words, bytes_from_words}
 
-pub quiet_agrees : (P : ℕ) (I J : List ℕ) → Sound P I → IsQuiet P I J → WordsAgree P I J
-quiet_agrees P I J sound q = record {
+pub quiet_agrees : (P : ℕ) (I J : List ℕ) → IsCoherent P I → IsQuiet P I J → WordsAgree P I J
+quiet_agrees P I J coherent q = record {
   size = q.size;
   words = q.words;
-  owners = λ j lt. elim (q.owners j lt) [ inl e ↦ inl e | inr (g, x) ↦ inr (exempt_law P I J j g sound x) ];
+  owners = λ j lt. elim (q.owners j lt) [ inl e ↦ inl e | inr (g, x) ↦ inr (exempt_law P I J j g coherent x) ];
   links = q.links;
 }
 
@@ -36,28 +36,28 @@ mix_exempt P I J M j g m x = record {
   empty = λ k r s at. let (before, after) = x.empty k r s at in (before, both I J M m (λ z. z ≡ 0) (slot_word_of P s 0) before after);
 }
 
-pub mix_quiet : (P : ℕ) (I J M : List ℕ) → Sound P I → IsQuiet P I J → IsMix I J M → IsQuiet P I M
+pub mix_quiet : (P : ℕ) (I J M : List ℕ) → IsCoherent P I → IsQuiet P I J → IsMix I J M → IsQuiet P I M
 unfolding page_owner inode_links
-mix_quiet P I J M sound q m = record {
+mix_quiet P I J M coherent q m = record {
   size = m.size;
   words = λ a u. both I J M m (λ z. z ≡ word I a) a refl (q.words a u);
   owners = λ j lt. elim (q.owners j lt) [
     | inl e ↦ inl (both I J M m (λ z. z ≡ word I (descriptor_word_of P j 0)) (descriptor_word_of P j 0) refl e)
     | inr (g, x) ↦ inr (g, mix_exempt P I J M j g m x)
   ];
-  links = λ i r. both I J M m (HasLinks P I i) (inode_word_of i 1) (sound Rule.links i r) (q.links i r);
+  links = λ i r. both I J M m (HasLinks P I i) (inode_word_of i 1) (coherent Rule.links i r) (q.links i r);
 }
 
 mix_bytes : (P : ℕ) (I J M : List ℕ) (i : ℕ) → IsMix I J M → BytesAgree P I J i → BytesAgree P I M i
 mix_bytes P I J M i m b a u = both I J M m (λ z. z ≡ word I a) a refl (b a u)
 
 pub mix_law : MixLaw
-mix_law P I J M sound q b m = word_law P I M sound (quiet_agrees P I M sound (mix_quiet P I J M sound q m)) (λ i r k. mix_bytes P I J M i m (b i r k))
+mix_law P I J M coherent q b m = word_law P I M coherent (quiet_agrees P I M coherent (mix_quiet P I J M coherent q m)) (λ i r k. mix_bytes P I J M i m (b i r k))
 
 pub write_law : WriteLaw
 unfolding page_byte
-write_law P I J M i sound q b m =
-    let h = shape_from_words P I M sound (quiet_agrees P I M sound (mix_quiet P I J M sound q m)) in
+write_law P I J M i coherent q b m =
+    let h = shape_from_words P I M coherent (quiet_agrees P I M coherent (mix_quiet P I J M coherent q m)) in
     record {
       shape = h;
       others = λ k x r ne. node P I M h k x r (λ file. bytes_from_words P I M k (mix_bytes P I J M k m (b k r file ne)));

@@ -8,8 +8,8 @@ use Rattle.tree_model.specs.PathText.{Route}
 use Rattle.tree_model.specs.Tree.{Node, Directory, File}
 use Rattle.image_reading.specs.Reading.{slot_owner, IsHeld, IsLive, Reached, IsReachedSlot}
 use Rattle.image_reading.specs.Repairs.{IsPointer, IsLitterSlot, IsLitterPage, IsLitterInode, IsLitterCount}
-use Rattle.image_reading.specs.Soundness.{Sound}
-use Rattle.image_reading.specs.Tidy.{Tidy}
+use Rattle.image_reading.specs.Soundness.{IsCoherent}
+use Rattle.image_reading.specs.Tidy.{IsTidied}
 use Rattle.image_reading.proofs.Counts.{count_none}
 use Rattle.image_counts.proofs.Counting.{none_counted}
 use Rattle.image_laws.specs.Add.{IsFreeSlot}
@@ -27,7 +27,7 @@ pub record IsTidyBut (P : ℕ) (I : List ℕ) (j : ℕ) : Type 0 where
   pub inodes : (i : ℕ) → IsLitterInode P I i → ⊥
   pub counts : (i : ℕ) → IsLitterCount P I i → ⊥
 
-pub tidy_but : (P : ℕ) (I : List ℕ) (j : ℕ) → Tidy P I → IsTidyBut P I j
+pub tidy_but : (P : ℕ) (I : List ℕ) (j : ℕ) → IsTidied P I → IsTidyBut P I j
 tidy_but P I j t = record {
   pointers = none_counted (IsPointer P I) t.repaired.of_pointers;
   slots = none_counted (IsLitterSlot P I) t.repaired.of_slots;
@@ -36,9 +36,9 @@ tidy_but P I j t = record {
   counts = none_counted (IsLitterCount P I) t.repaired.of_counts;
 }
 
-pub tidy_from : (P : ℕ) (I : List ℕ) (j : ℕ) → Sound P I → IsTidyBut P I j → (IsLitterPage P I j → ⊥) → Tidy P I
-tidy_from P I j sound t none = record {
-  sound = sound;
+pub tidy_from : (P : ℕ) (I : List ℕ) (j : ℕ) → IsCoherent P I → IsTidyBut P I j → (IsLitterPage P I j → ⊥) → IsTidied P I
+tidy_from P I j coherent t none = record {
+  coherent = coherent;
   repaired = record {
     of_pointers = count_none (IsPointer P I) t.pointers;
     of_slots = count_none (IsLitterSlot P I) t.slots;
@@ -62,7 +62,7 @@ pub record IsFreeInode (P : ℕ) (I : List ℕ) (i : ℕ) : Type 0 where
 
 -- Slot s may be taken, the page of the slot is clean, and it alone may be litter.
 pub record IsReadySlot (P : ℕ) (I : List ℕ) (p : Route) (d s : ℕ) (name : List ℕ) : Type 0 where
-  pub sound : Sound P I
+  pub coherent : IsCoherent P I
   pub slot : IsFreeSlot P I p d s
   pub is_name : IsNameWords name
   pub new : (t : ℕ) → IsReachedSlot P I t → slot_owner P I t ≡ d → slot_name P I t ≢ name_in_words name

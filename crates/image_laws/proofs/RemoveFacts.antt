@@ -18,27 +18,27 @@ module _ (P : ℕ) (I : List ℕ) (p : Route) (s : ℕ) (c : CanRemove P I p s) 
   old_slot = record { owner = (p, c.path); directory = c.directory; live = c.live }
 
   pub i_reached : Reached P I (slot_inode P I s)
-  i_reached = reach P I s old_slot ((c.sound Rule.inodes s).most old_slot)
+  i_reached = reach P I s old_slot ((c.coherent Rule.inodes s).most old_slot)
 
   pub reached_back : (x : ℕ) → Reached P (set I (slot_word_of P s 0) 0) x → Reached P I x
-  reached_back x r = removed.reached_back P I (set I (slot_word_of P s 0) 0) p (slot_owner P I s) s (slot_inode P I s) c.sound (removes P I p s c) x r
+  reached_back x r = removed.reached_back P I (set I (slot_word_of P s 0) 0) p (slot_owner P I s) s (slot_inode P I s) c.coherent (removes P I p s c) x r
 
   pub reached_forward : (x : ℕ) → x ≢ slot_inode P I s → Reached P I x → Reached P (set I (slot_word_of P s 0) 0) x
-  reached_forward x ne (q, b) = elim (removed.names_cases P I (set I (slot_word_of P s 0) 0) p (slot_owner P I s) s (slot_inode P I s) c.sound (removes P I p s c) q x b) [
+  reached_forward x ne (q, b) = elim (removed.names_cases P I (set I (slot_word_of P s 0) 0) p (slot_owner P I s) s (slot_inode P I s) c.coherent (removes P I p s c) q x b) [
     | inl old ↦ (q, old)
     | inr gone ↦ absurd (ne gone.1)
   ]
 
   pub kind_same : (x : ℕ) → Reached P I x → inode_kind (set I (slot_word_of P s 0) 0) x ≡ inode_kind I x
-  kind_same x r = removed.kind_reached P I (set I (slot_word_of P s 0) 0) p (slot_owner P I s) s (slot_inode P I s) c.sound (removes P I p s c) x r
+  kind_same x r = removed.kind_reached P I (set I (slot_word_of P s 0) 0) p (slot_owner P I s) s (slot_inode P I s) c.coherent (removes P I p s c) x r
 
   -- a directory that goes is gone
   pub directory_gone : IsDirectory I (slot_inode P I s) → Reached P (set I (slot_word_of P s 0) 0) (slot_inode P I s) → ⊥
   directory_gone two (q, b) =
       let (old, other) = ((remove_law P I p s c).names q (slot_inode P I s)).0 b in
       let here : Names P I (slot_name P I s ∷ p) (slot_inode P I s) =
-      (s, c.path, record { directory = c.directory; live = c.live; name = refl; inode = refl; in_range = (c.sound Rule.inodes s).most old_slot }) in
-      other (one_path P I c.sound q (slot_name P I s ∷ p) (slot_inode P I s) two old here)
+      (s, c.path, record { directory = c.directory; live = c.live; name = refl; inode = refl; in_range = (c.coherent Rule.inodes s).most old_slot }) in
+      other (one_path P I c.coherent q (slot_name P I s ∷ p) (slot_inode P I s) two old here)
 
   -- an owner of a live slot isn't the inode
   owner_other : (t : ℕ) → IsReachedSlot P I t → slot_owner P I t ≢ slot_inode P I s
@@ -56,13 +56,13 @@ module _ (P : ℕ) (I : List ℕ) (p : Route) (s : ℕ) (c : CanRemove P I p s) 
       record {
         owner = subst (Reached P (set I (slot_word_of P s 0) 0)) (sym o) (reached_forward (slot_owner P I t) (owner_other t r) r.owner);
         directory = ap (inode_kind (set I (slot_word_of P s 0) 0)) o ∙ kind_same (slot_owner P I t) r.owner ∙ r.directory;
-        live = removed.live_forward P I (set I (slot_word_of P s 0) 0) p (slot_owner P I s) s (slot_inode P I s) c.sound (removes P I p s c) t ne r.live;
+        live = removed.live_forward P I (set I (slot_word_of P s 0) 0) p (slot_owner P I s) s (slot_inode P I s) c.coherent (removes P I p s c) t ne r.live;
       }
 
   pub slot_back : (t : ℕ) → IsReachedSlot P (set I (slot_word_of P s 0) 0) t → IsReachedSlot P I t × (t ≢ s)
   slot_back t r = (
-    (removed.slot_back P I (set I (slot_word_of P s 0) 0) p (slot_owner P I s) s (slot_inode P I s) c.sound (removes P I p s c) t r).reached,
-    removed.other P I (set I (slot_word_of P s 0) 0) p (slot_owner P I s) s (slot_inode P I s) c.sound (removes P I p s c) t r.live,
+    (removed.slot_back P I (set I (slot_word_of P s 0) 0) p (slot_owner P I s) s (slot_inode P I s) c.coherent (removes P I p s c) t r).reached,
+    removed.other P I (set I (slot_word_of P s 0) 0) p (slot_owner P I s) s (slot_inode P I s) c.coherent (removes P I p s c) t r.live,
   )
 
   slot_of_room : (X : List ℕ) (x j : ℕ) → IsRoomOf P X x j → (t : ℕ) × IsReachedSlot P X t × (page_of_slot t ≡ j) × (slot_owner P X t ≡ x)

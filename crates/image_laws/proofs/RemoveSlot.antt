@@ -7,12 +7,12 @@ use Rattle.layout.proofs.GeometryLaws.{page_of_slot_below}
 use Rattle.layout.specs.Name.{name_in_words}
 use Rattle.tree_model.specs.PathText.{Route}
 use Rattle.image_reading.specs.Reading.{slot_owner, IsHeld, IsLive, Names, Reached, IsReachedSlot, IsPageOf}
-use Rattle.image_reading.specs.Soundness.{Rule, Sound, HasLinks}
+use Rattle.image_reading.specs.Soundness.{Rule, IsCoherent, HasLinks}
 use Rattle.image_counts.proofs.Paths.{one_path, one_inode, same_slot}
 use Rattle.image_laws.proofs.OnlySlot.{OnlySlot}
 use Rattle.image_laws.proofs.Meaning.{page_kind_is}
 use Rattle.image_laws.proofs.Paths.{reached-le}
-use Rattle.image_laws.proofs.Within.{whole, whole_same, OldSlot, Within, within_sound}
+use Rattle.image_laws.proofs.Within.{whole, whole_same, OldSlot, Within, within_coherent}
 
 pub record Removes (P : ℕ) (I J : List ℕ) (p : Route) (d s i : ℕ) : Type 0 where
   pub only : OnlySlot P I J s
@@ -26,7 +26,7 @@ pub record Removes (P : ℕ) (I J : List ℕ) (p : Route) (d s i : ℕ) : Type 0
   -- a directory that goes has no name
   pub leaf : inode_kind I i ≡ 2 → (t : ℕ) → IsLive P I t → slot_owner P I t ≢ i
 
-module _ (P : ℕ) (I J : List ℕ) (p : Route) (d s i : ℕ) (sound : Sound P I) (a : Removes P I J p d s i) where
+module _ (P : ℕ) (I J : List ℕ) (p : Route) (d s i : ℕ) (coherent : IsCoherent P I) (a : Removes P I J p d s i) where
   same_owner : (t : ℕ) → t < slots_of P → slot_owner P J t ≡ slot_owner P I t
   unfolding slot_owner
   same_owner t lt = a.only.owner (page_of_slot t) (page_of_slot_below P t lt)
@@ -73,7 +73,7 @@ module _ (P : ℕ) (I J : List ℕ) (p : Route) (d s i : ℕ) (sound : Sound P I
   }
 
   pub kind_reached : (x : ℕ) → Reached P I x → inode_kind J x ≡ inode_kind I x
-  kind_reached x r = a.only.node_kind x (reached-le P I sound x r)
+  kind_reached x r = a.only.node_kind x (reached-le P I coherent x r)
 
   names_back : (q : Route) (x : ℕ) → Names P J q x → Names P I q x
   names_back [] x e = e
@@ -104,7 +104,7 @@ module _ (P : ℕ) (I J : List ℕ) (p : Route) (d s i : ℕ) (sound : Sound P I
         | inr new ↦ absurd (a.leaf (ap (inode_kind I) (sym new.1) ∙ l.directory) t l.live new.1)
         | inl old ↦ elim (cases_eq t s) [
           | inl e ↦
-              let path : q ≡ p = one_path P I sound q p d a.directory (subst (Names P I q) (ap (slot_owner P I) e ∙ a.owner) b) a.path in
+              let path : q ≡ p = one_path P I coherent q p d a.directory (subst (Names P I q) (ap (slot_owner P I) e ∙ a.owner) b) a.path in
               let name : n ≡ slot_name P I s = sym l.name ∙ ap (slot_name P I) e in
               inr (cc, sym l.inode ∙ ap (slot_inode P I) e ∙ a.inode)
           | inr ne ↦ inl (
@@ -132,8 +132,8 @@ module _ (P : ℕ) (I J : List ℕ) (p : Route) (d s i : ℕ) (sound : Sound P I
         directory = sym (kind_reached (slot_owner P I t) (p, b')) ∙ ap (inode_kind J) (sym o) ∙ l.directory;
       } in
       let his : IsReachedSlot P I s = record { owner = (p, subst (Names P I p) (sym a.owner) a.path); live = a.live; directory = ap (inode_kind I) a.owner ∙ a.directory } in
-      let same : slot_owner P I t ≡ slot_owner P I s = one_inode P I sound p (slot_owner P I t) d b' a.path ∙ sym a.owner in
-      other t l.live (same_slot P I sound t s mine his same (sym (same_name t) ∙ l.name))
+      let same : slot_owner P I t ≡ slot_owner P I s = one_inode P I coherent p (slot_owner P I t) d b' a.path ∙ sym a.owner in
+      other t l.live (same_slot P I coherent t s mine his same (sym (same_name t) ∙ l.name))
 
   pub removed_names : (q : Route) (x : ℕ) → Names P J q x ↔ (Names P I q x × (q ≢ gone))
   removed_names q x = (
@@ -180,22 +180,22 @@ module _ (P : ℕ) (I J : List ℕ) (p : Route) (d s i : ℕ) (sound : Sound P I
     size = a.only.size;
     head = a.only.head;
     pointers = λ t. record {
-      other = λ held z. (sound Rule.pointers t).other (held_back t held) (sym (a.only.pointer t) ∙ z);
+      other = λ held z. (coherent Rule.pointers t).other (held_back t held) (sym (a.only.pointer t) ∙ z);
       held = λ held nonzero.
           let e = a.only.pointer t in
-          subst (λ x. IsHeld P J (x - 1)) (sym e) (held_forward (slot_pointer P I t - 1) ((sound Rule.pointers t).held (held_back t held) (λ z. nonzero (e ∙ z))));
+          subst (λ x. IsHeld P J (x - 1)) (sym e) (held_forward (slot_pointer P I t - 1) ((coherent Rule.pointers t).held (held_back t held) (λ z. nonzero (e ∙ z))));
     };
-    one_pointer = λ t r lt hr ht nonzero. a.only.pointer t ∙ sound Rule.one_pointer t r lt (held_back r hr) (held_back t ht) (λ z. nonzero (a.only.pointer r ∙ z));
+    one_pointer = λ t r lt hr ht nonzero. a.only.pointer t ∙ coherent Rule.one_pointer t r lt (held_back r hr) (held_back t ht) (λ z. nonzero (a.only.pointer r ∙ z));
     slots = slot_back;
-    inodes = λ x r. let m = reached_back x r in let l = reached-le P I sound x m in
+    inodes = λ x r. let m = reached_back x r in let l = reached-le P I coherent x m in
         record { reached = m; kind = a.only.node_kind x l; own = a.only.own x l };
-    links = λ x r. let m = reached_back x r in subst (HasLinks P I x) (sym (a.only.links x (reached-le P I sound x m))) (sound Rule.links x m);
+    links = λ x r. let m = reached_back x r in subst (HasLinks P I x) (sym (a.only.links x (reached-le P I coherent x m))) (coherent Rule.links x m);
     kinds = λ j lt r. let o = a.only.owner j lt in
-        a.only.kind j lt ∙ page_kind_is P I sound j lt (subst (Reached P I) o (reached_back (page_owner P J j) r)) ∙ ap (inode_kind I) (sym o);
-    files = λ x r k. let m = reached_back x r in let l = reached-le P I sound x m in
+        a.only.kind j lt ∙ page_kind_is P I coherent j lt (subst (Reached P I) o (reached_back (page_owner P J j) r)) ∙ ap (inode_kind I) (sym o);
+    files = λ x r k. let m = reached_back x r in let l = reached-le P I coherent x m in
         whole_same P I J x (a.only.node_size x l) (λ n j lt g. page_forward x n j g) (λ n j lt g. page_back x n j g)
-        (whole P I x sound m (sym (a.only.node_kind x l) ∙ k));
+        (whole P I x coherent m (sym (a.only.node_kind x l) ∙ k));
   }
 
-  pub removed_sound : Sound P J
-  removed_sound = within_sound P I J sound within
+  pub removed_coherent : IsCoherent P J
+  removed_coherent = within_coherent P I J coherent within

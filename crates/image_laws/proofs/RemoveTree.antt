@@ -14,7 +14,7 @@ use Rattle.tree_model.specs.Table.{get-retain}
 use Rattle.tree_model.specs.Tree.{Node, Tree, route_cmp, route_cmp_total, id_at, node_at, is_directory, is_directory_node}
 use Rattle.tree_model.proofs.TreeLaws.{is_same, same_route, is_same_itself, other_route, same_id, id_at-without_path}
 use Rattle.image_reading.specs.Reading.{Names, Reached, IsNode, Reads}
-use Rattle.image_reading.specs.Soundness.{Sound}
+use Rattle.image_reading.specs.Soundness.{IsCoherent}
 use Rattle.image_counts.proofs.Slots.{same_reverse}
 use Rattle.image_laws.specs.Remove.{HasRemoved, RemoveTreeLaw}
 use Rattle.image_laws.proofs.Paths.{reached-le}
@@ -78,7 +78,7 @@ directory_before tree path x e = by (has_path (without_path tree path).names.ent
 
 -- ---- the tree after
 
-module _ (P : ℕ) (I J : List ℕ) (p path : Route) (s : ℕ) (tree : Tree) (sound : Sound P I) (removed : HasRemoved P I J (slot_name P I s ∷ p)) (is : reverse path ≡ slot_name P I s ∷ p) (reads : Reads P I tree) where
+module _ (P : ℕ) (I J : List ℕ) (p path : Route) (s : ℕ) (tree : Tree) (coherent : IsCoherent P I) (removed : HasRemoved P I J (slot_name P I s ∷ p)) (is : reverse path ≡ slot_name P I s ∷ p) (reads : Reads P I tree) where
   left : Tree
   left = without_path tree path
 
@@ -118,17 +118,17 @@ module _ (P : ℕ) (I J : List ℕ) (p path : Route) (s : ℕ) (tree : Tree) (so
     (λ (r, k).
         let old = before x r in
         node_at-pruned (without_path tree path) x ∙ ap (λ b. cond b (node_at tree x) None) (reached_has x r)
-        ∙ (reads.nodes x z).1 (old, (removed.nodes x z (reached-le P I sound x old)).1 k)),
+        ∙ (reads.nodes x z).1 (old, (removed.nodes x z (reached-le P I coherent x old)).1 k)),
   )
     where
       forth : (b : Bool) → has_path (without_path tree path).names.entries x ≡ b → cond b (node_at tree x) None ≡ Some z → Reached P J x × IsNode P J x z
       forth true there e =
           let (old, k) = (reads.nodes x z).0 e in
-          (has_reached x there, (removed.nodes x z (reached-le P I sound x old)).0 k)
+          (has_reached x there, (removed.nodes x z (reached-le P I coherent x old)).0 k)
       forth false there e = absurd (none_some z e)
 
   pub reads_left : Reads P J (without_unnamed (without_path tree path))
   reads_left = record { names = names_left; nodes = nodes_left }
 
 pub remove_tree_law : RemoveTreeLaw
-remove_tree_law P I p path s tree can is reads = reads_left P I (set I (slot_word_of P s 0) 0) p path s tree can.sound (remove_law P I p s can) is reads
+remove_tree_law P I p path s tree can is reads = reads_left P I (set I (slot_word_of P s 0) 0) p path s tree can.coherent (remove_law P I p s can) is reads

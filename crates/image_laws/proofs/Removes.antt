@@ -8,19 +8,19 @@ use Rattle.image_laws.specs.Remove.{CanRemove, RemoveLaw}
 use Rattle.image_laws.specs.Move.{MoveLaw}
 use Rattle.image_laws.proofs.Adds.{only, stored}
 use Rattle.image_laws.proofs.OnlySlot.{only_node}
-use Rattle.image_laws.proofs.MoveSlot.{Moves, moved_sound, moved_names}
-use Rattle.image_laws.proofs.RemoveSlot.{Removes, removed_sound, removed_names, gone}
+use Rattle.image_laws.proofs.MoveSlot.{Moves, moved_coherent, moved_names}
+use Rattle.image_laws.proofs.RemoveSlot.{Removes, removed_coherent, removed_names, gone}
 
 pub removes : (P : ℕ) (I : List ℕ) (p : Route) (s : ℕ) → CanRemove P I p s → Removes P I (set I (slot_word_of P s 0) 0) p (slot_owner P I s) s (slot_inode P I s)
 removes P I p s c = record {
-  only = only P I s 0 c.sound;
+  only = only P I s 0 c.coherent;
   path = c.path;
   owner = refl;
   directory = c.directory;
   live = c.live;
   inode = refl;
   no_pointer = c.no_pointer;
-  gone = stored P I s 0 c.sound c.live.held.in_range;
+  gone = stored P I s 0 c.coherent c.live.held.in_range;
   leaf = c.leaf;
 }
 
@@ -29,21 +29,21 @@ unfolding gone
 remove_law P I p s c =
     let a = removes P I p s c in
     record {
-      sound = removed_sound P I (set I (slot_word_of P s 0) 0) p (slot_owner P I s) s (slot_inode P I s) c.sound a;
-      names = removed_names P I (set I (slot_word_of P s 0) 0) p (slot_owner P I s) s (slot_inode P I s) c.sound a;
+      coherent = removed_coherent P I (set I (slot_word_of P s 0) 0) p (slot_owner P I s) s (slot_inode P I s) c.coherent a;
+      names = removed_names P I (set I (slot_word_of P s 0) 0) p (slot_owner P I s) s (slot_inode P I s) c.coherent a;
       nodes = only_node P I (set I (slot_word_of P s 0) 0) s a.only c.live.held;
     }
 
 pub move_law : MoveLaw
 move_law P I pa pb s d c = record {
-  sound = moved_sound P I (set I (slot_word_of P d 0) (slot_inode P I s)) pa pb s d (slot_inode P I s) c.sound a;
-  names = moved_names P I (set I (slot_word_of P d 0) (slot_inode P I s)) pa pb s d (slot_inode P I s) c.sound a;
+  coherent = moved_coherent P I (set I (slot_word_of P d 0) (slot_inode P I s)) pa pb s d (slot_inode P I s) c.coherent a;
+  names = moved_names P I (set I (slot_word_of P d 0) (slot_inode P I s)) pa pb s d (slot_inode P I s) c.coherent a;
   nodes = only_node P I (set I (slot_word_of P d 0) (slot_inode P I s)) d a.only c.held;
 }
   where
     a : Moves P I (set I (slot_word_of P d 0) (slot_inode P I s)) pa pb s d (slot_inode P I s)
     a = record {
-      only = only P I d (slot_inode P I s) c.sound;
+      only = only P I d (slot_inode P I s) c.coherent;
       source_path = c.source_path;
       source_directory = c.source_directory;
       source = c.source;
@@ -53,7 +53,7 @@ move_law P I pa pb s d c = record {
       held = c.held;
       pointer = c.pointer;
       alone = c.alone;
-      moved = stored P I d (slot_inode P I s) c.sound c.held.in_range;
+      moved = stored P I d (slot_inode P I s) c.coherent c.held.in_range;
       name = c.name;
       new = c.new;
       outside = c.outside;

@@ -9,11 +9,11 @@ use Rattle.layout.specs.Name.{name_in_words}
 use Rattle.tree_model.specs.PathText.{Route}
 use Rattle.tree_model.specs.Tree.{Node, Directory, File}
 use Rattle.image_reading.specs.Reading.{slot_owner, IsHeld, IsLive, Names, Reached, IsReachedSlot, IsPageOf, IsContent, IsNode, pages_of_size}
-use Rattle.image_reading.specs.Soundness.{Rule, Sound, HasLinks}
+use Rattle.image_reading.specs.Soundness.{Rule, IsCoherent, HasLinks}
 use Rattle.image_laws.proofs.Addresses.{head-ne_inode, descriptor-ne_inode, inode-ne_slot, inode-ne_inode, inode-ne_field, page-ne_inode}
 use Rattle.image_laws.proofs.Meaning.{page_kind_is}
 use Rattle.image_laws.proofs.Paths.{reached_pos}
-use Rattle.image_laws.proofs.Within.{IsWhole, whole, whole_same, OldSlot, Within, within_sound}
+use Rattle.image_laws.proofs.Within.{IsWhole, whole, whole_same, OldSlot, Within, within_coherent}
 use Rattle.image_laws.proofs.Words.{slot_words-same}
 
 pub record OnlySize (P : ℕ) (I J : List ℕ) (i : ℕ) : Type 0 where
@@ -61,7 +61,7 @@ pub record Resizes (P : ℕ) (I J : List ℕ) (i z : ℕ) : Type 0 where
   pub full : (k : ℕ) → k < pages_of_size z → (j : ℕ) × IsPageOf P I i k j
   pub one : (h j k : ℕ) → h < j → k < pages_of_size z → IsPageOf P I i k h → IsPageOf P I i k j → ⊥
 
-module _ (P : ℕ) (I J : List ℕ) (i z : ℕ) (sound : Sound P I) (a : Resizes P I J i z) where
+module _ (P : ℕ) (I J : List ℕ) (i z : ℕ) (coherent : IsCoherent P I) (a : Resizes P I J i z) where
   owner_same : (t : ℕ) → t < slots_of P → slot_owner P J t ≡ slot_owner P I t
   unfolding slot_owner
   owner_same t lt = a.only.owner (page_of_slot t) (page_of_slot_below P t lt)
@@ -171,7 +171,7 @@ module _ (P : ℕ) (I J : List ℕ) (i z : ℕ) (sound : Sound P I) (a : Resizes
       one = λ h j n lt below f g. let lt' = subst (λ y. n < pages_of_size y) a.size below in a.one h j n lt lt' (page_back i n h f) (page_back i n j g);
     })
     | inr ne ↦ whole_same P I J x (a.only.node_size x (pos x m) ne) (λ n j lt g. page_forward x n j g) (λ n j lt g. page_back x n j g)
-        (whole P I x sound m (sym (a.only.node_kind x) ∙ k))
+        (whole P I x coherent m (sym (a.only.node_kind x) ∙ k))
   ]
 
   within : Within P I J
@@ -179,22 +179,22 @@ module _ (P : ℕ) (I J : List ℕ) (i z : ℕ) (sound : Sound P I) (a : Resizes
     size = a.only.size;
     head = a.only.head;
     pointers = λ t. record {
-      other = λ held z. (sound Rule.pointers t).other (held_back t held) (sym (a.only.pointer t) ∙ z);
+      other = λ held z. (coherent Rule.pointers t).other (held_back t held) (sym (a.only.pointer t) ∙ z);
       held = λ held nonzero.
           let e = a.only.pointer t in
-          subst (λ x. IsHeld P J (x - 1)) (sym e) (held_forward (slot_pointer P I t - 1) ((sound Rule.pointers t).held (held_back t held) (λ z. nonzero (e ∙ z))));
+          subst (λ x. IsHeld P J (x - 1)) (sym e) (held_forward (slot_pointer P I t - 1) ((coherent Rule.pointers t).held (held_back t held) (λ z. nonzero (e ∙ z))));
     };
-    one_pointer = λ t r lt hr ht nonzero. a.only.pointer t ∙ sound Rule.one_pointer t r lt (held_back r hr) (held_back t ht) (λ y. nonzero (a.only.pointer r ∙ y));
+    one_pointer = λ t r lt hr ht nonzero. a.only.pointer t ∙ coherent Rule.one_pointer t r lt (held_back r hr) (held_back t ht) (λ y. nonzero (a.only.pointer r ∙ y));
     slots = slot_back;
     inodes = λ x r. record { reached = reached_back x r; kind = a.only.node_kind x; own = a.only.own x };
-    links = λ x r. subst (HasLinks P I x) (sym (a.only.links x)) (sound Rule.links x (reached_back x r));
+    links = λ x r. subst (HasLinks P I x) (sym (a.only.links x)) (coherent Rule.links x (reached_back x r));
     kinds = λ j lt r. let o = a.only.owner j lt in
-        a.only.kind j lt ∙ page_kind_is P I sound j lt (subst (Reached P I) o (reached_back (page_owner P J j) r)) ∙ ap (inode_kind I) (sym o);
+        a.only.kind j lt ∙ page_kind_is P I coherent j lt (subst (Reached P I) o (reached_back (page_owner P J j) r)) ∙ ap (inode_kind I) (sym o);
     files = files;
   }
 
-  pub resized_sound : Sound P J
-  resized_sound = within_sound P I J sound within
+  pub resized_coherent : IsCoherent P J
+  resized_coherent = within_coherent P I J coherent within
 
   -- the content after: as many bytes as the new size, as they stand in the pages
   pub resized_content : (bs : List ℕ) → length bs ≡ z → ((o j : ℕ) → o < z → IsPageOf P I i (o / 4096) j → get_or bs o 0 ≡ page_byte P I j (o % 4096)) → IsContent P J i bs

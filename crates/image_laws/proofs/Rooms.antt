@@ -1,4 +1,4 @@
--- A sound image has a room.
+-- A coherent image has a room.
 use Rattle.std.proofs.Common.{◌≡◌, ◌⊎◌, inl, inr, ℕ, zero, suc, ◌+◌, ◌<◌, List, [], ◌∷◌, sym, ap, subst, ◌∙◌, arith, nat_cmp}
 use Rattle.std.proofs.lemmas.Bool.{cases_eq}
 use Rattle.std.specs.Cmp.{nat_cmp_total}
@@ -9,7 +9,7 @@ use Rattle.tree_model.specs.Table.{table_of, get-table_of}
 use Rattle.tree_model.specs.Tree.{Room}
 use Rattle.image_reading.specs.Counts.{Count}
 use Rattle.image_reading.specs.Reading.{IsDirectory, Reached, IsRoomOf, HasRoom}
-use Rattle.image_reading.specs.Soundness.{Sound}
+use Rattle.image_reading.specs.Soundness.{IsCoherent}
 use Rattle.image_reading.proofs.Counts.{count_one}
 use Rattle.image_counts.proofs.Decided.{IsDecided, any_below, room_or_not, room_counted}
 use Rattle.image_laws.specs.Trees.{RoomLaw}
@@ -60,9 +60,9 @@ module _ (P : ℕ) (I : List ℕ) where
     | inr g ↦ g
   ]
 
-  module _ (sound : Sound P I) where
+  module _ (coherent : IsCoherent P I) where
     dec_directory : (i : ℕ) → Dec (Reached P I i × IsDirectory I i)
-    dec_directory i = elim (dec_reached P I sound i) [
+    dec_directory i = elim (dec_reached P I coherent i) [
       | no n ↦ no (λ (r, k). n r)
       | yes r ↦ elim (dec_eq (inode_kind I i) 2) [ no n ↦ no (λ (r', k). n k) | yes k ↦ yes (r, k) ]
     ]
@@ -94,8 +94,8 @@ module _ (P : ℕ) (I : List ℕ) where
       (λ e. in_rooms (inodes_of P + 1) d k (find_has nat_cmp nat_cmp_total nat_cmp-IsAntisymmetric all_rooms d k (sym (get-table_of nat_cmp_total all_rooms d) ∙ e))),
       (λ r. get-table_of nat_cmp_total all_rooms d ∙ has_find nat_cmp nat_cmp_total nat_cmp-IsAntisymmetric all_rooms d k
           (λ m h. count_one (IsRoomOf P I d) m k (in_rooms (inodes_of P + 1) d m h).2 r.2)
-          (rooms_have (inodes_of P + 1) d k (let h = reached-le P I sound d r.0 in omega (arith, h)) r)),
+          (rooms_have (inodes_of P + 1) d k (let h = reached-le P I coherent d r.0 in omega (arith, h)) r)),
     )
 
 pub room_law : RoomLaw
-room_law P I sound = (the_room P I sound, the_room_is P I sound)
+room_law P I coherent = (the_room P I coherent, the_room_is P I coherent)

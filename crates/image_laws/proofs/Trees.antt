@@ -1,4 +1,4 @@
--- A sound image reads as a tree, which is well formed.
+-- A coherent image reads as a tree, which is well formed.
 use Rattle.std.proofs.Common.{◌≡◌, ◌↔◌, inl, inr, ℕ, ◌+◌, true, List, [], ◌∷◌, ◌++◌, map, reverse, refl, sym, ap, ◌∙◌, arith}
 use Rattle.std.proofs.lemmas.List.{reverse-append, reverse-reverse}
 use Rattle.std.specs.Cmp.{nat_cmp_total}
@@ -10,7 +10,7 @@ use Rattle.tree_model.specs.PathText.{Route}
 use Rattle.tree_model.specs.Table.{table_of, get-table_of}
 use Rattle.tree_model.specs.Tree.{Node, Tree, route_cmp, route_cmp_total, route_cmp-IsAntisymmetric, is_directory, parent, last_name}
 use Rattle.image_reading.specs.Reading.{Names, Reached, IsNode, Reads}
-use Rattle.image_reading.specs.Soundness.{Sound}
+use Rattle.image_reading.specs.Soundness.{IsCoherent}
 use Rattle.image_counts.proofs.Paths.{one_inode}
 use Rattle.image_counts.proofs.Nodes.{has_sizes}
 use Rattle.image_counts.proofs.States.{is_tree}
@@ -46,28 +46,28 @@ turned_has (e ∷ es) p i = (
   ]),
 )
 
--- ---- the tree of a sound image
+-- ---- the tree of a coherent image
 
-module _ (P : ℕ) (I : List ℕ) (sound : Sound P I) where
+module _ (P : ℕ) (I : List ℕ) (coherent : IsCoherent P I) where
   all_paths : List (Route × ℕ)
   unfolding turned
-  all_paths = map turned (all_names P I sound)
+  all_paths = map turned (all_names P I coherent)
 
   all_paths_are : (p : Route) (i : ℕ) → Listed all_paths p i ↔ Names P I (reverse p) i
   unfolding all_paths
   all_paths_are p i = (
-    (λ h. (all_names_are P I sound (reverse p) i).0 ((turned_has (all_names P I sound) p i).0 h)),
-    (λ b. (turned_has (all_names P I sound) p i).1 ((all_names_are P I sound (reverse p) i).1 b)),
+    (λ h. (all_names_are P I coherent (reverse p) i).0 ((turned_has (all_names P I coherent) p i).0 h)),
+    (λ b. (turned_has (all_names P I coherent) p i).1 ((all_names_are P I coherent (reverse p) i).1 b)),
   )
 
   all_nodes : List (ℕ × Node)
-  all_nodes = nodes_below P I sound (inodes_of P + 1)
+  all_nodes = nodes_below P I coherent (inodes_of P + 1)
 
   all_nodes_are : (i : ℕ) (x : Node) → Listed all_nodes i x ↔ (Reached P I i × IsNode P I i x)
   unfolding all_nodes
   all_nodes_are i x = (
-    in_nodes P I sound (inodes_of P + 1) i x,
-    λ (r, k). nodes_has P I sound (inodes_of P + 1) i x (let h = reached-le P I sound i r in omega (arith, h)) r k,
+    in_nodes P I coherent (inodes_of P + 1) i x,
+    λ (r, k). nodes_has P I coherent (inodes_of P + 1) i x (let h = reached-le P I coherent i r in omega (arith, h)) r k,
   )
 
   the_tree : Tree
@@ -79,26 +79,26 @@ module _ (P : ℕ) (I : List ℕ) (sound : Sound P I) where
     names = λ p i. (
       (λ e. (all_paths_are p i).0 (find_has route_cmp route_cmp_total route_cmp-IsAntisymmetric all_paths p i (sym (get-table_of route_cmp_total all_paths p) ∙ e))),
       (λ b. get-table_of route_cmp_total all_paths p ∙ has_find route_cmp route_cmp_total route_cmp-IsAntisymmetric all_paths p i
-          (λ k h. one_inode P I sound (reverse p) k i ((all_paths_are p k).0 h) b) ((all_paths_are p i).1 b)),
+          (λ k h. one_inode P I coherent (reverse p) k i ((all_paths_are p k).0 h) b) ((all_paths_are p i).1 b)),
     );
     nodes = λ i x. (
       (λ e. (all_nodes_are i x).0 (find_has nat_cmp nat_cmp_total nat_cmp-IsAntisymmetric all_nodes i x (sym (get-table_of nat_cmp_total all_nodes i) ∙ e))),
       (λ b. get-table_of nat_cmp_total all_nodes i ∙ has_find nat_cmp nat_cmp_total nat_cmp-IsAntisymmetric all_nodes i x
-          (λ y h. one_node P I sound i y x b.0 ((all_nodes_are i y).0 h).1 b.1) ((all_nodes_are i x).1 b)),
+          (λ y h. one_node P I coherent i y x b.0 ((all_nodes_are i y).0 h).1 b.1) ((all_nodes_are i x).1 b)),
     );
   }
 
 -- ---- it is well formed
 
-module _ (P : ℕ) (I : List ℕ) (T : Tree) (sound : Sound P I) (reads : Reads P I T) where
+module _ (P : ℕ) (I : List ℕ) (T : Tree) (coherent : IsCoherent P I) (reads : Reads P I T) where
   pub directory_is : (i : ℕ) → is_directory T i ≡ true → Reached P I i × (inode_kind I i ≡ 2)
-  directory_is i = ((has_sizes P I T sound reads).directories i).0
+  directory_is i = ((has_sizes P I T coherent reads).directories i).0
 
   pub is_directory-reached : (i : ℕ) → Reached P I i → inode_kind I i ≡ 2 → is_directory T i ≡ true
-  is_directory-reached i r k = ((has_sizes P I T sound reads).directories i).1 (r, k)
+  is_directory-reached i r k = ((has_sizes P I T coherent reads).directories i).1 (r, k)
 
 pub form_law : FormLaw
-form_law P I T sound reads = is_tree P I T sound reads
+form_law P I T coherent reads = is_tree P I T coherent reads
 
 pub tree_law : TreeLaw
-tree_law P I sound = (the_tree P I sound, the_tree_reads P I sound, form_law P I (the_tree P I sound) sound (the_tree_reads P I sound))
+tree_law P I coherent = (the_tree P I coherent, the_tree_reads P I coherent, form_law P I (the_tree P I coherent) coherent (the_tree_reads P I coherent))

@@ -2,7 +2,7 @@
 use Rattle.std.proofs.Common.{◌≡◌, inl, inr, ℕ, zero, suc, ◌+◌, ◌*◌, ◌/◌, ◌%◌, ◌^◌, ◌<◌, List, refl, ap, subst, arith, add-zero}
 use Rattle.layout.specs.Fields.{word, words_from, inode_kind, inode_size, inode_own, page_owner, page_kind, page_offset, slot_inode, slot_pointer, slot_words, page_byte}
 use Rattle.layout.specs.Geometry.{inode_word_of, descriptor_word_of, page_word_of, slot_word_of}
-use Rattle.image_reading.specs.Soundness.{Sound}
+use Rattle.image_reading.specs.Soundness.{IsCoherent}
 use Rattle.image_laws.specs.Frame.{Agrees, SameBytes, SameShape}
 use Rattle.image_laws.specs.Words.{IsUsed, IsByteOf, BytesAgree, WordsAgree, WordLaw}
 use Rattle.image_laws.proofs.Frame.{alike, frame}
@@ -62,8 +62,8 @@ bytes_from_words P I J i b = record {
       (b (page_word_of P j (o % 4096 / 8)) (IsByteOf.byte (o / 4096) j (o % 4096 / 8) g (byte_in_page o) (byte_below o (inode_size I i) lt)));
 }
 
-pub shape_from_words : (P : ℕ) (I J : List ℕ) → Sound P I → WordsAgree P I J → SameShape P I J
-shape_from_words P I J sound w = shape P I J sound (alike P I J (agrees_from_words P I J w) sound)
+pub shape_from_words : (P : ℕ) (I J : List ℕ) → IsCoherent P I → WordsAgree P I J → SameShape P I J
+shape_from_words P I J coherent w = shape P I J coherent (alike P I J (agrees_from_words P I J w) coherent)
 
 pub word_law : WordLaw
-word_law P I J sound w b = frame P I J sound (agrees_from_words P I J w) (λ i r k. bytes_from_words P I J i (b i r k))
+word_law P I J coherent w b = frame P I J coherent (agrees_from_words P I J w) (λ i r k. bytes_from_words P I J i (b i r k))

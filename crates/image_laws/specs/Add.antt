@@ -10,7 +10,7 @@ use Rattle.tree_model.specs.Tree.{Node, Directory, File, Tree, Room, pages_in}
 use Rattle.tree_model.specs.Step.{with_new, with_path}
 use Rattle.image_reading.specs.Counts.{AtMost}
 use Rattle.image_reading.specs.Reading.{HasBytes, IsDirectory, slot_owner, IsHeld, Names, Reached, IsReachedSlot, IsNode, IsRoomOf, IsNameOf, IsChildOf, Reads, HasRoom}
-use Rattle.image_reading.specs.Soundness.{Sound}
+use Rattle.image_reading.specs.Soundness.{IsCoherent}
 
 -- inode i is no node of the tree yet, but its words are those of an empty one
 pub record IsNewNode (P : ℕ) (I : List ℕ) (i : ℕ) : Type 0 where
@@ -38,7 +38,7 @@ pub record IsFreeSlot (P : ℕ) (I : List ℕ) (p : Route) (d s : ℕ) : Type 0 
 
 -- It has the words of a name that is new in the directory, and may take inode i.
 pub record CanAdd (P : ℕ) (I : List ℕ) (p : Route) (d s i : ℕ) : Type 0 where
-  pub sound : Sound P I
+  pub coherent : IsCoherent P I
   pub slot : IsFreeSlot P I p d s
   pub name : IsNameWords (slot_words P I s)
   pub new : (t : ℕ) → IsReachedSlot P I t → slot_owner P I t ≡ d → slot_name P I t ≢ slot_name P I s
@@ -51,7 +51,7 @@ pub record CanAdd (P : ℕ) (I : List ℕ) (p : Route) (d s i : ℕ) : Type 0 wh
 
 -- The paths of J are those of I and one more, which names i, and each inode is the node that it was.
 pub record HasAdded (P : ℕ) (I J : List ℕ) (p : Route) (s i : ℕ) : Type 0 where
-  pub sound : Sound P J
+  pub coherent : IsCoherent P J
   pub names : (q : Route) (x : ℕ) → Names P J q x ↔ (Names P I q x ⊎ ((q ≡ slot_name P I s ∷ p) × (x ≡ i)))
   pub nodes : (x : ℕ) (z : Node) → x ≤ inodes_of P → IsNode P I x z ↔ IsNode P J x z
 

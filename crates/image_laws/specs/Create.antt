@@ -8,8 +8,8 @@ use Rattle.tree_model.specs.PathText.{Route}
 use Rattle.tree_model.specs.Tree.{Node, Directory, File, Tree, Room}
 use Rattle.tree_model.specs.Step.{with_new}
 use Rattle.image_reading.specs.Reading.{IsDirectory, slot_owner, IsHeld, Names, Reached, IsReachedSlot, Reads, HasRoom}
-use Rattle.image_reading.specs.Soundness.{Sound}
-use Rattle.image_reading.specs.Tidy.{Tidy}
+use Rattle.image_reading.specs.Soundness.{IsCoherent}
+use Rattle.image_reading.specs.Tidy.{IsTidied}
 use Rattle.image_counts.specs.Entries.{IsFreePage}
 use Rattle.image_laws.specs.Frame.{SameMeaning}
 use Rattle.image_laws.specs.Quiet.{IsMix}
@@ -53,7 +53,7 @@ pub record MakesNode (P : ℕ) (I J : List ℕ) (node : Node) (d s i : ℕ) (nam
 
 -- The image is tidy, and p names directory d, which has no name like these name words.
 pub record CanName (P : ℕ) (I : List ℕ) (p : Route) (d : ℕ) (name : List ℕ) : Type 0 where
-  pub tidy : Tidy P I
+  pub tidy : IsTidied P I
   pub path : Names P I p d
   pub directory : IsDirectory I d
   pub is_name : IsNameWords name
@@ -82,7 +82,7 @@ committed P I s i = set I (slot_word_of P s 0) i
 pub record IsCreate (P : ℕ) (W B I J : List ℕ) (path : Route) (node : Node) (i : ℕ) (after : Room → Room) : Type 0 where
   pub before : (M : List ℕ) → IsMix B I M → SameMeaning P W M
   pub commit : (M : List ℕ) → IsMix I J M → SameMeaning P W M ⊎ (M ≡ J)
-  pub tidy : Tidy P J
+  pub tidy : IsTidied P J
   pub reads : (T : Tree) → Reads P W T → Reads P J (with_new T path i node)
   pub room : (room : Room) → HasRoom P W room → HasRoom P J (after room)
 
@@ -123,4 +123,4 @@ NewPageLaw = (P : ℕ) (W A I : List ℕ) (p path : Route) (node : Node) (d j s 
 
 -- That much holds as soon as the page is made, whatever is made in it.
 abbrev pub PageQuietLaw : Type 0
-PageQuietLaw = (P : ℕ) (W A : List ℕ) (p : Route) (d j : ℕ) → Sound P W → Names P W p d → IsDirectory W d → IsFreePage P W j → MakesPage P W A j → IsPageQuiet P W A (owned P A j d)
+PageQuietLaw = (P : ℕ) (W A : List ℕ) (p : Route) (d j : ℕ) → IsCoherent P W → Names P W p d → IsDirectory W d → IsFreePage P W j → MakesPage P W A j → IsPageQuiet P W A (owned P A j d)

@@ -7,7 +7,7 @@ use Rattle.tree_model.specs.PathText.{Route}
 use Rattle.tree_model.specs.Step.{without_path, without_unnamed}
 use Rattle.tree_model.specs.Tree.{Tree}
 use Rattle.image_reading.specs.Reading.{HasBytes, IsDirectory, slot_owner, Names, Reached, IsReachedSlot, IsRoomOf, Reads}
-use Rattle.image_reading.specs.Tidy.{Tidy}
+use Rattle.image_reading.specs.Tidy.{IsTidied}
 use Rattle.image_counts.specs.Entries.{IsSlotOf}
 use Rattle.image_laws.specs.Frame.{SameMeaning}
 use Rattle.image_laws.specs.Quiet.{IsMix}
@@ -15,7 +15,7 @@ use Rattle.image_laws.specs.Remove.{HasRoomRemoved}
 
 -- p names the owner of the reached slot s, and a directory that the slot names has no names.
 pub record CanDrop (P : ℕ) (I : List ℕ) (p : Route) (s : ℕ) : Type 0 where
-  pub tidy : Tidy P I
+  pub tidy : IsTidied P I
   pub path : Names P I p (slot_owner P I s)
   pub slot : IsReachedSlot P I s
   pub empty : IsDirectory I (slot_inode P I s) → (t : ℕ) → IsSlotOf P I (slot_inode P I s) t → ⊥
@@ -66,7 +66,7 @@ pub record IsDrop (P : ℕ) (W I J K : List ℕ) (p : Route) (s : ℕ) : Type 0 
   pub clearing : (M : List ℕ) → IsMix (dropped P W s) I M → SameMeaning P (dropped P W s) M
   pub giving : (M : List ℕ) → IsMix I J M → SameMeaning P (dropped P W s) M
   pub freeing : (M : List ℕ) → IsMix J K M → SameMeaning P (dropped P W s) M
-  pub tidy : Tidy P K
+  pub tidy : IsTidied P K
   pub reads : (T : Tree) (path : Route) → reverse path ≡ slot_name P W s ∷ p → Reads P W T → Reads P K (without_unnamed (without_path T path))
   pub room : HasRoomRemoved P W K (slot_owner P W s) s (slot_inode P W s)
 

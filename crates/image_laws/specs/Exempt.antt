@@ -3,7 +3,7 @@ use Rattle.std.specs.Prelude.{◌≡◌, ◌≢◌, ◌⊎◌, ℕ, ◌+◌, ◌
 use Rattle.layout.specs.Fields.{inode_size, page_owner, page_kind, page_offset, slot_inode, slot_pointer}
 use Rattle.layout.specs.Geometry.{page_of_slot}
 use Rattle.image_reading.specs.Reading.{IsDirectory, HasBytes, IsHeld, Reached, pages_of_size}
-use Rattle.image_reading.specs.Soundness.{Sound}
+use Rattle.image_reading.specs.Soundness.{IsCoherent}
 use Rattle.image_laws.specs.Frame.{AreIdle}
 
 -- The owner of page j is 0 or g in I and in J, the rest of what is used of it is the same in both, and the page isn't needed:
@@ -20,4 +20,4 @@ pub record IsExempt (P : ℕ) (I J : List ℕ) (j g : ℕ) : Type 0 where
   pub empty : page_kind P I j ≡ 2 → Reached P I g → (s : ℕ) → page_of_slot s ≡ j → (slot_inode P I s ≡ 0) × (slot_inode P J s ≡ 0)
 
 abbrev pub ExemptLaw : Type 0
-ExemptLaw = (P : ℕ) (I J : List ℕ) (j g : ℕ) → Sound P I → IsExempt P I J j g → AreIdle P I J j
+ExemptLaw = (P : ℕ) (I J : List ℕ) (j g : ℕ) → IsCoherent P I → IsExempt P I J j g → AreIdle P I J j

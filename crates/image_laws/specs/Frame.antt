@@ -5,7 +5,7 @@ use Rattle.layout.specs.Geometry.{data_pages_of, slots_of, page_of_slot}
 use Rattle.tree_model.specs.PathText.{Route}
 use Rattle.tree_model.specs.Tree.{Node, Tree, Room}
 use Rattle.image_reading.specs.Reading.{IsDirectory, HasBytes, slot_owner, IsHeld, IsLive, Names, Reached, IsReachedSlot, IsPageOf, IsRoomOf, IsNode, pages_of_size, Reads, HasRoom}
-use Rattle.image_reading.specs.Soundness.{HasLinks, PointsAtHeld, IsOnlyPointer, Sound}
+use Rattle.image_reading.specs.Soundness.{HasLinks, PointsAtHeld, IsOnlyPointer, IsCoherent}
 
 -- The owner, what is used of the page's descriptor, and of its slots where it is held as a directory page.
 pub record SamePage (P : ℕ) (I J : List ℕ) (j : ℕ) : Type 0 where
@@ -88,7 +88,7 @@ AllSameBytes P I J = (i : ℕ) → Reached P I i → HasBytes I i → SameBytes 
 
 -- J means what I means, but for the bytes of files.
 pub record SameShape (P : ℕ) (I J : List ℕ) : Type 0 where
-  pub sound : Sound P J
+  pub coherent : IsCoherent P J
   pub names : (p : Route) (i : ℕ) → Names P I p i ↔ Names P J p i
   pub inodes : (i : ℕ) → Reached P I i → SameInode I J i
   pub pages : (i k j : ℕ) → Reached P I i → HasBytes I i → k < pages_of_size (inode_size I i) → IsPageOf P I i k j ↔ IsPageOf P J i k j
@@ -96,17 +96,17 @@ pub record SameShape (P : ℕ) (I J : List ℕ) : Type 0 where
 
 -- J means what I means: it has the same paths, nodes and rooms.
 pub record SameMeaning (P : ℕ) (I J : List ℕ) : Type 0 where
-  pub sound : Sound P J
+  pub coherent : IsCoherent P J
   pub names : (p : Route) (i : ℕ) → Names P I p i ↔ Names P J p i
   pub nodes : (i : ℕ) (x : Node) → Reached P I i → IsNode P I i x ↔ IsNode P J i x
   pub reads : (T : Tree) → Reads P I T → Reads P J T
   pub room : (room : Room) → HasRoom P I room → HasRoom P J room
 
 abbrev pub FrameLaw : Type 0
-FrameLaw = (P : ℕ) (I J : List ℕ) → Sound P I → Agrees P I J → AllSameBytes P I J → SameMeaning P I J
+FrameLaw = (P : ℕ) (I J : List ℕ) → IsCoherent P I → Agrees P I J → AllSameBytes P I J → SameMeaning P I J
 
 abbrev pub ShapeLaw : Type 0
-ShapeLaw = (P : ℕ) (I J : List ℕ) → Sound P I → Alike P I J → SameShape P I J
+ShapeLaw = (P : ℕ) (I J : List ℕ) → IsCoherent P I → Alike P I J → SameShape P I J
 
 -- a file whose bytes are the same is the same node
 abbrev pub NodeLaw : Type 0
@@ -118,5 +118,5 @@ MeaningLaw = (P : ℕ) (I J : List ℕ) → SameShape P I J → AllSameBytes P I
 
 -- An image means what it means, and what means what means the same means the same.
 pub record MeaningsChain : Type 0 where
-  pub itself : (P : ℕ) (I : List ℕ) → Sound P I → SameMeaning P I I
+  pub itself : (P : ℕ) (I : List ℕ) → IsCoherent P I → SameMeaning P I I
   pub chained : (P : ℕ) (I J K : List ℕ) → SameMeaning P I J → SameMeaning P J K → SameMeaning P I K

@@ -3,7 +3,7 @@ use Rattle.std.specs.Prelude.{◌≡◌, ◌⊎◌, ℕ, ◌+◌, ◌*◌, ◌<�
 use Rattle.layout.specs.Fields.{word, inode_links, inode_size, page_owner}
 use Rattle.layout.specs.Geometry.{inodes_of, data_pages_of, inode_word_of, descriptor_word_of, page_word_of, slot_word_of}
 use Rattle.image_reading.specs.Reading.{IsHeld, Reached, IsReachedSlot, IsPageOf}
-use Rattle.image_reading.specs.Soundness.{Sound, HasLinks}
+use Rattle.image_reading.specs.Soundness.{IsCoherent, HasLinks}
 use Rattle.image_laws.specs.Exempt.{IsExempt}
 use Rattle.image_laws.specs.Frame.{SameMeaning}
 use Rattle.image_laws.specs.Quiet.{IsMix, IsQuiet}
@@ -30,8 +30,8 @@ pub record Stores (P : ℕ) (I J : List ℕ) : Type 0 where
   pub links : (i : ℕ) → Reached P I i → HasLinks P I i (inode_links J i)
 
 abbrev pub FreeLaw : Type 0
-FreeLaw = (P : ℕ) (I J : List ℕ) → Sound P I → Stores P I J → IsQuiet P I J × AllBytesAgree P I J
+FreeLaw = (P : ℕ) (I J : List ℕ) → IsCoherent P I → Stores P I J → IsQuiet P I J × AllBytesAgree P I J
 
 -- So whatever mix of old and new words a stop leaves means the same.
 abbrev pub StoresLaw : Type 0
-StoresLaw = (P : ℕ) (I J M : List ℕ) → Sound P I → Stores P I J → IsMix I J M → SameMeaning P I M
+StoresLaw = (P : ℕ) (I J M : List ℕ) → IsCoherent P I → Stores P I J → IsMix I J M → SameMeaning P I M

@@ -8,7 +8,7 @@ use Rattle.tree_model.specs.PathText.{Route}
 use Rattle.tree_model.specs.Tree.{Tree, Room}
 use Rattle.tree_model.specs.Step.{with_path}
 use Rattle.image_reading.specs.Reading.{Reads, HasRoom}
-use Rattle.image_reading.specs.Tidy.{Tidy}
+use Rattle.image_reading.specs.Tidy.{IsTidied}
 use Rattle.image_counts.specs.Entries.{IsFreePage}
 use Rattle.image_laws.specs.Frame.{SameMeaning}
 use Rattle.image_laws.specs.Quiet.{IsMix}
@@ -36,7 +36,7 @@ pub record CanLink (P : ℕ) (I : List ℕ) (p : Route) (d i : ℕ) (name : List
 pub record IsLink (P : ℕ) (W B I J : List ℕ) (path : Route) (i : ℕ) (after : Room → Room) : Type 0 where
   pub before : (M : List ℕ) → IsMix B I M → SameMeaning P W M
   pub commit : (M : List ℕ) → IsMix I J M → SameMeaning P W M ⊎ (M ≡ J)
-  pub tidy : Tidy P J
+  pub tidy : IsTidied P J
   pub reads : (T : Tree) → Reads P W T → Reads P J (with_path T path i)
   pub room : (room : Room) → HasRoom P W room → HasRoom P J (after room)
 

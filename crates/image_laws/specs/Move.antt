@@ -7,11 +7,11 @@ use Rattle.tree_model.specs.PathText.{Route}
 use Rattle.tree_model.specs.Tree.{Node}
 use Rattle.image_reading.specs.Counts.{AtMost}
 use Rattle.image_reading.specs.Reading.{IsDirectory, slot_owner, IsHeld, IsLive, Names, IsReachedSlot, IsNode, IsChildOf}
-use Rattle.image_reading.specs.Soundness.{Sound}
+use Rattle.image_reading.specs.Soundness.{IsCoherent}
 
 -- Slot d points at the reached slot s and may take its inode number, whatever d named before. The commit of rename.
 pub record CanMove (P : ℕ) (I : List ℕ) (pa pb : Route) (s d : ℕ) : Type 0 where
-  pub sound : Sound P I
+  pub coherent : IsCoherent P I
   pub source_path : Names P I pa (slot_owner P I s)
   pub source_directory : IsDirectory I (slot_owner P I s)
   pub source : IsLive P I s
@@ -32,7 +32,7 @@ pub record CanMove (P : ℕ) (I : List ℕ) (pa pb : Route) (s d : ℕ) : Type 0
 
 -- what was at the old path, and below it, is at the new; what was at the new path is gone; every other path stays
 pub record HasMoved (P : ℕ) (I J : List ℕ) (old new : Route) : Type 0 where
-  pub sound : Sound P J
+  pub coherent : IsCoherent P J
   pub names : (q : Route) (x : ℕ) → Names P J q x ↔
       ((Names P I q x × ((r : Route) × (q ≡ r ++ old) → ⊥) × (q ≢ new)) ⊎ ((r : Route) × (q ≡ r ++ new) × Names P I (r ++ old) x))
   pub nodes : (x : ℕ) (z : Node) → x ≤ inodes_of P → IsNode P I x z ↔ IsNode P J x z

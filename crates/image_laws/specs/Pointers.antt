@@ -3,12 +3,12 @@ use Rattle.std.specs.Prelude.{◌≡◌, ◌≢◌, ℕ, ◌+◌, ◌-◌, List,
 use Rattle.layout.specs.Fields.{slot_inode, slot_pointer}
 use Rattle.layout.specs.Geometry.{slot_word_of}
 use Rattle.image_reading.specs.Reading.{IsHeld}
-use Rattle.image_reading.specs.Soundness.{Sound}
+use Rattle.image_reading.specs.Soundness.{IsCoherent}
 use Rattle.image_laws.specs.Frame.{SameMeaning}
 
 -- Slot d may point at v - 1, or at none where v is 0: neither what it points at nor what it will has its inode number, and no other slot points.
 pub record CanPoint (P : ℕ) (I : List ℕ) (d v : ℕ) : Type 0 where
-  pub sound : Sound P I
+  pub coherent : IsCoherent P I
   pub held : IsHeld P I d
   pub old : (t : ℕ) → slot_pointer P I d ≡ t + 1 → slot_inode P I d ≡ slot_inode P I t → slot_inode P I t ≡ 0
   pub new : (t : ℕ) → v ≡ t + 1 → slot_inode P I d ≡ slot_inode P I t → slot_inode P I t ≡ 0
@@ -21,7 +21,7 @@ PointerLaw = (P : ℕ) (I : List ℕ) (d v : ℕ) → CanPoint P I d v → SameM
 
 -- Slot s was left: d points at it and has its inode number.
 pub record IsLeft (P : ℕ) (I : List ℕ) (s d : ℕ) : Type 0 where
-  pub sound : Sound P I
+  pub coherent : IsCoherent P I
   pub source : IsHeld P I s
   pub held : IsHeld P I d
   pub pointer : slot_pointer P I d ≡ s + 1

@@ -4,7 +4,7 @@ use Rattle.layout.specs.Fields.{word, inode_links, page_owner, page_byte}
 use Rattle.layout.specs.Geometry.{data_pages_of}
 use Rattle.tree_model.specs.Tree.{Node}
 use Rattle.image_reading.specs.Reading.{HasBytes, Reached, IsNode}
-use Rattle.image_reading.specs.Soundness.{Sound, HasLinks}
+use Rattle.image_reading.specs.Soundness.{IsCoherent, HasLinks}
 use Rattle.image_laws.specs.Exempt.{IsExempt}
 use Rattle.image_laws.specs.Frame.{SameShape, SameMeaning}
 use Rattle.image_laws.specs.Words.{IsUsed, BytesAgree, AllBytesAgree}
@@ -23,7 +23,7 @@ pub record IsQuiet (P : ℕ) (I J : List ℕ) : Type 0 where
 
 -- whatever mix of old and new words a stop leaves means the same
 abbrev pub MixLaw : Type 0
-MixLaw = (P : ℕ) (I J M : List ℕ) → Sound P I → IsQuiet P I J → AllBytesAgree P I J → IsMix I J M → SameMeaning P I M
+MixLaw = (P : ℕ) (I J M : List ℕ) → IsCoherent P I → IsQuiet P I J → AllBytesAgree P I J → IsMix I J M → SameMeaning P I M
 
 -- M means what I means, but each byte of file i may be the one that J has in its place.
 pub record MixesBytes (P : ℕ) (I J M : List ℕ) (i : ℕ) : Type 0 where
@@ -33,5 +33,5 @@ pub record MixesBytes (P : ℕ) (I J M : List ℕ) (i : ℕ) : Type 0 where
 
 -- the interval in which a write stores its range
 abbrev pub WriteLaw : Type 0
-WriteLaw = (P : ℕ) (I J M : List ℕ) (i : ℕ) → Sound P I → IsQuiet P I J →
+WriteLaw = (P : ℕ) (I J M : List ℕ) (i : ℕ) → IsCoherent P I → IsQuiet P I J →
     ((k : ℕ) → Reached P I k → HasBytes I k → k ≢ i → BytesAgree P I J k) → IsMix I J M → MixesBytes P I J M i

@@ -8,11 +8,11 @@ use Rattle.tree_model.specs.Tree.{Node, Tree, Room, pages_in}
 use Rattle.tree_model.specs.Step.{without_path, without_unnamed}
 use Rattle.tree_model.specs.Table.{insert, remove}
 use Rattle.image_reading.specs.Reading.{IsDirectory, slot_owner, IsLive, Names, IsNode, IsRoomOf, Reads, HasRoom}
-use Rattle.image_reading.specs.Soundness.{Sound}
+use Rattle.image_reading.specs.Soundness.{IsCoherent}
 
 -- Slot s is reached and what it names may lose this name. The commit of unlink and rmdir.
 pub record CanRemove (P : ℕ) (I : List ℕ) (p : Route) (s : ℕ) : Type 0 where
-  pub sound : Sound P I
+  pub coherent : IsCoherent P I
   pub path : Names P I p (slot_owner P I s)
   pub directory : IsDirectory I (slot_owner P I s)
   pub live : IsLive P I s
@@ -21,7 +21,7 @@ pub record CanRemove (P : ℕ) (I : List ℕ) (p : Route) (s : ℕ) : Type 0 whe
   pub leaf : IsDirectory I (slot_inode P I s) → (t : ℕ) → IsLive P I t → slot_owner P I t ≢ slot_inode P I s
 
 pub record HasRemoved (P : ℕ) (I J : List ℕ) (path : Route) : Type 0 where
-  pub sound : Sound P J
+  pub coherent : IsCoherent P J
   pub names : (q : Route) (x : ℕ) → Names P J q x ↔ (Names P I q x × (q ≢ path))
   pub nodes : (x : ℕ) (z : Node) → x ≤ inodes_of P → IsNode P I x z ↔ IsNode P J x z
 

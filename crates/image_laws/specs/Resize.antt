@@ -5,11 +5,11 @@ use Rattle.layout.specs.Geometry.{inode_word_of}
 use Rattle.tree_model.specs.PathText.{Route}
 use Rattle.tree_model.specs.Tree.{Node, File}
 use Rattle.image_reading.specs.Reading.{HasBytes, Names, Reached, IsPageOf, IsNode, pages_of_size}
-use Rattle.image_reading.specs.Soundness.{Sound}
+use Rattle.image_reading.specs.Soundness.{IsCoherent}
 
 -- File i may take size z: its pages are there. The commit of a write past the size and of a truncation.
 pub record CanResize (P : ℕ) (I : List ℕ) (i z : ℕ) : Type 0 where
-  pub sound : Sound P I
+  pub coherent : IsCoherent P I
   pub reached : Reached P I i
   pub file : HasBytes I i
   pub small : z ≤ 2 ^ 40
@@ -17,7 +17,7 @@ pub record CanResize (P : ℕ) (I : List ℕ) (i z : ℕ) : Type 0 where
   pub one : (h j k : ℕ) → h < j → k < pages_of_size z → IsPageOf P I i k h → IsPageOf P I i k j → ⊥
 
 pub record HasResized (P : ℕ) (I J : List ℕ) (i z : ℕ) : Type 0 where
-  pub sound : Sound P J
+  pub coherent : IsCoherent P J
   pub names : (q : Route) (x : ℕ) → Names P I q x ↔ Names P J q x
   pub others : (x : ℕ) (y : Node) → 1 ≤ x → x ≢ i → IsNode P I x y ↔ IsNode P J x y
   -- the file has z bytes, as they stand in its pages

@@ -3,7 +3,7 @@ use Rattle.std.specs.Prelude.{◌≡◌, ◌≢◌, ◌⊎◌, ℕ, ◌+◌, ◌
 use Rattle.layout.specs.Fields.{word, inode_links, inode_size, page_owner}
 use Rattle.layout.specs.Geometry.{data_pages_of, inode_word_of, descriptor_word_of, page_word_of, slot_word_of}
 use Rattle.image_reading.specs.Reading.{HasBytes, IsHeld, Reached, IsReachedSlot, IsPageOf}
-use Rattle.image_reading.specs.Soundness.{Sound, HasLinks}
+use Rattle.image_reading.specs.Soundness.{IsCoherent, HasLinks}
 use Rattle.image_laws.specs.Frame.{AreIdle, SameMeaning}
 
 -- Word a is used: all but owners, which stand beside, link words, which only have a bound, and the bytes of files.
@@ -35,4 +35,4 @@ pub record WordsAgree (P : ℕ) (I J : List ℕ) : Type 0 where
   pub links : (i : ℕ) → Reached P I i → HasLinks P I i (inode_links J i)
 
 abbrev pub WordLaw : Type 0
-WordLaw = (P : ℕ) (I J : List ℕ) → Sound P I → WordsAgree P I J → AllBytesAgree P I J → SameMeaning P I J
+WordLaw = (P : ℕ) (I J : List ℕ) → IsCoherent P I → WordsAgree P I J → AllBytesAgree P I J → SameMeaning P I J

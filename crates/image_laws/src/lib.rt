@@ -21,7 +21,7 @@ ghost use Rattle.image_laws.specs.Remove.{RemoveLaw, RemoveTreeLaw, RemoveRoomLa
 ghost use Rattle.image_laws.specs.Resize.{ResizeLaw};
 ghost use Rattle.image_laws.specs.Trees.{TreeLaw, FormLaw, RoomLaw};
 
-/// An image that agrees with a sound one on what is used means the same.
+/// An image that agrees with a coherent one on what is used means the same.
 pub fn frame_law()
     ensures shape { ShapeLaw }
     ensures node { NodeLaw }
@@ -43,7 +43,7 @@ pub fn mix_law()
     ensures stored { StoresLaw }
 {}
 
-/// A sound image reads as a tree, what it reads as is well formed, and it has a room.
+/// A coherent image reads as a tree, what it reads as is well formed, and it has a room.
 pub fn tree_law()
     ensures tree { TreeLaw }
     ensures form { FormLaw }

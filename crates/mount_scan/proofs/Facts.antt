@@ -8,6 +8,7 @@ use Rattle.tree_model.specs.Run.{State}
 use Rattle.image_reading.specs.Reading.{IsFile, IsDirectory, slot_owner, Reached, IsReachedSlot, IsPageOf, pages_of_size, ReadsAs}
 use Rattle.image_reading.specs.Soundness.{Rule}
 use Rattle.image_reading.specs.Tidy.{Tidy}
+use Rattle.image_reading.proofs.Tidied.{tidied}
 use Rattle.image_counts.specs.Entries.{IsEntryOf, IsPageIn}
 use Rattle.image_counts.proofs.Paths.{in_range, same_slot}
 use Rattle.image_counts.proofs.Nodes.{one_page}
@@ -29,7 +30,7 @@ module _ (P : ℕ) (I : List ℕ) (tidy : Tidy P I) where
   in_table i reached = in_range P I tidy.sound i reached
 
   pub kind_reached : (i : ℕ) → 1 ≤ i → i ≤ inodes_of P → inode_kind I i ≢ 0 → Reached P I i
-  kind_reached i least most kind = ((has_used_inodes P I state.tree tidy reads.tree).used i least most).1 kind
+  kind_reached i least most kind = ((has_used_inodes P I state.tree (tidied tidy) reads.tree).used i least most).1 kind
 
   file_reached : (i : ℕ) → 1 ≤ i → i ≤ inodes_of P → inode_kind I i ≡ 1 → Reached P I i
   file_reached i least most file = kind_reached i least most (λ zero. omega (arith, file, zero))
@@ -37,7 +38,7 @@ module _ (P : ℕ) (I : List ℕ) (tidy : Tidy P I) where
   -- ---- pages
 
   pub owner_reached : (j : ℕ) → j < data_pages_of P → page_owner P I j ≢ 0 → Reached P I (page_owner P I j)
-  owner_reached j within owned = elim (owned_kept P I state tidy reads j within owned) [ inl page ↦ page.owner | inr room ↦ room.reached ]
+  owner_reached j within owned = elim (owned_kept P I state (tidied tidy) reads j within owned) [ inl page ↦ page.owner | inr room ↦ room.reached ]
 
   -- a page of kind 1 is a file's, and another a directory's
   pub file_owner : (j : ℕ) → j < data_pages_of P → page_owner P I j ≢ 0 → page_kind P I j ≡ 1 → inode_kind I (page_owner P I j) ≡ 1
@@ -58,7 +59,7 @@ module _ (P : ℕ) (I : List ℕ) (tidy : Tidy P I) where
 
   module _ (i : ℕ) (least : 1 ≤ i) (most : i ≤ inodes_of P) (file : inode_kind I i ≡ 1) where
     pub offset_below : (j : ℕ) → IsPageIn P I i j → page_offset P I j < pages_of_size (inode_size I i)
-    offset_below j page = elim (owned_kept P I state tidy reads j page.in_range (λ zero. let is = page.owner in omega (arith, least, zero, is))) [
+    offset_below j page = elim (owned_kept P I state (tidied tidy) reads j page.in_range (λ zero. let is = page.owner in omega (arith, least, zero, is))) [
       | inl kept ↦ subst (λ z. page_offset P I j < pages_of_size (inode_size I z)) page.owner kept.below
       | inr room ↦
           let two : inode_kind I i ≡ 2 = subst (λ z. inode_kind I z ≡ 2) page.owner room.directory in
@@ -89,7 +90,7 @@ module _ (P : ℕ) (I : List ℕ) (tidy : Tidy P I) where
   unfolding slot_owner
   slot_reached s within owned directory numbered =
       let reached = owner_reached (page_of_slot s) (page_of_slot_below P s within) owned in
-      ((has_room_words P I state tidy reads (slot_owner P I s) reached directory).live s (record { in_range = within; owner = refl })).1 numbered
+      ((has_room_words P I state (tidied tidy) reads (slot_owner P I s) reached directory).live s (record { in_range = within; owner = refl })).1 numbered
 
   pub one_entry : (d s t : ℕ) (bytes : List ℕ) → IsEntryOf P I d bytes s → IsEntryOf P I d bytes t → s ≡ t
   one_entry d s t bytes a b = same_slot P I tidy.sound s t a.slot b.slot (a.owner ∙ sym b.owner) (a.name ∙ sym b.name)

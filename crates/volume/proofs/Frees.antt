@@ -11,6 +11,7 @@ use Rattle.tree_model.specs.Run.{State}
 use Rattle.image_reading.specs.Counts.{IsIn, IsDistinct, Count}
 use Rattle.image_reading.specs.Soundness.{root}
 use Rattle.image_reading.proofs.Counts.{count_none}
+use Rattle.image_reading.proofs.Tidied.{tidied}
 use Rattle.image_counts.specs.Entries.{IsFreePage, IsFreeInode}
 use Rattle.image_counts.specs.Laws.{FreeInodeLaw, PageCountLaw}
 use Rattle.image_counts.proofs.Counting.{count_alike}
@@ -131,11 +132,11 @@ module _ (volume : VolumeView) (now : List ℕ) (trail : Option Trail) (state : 
       (count_more (IsFree volume.inodes) (free_in volume.inodes) (count_free volume.inodes))
 
   pub free_inodes_are : FreeInodeLaw → free_inodes (untaken volume.size) state.tree ≡ free_in volume.inodes
-  free_inodes_are law = (law volume.size now state stands.tidy stands.reads).free (free_in volume.inodes) inodes_counted
+  free_inodes_are law = (law volume.size now state (tidied stands.tidy) stands.reads).free (free_in volume.inodes) inodes_counted
 
   pub free_pages_are : PageCountLaw → free_pages (untaken volume.size) state.tree state.room ≡ free_in volume.data_pages
   free_pages_are law =
-      (law volume.size now state stands.tidy stands.reads).free (free_in volume.data_pages)
+      (law volume.size now state (tidied stands.tidy) stands.reads).free (free_in volume.data_pages)
       (count_alike (IsFree volume.data_pages) (IsFreePage volume.size now) (free_in volume.data_pages) (free_page volume now trail (state, stands)) (page_free volume now trail (state, stands)) (count_free volume.data_pages))
 
   -- the root's inode isn't free
@@ -149,5 +150,5 @@ module _ (volume : VolumeView) (now : List ℕ) (trail : Option Trail) (state : 
       let used : (j : ℕ) → 2 ≤ j → j < suc (suc k) → inode_kind now j ≢ 0 = λ j low high none.
       let most : j ≤ inodes_of volume.size = omega (arith, unused.1, high) in
       let least = lowest.least (j - 1) (inode_free j (omega (arith, low), most, none)) in omega (arith, least, low, high) in
-      let is = (law volume.size now state stands.tidy stands.reads).least (suc (suc k)) (omega arith) unused used in
+      let is = (law volume.size now state (tidied stands.tidy) stands.reads).least (suc (suc k)) (omega arith) unused used in
       (omega (arith, is), omega (arith, unused.1))

@@ -13,6 +13,7 @@ use Rattle.tree_model.specs.Run.{State}
 use Rattle.tree_model.specs.declared.reply.Refusal.{Refusal}
 use Rattle.tree_model.specs.declared.reply.Refusal.TheVariants.{Root, Exists, NoInodes, NoPages}
 use Rattle.image_reading.specs.Reading.{IsDirectory, Reached}
+use Rattle.image_reading.proofs.Tidied.{tidied}
 use Rattle.image_counts.specs.Entries.{IsFreePage}
 use Rattle.image_counts.specs.Laws.{EntryLaw, AbsenceLaw, SizeLaw, InodeCountLaw, FreeInodeLaw, RoomLaw, PageCountLaw, StateLaw}
 use Rattle.allocators.specs.Numbers.{IsFree, IsLowest, free_in}
@@ -122,11 +123,11 @@ module _ (volume : VolumeView) (now : List ℕ) (trail : Option Trail) (state : 
     -- whether the directory is full
     full : ((slot : ℕ) → ¬ IsVacantSlot volume.size now d slot) → is_full state.tree state.room d ≡ true
     full none = eq-eqb (name_count state.tree d) (32 * pages_in state.room d)
-        ((rooms volume.size now state stands.tidy stands.reads d is_here.0 is_here.1).full.1 (λ slot inside vacant. none slot (record { page = inside; vacant = vacant })))
+        ((rooms volume.size now state (tidied stands.tidy) stands.reads d is_here.0 is_here.1).full.1 (λ slot inside vacant. none slot (record { page = inside; vacant = vacant })))
 
     not_full : (slot : ℕ) → IsVacantSlot volume.size now d slot → is_full state.tree state.room d ≡ false
     not_full slot vacant = false_from_ne_true (is_full state.tree state.room d) (λ is.
-        (rooms volume.size now state stands.tidy stands.reads d is_here.0 is_here.1).full.0 (eqb-true (name_count state.tree d) (32 * pages_in state.room d) is) slot vacant.page vacant.vacant)
+        (rooms volume.size now state (tidied stands.tidy) stands.reads d is_here.0 is_here.1).full.0 (eqb-true (name_count state.tree d) (32 * pages_in state.room d) is) slot vacant.page vacant.vacant)
 
     needed : (b : Bool) → is_full state.tree state.room d ≡ b → page_for_name state.tree state.room (Some (id_of state.tree (parent path))) ≡ cond b 1 0
     needed b is = ap (λ o. page_for_name state.tree state.room (Some (unwrap_or o root_id))) held.0 ∙ ap (λ t. cond t 1 0) is

@@ -1,14 +1,15 @@
 -- What the words and the index say of a node.
-use Rattle.std.proofs.Common.{◌≡◌, inl, inr, ℕ, ◌≤◌, true, cond, List, [], ◌∷◌, length, Contains, Option, Some, None, is_some, refl, sym, ap, subst, ◌∙◌, Less}
+use Rattle.std.proofs.Common.{◌≡◌, inl, inr, ℕ, ◌≤◌, ◌≢◌, true, false, Bool, cond, List, [], ◌∷◌, length, Contains, Option, Some, None, is_some, refl, sym, ap, subst, ◌∙◌, Less}
 use Rattle.pm_trait.specs.Trail.{Trail}
 use Rattle.layout.specs.Geometry.{inodes_of}
-use Rattle.layout.specs.Fields.{inode_kind, inode_links, slot_name}
-use Rattle.tree_model.specs.Tree.{Node, node_at, bytes_of, name_count}
+use Rattle.layout.specs.Fields.{inode_kind, inode_links, inode_size, slot_name}
+use Rattle.tree_model.specs.Tree.{Node, Directory, File, node_at, is_directory, is_directory_node, bytes_of, bytes_of_node, name_count}
 use Rattle.tree_model.specs.Run.{State}
 use Rattle.tree_model.specs.Step.{status_of}
 use Rattle.image_reading.specs.Reading.{Reached}
 use Rattle.image_reading.specs.Laws.{OneTree, OneRoom}
 use Rattle.image_reading.proofs.Counts.{count_one}
+use Rattle.image_reading.proofs.Tidied.{tidied}
 use Rattle.image_counts.specs.Entries.{IsEntryOf, IsSlotOf}
 use Rattle.image_counts.specs.Laws.{NameCountLaw, SizeLaw, LinkWordLaw, InodeCountLaw}
 use Rattle.image_counts.proofs.Counting.{Among, AreApart, IsMatching, IsMatched, count_matched, count_alike}
@@ -96,9 +97,29 @@ module _ (volume : VolumeView) (now : List ℕ) (trail : Option Trail) (state : 
       let reached = node_reached inode there in
       let directory = ((size_law volume.size now state stands.tidy.sound stands.reads).directories inode).1 (reached, kind) in
       let within = in_table volume now trail inode inode_law (state, stands) reached in
-      let linked = links_is ∙ sym (link_law volume.size now state stands.tidy stands.reads inode reached) in
+      let linked = links_is ∙ sym (link_law volume.size now state (tidied stands.tidy) stands.reads inode reached) in
       let named = names_is ∙ names_counted inode name_law within.0 within.1 sorted ∙ ap (λ b. cond b (name_count state.tree inode) (length (bytes_of state.tree inode))) (sym directory) in
       λ i. record { dir = sym directory i; inode = inode; links = linked i; amount = named i }
+
+  not_true : (b : Bool) → (b ≡ true → ⊥) → b ≡ false
+  not_true true f = absurd (f refl)
+  not_true false f = refl
+
+  file_bytes : (o : Option Node) → is_some o ≡ true → is_directory_node o ≡ false → (bytes : List ℕ) × (o ≡ Some (File bytes))
+  file_bytes None there other = cc
+  file_bytes (Some Directory) there other = cc
+  file_bytes (Some (File bytes)) there other = (bytes, refl)
+
+  pub file_status : (inode links size : ℕ) → LinkWordLaw → SizeLaw → is_some (node_at state.tree inode) ≡ true → inode_kind now inode ≢ 2 → links ≡ inode_links now inode → size ≡ inode_size now inode
+      → record { dir = false; inode = inode; links = links; amount = size } ≡ status_of state.tree inode
+  file_status inode links size link_law size_law there other links_is size_is =
+      let sizes = size_law volume.size now state stands.tidy.sound stands.reads in
+      let file : is_directory state.tree inode ≡ false = not_true (is_directory state.tree inode) (λ directory. other ((sizes.directories inode).0 directory).1) in
+      let (bytes, is) = file_bytes (node_at state.tree inode) there file in
+      let linked = links_is ∙ sym (link_law volume.size now state (tidied stands.tidy) stands.reads inode (node_reached inode there)) in
+      let long = size_is ∙ sym (sizes.sizes inode bytes is) ∙ sym (ap (λ o. length (bytes_of_node o)) is) in
+      let amount = long ∙ sym (ap (λ b. cond b (name_count state.tree inode) (length (bytes_of state.tree inode))) file) in
+      λ i. record { dir = sym file i; inode = inode; links = linked i; amount = amount i }
 
 -- ---- a volume stands for one tree and room
 
