@@ -1,9 +1,7 @@
 -- An entry that is made leaves a volume that stands for what its command leaves.
 use Rattle.std.proofs.Common.{◌≡◌, ℕ, ◌+◌, List, Option, Some, None, refl, sym, ap, subst, ◌∙◌, arith}
 use Rattle.std.specs.Prelude.{Ok, Err}
-use Rattle.pm_trait.specs.Trail.{Trail}
-use Rattle.pm_trait.specs.Device.{IsSettledAt}
-use Rattle.pm_trait.specs.DeviceView.{DeviceView, MakesIntervals}
+use Rattle.pm_trait.specs.DeviceView.{DeviceView, MakesIntervals, IsSettledView}
 use Rattle.pm_trait.proofs.DeviceViewLaws.{intervals_as, intervals_failed}
 use Rattle.layout.specs.Name.{IsName, IsBytes}
 use Rattle.tree_model.specs.PathText.{Route}
@@ -19,7 +17,7 @@ use Rattle.volume.specs.declared.plan.Action.TheVariants.{Make}
 use Rattle.volume.specs.Volume.{VolumeView}
 use Rattle.volume.specs.Entered.{HasEntered}
 use Rattle.volume.specs.Planned.{fences_for}
-use Rattle.volume.specs.Stands.{StandsFor}
+use Rattle.volume.specs.Stands.{Knows, StandsFor}
 use Rattle.volume.specs.Prepared.{making}
 use Rattle.create_ops.specs.Making.{node_of, room_of, page_fences, IsMade, IsPlannedAt, IsPlanFor}
 use Rattle.create_ops.specs.Laws.{ImageLaws}
@@ -44,17 +42,17 @@ pub planned_at : (volume : VolumeView) (device : DeviceView) (state : State) (pa
 planned_at volume device state path entry P is plan =
     subst (λ (p : ℕ). IsPlannedAt p device.words state path entry) (sym is) (record { tidy = plan.stands.tidy; reads = plan.stands.reads; planned = plan.planned })
 
-module _ (laws : ImageLaws) (P : ℕ) (W : List ℕ) (state : State) (path : Route) (entry : NewEntry) (at : IsPlannedAt P W state path entry) (J : List ℕ) (made : IsMade P W J entry) (is_name : IsName entry.name) (of_bytes : IsBytes entry.name) where
+module _ (laws : ImageLaws) (P : ℕ) (W : List ℕ) (state : State) (path : Route) (entry : NewEntry) (at : IsPlannedAt P W state path entry) (after : DeviceView) (made : IsMade P W after.words entry) (is_name : IsName entry.name) (of_bytes : IsBytes entry.name) where
   created : IsCreate P W made.opened made.placed.written (committed P made.placed.written entry.slot entry.inode) path (node_of entry.kind) entry.inode (room_of entry entry.new_page)
   created = Created.created laws P W state path entry at made.opened made.page is_name of_bytes made.placed.written made.placed.node
 
-  back : committed P made.placed.written entry.slot entry.inode ≡ J
+  back : committed P made.placed.written entry.slot entry.inode ≡ after.words
   back = sym made.placed.commit
 
-  tidy_after : Tidy P J
+  tidy_after : Tidy P after.words
   tidy_after = subst (λ (l : List ℕ). Tidy P l) back (as_tidy created.tidy)
 
-  reads_after : ReadsAs P J (record { tree = (step P state.tree state.room (making entry.kind path)).tree; room = room_of entry entry.new_page state.room })
+  reads_after : ReadsAs P after.words (record { tree = (step P state.tree state.room (making entry.kind path)).tree; room = room_of entry entry.new_page state.room })
   reads_after = record {
     tree = subst (λ (l : List ℕ). Reads P l (step P state.tree state.room (making entry.kind path)).tree) back
         (Created.new_reads laws P W state path entry at made.opened made.page is_name of_bytes made.placed.written made.placed.node);
@@ -64,7 +62,7 @@ module _ (laws : ImageLaws) (P : ℕ) (W : List ℕ) (state : State) (path : Rou
   fits : IsRoom (with_new state.tree path (least_free_id state.tree) (node_of entry.kind)) (room_of entry entry.new_page state.room)
   fits = subst (λ (tree : Tree). IsRoom tree (room_of entry entry.new_page state.room))
       (Created.tree_is laws P W state path entry at ∙ ap (λ (i : ℕ). with_new state.tree path i (node_of entry.kind)) (Plans.for_entry laws P W state path entry at).inode_is)
-      (laws.states P J (record { tree = (step P state.tree state.room (making entry.kind path)).tree; room = room_of entry entry.new_page state.room }) tidy_after.sound reads_after).room
+      (laws.states P after.words (record { tree = (step P state.tree state.room (making entry.kind path)).tree; room = room_of entry entry.new_page state.room }) tidy_after.sound reads_after).room
 
   steps : Steps P state (making entry.kind path) Done (record { tree = (step P state.tree state.room (making entry.kind path)).tree; room = room_of entry entry.new_page state.room })
   steps = record {
@@ -73,15 +71,15 @@ module _ (laws : ImageLaws) (P : ℕ) (W : List ℕ) (state : State) (path : Rou
     room = Rooms.room_follows laws P W state path entry at fits;
   }
 
-  pub stands_after : (volume new : VolumeView) (trail : Option Trail) → P ≡ volume.size → StandsFor volume W trail state → HasEntered volume new entry → (now : Option Trail) → IsSettledAt J now
-      → (after : State) × StandsFor new J now after × Steps volume.size state (making entry.kind path) Done after
-  stands_after volume new trail size stands entered now settled = (
+  pub stands_after : (volume new : VolumeView) → P ≡ volume.size → Knows volume W → HasEntered volume new entry → IsSettledView after
+      → (later : State) × StandsFor new after later × Steps volume.size state (making entry.kind path) Done later
+  stands_after volume new size knows entered settled = (
     record { tree = (step P state.tree state.room (making entry.kind path)).tree; room = room_of entry entry.new_page state.room },
     record {
       settled = settled;
-      tidy = subst (λ (p : ℕ). Tidy p J) (size ∙ sym entered.same_size) tidy_after;
-      reads = subst (λ (p : ℕ). ReadsAs p J (record { tree = (step P state.tree state.room (making entry.kind path)).tree; room = room_of entry entry.new_page state.room })) (size ∙ sym entered.same_size) reads_after;
-      knows = Knowing.knows_after laws P W state path entry at volume (sym size) stands.knows made.opened made.placed.written J made.page made.placed.node made.placed.commit
+      tidy = subst (λ (p : ℕ). Tidy p after.words) (size ∙ sym entered.same_size) tidy_after;
+      reads = subst (λ (p : ℕ). ReadsAs p after.words (record { tree = (step P state.tree state.room (making entry.kind path)).tree; room = room_of entry entry.new_page state.room })) (size ∙ sym entered.same_size) reads_after;
+      knows = Knowing.knows_after laws P W state path entry at volume (sym size) knows made.opened made.placed.written after.words made.page made.placed.node made.placed.commit
           (record { tree = (step P state.tree state.room (making entry.kind path)).tree; room = room_of entry entry.new_page state.room }) tidy_after reads_after is_name of_bytes new entered;
     },
     subst (λ (p : ℕ). Steps p state (making entry.kind path) Done (record { tree = (step P state.tree state.room (making entry.kind path)).tree; room = room_of entry entry.new_page state.room })) size steps,

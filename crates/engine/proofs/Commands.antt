@@ -89,7 +89,7 @@ told_executed P volume words before after state c replied fences_before fences_a
 
 -- ---- an entry was made, or a fence failed
 
-pub planned_as : (volume : VolumeView) (device : DeviceView) (state : State) (c made : Command) (action : Action) → c ≡ made → StandsFor volume device.words device.trail state → IsPlanned volume.size device.words state c action
+pub planned_as : (volume : VolumeView) (device : DeviceView) (state : State) (c made : Command) (action : Action) → c ≡ made → StandsFor volume device state → IsPlanned volume.size device.words state c action
     → IsPlanFor volume device state made action
 planned_as volume device state c made action is stands planned =
     subst (λ (command : Command). IsPlanFor volume device state command action) is (record { stands = stands; planned = planned })

@@ -178,7 +178,7 @@ module _ (volume : VolumeView) (words : List ℕ) (trail : Option Trail) (law : 
 module _ (volume : VolumeView) (device : DeviceView) (law : StateLaw) where
   module _ (state : State) (c : Command) (action : Action) (reads : is_changing c ≡ false) (planned : IsPlanFor volume device state c action) where
     -- the node that is told of
-    pub node_told : (inode : ℕ) → action ≡ Status inode → HasNode volume device.words device.trail inode
+    pub node_told : (inode : ℕ) → action ≡ Status inode → HasNode volume device inode
     node_told inode is =
         let (path, c_is, inode_is) = status_of_plan volume.size device.words state c inode reads (subst (IsPlanOf volume.size device.words state c) is planned.planned.plan_is) in
         let there = status_there volume.size state.tree state.room path (tree_is volume device.words device.trail law planned.stands) (ap (refusal_of volume.size state.tree state.room) (sym c_is) ∙ planned.planned.accepted) in

@@ -1,7 +1,6 @@
 -- What a mount rests on: the head of the words, and what they read as.
-use Rattle.std.proofs.Common.{◌≡◌, ◌⊎◌, inl, inr, ℕ, ◌*◌, List, length, Option, Result, Ok, Err, IfOk, refl, sym, subst}
-use Rattle.pm_trait.specs.Trail.{Trail}
-use Rattle.pm_trait.specs.Device.{IsSettledAt}
+use Rattle.std.proofs.Common.{◌≡◌, ◌⊎◌, inl, inr, ℕ, ◌*◌, List, length, Result, Ok, Err, IfOk, refl, sym, subst}
+use Rattle.pm_trait.specs.DeviceView.{DeviceView, IsSettledView}
 use Rattle.tree_model.specs.Run.{State}
 use Rattle.image_reading.specs.Reading.{ReadsAs}
 use Rattle.image_reading.specs.Laws.{IsVolume}
@@ -43,21 +42,21 @@ unsound W (Err NoMemory) answer holds broken = inl refl
 
 -- ---- what a mounted volume stands for
 
-module _ (W : List ℕ) where
-  stands : (volume : VolumeView) (trail : Option Trail) (state : State) → IsSettledAt W trail → IsTidy W → Knows volume W → volume.size ≡ pages_in_image W
-      → ReadsAs (pages_in_image W) W state → StandsFor volume W trail state
-  stands volume trail state settled clean knows size reads = record {
+module _ (device : DeviceView) (settled : IsSettledView device) where
+  stands : (volume : VolumeView) (state : State) → IsTidy device.words → Knows volume device.words → volume.size ≡ pages_in_image device.words
+      → ReadsAs (pages_in_image device.words) device.words state → StandsFor volume device state
+  stands volume state clean knows size reads = record {
     settled = settled;
-    tidy = subst (λ (n : ℕ). Tidy n W) (sym size) clean;
-    reads = subst (λ (n : ℕ). ReadsAs n W state) (sym size) reads;
+    tidy = subst (λ (n : ℕ). Tidy n device.words) (sym size) clean;
+    reads = subst (λ (n : ℕ). ReadsAs n device.words state) (sym size) reads;
     knows = knows;
   }
 
-  pub standing : (r : Result VolumeView MountError) (trail : Option Trail) → IsSettledAt W trail → IsAnswerFor W r → IfOk r (λ volume. IsStanding volume W trail)
-  standing (Ok volume) trail settled answer =
-      let P = pages_in_image W in
-      let (T, reads, form) = tree_law P W answer.1.sound in
-      let (room, has) = room_law P W answer.1.sound in
+  pub standing : (r : Result VolumeView MountError) → IsAnswerFor device.words r → IfOk r (λ volume. IsStanding volume device)
+  standing (Ok volume) answer =
+      let P = pages_in_image device.words in
+      let (T, reads, form) = tree_law P device.words answer.1.sound in
+      let (room, has) = room_law P device.words answer.1.sound in
       let state : State = record { tree = T; room = room } in
-      (state, stands volume trail state settled answer.1 answer.2 answer.3 (record { tree = reads; room = has }))
-  standing (Err error) trail settled answer = tt
+      (state, stands volume state answer.1 answer.2 answer.3 (record { tree = reads; room = has }))
+  standing (Err error) answer = tt

@@ -1,8 +1,8 @@
 -- How many inodes and pages are free.
-use Rattle.std.proofs.Common.{◌≡◌, ◌≢◌, inl, inr, ℕ, zero, suc, ◌+◌, ◌-◌, ◌<◌, ◌≤◌, Bool, true, false, cond, List, [], ◌∷◌, length, map, Option, Some, refl, sym, ap, subst, ◌∙◌, arith}
+use Rattle.std.proofs.Common.{◌≡◌, ◌≢◌, inl, inr, ℕ, zero, suc, ◌+◌, ◌-◌, ◌<◌, ◌≤◌, Bool, true, false, cond, List, [], ◌∷◌, length, map, Some, refl, sym, ap, subst, ◌∙◌, arith}
 use Rattle.std.proofs.lemmas.Option.{slice_get_within}
 use Rattle.std.proofs.lemmas.List.Sums.{sum_by-cons}
-use Rattle.pm_trait.specs.Trail.{Trail}
+use Rattle.pm_trait.specs.DeviceView.{DeviceView}
 use Rattle.layout.specs.Geometry.{inodes_of}
 use Rattle.layout.specs.Fields.{inode_kind}
 use Rattle.tree_model.specs.Capacity.{free_inodes, free_pages, untaken}
@@ -114,41 +114,41 @@ one_back k = omega arith
 not_both : (kind : ℕ) → kind ≡ 2 → kind ≡ 0 → ⊥
 not_both kind two none = omega (arith, two, none)
 
-module _ (volume : VolumeView) (now : List ℕ) (trail : Option Trail) (state : State) (stands : StandsFor volume now trail state) where
-  pub free_inode : (k : ℕ) → IsFree volume.inodes k → IsFreeInode volume.size now (suc k)
+module _ (volume : VolumeView) (device : DeviceView) (state : State) (stands : StandsFor volume device state) where
+  pub free_inode : (k : ℕ) → IsFree volume.inodes k → IsFreeInode volume.size device.words (suc k)
   free_inode k free =
       let inside = slice_get_within volume.inodes k true free in
       let most : suc k ≤ inodes_of volume.size = omega (arith, inside, stands.knows.each_inode) in
       (omega arith, most, (stands.knows.inodes (suc k) (omega arith) most).0 (subst (IsFree volume.inodes) (one_back k) free))
 
-  pub inode_free : (i : ℕ) → IsFreeInode volume.size now i → IsFree volume.inodes (i - 1)
+  pub inode_free : (i : ℕ) → IsFreeInode volume.size device.words i → IsFree volume.inodes (i - 1)
   inode_free i (least, most, unused) = (stands.knows.inodes i least most).1 unused
 
-  inodes_counted : Count (IsFreeInode volume.size now) (free_in volume.inodes)
+  inodes_counted : Count (IsFreeInode volume.size device.words) (free_in volume.inodes)
   inodes_counted =
-      count_alike (IsOneMore (IsFree volume.inodes)) (IsFreeInode volume.size now) (free_in volume.inodes)
-      (λ i (k, same, free). subst (IsFreeInode volume.size now) (sym same) (free_inode k free))
+      count_alike (IsOneMore (IsFree volume.inodes)) (IsFreeInode volume.size device.words) (free_in volume.inodes)
+      (λ i (k, same, free). subst (IsFreeInode volume.size device.words) (sym same) (free_inode k free))
       (λ i unused. (i - 1, omega (arith, unused.0), inode_free i unused))
       (count_more (IsFree volume.inodes) (free_in volume.inodes) (count_free volume.inodes))
 
   pub free_inodes_are : FreeInodeLaw → free_inodes (untaken volume.size) state.tree ≡ free_in volume.inodes
-  free_inodes_are law = (law volume.size now state (tidied stands.tidy) stands.reads).free (free_in volume.inodes) inodes_counted
+  free_inodes_are law = (law volume.size device.words state (tidied stands.tidy) stands.reads).free (free_in volume.inodes) inodes_counted
 
   pub free_pages_are : PageCountLaw → free_pages (untaken volume.size) state.tree state.room ≡ free_in volume.data_pages
   free_pages_are law =
-      (law volume.size now state (tidied stands.tidy) stands.reads).free (free_in volume.data_pages)
-      (count_alike (IsFree volume.data_pages) (IsFreePage volume.size now) (free_in volume.data_pages) (free_page volume now trail (state, stands)) (page_free volume now trail (state, stands)) (count_free volume.data_pages))
+      (law volume.size device.words state (tidied stands.tidy) stands.reads).free (free_in volume.data_pages)
+      (count_alike (IsFree volume.data_pages) (IsFreePage volume.size device.words) (free_in volume.data_pages) (free_page volume device (state, stands)) (page_free volume device (state, stands)) (count_free volume.data_pages))
 
   -- the root's inode isn't free
   pub root_taken : IsFree volume.inodes 0 → ⊥
-  root_taken free = not_both (inode_kind now 1) ((stands.tidy.sound root 1).directory refl) (free_inode 0 free).2
+  root_taken free = not_both (inode_kind device.words 1) ((stands.tidy.sound root 1).directory refl) (free_inode 0 free).2
 
   pub least_inode : (k : ℕ) → FreeInodeLaw → IsLowest volume.inodes k → (k + 1 ≡ least_free_id state.tree) × (k + 1 ≤ inodes_of volume.size)
   least_inode zero law lowest = absurd (root_taken lowest.free)
   least_inode (suc k) law lowest =
       let unused = free_inode (suc k) lowest.free in
-      let used : (j : ℕ) → 2 ≤ j → j < suc (suc k) → inode_kind now j ≢ 0 = λ j low high none.
+      let used : (j : ℕ) → 2 ≤ j → j < suc (suc k) → inode_kind device.words j ≢ 0 = λ j low high none.
       let most : j ≤ inodes_of volume.size = omega (arith, unused.1, high) in
       let least = lowest.least (j - 1) (inode_free j (omega (arith, low), most, none)) in omega (arith, least, low, high) in
-      let is = (law volume.size now state (tidied stands.tidy) stands.reads).least (suc (suc k)) (omega arith) unused used in
+      let is = (law volume.size device.words state (tidied stands.tidy) stands.reads).least (suc (suc k)) (omega arith) unused used in
       (omega (arith, is), omega (arith, unused.1))

@@ -6,7 +6,7 @@ use Rattle.std.specs.Ordering.{ordering_then}
 use Rattle.std.specs.Cmp.{tied_itself}
 use Rattle.std.specs.Cmp.Lexicographic.{nat_list_cmp_total}
 use Rattle.std.specs.FinMap.Entries.{where_key, below_all, is_sorted, is_sorted-where_key}
-use Rattle.pm_trait.specs.Trail.{Trail}
+use Rattle.pm_trait.specs.DeviceView.{DeviceView}
 use Rattle.layout.specs.Geometry.{inodes_of}
 use Rattle.layout.specs.Fields.{slot_inode}
 use Rattle.tree_model.specs.PathText.{Route}
@@ -162,13 +162,13 @@ directory_path T tree d directory = tree.named d (there (Rattle.tree_model.specs
     there None e = cc
     there (Some node) e = refl
 
-module _ (volume : VolumeView) (now : List ℕ) (trail : Option Trail) (state : State) (stands : StandsFor volume now trail state)
+module _ (volume : VolumeView) (device : DeviceView) (state : State) (stands : StandsFor volume device state)
     (entry_law : EntryLaw) (size_law : SizeLaw) (inode_law : InodeCountLaw) (state_law : StateLaw) (d : ℕ) (directory : is_directory state.tree d ≡ true) (sorted : IsSorted (entries_of volume.index d)) where
   tree : IsTree state.tree
-  tree = stands_tree volume now trail state state_law stands
+  tree = stands_tree volume device state state_law stands
 
   within : (1 ≤ d) × (d ≤ inodes_of volume.size)
-  within = in_table volume now trail d inode_law (state, stands) (((size_law volume.size now state stands.tidy.sound stands.reads).directories d).0 directory).0
+  within = in_table volume device d inode_law (state, stands) (((size_law volume.size device.words state stands.tidy.sound stands.reads).directories d).0 directory).0
 
   -- each entry of the tree in the directory stands below its path
   inside : (front : Route) → id_at state.tree front ≡ Some d → (e : Route × ℕ) → Among e (entries_in state.tree d) → e.0 ≡ front ++ last_name e.0 ∷ []
@@ -184,7 +184,7 @@ module _ (volume : VolumeView) (now : List ℕ) (trail : Option Trail) (state : 
       let (e, there, same) = of_map last_of (entries_in state.tree d) name among in
       let is = (some_names state.tree (λ e. Unit {0}) state.tree.names.entries (λ e. is_in state.tree d e.0) (all_names state.tree)).are e there in
       let path = inside front at_front e there ∙ ap (λ (n : List ℕ). front ++ n ∷ []) (sym same) in
-      let (slot, entry, inode) = (entry_law volume.size now state stands.tidy.sound stands.reads front d e.1 name at_front).0 (ap (id_at state.tree) (sym path) ∙ is.0) in
+      let (slot, entry, inode) = (entry_law volume.size device.words state stands.tidy.sound stands.reads front d e.1 name at_front).0 (ap (id_at state.tree) (sym path) ∙ is.0) in
       let known = (stands.knows.nodes.entries d slot name within.0 within.1).1 entry in
       among_map name_of (entries_of volume.index d) (record { name = name; slot = slot }) (contained_among (record { name = name; slot = slot }) (entries_of volume.index d) known)
 
@@ -192,10 +192,10 @@ module _ (volume : VolumeView) (now : List ℕ) (trail : Option Trail) (state : 
   to_tree front at_front name among =
       let (entry, there, same) = of_map name_of (entries_of volume.index d) name among in
       let entered = (stands.knows.nodes.entries d entry.slot entry.name within.0 within.1).0 (among_contained entry (entries_of volume.index d) there) in
-      let named = (entry_law volume.size now state stands.tidy.sound stands.reads front d (slot_inode volume.size now entry.slot) entry.name at_front).1 (entry.slot, entered, refl) in
+      let named = (entry_law volume.size device.words state stands.tidy.sound stands.reads front d (slot_inode volume.size device.words entry.slot) entry.name at_front).1 (entry.slot, entered, refl) in
       let in_it = is_in-at state.tree d (front ++ entry.name ∷ []) (not_root-below front entry.name []) ∙ ap (λ (q : Route). is_number (id_at state.tree q) d) (parent-below front entry.name) ∙ ap (λ o. is_number o d) at_front ∙ eq-eqb d d refl in
-      let listed = (some_names state.tree (λ e. Unit {0}) state.tree.names.entries (λ e. is_in state.tree d e.0) (all_names state.tree)).all (front ++ entry.name ∷ []) (slot_inode volume.size now entry.slot) named (tt, in_it) in
-      subst (λ (n : List ℕ). Among n (names_in state.tree d)) (last-below front entry.name ∙ sym same) (among_map last_of (entries_in state.tree d) (front ++ entry.name ∷ [], slot_inode volume.size now entry.slot) listed)
+      let listed = (some_names state.tree (λ e. Unit {0}) state.tree.names.entries (λ e. is_in state.tree d e.0) (all_names state.tree)).all (front ++ entry.name ∷ []) (slot_inode volume.size device.words entry.slot) named (tt, in_it) in
+      subst (λ (n : List ℕ). Among n (names_in state.tree d)) (last-below front entry.name ∙ sym same) (among_map last_of (entries_in state.tree d) (front ++ entry.name ∷ [], slot_inode volume.size device.words entry.slot) listed)
 
   pub names_are : map name_of (entries_of volume.index d) ≡ names_in state.tree d
   names_are =

@@ -3,7 +3,7 @@ use Rattle.std.proofs.Common.{◌≡◌, ◌⊎◌, inl, inr, ℕ, zero, suc, �
 use Rattle.std.proofs.lemmas.Bool.Decides.{nat_tests}
 use Rattle.std.proofs.lemmas.List.Elements.{Contains-append_left, Contains-append_right, Contains-append_cases}
 use Rattle.std.proofs.lemmas.Option.{slice_get_within}
-use Rattle.pm_trait.specs.Trail.{Trail}
+use Rattle.pm_trait.specs.DeviceView.{DeviceView}
 use Rattle.layout.specs.Geometry.{inodes_of, data_pages_of, page_of_slot}
 use Rattle.layout.proofs.GeometryLaws.{page_of_slot_below, slot_below}
 use Rattle.layout.specs.Fields.{page_owner}
@@ -79,41 +79,41 @@ vacant_in_more P I pages more a b lowest lowest_too =
     (λ x (there, unnamed). elim (Contains-append_cases pages more (page_of_slot x) there) [ inl front ↦ inl (front, unnamed) | inr back ↦ inr (back, unnamed) ])
     (lower_is (IsVacantAmong P I pages) (IsVacantAmong P I more) a b lowest lowest_too)
 
-module _ (volume : VolumeView) (now : List ℕ) (trail : Option Trail) (standing : IsStanding volume now trail) where
+module _ (volume : VolumeView) (device : DeviceView) (standing : IsStanding volume device) where
   pub known_page : (d page : ℕ) → 1 ≤ d → d ≤ inodes_of volume.size → Contains (pages_of volume.index d) page → page < data_pages_of volume.size
   known_page d page least most there = ((standing.1.knows.nodes.pages d page least most).0 there).in_range
 
-  pub vacant_in_directory : (d : ℕ) (o : Option ℕ) → 1 ≤ d → d ≤ inodes_of volume.size → IsLowestOf (IsVacantAmong volume.size now (pages_of volume.index d)) o → IsLowestOf (IsVacantSlot volume.size now d) o
+  pub vacant_in_directory : (d : ℕ) (o : Option ℕ) → 1 ≤ d → d ≤ inodes_of volume.size → IsLowestOf (IsVacantAmong volume.size device.words (pages_of volume.index d)) o → IsLowestOf (IsVacantSlot volume.size device.words d) o
   vacant_in_directory d o least most lowest =
-      lowest_alike (IsVacantAmong volume.size now (pages_of volume.index d)) (IsVacantSlot volume.size now d) o to from lowest
+      lowest_alike (IsVacantAmong volume.size device.words (pages_of volume.index d)) (IsVacantSlot volume.size device.words d) o to from lowest
     where
-      to : (slot : ℕ) → IsVacantAmong volume.size now (pages_of volume.index d) slot → IsVacantSlot volume.size now d slot
+      to : (slot : ℕ) → IsVacantAmong volume.size device.words (pages_of volume.index d) slot → IsVacantSlot volume.size device.words d slot
       to slot (there, unnamed) =
           let page = (standing.1.knows.nodes.pages d (page_of_slot slot) least most).0 there in
           record {
-            page = record { in_range = slot_below volume.size slot page.in_range; owner = owner_is volume.size now slot ∙ page.owner };
+            page = record { in_range = slot_below volume.size slot page.in_range; owner = owner_is volume.size device.words slot ∙ page.owner };
             vacant = unnamed;
           }
 
-      from : (slot : ℕ) → IsVacantSlot volume.size now d slot → IsVacantAmong volume.size now (pages_of volume.index d) slot
+      from : (slot : ℕ) → IsVacantSlot volume.size device.words d slot → IsVacantAmong volume.size device.words (pages_of volume.index d) slot
       from slot vacant = (
         (standing.1.knows.nodes.pages d (page_of_slot slot) least most).1
-            (record { in_range = page_of_slot_below volume.size slot vacant.page.in_range; owner = sym (owner_is volume.size now slot) ∙ vacant.page.owner }),
+            (record { in_range = page_of_slot_below volume.size slot vacant.page.in_range; owner = sym (owner_is volume.size device.words slot) ∙ vacant.page.owner }),
         vacant.vacant,
       )
 
   -- ---- free pages
 
-  pub free_page : (page : ℕ) → IsFree volume.data_pages page → IsFreePage volume.size now page
+  pub free_page : (page : ℕ) → IsFree volume.data_pages page → IsFreePage volume.size device.words page
   free_page page free =
       let inside = slice_get_within volume.data_pages page true free in
       let below : page < data_pages_of volume.size = omega (arith, inside, standing.1.knows.each_page) in
       (below, (standing.1.knows.data_pages page below).0 free)
 
-  pub page_free : (page : ℕ) → IsFreePage volume.size now page → IsFree volume.data_pages page
+  pub page_free : (page : ℕ) → IsFreePage volume.size device.words page → IsFree volume.data_pages page
   page_free page (below, unowned) = (standing.1.knows.data_pages page below).1 unowned
 
-  pub lowest_page : (page : ℕ) → IsLowest volume.data_pages page → IsLowestPage volume.size now page
+  pub lowest_page : (page : ℕ) → IsLowest volume.data_pages page → IsLowestPage volume.size device.words page
   lowest_page page lowest = record {
     free = free_page page lowest.free;
     lowest = λ other lt free. let least = lowest.least other (page_free other free) in omega (arith, least, lt);

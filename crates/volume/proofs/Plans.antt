@@ -1,6 +1,6 @@
 -- What a plan says of its entry.
-use Rattle.std.proofs.Common.{◌≡◌, ℕ, List, Option, Some, sym, ap, ◌∙◌, arith}
-use Rattle.pm_trait.specs.Trail.{Trail}
+use Rattle.std.proofs.Common.{◌≡◌, ℕ, List, Some, sym, ap, ◌∙◌, arith}
+use Rattle.pm_trait.specs.DeviceView.{DeviceView}
 use Rattle.tree_model.specs.PathText.{Route}
 use Rattle.tree_model.specs.Tree.{parent, id_at}
 use Rattle.tree_model.specs.Run.{State}
@@ -35,11 +35,11 @@ directory_named P I state entry (Tell path) plan = cc
 directory_named P I state entry (Show path) plan = cc
 directory_named P I state entry Df plan = cc
 
-module _ (volume : VolumeView) (now : List ℕ) (trail : Option Trail) (state : State) (stands : StandsFor volume now trail state) (law : InodeCountLaw) (command : Command) where
-  pub made_within : (action : Action) → IsPlanned volume.size now state command action → IsMadeIn (inodes_of_index volume.index) action
+module _ (volume : VolumeView) (device : DeviceView) (state : State) (stands : StandsFor volume device state) (law : InodeCountLaw) (command : Command) where
+  pub made_within : (action : Action) → IsPlanned volume.size device.words state command action → IsMadeIn (inodes_of_index volume.index) action
   made_within (Make entry) planned =
-      let (path, named) = directory_named volume.size now state entry command planned.plan_is in
-      let within = in_table volume now trail entry.directory law (state, stands) (reached_at volume now trail state path entry.directory stands named) in
+      let (path, named) = directory_named volume.size device.words state entry command planned.plan_is in
+      let within = in_table volume device entry.directory law (state, stands) (reached_at volume device state path entry.directory stands named) in
       (within.0, omega (arith, within.1, stands.knows.nodes.each_inode))
   made_within (Status inode) planned = tt
   made_within (Names inode) planned = tt

@@ -1,6 +1,6 @@
 -- The rows of commands that read.
-use Rattle.std.proofs.Common.{◌≡◌, ℕ, true, false, List, [], ◌∷◌, Option, Some, None, is_some, unwrap_or, Ok, refl, sym, ap, ◌∙◌}
-use Rattle.pm_trait.specs.Trail.{Trail}
+use Rattle.std.proofs.Common.{◌≡◌, ℕ, true, false, [], ◌∷◌, Option, Some, None, is_some, unwrap_or, Ok, refl, sym, ap, ◌∙◌}
+use Rattle.pm_trait.specs.DeviceView.{DeviceView}
 use Rattle.tree_model.specs.PathText.{Route}
 use Rattle.tree_model.specs.Tree.{Node, Directory, File, root_id, id_at, node_at, is_directory, is_file, is_directory_node, is_file_node}
 use Rattle.tree_model.specs.Walk.{walk}
@@ -26,24 +26,24 @@ a_file None there e = cc
 a_file (Some Directory) there e = cc
 a_file (Some (File bytes)) there e = refl
 
-module _ (volume : VolumeView) (now : List ℕ) (trail : Option Trail) (state : State) (stands : StandsFor volume now trail state) (law : StateLaw)
+module _ (volume : VolumeView) (device : DeviceView) (state : State) (stands : StandsFor volume device state) (law : StateLaw)
     (path : Route) (inode : ℕ) (walked : walk state.tree path ≡ Ok (record { path = path; id = inode })) where
   named : id_at state.tree path ≡ Some inode
-  named = id_at-from_walk state.tree path (record { path = path; id = inode }) (stands_tree volume now trail state law stands) walked
+  named = id_at-from_walk state.tree path (record { path = path; id = inode }) (stands_tree volume device state law stands) walked
 
   pub its_id : id_of state.tree path ≡ inode
   its_id = ap (λ o. unwrap_or o root_id) named
 
-  pub told_planned : IsPlanned volume.size now state (Tell path) (Status inode)
+  pub told_planned : IsPlanned volume.size device.words state (Tell path) (Status inode)
   told_planned = record { accepted = ap (λ w. first (fault_of w ∷ [])) walked; plan_is = ap Status (sym its_id) }
 
-  pub listed_planned : is_directory state.tree inode ≡ true → IsPlanned volume.size now state (Show path) (Names inode)
+  pub listed_planned : is_directory state.tree inode ≡ true → IsPlanned volume.size device.words state (Show path) (Names inode)
   listed_planned directory =
       let test = ap (is_file state.tree) its_id ∙ no_file (node_at state.tree inode) directory in
       record { accepted = λ i. first (fault_of (walked i) ∷ at NotDir (test i) ∷ []); plan_is = ap Names (sym its_id) }
 
   pub listed_file : is_directory state.tree inode ≡ false → refusal_of volume.size state.tree state.room (Show path) ≡ Some NotDir
   listed_file other =
-      let there = (stands_tree volume now trail state law stands).present path inode named in
+      let there = (stands_tree volume device state law stands).present path inode named in
       let test = ap (is_file state.tree) its_id ∙ a_file (node_at state.tree inode) there other in
       λ i. first (fault_of (walked i) ∷ at NotDir (test i) ∷ [])

@@ -2,8 +2,12 @@
 use Rattle.std.proofs.Common.{◌≡◌, ◌↔◌, ℕ, List, Contains, Option, sym, ap, subst, ◌∙◌}
 use Rattle.std.specs.Prelude.{slice_get}
 use Rattle.pm_trait.specs.Trail.{Trail}
+use Rattle.pm_trait.specs.Device.{IsSettledAt}
+use Rattle.pm_trait.specs.DeviceView.{DeviceView}
 use Rattle.tree_model.specs.Run.{State}
 use Rattle.image_reading.specs.Counts.{IsDistinct}
+use Rattle.image_reading.specs.Reading.{ReadsAs}
+use Rattle.image_reading.specs.Tidy.{Tidy}
 use Rattle.image_counts.specs.Entries.{IsEntryOf, IsPageIn}
 use Rattle.volatile_index.specs.Index.{Held}
 use Rattle.volatile_index.specs.declared.entry.Entry.{Entry}
@@ -35,14 +39,8 @@ knows_still old index I same knows = record {
 }
 
 -- it stands for the same tree and room
-pub stands_still : (old new : VolumeView) (now now_too : List ℕ) (trail trail_too : Option Trail) (state : State) → IsSameButPlaces old new → now_too ≡ now → trail_too ≡ trail → StandsFor old now trail state → StandsFor new now_too trail_too state
-stands_still old new now now_too trail trail_too state same words told stands =
-    let kept : StandsFor (with_index old new.index) now trail state = record {
-      settled = stands.settled;
-      tidy = stands.tidy;
-      reads = stands.reads;
-      knows = knows_still old new.index now same.index stands.knows;
-    } in
+pub stands_still : (old new : VolumeView) (before after : DeviceView) (state : State) → IsSameButPlaces old new → after.words ≡ before.words → after.trail ≡ before.trail → StandsFor old before state → StandsFor new after state
+stands_still old new before after state same words told stands =
     let view : with_index old new.index ≡ new = λ i. record {
       size = sym same.same_size i;
       index = new.index;
@@ -50,6 +48,9 @@ stands_still old new now now_too trail trail_too state same words told stands =
       data_pages = sym same.data_pages i;
       stopped = sym same.same_state i;
     } in
-    let in_view = subst (λ (volume : VolumeView). StandsFor volume now trail state) view kept in
-    let in_words = subst (λ (words : List ℕ). StandsFor new words trail state) (sym words) in_view in
-    subst (λ (t : Option Trail). StandsFor new now_too t state) (sym told) in_words
+    subst (λ (volume : VolumeView). StandsFor volume after state) view (record {
+      settled = subst (λ (t : Option Trail). IsSettledAt after.words t) (sym told) (subst (λ (now : List ℕ). IsSettledAt now before.trail) (sym words) stands.settled);
+      tidy = subst (Tidy old.size) (sym words) stands.tidy;
+      reads = subst (λ (now : List ℕ). ReadsAs old.size now state) (sym words) stands.reads;
+      knows = subst (Knows (with_index old new.index)) (sym words) (knows_still old new.index before.words same.index stands.knows);
+    })

@@ -2,7 +2,7 @@
 use Rattle.std.proofs.Common.{◌≡◌, ◌≢◌, ℕ, zero, suc, ◌+◌, ◌*◌, ◌==◌, Bool, true, false, cond, nat_lt, List, [], ◌∷◌, ◌++◌, Option, Some, None, is_some, unwrap_or, Ok, Err, refl, sym, ap, ◌∙◌, arith, eq-eqb, eqb-true}
 use Rattle.std.proofs.lemmas.Bool.{false_from_ne_true}
 use Rattle.std.proofs.lemmas.Bool.Decides.{nat_tests}
-use Rattle.pm_trait.specs.Trail.{Trail}
+use Rattle.pm_trait.specs.DeviceView.{DeviceView}
 use Rattle.tree_model.specs.PathText.{Route}
 use Rattle.tree_model.specs.Tree.{root_id, is_root, parent, last_name, id_at, is_directory, name_count, pages_in}
 use Rattle.tree_model.specs.Walk.{root_place, walk_to_parent}
@@ -65,7 +65,7 @@ no_free numbers none = at_count (free_in numbers) refl
     at_count zero is = is
     at_count (suc n) is = let (k, free) = some_is_free numbers (omega (arith, is)) in absurd (none k free)
 
-module _ (volume : VolumeView) (now : List ℕ) (trail : Option Trail) (state : State) (stands : StandsFor volume now trail state) (kind : NodeKind) (path : Route) where
+module _ (volume : VolumeView) (device : DeviceView) (state : State) (stands : StandsFor volume device state) (kind : NodeKind) (path : Route) where
   refusal_is : (k : NodeKind) → refusal_of volume.size state.tree state.room (making k path)
       ≡ row (fault_of (walk_to_parent state.tree path)) (is_root path) (is_there state.tree path) (lacks_inodes (untaken volume.size) state.tree)
       (nat_lt (free_pages (untaken volume.size) state.tree state.room) (page_for_name state.tree state.room (Some (id_of state.tree (parent path)))))
@@ -89,16 +89,16 @@ module _ (volume : VolumeView) (now : List ℕ) (trail : Option Trail) (state : 
     path_is = whole_path path below ∙ ap (λ last. parent path ++ last ∷ []) (sym named)
 
     held : (id_at state.tree (parent path) ≡ Some d) × (is_directory state.tree d ≡ true)
-    held = holder-from_walk state.tree path (record { path = parent path; id = d }) (stands_tree volume now trail state states stands) walked
+    held = holder-from_walk state.tree path (record { path = parent path; id = d }) (stands_tree volume device state states stands) walked
 
-    is_here : Reached volume.size now d × IsDirectory now d
-    is_here = ((sizes volume.size now state stands.tidy.sound stands.reads).directories d).0 held.1
+    is_here : Reached volume.size device.words d × IsDirectory device.words d
+    is_here = ((sizes volume.size device.words state stands.tidy.sound stands.reads).directories d).0 held.1
 
     present : IsPresent (entries_of volume.index d) name → is_there state.tree path ≡ true
-    present (slot, there) = ap is_some (ap (id_at state.tree) path_is ∙ below_there volume now trail state (parent path) d slot name inodes entries stands held.0 there)
+    present (slot, there) = ap is_some (ap (id_at state.tree) path_is ∙ below_there volume device state (parent path) d slot name inodes entries stands held.0 there)
 
     absent : IsAbsent (entries_of volume.index d) name → is_there state.tree path ≡ false
-    absent none = ap is_some (ap (id_at state.tree) path_is ∙ below_absent volume now trail state (parent path) d name inodes absences stands held.0 none)
+    absent none = ap is_some (ap (id_at state.tree) path_is ∙ below_absent volume device state (parent path) d name inodes absences stands held.0 none)
 
     page_test : ℕ → Bool
     page_test n = nat_lt (free_pages (untaken volume.size) state.tree state.room) n
@@ -111,47 +111,47 @@ module _ (volume : VolumeView) (now : List ℕ) (trail : Option Trail) (state : 
     pub new_no_inode : IsAbsent (entries_of volume.index d) name → ((k : ℕ) → ¬ IsFree volume.inodes k) → refusal_of volume.size state.tree state.room (making kind path) ≡ Some NoInodes
     new_no_inode none used =
         let missing = absent none in
-        let lacks = is_none (free_inodes (untaken volume.size) state.tree) (free_inodes_are volume now trail state stands free_inode_law ∙ no_free volume.inodes used) in
+        let lacks = is_none (free_inodes (untaken volume.size) state.tree) (free_inodes_are volume device state stands free_inode_law ∙ no_free volume.inodes used) in
         refusal_is kind
         ∙ (λ i. row (fault_of (walked i)) (below i) (missing i) (lacks i)
         (nat_lt (free_pages (untaken volume.size) state.tree state.room) (page_for_name state.tree state.room (Some (id_of state.tree (parent path))))))
 
     some_inode : (k : ℕ) → IsFree volume.inodes k → lacks_inodes (untaken volume.size) state.tree ≡ false
     some_inode k free = is_not_none (free_inodes (untaken volume.size) state.tree)
-        (λ none. none_is_free volume.inodes (sym (free_inodes_are volume now trail state stands free_inode_law) ∙ none) k free)
+        (λ none. none_is_free volume.inodes (sym (free_inodes_are volume device state stands free_inode_law) ∙ none) k free)
 
     -- whether the directory is full
-    full : ((slot : ℕ) → ¬ IsVacantSlot volume.size now d slot) → is_full state.tree state.room d ≡ true
+    full : ((slot : ℕ) → ¬ IsVacantSlot volume.size device.words d slot) → is_full state.tree state.room d ≡ true
     full none = eq-eqb (name_count state.tree d) (32 * pages_in state.room d)
-        ((rooms volume.size now state (tidied stands.tidy) stands.reads d is_here.0 is_here.1).full.1 (λ slot inside vacant. none slot (record { page = inside; vacant = vacant })))
+        ((rooms volume.size device.words state (tidied stands.tidy) stands.reads d is_here.0 is_here.1).full.1 (λ slot inside vacant. none slot (record { page = inside; vacant = vacant })))
 
-    not_full : (slot : ℕ) → IsVacantSlot volume.size now d slot → is_full state.tree state.room d ≡ false
+    not_full : (slot : ℕ) → IsVacantSlot volume.size device.words d slot → is_full state.tree state.room d ≡ false
     not_full slot vacant = false_from_ne_true (is_full state.tree state.room d) (λ is.
-        (rooms volume.size now state (tidied stands.tidy) stands.reads d is_here.0 is_here.1).full.0 (eqb-true (name_count state.tree d) (32 * pages_in state.room d) is) slot vacant.page vacant.vacant)
+        (rooms volume.size device.words state (tidied stands.tidy) stands.reads d is_here.0 is_here.1).full.0 (eqb-true (name_count state.tree d) (32 * pages_in state.room d) is) slot vacant.page vacant.vacant)
 
     needed : (b : Bool) → is_full state.tree state.room d ≡ b → page_for_name state.tree state.room (Some (id_of state.tree (parent path))) ≡ cond b 1 0
     needed b is = ap (λ o. page_for_name state.tree state.room (Some (unwrap_or o root_id))) held.0 ∙ ap (λ t. cond t 1 0) is
 
-    pub new_no_page : (k : ℕ) → IsAbsent (entries_of volume.index d) name → IsFree volume.inodes k → ((slot : ℕ) → ¬ IsVacantSlot volume.size now d slot) → ((page : ℕ) → ¬ IsFreePage volume.size now page)
+    pub new_no_page : (k : ℕ) → IsAbsent (entries_of volume.index d) name → IsFree volume.inodes k → ((slot : ℕ) → ¬ IsVacantSlot volume.size device.words d slot) → ((page : ℕ) → ¬ IsFreePage volume.size device.words page)
         → refusal_of volume.size state.tree state.room (making kind path) ≡ Some NoPages
     new_no_page k none free all_named all_owned =
         let missing = absent none in
         let inode = some_inode k free in
         let need = needed true (full all_named) in
-        let no_page = free_pages_are volume now trail state stands pages ∙ no_free volume.data_pages (λ page unowned. all_owned page (Rattle.volume.proofs.Places.free_page volume now trail (state, stands) page unowned)) in
+        let no_page = free_pages_are volume device state stands pages ∙ no_free volume.data_pages (λ page unowned. all_owned page (Rattle.volume.proofs.Places.free_page volume device (state, stands) page unowned)) in
         let lacks = ap (nat_lt (free_pages (untaken volume.size) state.tree state.room)) need ∙ none_left (free_pages (untaken volume.size) state.tree state.room) no_page in
         refusal_is kind ∙ (λ i. row (fault_of (walked i)) (below i) (missing i) (inode i) (lacks i))
 
-    has_pages : (slot : ℕ) (new_page : Option ℕ) → IsPlace volume.size now d slot new_page
+    has_pages : (slot : ℕ) (new_page : Option ℕ) → IsPlace volume.size device.words d slot new_page
         → nat_lt (free_pages (untaken volume.size) state.tree state.room) (page_for_name state.tree state.room (Some (id_of state.tree (parent path)))) ≡ false
     has_pages slot None place =
         ap (nat_lt (free_pages (untaken volume.size) state.tree state.room)) (needed false (not_full slot place.vacant)) ∙ none_less (free_pages (untaken volume.size) state.tree state.room)
     has_pages slot (Some page) place =
         let some : free_pages (untaken volume.size) state.tree state.room ≢ 0 = λ none.
-        none_is_free volume.data_pages (sym (free_pages_are volume now trail state stands pages) ∙ none) page (page_free volume now trail (state, stands) page place.page_is.free) in
+        none_is_free volume.data_pages (sym (free_pages_are volume device state stands pages) ∙ none) page (page_free volume device (state, stands) page place.page_is.free) in
         ap (nat_lt (free_pages (untaken volume.size) state.tree state.room)) (needed true (full place.full)) ∙ some_left (free_pages (untaken volume.size) state.tree state.room) some
 
-    pub new_accepted : (k slot : ℕ) (new_page : Option ℕ) → IsAbsent (entries_of volume.index d) name → IsFree volume.inodes k → IsPlace volume.size now d slot new_page
+    pub new_accepted : (k slot : ℕ) (new_page : Option ℕ) → IsAbsent (entries_of volume.index d) name → IsFree volume.inodes k → IsPlace volume.size device.words d slot new_page
         → refusal_of volume.size state.tree state.room (making kind path) ≡ None
     new_accepted k slot new_page none free place =
         let missing = absent none in
@@ -159,19 +159,19 @@ module _ (volume : VolumeView) (now : List ℕ) (trail : Option Trail) (state : 
         let page = has_pages slot new_page place in
         refusal_is kind ∙ (λ i. row (fault_of (walked i)) (below i) (missing i) (inode i) (page i))
 
-    pub new_planned : (k slot : ℕ) (new_page : Option ℕ) → IsAbsent (entries_of volume.index d) name → IsLowest volume.inodes k → IsPlace volume.size now d slot new_page
-        → IsPlanned volume.size now state (making kind path) (Make (record { kind = kind; directory = d; name = name; inode = k + 1; slot = slot; new_page = new_page }))
+    pub new_planned : (k slot : ℕ) (new_page : Option ℕ) → IsAbsent (entries_of volume.index d) name → IsLowest volume.inodes k → IsPlace volume.size device.words d slot new_page
+        → IsPlanned volume.size device.words state (making kind path) (Make (record { kind = kind; directory = d; name = name; inode = k + 1; slot = slot; new_page = new_page }))
     new_planned k slot new_page none lowest place =
         planned kind refl (new_accepted k slot new_page none lowest.free place)
       where
         entry : NodeKind → NewEntry
         entry node = record { kind = node; directory = d; name = name; inode = k + 1; slot = slot; new_page = new_page }
 
-        entry_is : (node : NodeKind) → IsEntryFor volume.size now state path node (entry node)
+        entry_is : (node : NodeKind) → IsEntryFor volume.size device.words state path node (entry node)
         entry_is node =
-            let least = least_inode volume now trail state stands k free_inode_law lowest in
+            let least = least_inode volume device state stands k free_inode_law lowest in
             record { kind_is = refl; directory_is = held.0; name_is = named; inode_is = least.0; inode_within = least.1; place = place }
 
-        planned : (node : NodeKind) → kind ≡ node → refusal_of volume.size state.tree state.room (making node path) ≡ None → IsPlanned volume.size now state (making node path) (Make (entry node))
+        planned : (node : NodeKind) → kind ≡ node → refusal_of volume.size state.tree state.room (making node path) ≡ None → IsPlanned volume.size device.words state (making node path) (Make (entry node))
         planned File is accepted = record { accepted = accepted; plan_is = (entry File, refl, entry_is File) }
         planned Directory is accepted = record { accepted = accepted; plan_is = (entry Directory, refl, entry_is Directory) }

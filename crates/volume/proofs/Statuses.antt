@@ -1,6 +1,6 @@
 -- What the words and the index say of a node.
 use Rattle.std.proofs.Common.{◌≡◌, inl, inr, ℕ, ◌≤◌, ◌≢◌, true, false, Bool, cond, List, [], ◌∷◌, length, Contains, Option, Some, None, is_some, refl, sym, ap, subst, ◌∙◌, Less}
-use Rattle.pm_trait.specs.Trail.{Trail}
+use Rattle.pm_trait.specs.DeviceView.{DeviceView}
 use Rattle.layout.specs.Geometry.{inodes_of}
 use Rattle.layout.specs.Fields.{inode_kind, inode_links, inode_size, slot_name}
 use Rattle.tree_model.specs.Tree.{Node, Directory, File, node_at, is_directory, is_directory_node, bytes_of, bytes_of_node, name_count}
@@ -46,7 +46,7 @@ sorted_apart (first ∷ entries) sorted = (
 
 -- ---- names
 
-module _ (volume : VolumeView) (now : List ℕ) (trail : Option Trail) (state : State) (stands : StandsFor volume now trail state) where
+module _ (volume : VolumeView) (device : DeviceView) (state : State) (stands : StandsFor volume device state) where
   -- the entries of a directory are matched with their slots
   matching : (d : ℕ) → 1 ≤ d → d ≤ inodes_of volume.size → IsSorted (entries_of volume.index d) → IsMatching (λ (entry : Entry) s. entry.slot ≡ s) (entries_of volume.index d)
   matching d least most sorted = record {
@@ -57,29 +57,29 @@ module _ (volume : VolumeView) (now : List ℕ) (trail : Option Trail) (state : 
         let name_one = (is_entry one among).name in
         let name_other = (is_entry other too).name in
         let same = here ∙ sym there in
-        let names = sym name_one ∙ ap (slot_name volume.size now) same ∙ name_other in
+        let names = sym name_one ∙ ap (slot_name volume.size device.words) same ∙ name_other in
         λ i. record { name = names i; slot = same i };
   }
     where
-      is_entry : (entry : Entry) → Among entry (entries_of volume.index d) → IsEntryOf volume.size now d entry.name entry.slot
+      is_entry : (entry : Entry) → Among entry (entries_of volume.index d) → IsEntryOf volume.size device.words d entry.name entry.slot
       is_entry entry among = (stands.knows.nodes.entries d entry.slot entry.name least most).0 (among_contained entry (entries_of volume.index d) among)
 
   pub names_counted : (d : ℕ) → NameCountLaw → 1 ≤ d → d ≤ inodes_of volume.size → IsSorted (entries_of volume.index d) → length (entries_of volume.index d) ≡ name_count state.tree d
   names_counted d law least most sorted =
       let entries = entries_of volume.index d in
-      count_one (IsSlotOf volume.size now d) (length entries) (name_count state.tree d)
-      (count_alike (IsMatched (λ (entry : Entry) s. entry.slot ≡ s) entries) (IsSlotOf volume.size now d) (length entries) to from (count_matched (λ (entry : Entry) s. entry.slot ≡ s) entries (matching d least most sorted)))
-      (law volume.size now state stands.tidy.sound stands.reads d)
+      count_one (IsSlotOf volume.size device.words d) (length entries) (name_count state.tree d)
+      (count_alike (IsMatched (λ (entry : Entry) s. entry.slot ≡ s) entries) (IsSlotOf volume.size device.words d) (length entries) to from (count_matched (λ (entry : Entry) s. entry.slot ≡ s) entries (matching d least most sorted)))
+      (law volume.size device.words state stands.tidy.sound stands.reads d)
     where
-      to : (s : ℕ) → IsMatched (λ (entry : Entry) s. entry.slot ≡ s) (entries_of volume.index d) s → IsSlotOf volume.size now d s
+      to : (s : ℕ) → IsMatched (λ (entry : Entry) s. entry.slot ≡ s) (entries_of volume.index d) s → IsSlotOf volume.size device.words d s
       to s (entry, among, is) =
           let entered = (stands.knows.nodes.entries d entry.slot entry.name least most).0 (among_contained entry (entries_of volume.index d) among) in
-          subst (λ (slot : ℕ). IsSlotOf volume.size now d slot) is (entered.slot, entered.owner)
+          subst (λ (slot : ℕ). IsSlotOf volume.size device.words d slot) is (entered.slot, entered.owner)
 
-      from : (s : ℕ) → IsSlotOf volume.size now d s → IsMatched (λ (entry : Entry) s. entry.slot ≡ s) (entries_of volume.index d) s
+      from : (s : ℕ) → IsSlotOf volume.size device.words d s → IsMatched (λ (entry : Entry) s. entry.slot ≡ s) (entries_of volume.index d) s
       from s (slot, owner) =
-          let entry : Entry = record { name = slot_name volume.size now s; slot = s } in
-          (entry, contained_among entry (entries_of volume.index d) ((stands.knows.nodes.entries d s (slot_name volume.size now s) least most).1 (record { slot = slot; owner = owner; name = refl })), refl)
+          let entry : Entry = record { name = slot_name volume.size device.words s; slot = s } in
+          (entry, contained_among entry (entries_of volume.index d) ((stands.knows.nodes.entries d s (slot_name volume.size device.words s) least most).1 (record { slot = slot; owner = owner; name = refl })), refl)
 
   -- ---- nodes
 
@@ -87,17 +87,17 @@ module _ (volume : VolumeView) (now : List ℕ) (trail : Option Trail) (state : 
   node_is None e = cc
   node_is (Some node) e = (node, refl)
 
-  pub node_reached : (inode : ℕ) → is_some (node_at state.tree inode) ≡ true → Reached volume.size now inode
+  pub node_reached : (inode : ℕ) → is_some (node_at state.tree inode) ≡ true → Reached volume.size device.words inode
   node_reached inode there = let (node, is) = node_is (node_at state.tree inode) there in ((stands.reads.tree.nodes inode node).0 is).0
 
-  pub directory_status : (inode links names : ℕ) → NameCountLaw → LinkWordLaw → SizeLaw → InodeCountLaw → is_some (node_at state.tree inode) ≡ true → inode_kind now inode ≡ 2
-      → links ≡ inode_links now inode → names ≡ length (entries_of volume.index inode) → IsSorted (entries_of volume.index inode)
+  pub directory_status : (inode links names : ℕ) → NameCountLaw → LinkWordLaw → SizeLaw → InodeCountLaw → is_some (node_at state.tree inode) ≡ true → inode_kind device.words inode ≡ 2
+      → links ≡ inode_links device.words inode → names ≡ length (entries_of volume.index inode) → IsSorted (entries_of volume.index inode)
       → record { dir = true; inode = inode; links = links; amount = names } ≡ status_of state.tree inode
   directory_status inode links names name_law link_law size_law inode_law there kind links_is names_is sorted =
       let reached = node_reached inode there in
-      let directory = ((size_law volume.size now state stands.tidy.sound stands.reads).directories inode).1 (reached, kind) in
-      let within = in_table volume now trail inode inode_law (state, stands) reached in
-      let linked = links_is ∙ sym (link_law volume.size now state (tidied stands.tidy) stands.reads inode reached) in
+      let directory = ((size_law volume.size device.words state stands.tidy.sound stands.reads).directories inode).1 (reached, kind) in
+      let within = in_table volume device inode inode_law (state, stands) reached in
+      let linked = links_is ∙ sym (link_law volume.size device.words state (tidied stands.tidy) stands.reads inode reached) in
       let named = names_is ∙ names_counted inode name_law within.0 within.1 sorted ∙ ap (λ b. cond b (name_count state.tree inode) (length (bytes_of state.tree inode))) (sym directory) in
       λ i. record { dir = sym directory i; inode = inode; links = linked i; amount = named i }
 
@@ -110,21 +110,21 @@ module _ (volume : VolumeView) (now : List ℕ) (trail : Option Trail) (state : 
   file_bytes (Some Directory) there other = cc
   file_bytes (Some (File bytes)) there other = (bytes, refl)
 
-  pub file_status : (inode links size : ℕ) → LinkWordLaw → SizeLaw → is_some (node_at state.tree inode) ≡ true → inode_kind now inode ≢ 2 → links ≡ inode_links now inode → size ≡ inode_size now inode
+  pub file_status : (inode links size : ℕ) → LinkWordLaw → SizeLaw → is_some (node_at state.tree inode) ≡ true → inode_kind device.words inode ≢ 2 → links ≡ inode_links device.words inode → size ≡ inode_size device.words inode
       → record { dir = false; inode = inode; links = links; amount = size } ≡ status_of state.tree inode
   file_status inode links size link_law size_law there other links_is size_is =
-      let sizes = size_law volume.size now state stands.tidy.sound stands.reads in
+      let sizes = size_law volume.size device.words state stands.tidy.sound stands.reads in
       let file : is_directory state.tree inode ≡ false = not_true (is_directory state.tree inode) (λ directory. other ((sizes.directories inode).0 directory).1) in
       let (bytes, is) = file_bytes (node_at state.tree inode) there file in
-      let linked = links_is ∙ sym (link_law volume.size now state (tidied stands.tidy) stands.reads inode (node_reached inode there)) in
+      let linked = links_is ∙ sym (link_law volume.size device.words state (tidied stands.tidy) stands.reads inode (node_reached inode there)) in
       let long = size_is ∙ sym (sizes.sizes inode bytes is) ∙ sym (ap (λ o. length (bytes_of_node o)) is) in
       let amount = long ∙ sym (ap (λ b. cond b (name_count state.tree inode) (length (bytes_of state.tree inode))) file) in
       λ i. record { dir = sym file i; inode = inode; links = linked i; amount = amount i }
 
 -- ---- a volume stands for one tree and room
 
-pub same_state : (volume : VolumeView) (now : List ℕ) (trail : Option Trail) (state other : State) → OneTree → OneRoom → StandsFor volume now trail state → StandsFor volume now trail other → state ≡ other
-same_state volume now trail state other one_tree one_room stands stands_too =
-    let tree = one_tree volume.size now state.tree other.tree stands.reads.tree stands_too.reads.tree in
-    let room = one_room volume.size now state.room other.room stands.reads.room stands_too.reads.room in
+pub same_state : (volume : VolumeView) (device : DeviceView) (state other : State) → OneTree → OneRoom → StandsFor volume device state → StandsFor volume device other → state ≡ other
+same_state volume device state other one_tree one_room stands stands_too =
+    let tree = one_tree volume.size device.words state.tree other.tree stands.reads.tree stands_too.reads.tree in
+    let room = one_room volume.size device.words state.room other.room stands.reads.room stands_too.reads.room in
     λ i. record { tree = tree i; room = room i }

@@ -1,7 +1,6 @@
 -- When a volume stands for a tree and a room.
-use Rattle.std.specs.Prelude.{◌≡◌, ◌↔◌, ℕ, ◌-◌, ◌*◌, ◌<◌, ◌≤◌, IsTrue, List, length, Contains, Option, Some, is_some, slice_get}
-use Rattle.pm_trait.specs.Trail.{Trail}
-use Rattle.pm_trait.specs.Device.{IsSettledAt}
+use Rattle.std.specs.Prelude.{◌≡◌, ◌↔◌, ℕ, ◌-◌, ◌*◌, ◌<◌, ◌≤◌, IsTrue, List, length, Contains, Some, is_some, slice_get}
+use Rattle.pm_trait.specs.DeviceView.{DeviceView, IsSettledView}
 use Rattle.layout.specs.Geometry.{inodes_of, data_pages_of}
 use Rattle.layout.specs.Fields.{inode_kind, page_owner, page_offset}
 use Rattle.tree_model.specs.Tree.{node_at}
@@ -33,16 +32,16 @@ pub record Knows (volume : VolumeView) (I : List ℕ) : Type 0 where
 
 -- The volume stands for this tree and this room: the device is settled, its words are tidy and read as the tree and the
 -- room, and the volume knows what they say.
-pub record StandsFor (volume : VolumeView) (now : List ℕ) (trail : Option Trail) (state : State) : Type 0 where
-  pub settled : IsSettledAt now trail
-  pub tidy : Tidy volume.size now
-  pub reads : ReadsAs volume.size now state
-  pub knows : Knows volume now
+pub record StandsFor (volume : VolumeView) (device : DeviceView) (state : State) : Type 0 where
+  pub settled : IsSettledView device
+  pub tidy : Tidy volume.size device.words
+  pub reads : ReadsAs volume.size device.words state
+  pub knows : Knows volume device.words
 
 -- it stands for some tree and room
-abbrev pub IsStanding : VolumeView → List ℕ → Option Trail → Type 0
-IsStanding volume now trail = (state : State) × StandsFor volume now trail state
+abbrev pub IsStanding : VolumeView → DeviceView → Type 0
+IsStanding volume device = (state : State) × StandsFor volume device state
 
 -- and for one with a node of this inode
-abbrev pub HasNode : VolumeView → List ℕ → Option Trail → ℕ → Type 0
-HasNode volume now trail inode = (state : State) × StandsFor volume now trail state × IsTrue (is_some (node_at state.tree inode))
+abbrev pub HasNode : VolumeView → DeviceView → ℕ → Type 0
+HasNode volume device inode = (state : State) × StandsFor volume device state × IsTrue (is_some (node_at state.tree inode))

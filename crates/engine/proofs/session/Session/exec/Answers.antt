@@ -29,14 +29,14 @@ line_reply-requires-clause-stands g c =
     let volume = ap (λ (v : SessionView). v.volume) c.self.view_is in
     let going = ap (λ (v : VolumeView). v.stopped) (sym volume) ∙ sym c.if-stopped.ensures in
     let (state, stands) = c.requires.stands going in
-    (state, subst (λ (v : VolumeView). StandsFor v (g.P.Pm.view c.args.pm.now).words (g.P.Pm.view c.args.pm.now).trail state) (sym volume) stands)
+    (state, subst (λ (v : VolumeView). StandsFor v (g.P.Pm.view c.args.pm.now) state) (sym volume) stands)
 
 pub returns-clause-answered : goal.returns-clause-answered
 returns-clause-answered g c = λ state stands was is. elim c.match-line_reply.branch [
   | in-Ok w ↦
       let volume = ap (λ (v : SessionView). v.volume) c.self.view_is in
       let size = ap (λ (v : VolumeView). v.size) volume in
-      let inside = subst (λ (v : VolumeView). StandsFor v (g.P.Pm.view c.args.pm.now).words (g.P.Pm.view c.args.pm.now).trail state) (sym volume) stands in
+      let inside = subst (λ (v : VolumeView). StandsFor v (g.P.Pm.view c.args.pm.now) state) (sym volume) stands in
       let done = subst (λ (p : ℕ). Executed p state (line_of_call c.args.call.now) c.line_reply.new.volume w.in-Ok.reply (g.P.Pm.view c.args.pm.now).trail (g.P.Pm.view c.line_reply.new.pm).words (g.P.Pm.view c.line_reply.new.pm).trail (g.P.Pm.view c.args.pm.now).fences (g.P.Pm.view c.line_reply.new.pm).fences)
       size (w.in-Ok.ensures.ok state inside) in
       subst (λ (replied : Reply). HasAnswered c.args.self.now.volume.size state (line_of_call c.args.call.now) c.line_reply.new.volume replied (g.P.Pm.view c.args.pm.now).trail (g.P.Pm.view c.match-line_reply.pm).words (g.P.Pm.view c.match-line_reply.pm).trail (g.P.Pm.view c.args.pm.now).fences (g.P.Pm.view c.match-line_reply.pm).fences)
@@ -57,7 +57,7 @@ pub returns-clause-stays : goal.returns-clause-stays
 returns-clause-stays g c = λ state stands was.
     let volume = ap (λ (v : SessionView). v.volume) c.self.view_is in
     let size = ap (λ (v : VolumeView). v.size) volume in
-    let inside = subst (λ (v : VolumeView). StandsFor v (g.P.Pm.view c.args.pm.now).words (g.P.Pm.view c.args.pm.now).trail state) (sym volume) stands in
+    let inside = subst (λ (v : VolumeView). StandsFor v (g.P.Pm.view c.args.pm.now) state) (sym volume) stands in
     let first = subst (λ (p : ℕ). StaysOnce (g.P.Pm.view c.args.pm.now).trail (g.P.Pm.view c.line_reply.new.pm).trail (λ image. Reads p image (tree_after_line p state (line_of_call c.args.call.now)))) size (c.line_reply.ensures.stays state inside) in
     elim c.match-line_reply.branch [
       | in-Ok w ↦ stays_then first (stays_ack _ (w.in-Ok.ensures.ok state inside).stands.settled (ap (λ (pm : g.row.P.Denot). (g.P.Pm.view pm).trail) w.pm-is ∙ w.ack.ensures.trail))

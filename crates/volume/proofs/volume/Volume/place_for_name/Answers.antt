@@ -8,14 +8,14 @@ use Rattle.volume.proofs.volume.Volume.place_for_name.Goals as goal
 
 pub overflow_mul-result : goal.overflow_mul-result
 overflow_mul-result g c =
-    let standing = subst (λ (volume : VolumeView). IsStanding volume (g.P.Pm.view c.args.pm.now).words (g.P.Pm.view c.args.pm.now).trail) (sym c.self.view_is) c.requires.stands in
-    let free = free_page _ _ _ standing c.in_ok-page-in-None.page c.in_ok-page-in-None.ensures.free in
+    let standing = subst (λ (volume : VolumeView). IsStanding volume (g.P.Pm.view c.args.pm.now)) (sym c.self.view_is) c.requires.stands in
+    let free = free_page _ _ standing c.in_ok-page-in-None.page c.in_ok-page-in-None.ensures.free in
     let geometry = c.self.inside.geometry in
     let below = data_pages_below geometry.pages geometry.volume_size in
     omega (arith, below, geometry.volume_size, free.0)
 
 pub returns-in_ok-page-in-None : goal.returns-in_ok-page-in-None
 returns-in_ok-page-in-None g c =
-    let standing = subst (λ (volume : VolumeView). IsStanding volume (g.P.Pm.view c.args.pm.now).words (g.P.Pm.view c.args.pm.now).trail) (sym c.self.view_is) c.requires.stands in
-    let page = subst (λ (volume : VolumeView). IsLowestPage volume.size (g.P.Pm.view c.args.pm.now).words c.in_ok-page-in-None.page) c.self.view_is (lowest_page _ _ _ standing c.in_ok-page-in-None.page c.in_ok-page-in-None.ensures) in
+    let standing = subst (λ (volume : VolumeView). IsStanding volume (g.P.Pm.view c.args.pm.now)) (sym c.self.view_is) c.requires.stands in
+    let page = subst (λ (volume : VolumeView). IsLowestPage volume.size (g.P.Pm.view c.args.pm.now).words c.in_ok-page-in-None.page) c.self.view_is (lowest_page _ _ standing c.in_ok-page-in-None.page c.in_ok-page-in-None.ensures) in
     record { full = c.in-None.ensures; page_is = page; slot_is = refl }
