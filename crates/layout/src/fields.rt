@@ -3,11 +3,15 @@ ghost use Rattle.layout.specs.Geometry.{slots_of};
 ghost use Rattle.layout.specs.Fields.{word, words_from, inode_kind, inode_links, inode_size, inode_own, page_owner, page_kind, page_offset, slot_inode, slot_pointer, slot_words};
 
 use crate::geometry::Geometry;
+use crate::units::{
+    DESCRIPTOR_KIND, DESCRIPTOR_OFFSET, DESCRIPTOR_OWNER, INODE_KIND, INODE_LINKS, INODE_OWN,
+    INODE_SIZE, SLOT_INODE, SLOT_NAME, SLOT_POINTER,
+};
 
 /// What the words of an inode say.
 #[derive(Clone, Copy, Debug, PartialEq, Eq)]
 pub struct InodeFields {
-    /// 0 for a free inode, 1 for a file, 2 for a directory.
+    /// 0 for a free inode, `FILE` or `DIRECTORY`.
     pub kind: u64,
     /// A file's names, or a directory's 2 and its subdirectories; more where recovery has still to count them.
     pub links: u64,
@@ -22,7 +26,7 @@ pub struct InodeFields {
 pub struct DescriptorFields {
     /// The number of the inode that the page belongs to, 0 for none.
     pub owner: u64,
-    /// 1 for a page of a file's bytes, 2 for a page of slots.
+    /// `BYTES` or `SLOTS`, 0 for a free page.
     pub kind: u64,
     /// In pages from the file's first; 0 for a page of slots.
     pub offset: u64,
@@ -52,10 +56,10 @@ impl Geometry {
         ensures own { result.own ≡ inode_own words.now inode }
     {
         InodeFields {
-            kind: word_at(words, self.inode_word(inode, 0)),
-            links: word_at(words, self.inode_word(inode, 1)),
-            size: word_at(words, self.inode_word(inode, 2)),
-            own: word_at(words, self.inode_word(inode, 3)),
+            kind: word_at(words, self.inode_word(inode, INODE_KIND)),
+            links: word_at(words, self.inode_word(inode, INODE_LINKS)),
+            size: word_at(words, self.inode_word(inode, INODE_SIZE)),
+            own: word_at(words, self.inode_word(inode, INODE_OWN)),
         }
     }
 
@@ -69,9 +73,9 @@ impl Geometry {
         ensures offset { result.offset ≡ page_offset self.now.pages words.now page }
     {
         DescriptorFields {
-            owner: word_at(words, self.descriptor_word(page, 0)),
-            kind: word_at(words, self.descriptor_word(page, 1)),
-            offset: word_at(words, self.descriptor_word(page, 2)),
+            owner: word_at(words, self.descriptor_word(page, DESCRIPTOR_OWNER)),
+            kind: word_at(words, self.descriptor_word(page, DESCRIPTOR_KIND)),
+            offset: word_at(words, self.descriptor_word(page, DESCRIPTOR_OFFSET)),
         }
     }
 
@@ -85,9 +89,9 @@ impl Geometry {
         ensures name { result.name ≡ slot_words self.now.pages words.now slot }
     {
         SlotFields {
-            inode: word_at(words, self.slot_word(slot, 0)),
-            pointer: word_at(words, self.slot_word(slot, 1)),
-            name: fourteen_words(words, self.slot_word(slot, 2)),
+            inode: word_at(words, self.slot_word(slot, SLOT_INODE)),
+            pointer: word_at(words, self.slot_word(slot, SLOT_POINTER)),
+            name: fourteen_words(words, self.slot_word(slot, SLOT_NAME)),
         }
     }
 }

@@ -59,6 +59,31 @@ fn first_words_of_the_regions(rt: HostRuntime) -> Result<(), Fail> {
 }
 
 #[test]
+fn lengths_and_slots_of_pages(rt: HostRuntime) -> Result<(), Fail> {
+    assert_eq!(rt; Geometry::of_words(8_192), Geometry::of(16));
+    assert_eq!(rt; Geometry::of_words(8_193), None);
+    assert_eq!(rt; Geometry::of_words(7_680), None);
+    let geometry = Geometry::of(16).ok_or("no volume")?;
+    assert!(rt; geometry.data_pages == 13);
+    let slot = geometry.slot_in(12, 31);
+    assert_eq!(rt; slot, 415);
+    assert_eq!(rt; geometry.slots(), 416);
+    assert_eq!(rt; geometry.page_of(slot), 12);
+    Ok(())
+}
+
+#[test]
+fn kinds_and_their_codes(rt: HostRuntime) -> Result<(), Fail> {
+    assert_eq!(rt; [NodeKind::File.code(), NodeKind::Directory.code()], [1, 2]);
+    assert_eq!(rt; [PageKind::Bytes.code(), PageKind::Slots.code()], [1, 2]);
+    assert_eq!(rt; NodeKind::of_code(0), None);
+    assert_eq!(rt; NodeKind::of_code(1), Some(NodeKind::File));
+    assert_eq!(rt; NodeKind::of_code(2), Some(NodeKind::Directory));
+    assert_eq!(rt; NodeKind::of_code(3), None);
+    Ok(())
+}
+
+#[test]
 fn names_and_their_faults(rt: HostRuntime) -> Result<(), Fail> {
     assert_eq!(rt; Name::new(b"").err(), Some(NameFault::Bad));
     assert_eq!(rt; Name::new(b"..").err(), Some(NameFault::Bad));
