@@ -1,2 +1,2 @@
 pub mod BytesLaws
-pub mod Fronts
+pub mod Copied

@@ -1,16 +1,15 @@
 // Bytes to a writer of the standard library.
-ghost use Rattle.std.specs.Prelude.{◌≡◌, ◌<◌, ◌≤◌, ℕ, List, Option, None, Some, length, take, IfOk, OnOk, OnErr};
-ghost use Rattle.std.specs.Io.KnownBytes.{Appends, Keeps};
-ghost use Rattle.pm_trait.specs.Device.{HasRisen};
-ghost use Rattle.io_edge.specs.Bytes.{with_bytes};
+ghost use Rattle.std.specs.Prelude.{◌≡◌, ◌<◌, ◌≤◌, ℕ, length, IfOk, OnErr};
+ghost use Rattle.std.specs.Io.KnownBytes.{Keeps, WriteAppends};
+ghost use Rattle.io_edge.specs.Bytes.{WritesSome};
 ghost use Rattle.io_edge.specs.Count.{one_more};
-ghost use Rattle.io_edge.specs.Writer.{MayAppend};
+ghost use Rattle.io_edge.specs.Writer.{WritesThrough};
 
 use crate::{Sink, WriteFault};
 use std::io::{ErrorKind, Write};
 
 /// A sink over a writer of the standard library, which it flushes after each write. It doesn't tell which bytes it took,
-/// and after a fault the writer may hold a front of the piece. A write or a flush that a signal interrupts is made again,
+/// and after a fault the writer may hold a prefix of the piece. A write or a flush that a signal interrupts is made again,
 /// up to 2^64 - 1 times.
 #[derive(Drop)]
 pub struct StdSink<W> {
@@ -33,23 +32,18 @@ impl<W: Write> StdSink<W> {
 impl<W: Write> Sink for StdSink<W> {
     ghost use Rattle.io_edge.specs.StdSink.{writer_of, failed_writes};
 
-    ghost taken = { λ _. None };
+    /// It keeps no bytes, so it may be said to have taken any: what is proved of them tells nothing, and each clause on
+    /// output holds.
+    ghost took = { λ _ _. Unit {0} };
 
     ghost faults = { failed_writes };
 
     /// Passes a write on to the writer and flushes it. Each failure of either but an interruption is a fault, and so is a
     /// writer that takes no byte of a piece that has one.
     fn write(&mut self, piece: &[u8]) -> Result<usize, WriteFault>
-        ensures count { IfOk result (λ count. count ≤ length piece.now) }
-        ensures some { 0 < length piece.now → IfOk result (λ count. 1 ≤ count) }
-        ensures bytes { IfOk result (λ count. ⟦<StdSink<W> as Sink>⟧.taken self.new ≡ with_bytes (⟦<StdSink<W> as Sink>⟧.taken self.old) (take count piece.now)) }
-        ensures ok_faults { IfOk result (λ _. failed_writes self.new ≡ failed_writes self.old) }
-        ensures err { OnErr result (⟦<StdSink<W> as Sink>⟧.taken self.new ≡ ⟦<StdSink<W> as Sink>⟧.taken self.old) }
-        ensures faults { failed_writes self.old ≤ failed_writes self.new }
-        ensures cause { OnErr result (HasRisen (failed_writes self.old) (failed_writes self.new)) }
+        ensures writes { WritesSome (λ _. Unit {0}) (λ _. Unit {0}) (failed_writes self.old) (failed_writes self.new) piece.now result }
         ensures one_fault { OnErr result (failed_writes self.new ≡ one_more (failed_writes self.old)) }
-        ensures writer { IfOk result (λ count. Appends (W.contents (writer_of self.old)) (W.contents (writer_of self.new)) (take count piece.now)) }
-        ensures writer_err { OnErr result (MayAppend (W.contents (writer_of self.old)) (W.contents (writer_of self.new)) piece.now) }
+        ensures writer { WritesThrough (W.contents (writer_of self.old)) (W.contents (writer_of self.new)) piece.now result }
     {
         let answer = write_through(&mut self.writer, piece);
         if answer.is_err() {
@@ -59,12 +53,11 @@ impl<W: Write> Sink for StdSink<W> {
     }
 }
 
-// Writes a front of the piece and flushes the writer.
+// Writes a prefix of the piece and flushes the writer.
 fn write_through<W: Write>(writer: &mut W, piece: &[u8]) -> Result<usize, WriteFault>
     ensures count { IfOk result (λ count. count ≤ length piece.now) }
     ensures some { 0 < length piece.now → IfOk result (λ count. 1 ≤ count) }
-    ensures bytes { IfOk result (λ count. Appends (W.contents writer.old) (W.contents writer.new) (take count piece.now)) }
-    ensures err { OnErr result (MayAppend (W.contents writer.old) (W.contents writer.new) piece.now) }
+    ensures writer { WritesThrough (W.contents writer.old) (W.contents writer.new) piece.now result }
 {
     let count = write_uninterrupted(writer, piece)?;
     if count == 0 && !piece.is_empty() {
@@ -79,8 +72,7 @@ fn write_through<W: Write>(writer: &mut W, piece: &[u8]) -> Result<usize, WriteF
 // One write, again where a signal interrupts it.
 fn write_uninterrupted<W: Write>(writer: &mut W, piece: &[u8]) -> Result<usize, WriteFault>
     ensures count { IfOk result (λ count. count ≤ length piece.now) }
-    ensures bytes { IfOk result (λ count. Appends (W.contents writer.old) (W.contents writer.new) (take count piece.now)) }
-    ensures err { OnErr result (Keeps (W.contents writer.old) (W.contents writer.new)) }
+    ensures writer { WriteAppends (W.contents writer.old) (W.contents writer.new) result piece.now }
 {
     for _ in 0..u64::MAX {
         match writer.write(piece) {

@@ -1,8 +1,7 @@
 // Bytes from a reader of the standard library.
-ghost use Rattle.std.specs.Prelude.{◌≡◌, ◌<◌, ◌≤◌, ℕ, List, Option, None, Some, length, take, IfOk, OnErr};
-ghost use Rattle.std.specs.Io.KnownBytes.{Consumes, IsAtEnd, Keeps};
-ghost use Rattle.pm_trait.specs.Device.{HasRisen};
-ghost use Rattle.io_edge.specs.Bytes.{GivesFirst, IsEnd};
+ghost use Rattle.std.specs.Prelude.{◌≡◌, ◌≤◌, ℕ, None, length, IfOk, OnErr};
+ghost use Rattle.std.specs.Io.KnownBytes.{ReadConsumes};
+ghost use Rattle.io_edge.specs.Bytes.{Reads};
 ghost use Rattle.io_edge.specs.Count.{one_more};
 
 use crate::{ReadFault, Source};
@@ -37,17 +36,9 @@ impl<R: Read> Source for StdSource<R> {
 
     /// Passes a read on to the reader. Each failure but an interruption is a fault.
     fn read(&mut self, buf: &mut [u8]) -> Result<usize, ReadFault>
-        ensures count { IfOk result (λ count. count ≤ length buf.old) }
-        ensures bytes { IfOk result (λ count. GivesFirst None (take count buf.new) None) }
-        ensures end { 0 < length buf.old → IfOk result (λ count. count ≡ 0 → IsEnd None) }
-        ensures ok_faults { IfOk result (λ _. failed_reads self.new ≡ failed_reads self.old) }
-        ensures err { OnErr result (⟦<StdSource<R> as Source>⟧.left self.new ≡ ⟦<StdSource<R> as Source>⟧.left self.old) }
-        ensures faults { failed_reads self.old ≤ failed_reads self.new }
-        ensures cause { OnErr result (HasRisen (failed_reads self.old) (failed_reads self.new)) }
+        ensures gives { Reads None None (failed_reads self.old) (failed_reads self.new) buf.new result }
         ensures one_fault { OnErr result (failed_reads self.new ≡ one_more (failed_reads self.old)) }
-        ensures reader { IfOk result (λ count. Consumes (R.remaining (reader_of self.old)) (R.remaining (reader_of self.new)) (take count buf.new)) }
-        ensures reader_end { 0 < length buf.old → IfOk result (λ count. count ≡ 0 → IsAtEnd (R.remaining (reader_of self.new))) }
-        ensures reader_err { OnErr result (Keeps (R.remaining (reader_of self.old)) (R.remaining (reader_of self.new))) }
+        ensures reader { ReadConsumes (R.remaining (reader_of self.old)) (R.remaining (reader_of self.new)) result buf.new }
     {
         let answer = read_uninterrupted(&mut self.reader, buf);
         if answer.is_err() {
@@ -59,10 +50,8 @@ impl<R: Read> Source for StdSource<R> {
 
 // One read, again where a signal interrupts it.
 fn read_uninterrupted<R: Read>(reader: &mut R, buf: &mut [u8]) -> Result<usize, ReadFault>
-    ensures count { IfOk result (λ count. count ≤ length buf.old) }
-    ensures bytes { IfOk result (λ count. Consumes (R.remaining reader.old) (R.remaining reader.new) (take count buf.new)) }
-    ensures end { 0 < length buf.old → IfOk result (λ count. count ≡ 0 → IsAtEnd (R.remaining reader.new)) }
-    ensures err { OnErr result (Keeps (R.remaining reader.old) (R.remaining reader.new)) }
+    ensures count { IfOk result (λ count. count ≤ length buf.new) }
+    ensures reader { ReadConsumes (R.remaining reader.old) (R.remaining reader.new) result buf.new }
 {
     for _ in 0..u64::MAX {
         match reader.read(buf) {

@@ -47,7 +47,7 @@ fn a_sink_in_memory_takes_what_fits_and_fails_where_it_is_listed(
 }
 
 #[test]
-fn a_whole_piece_is_written_or_a_front_of_it(rt: HostRuntime) -> Result<(), Fail> {
+fn a_whole_text_is_written_or_a_prefix_of_it(rt: HostRuntime) -> Result<(), Fail> {
     let mut sink = MemSink::new(rt.alloc(), 5, Vec::new(rt.alloc()))?;
     assert_eq!(rt; write_all(&mut sink, b"abc"), Ok(()));
     assert_eq!(rt; write_all(&mut sink, b"def"), Err(WriteFault));
