@@ -1,0 +1,2 @@
+-- Laws of the fences of lines.
+use Rattle.std.proofs.Common.{◌≡◌, ℕ, refl}

@@ -1,0 +1,2 @@
+-- What an accepted command found.
+use Rattle.std.specs.Prelude.{◌≡◌, ℕ}
