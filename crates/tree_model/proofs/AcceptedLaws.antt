@@ -11,7 +11,7 @@ use Rattle.tree_model.specs.Table.{get-retain}
 use Rattle.tree_model.specs.Tree.{Tree, Node, Directory, File, Room, IsTree, root_id, route_cmp, route_cmp_total, is_root, parent, rest_after, is_above, id_at, node_at, is_directory, is_file, is_directory_node, is_file_node, is_number, bytes_of, bytes_of_node, name_count, path_count}
 use Rattle.tree_model.specs.Capacity.{Supply, free_inodes, free_pages, file_limit}
 use Rattle.tree_model.specs.Walk.{Place, walk, walk_to_parent}
-use Rattle.tree_model.specs.Step.{first, at, fault_of, id_of, is_there, is_same_node, least_free_id, page_for_name, need, rise, read_limit, lacks_inodes, lacks_pages, refusal_with, with_bytes, without_path, without_unnamed, resized, overwritten, tree_after}
+use Rattle.tree_model.specs.Step.{first, at, fault_of, id_of, is_there, is_same_node, least_free_id, page_for_name, need, rise, read_limit, lacks_inodes, lacks_pages, refusal_with, with_bytes, with_moved, without_path, without_unnamed, resized, overwritten, tree_after}
 use Rattle.tree_model.specs.Accepted.{HasHolder, IsNodeAt, IsFileAt, IsDirectoryAt, MayName, MayMake, MayLink, MayUnlink, MayRemove, MayReplace, MayMove, MayRename, MayWrite, MayTruncate, MayRead, Accepted, bytes_after_write, size_after_write}
 use Rattle.tree_model.specs.declared.command.Command.{Command}
 use Rattle.tree_model.specs.declared.command.Command.TheVariants.{Create, Mkdir, Link, Unlink, Rmdir, Rename, Write, Truncate, Read, Stat as Tell, List as Show, Df}
@@ -19,9 +19,10 @@ use Rattle.tree_model.specs.declared.reply.Refusal.{Refusal}
 use Rattle.tree_model.specs.declared.reply.Refusal.TheVariants.{Root, Exists, IsDir, NotDir, NotEmpty, IntoItself, TooBig, NoInodes, NoPages}
 use Rattle.tree_model.proofs.Accepted.{first-none, at-none, fault_of-none, not_there}
 use Rattle.tree_model.proofs.WalkLaws.{holder-from_walk, id_at-from_walk}
-use Rattle.tree_model.proofs.EntryLaws.{front, back, find-below}
-use Rattle.tree_model.proofs.TreeLaws.{above, same_id, same_route, is_same_itself, least_free_id-free, name_count-not_directory, node_at-with_bytes_here}
+use Rattle.tree_model.proofs.TreeLaws.{above, is_same_itself, least_free_id-free, name_count-not_directory, node_at-with_bytes_here}
+use Rattle.tree_model.proofs.TreeMoved.{clear}
 use Rattle.tree_model.proofs.TreePruned.{IsTree-without_unnamed}
+use Rattle.tree_model.proofs.PathCounts.{path_count-without_path, path_count-with_moved, gone-where_unnamed}
 use Rattle.tree_model.proofs.TreeLess.{HasNoNames, HasNoNames-empty, less_was, IsAlmostTree-without_path}
 use Rattle.tree_model.proofs.TreeKept.{some_is, same_some, none_some, directory_is}
 use Rattle.tree_model.proofs.StepLaws.{neither_first, target_empty, not_inside, no_names}
@@ -43,6 +44,9 @@ is_directory_at : (o : Option Node) → is_some o ≡ true → is_file_node o �
 is_directory_at None there e = cc
 is_directory_at (Some Directory) there e = refl
 is_directory_at (Some (File bytes)) there e = cc
+
+one_test : (n m : ℕ) → n + 1 ≡ m → (n == 0) ≡ (m == 1)
+one_test n m e = grind (arith, nat_tests)
 
 -- ---- what stands at a path
 
@@ -120,77 +124,11 @@ may_link supply T' room from to t e =
 
 -- ---- unlink, rmdir
 
-abbrev path_in : ℕ → List (Route × ℕ) → Bool
-path_in id es = list_any (λ e. e.1 == id) es
-
-abbrev paths_in : ℕ → List (Route × ℕ) → ℕ
-paths_in id es = count_by (λ e. e.1 == id) es
-
-abbrev other_than : Route → Route → Bool
-other_than path q = not (eq_by_cmp route_cmp path q)
-
-none_counted : (id : ℕ) (es : List (Route × ℕ)) → not (path_in id es) ≡ (paths_in id es == 0)
-none_counted id [] = refl
-none_counted id (e ∷ es) =
-    let rest = none_counted id es in
-    let more = sum_by-cons (λ (x : Route × ℕ). cond (x.1 == id) 1 0) e es in
-    elim (e.1 == id) as (λ b. paths_in id (e ∷ es) ≡ cond b 1 0 + paths_in id es → not (b || path_in id es) ≡ (paths_in id (e ∷ es) == 0)) [
-      | true ↦ λ more. some (paths_in id (e ∷ es)) (paths_in id es) more
-      | false ↦ λ more. rest ∙ ap (λ n. n == 0) (let same : paths_in id es ≡ paths_in id (e ∷ es) = omega (arith, more) in same)
-    ] more
-  where
-    some : (n m : ℕ) → n ≡ 1 + m → false ≡ (n == 0)
-    some n m e = grind (arith, nat_tests)
-
--- without a path there is one less where the path named the id
-module _ (id : ℕ) (path : Route) where
-  kept_all : (es : List (Route × ℕ)) → find route_cmp path es ≡ None → where_key route_cmp (other_than path) es ≡ es
-  kept_all [] none = refl
-  kept_all (e ∷ es) none =
-      elim (eq_by_cmp route_cmp path e.0) as (λ b. cond b (Some e.1) (find route_cmp path es) ≡ None → cond (not b) (e ∷ where_key route_cmp (other_than path) es) (where_key route_cmp (other_than path) es) ≡ e ∷ es) [
-        | true ↦ λ none. none_some e.1 (sym none)
-        | false ↦ λ none. ap (λ l. e ∷ l) (kept_all es none)
-      ] none
-
-  one_less : (es : List (Route × ℕ)) → T (is_sorted route_cmp es) → find route_cmp path es ≡ Some id → paths_in id (where_key route_cmp (other_than path) es) + 1 ≡ paths_in id es
-  one_less [] h found = none_some id found
-  one_less (e ∷ es) h found =
-      let test : Route × ℕ → ℕ = λ x. cond (x.1 == id) 1 0 in
-      let more = sum_by-cons test e es in
-      elim (eq_by_cmp route_cmp path e.0) as (λ b. eq_by_cmp route_cmp path e.0 ≡ b → cond b (Some e.1) (find route_cmp path es) ≡ Some id
-      → paths_in id (cond (not b) (e ∷ where_key route_cmp (other_than path) es) (where_key route_cmp (other_than path) es)) + 1 ≡ paths_in id (e ∷ es)) [
-        | true ↦ λ is found.
-            let none = ap (λ q. find route_cmp q es) (same_route path e.0 is) ∙ find-below route_cmp e.0 es (front _ _ h) in
-            let same = ap (paths_in id) (kept_all es none) in
-            let one : test e ≡ 1 = ap (λ b. cond b 1 0) (equal_test e.1 id (same_some e.1 id found)) in
-            let all : paths_in id (where_key route_cmp (other_than path) es) + 1 ≡ paths_in id (e ∷ es) = omega (arith, more, same, one) in all
-        | false ↦ λ is found.
-            let rest : paths_in id (where_key route_cmp (other_than path) es) + 1 ≡ paths_in id es = one_less es (back _ _ h) found in
-            let kept = sum_by-cons test e (where_key route_cmp (other_than path) es) in
-            let all : paths_in id (e ∷ where_key route_cmp (other_than path) es) + 1 ≡ paths_in id (e ∷ es) = omega (arith, more, rest, kept) in all
-      ] refl found
-    where
-      equal_test : (a b : ℕ) → a ≡ b → a == b ≡ true
-      equal_test a b e = grind (arith, nat_tests)
-
-node_kept : (T' : Tree) (i : ℕ) → node_at (without_unnamed T') i ≡ cond (path_in i T'.names.entries) (node_at T' i) None
-node_kept T' i = get-retain T'.nodes (λ id. list_any (λ e. e.1 == id) T'.names.entries) i (λ x e. ap (λ id. path_in id T'.names.entries) (sym (same_id i x (ap is_eq e))))
-
 -- a file goes with its last path
-pub goes-unlink : (T' : Tree) (path : Route) (id : ℕ) (node : Node) → id_at T' path ≡ Some id → node_at T' id ≡ Some node
+goes_with_path : (T' : Tree) (path : Route) (id : ℕ) (node : Node) → id_at T' path ≡ Some id → node_at T' id ≡ Some node
     → is_none (node_at (without_unnamed (without_path T' path)) id) ≡ (path_count T' id == 1)
-goes-unlink T' path id node named there =
-    let rest = where_key route_cmp (other_than path) T'.names.entries in
-    let less = one_less id path T'.names.entries T'.names.sorted named in
-    ap is_none (node_kept (without_path T' path) id ∙ ap (λ o. cond (path_in id rest) o None) there) ∙ either (path_in id rest) node
-    ∙ none_counted id rest ∙ one_test (paths_in id rest) (path_count T' id) less
-  where
-    either : (b : Bool) (n : Node) → is_none (cond b (Some n) None) ≡ not b
-    either true n = refl
-    either false n = refl
-
-    one_test : (n m : ℕ) → n + 1 ≡ m → (n == 0) ≡ (m == 1)
-    one_test n m e = grind (arith, nat_tests)
+goes_with_path T' path id node named there =
+    gone-where_unnamed (without_path T' path) id node there ∙ one_test (path_count (without_path T' path) id) (path_count T' id) (path_count-without_path T' path id named)
 
 may_unlink : (supply : Supply) (T' : Tree) (room : Room) (path : Route) → IsTree T' → refusal_with supply T' room (Unlink path) ≡ None → MayUnlink T' path
 may_unlink supply T' room path t e =
@@ -201,7 +139,7 @@ may_unlink supply T' room path t e =
     record {
       holder = holder_above T' t path file.id file.named (at-none Root (is_root path) below.0);
       source = file;
-      goes = λ new. goes-unlink T' path file.id (File file.bytes) file.named file.file;
+      goes = λ new. goes_with_path T' path file.id (File file.bytes) file.named file.file;
     }
 
 -- a directory has no other path
@@ -257,11 +195,12 @@ equal_ids a b e = grind (arith, nat_tests)
 module _ (T' : Tree) (t : IsTree T') (from to : Route) (source : IsNodeAt T' from) (differ : is_same_node T' from to ≡ false)
     (dir_onto : is_directory T' (id_of T' from) && is_there T' to && is_file T' (id_of T' to) ≡ false)
     (file_onto : is_file T' (id_of T' from) && is_there T' to && is_directory T' (id_of T' to) ≡ false)
-    (full : is_directory T' (id_of T' from) && is_there T' to && is_directory T' (id_of T' to) && nat_lt 0 (name_count T' (id_of T' to)) ≡ false) where
+    (full : is_directory T' (id_of T' from) && is_there T' to && is_directory T' (id_of T' to) && nat_lt 0 (name_count T' (id_of T' to)) ≡ false)
+    (clear_of_target : (p : Route) → is_some (id_at (without_path T' to) p) ≡ true → rest_after to p ≡ None) where
   source_there : is_some (node_at T' (id_of T' from)) ≡ true
   source_there = ap (λ n. is_some (node_at T' n)) source.is ∙ ap is_some source.present
 
-  may_replace : (id : ℕ) → id_at T' to ≡ Some id → MayReplace T' source.id to
+  may_replace : (id : ℕ) → id_at T' to ≡ Some id → MayReplace T' from to source.id
   may_replace id named =
       let node = some_is (node_at T' id) (t.present to id named) in
       let is : id_of T' to ≡ id = ap (λ o. unwrap_or o root_id) named in
@@ -274,8 +213,17 @@ module _ (T' : Tree) (t : IsTree T') (from to : Route) (source : IsNodeAt T' fro
         other = λ same. true≢false (sym (one_node id named same) ∙ differ);
         kind = ap (is_directory T') (sym is) ∙ sym kinds.0 ∙ ap (is_directory T') source.is;
         empty = ap (name_count T') (sym is) ∙ kinds.1;
+        goes = λ new. goes_with_target id node.0 named node.1;
       }
     where
+      goes_with_target : (id : ℕ) (node : Node) → id_at T' to ≡ Some id → node_at T' id ≡ Some node
+          → is_none (node_at (cond (is_same_node T' from to) T' (without_unnamed (with_moved (without_path T' to) from to))) id) ≡ (path_count T' id == 1)
+      goes_with_target id node named there =
+          ap (λ b. is_none (node_at (cond b T' (without_unnamed (with_moved (without_path T' to) from to))) id)) differ
+          ∙ gone-where_unnamed (with_moved (without_path T' to) from to) id node there
+          ∙ ap (λ n. n == 0) (path_count-with_moved (without_path T' to) from to id clear_of_target)
+          ∙ one_test (path_count (without_path T' to) id) (path_count T' id) (path_count-without_path T' to id named)
+
       one_node : (id : ℕ) → id_at T' to ≡ Some id → id ≡ source.id → is_same_node T' from to ≡ true
       one_node id named same =
           ap (λ o. is_number o (id_of T' to) && is_there T' to) source.named ∙ ap (λ o. (source.id == unwrap_or o root_id) && is_some o) named ∙ equal_ids source.id id (sym same)
@@ -294,31 +242,34 @@ module _ (T' : Tree) (t : IsTree T') (from to : Route) (source : IsNodeAt T' fro
           ]
 
   target_of : (supply : Supply) (room : Room) → HasHolder T' to → need T' room (Rename from to) ≤ free_pages supply T' room → (o : Option ℕ) → id_at T' to ≡ o
-      → MayName supply T' room to ⊎ MayReplace T' source.id to
+      → MayName supply T' room to ⊎ MayReplace T' from to source.id
   target_of supply room holder page None is =
       let needs : need T' room (Rename from to) ≡ page_for_name T' room (Some (id_of T' (parent to))) =
           ap (λ b. page_for_name T' room (cond b None (Some (id_of T' (parent to))))) (ap is_some is) in
       inl (may_name T' t to supply room holder (ap is_some is) (omega (arith, page, needs)))
   target_of supply room holder page (Some id) is = inr (may_replace id is)
 
-may_move : (supply : Supply) (T' : Tree) (room : Room) (from to : Route) (t : IsTree T') (source : IsNodeAt T' from) → HasHolder T' to → (same : Bool) → is_same_node T' from to ≡ same
+may_move : (supply : Supply) (T' : Tree) (room : Room) (from to : Route) (t : IsTree T') (source : IsNodeAt T' from) → is_root from ≡ false → HasHolder T' to → (same : Bool) → is_same_node T' from to ≡ same
     → first (cond same [] (
     at NotDir (is_directory T' (id_of T' from) && is_there T' to && is_file T' (id_of T' to))
     ∷ at IsDir (is_file T' (id_of T' from) && is_there T' to && is_directory T' (id_of T' to))
     ∷ at NotEmpty (is_directory T' (id_of T' from) && is_there T' to && is_directory T' (id_of T' to) && nat_lt 0 (name_count T' (id_of T' to)))
     ∷ at IntoItself (is_directory T' (id_of T' from) && is_above from to) ∷ at NoPages (lacks_pages supply T' room (Rename from to)) ∷ [])) ≡ None
-    → (is_same_node T' from to ≡ true) ⊎ MayMove supply T' room source.id from to
-may_move supply T' room from to t source holder true is e = inl is
-may_move supply T' room from to t source holder false is e =
+    → (is_same_node T' from to ≡ true) ⊎ MayMove supply T' room from to source.id
+may_move supply T' room from to t source from_below holder true is e = inl is
+may_move supply T' room from to t source from_below holder false is e =
     let one = first-none (at NotDir (is_directory T' (id_of T' from) && is_there T' to && is_file T' (id_of T' to))) _ e in
     let two = first-none (at IsDir (is_file T' (id_of T' from) && is_there T' to && is_directory T' (id_of T' to))) _ one.1 in
     let three = first-none (at NotEmpty (is_directory T' (id_of T' from) && is_there T' to && is_directory T' (id_of T' to) && nat_lt 0 (name_count T' (id_of T' to)))) _ two.1 in
     let four = first-none (at IntoItself (is_directory T' (id_of T' from) && is_above from to)) _ three.1 in
     let pages = first-none (at NoPages (lacks_pages supply T' room (Rename from to))) [] four.1 in
+    let empty = target_empty T' t from to source.id holder.directory source.named holder.held holder.holds is (at-none IsDir _ two.0) (at-none NotEmpty _ three.0) (at-none IntoItself _ four.0) (id_at T' to) refl in
+    let outside = not_inside T' t from to source.id holder.directory source.named holder.held holder.holds is (at-none IsDir _ two.0) (at-none NotEmpty _ three.0) (at-none IntoItself _ four.0) (rest_after from to) refl in
     inr (record {
       differ = is;
-      outside = not_inside T' t from to source.id holder.directory source.named holder.held holder.holds is (at-none IsDir _ two.0) (at-none NotEmpty _ three.0) (at-none IntoItself _ four.0) (rest_after from to) refl;
-      target = target_of T' t from to source is (at-none NotDir _ one.0) (at-none IsDir _ two.0) (at-none NotEmpty _ three.0) supply room holder
+      outside = outside;
+      target = target_of T' t from to source is (at-none NotDir _ one.0) (at-none IsDir _ two.0) (at-none NotEmpty _ three.0)
+          (clear T' t from to holder.directory from_below holder.below holder.held holder.holds empty outside) supply room holder
           (enough supply T' room (Rename from to) pages.0) (id_at T' to) refl;
     })
 
@@ -334,7 +285,7 @@ may_rename supply T' room from to t e =
       source = source;
       old_holder = holder_above T' t from source.id source.named apart.0;
       new_holder = holder;
-      moves = may_move supply T' room from to t source holder (is_same_node T' from to) refl below.1;
+      moves = may_move supply T' room from to t source apart.0 holder (is_same_node T' from to) refl below.1;
     }
 
 -- ---- write, truncate, read

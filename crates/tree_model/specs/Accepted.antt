@@ -72,25 +72,27 @@ pub record MayRemove (T : Tree) (path : Route) : Type 0 where
 
 -- ---- rename
 
--- the new path names another node of the kind of the moved one, which has no names
-pub record MayReplace (T : Tree) (moved : ℕ) (to : Route) : Type 0 where
+-- The new path names another node of the kind of the moved one, which has no names. It goes exactly where this is
+-- its only path.
+pub record MayReplace (T : Tree) (from to : Route) (moved : ℕ) : Type 0 where
   pub target : IsNodeAt T to
   pub other : target.id ≢ moved
   pub kind : is_directory T target.id ≡ is_directory T moved
   pub empty : name_count T target.id ≡ 0
+  pub goes : (new : ℕ) → is_none (node_at (tree_after new T (Rename from to)) target.id) ≡ (path_count T target.id == 1)
 
 -- the paths name two nodes, and neither lies below the first
-pub record MayMove (supply : Supply) (T : Tree) (room : Room) (moved : ℕ) (from to : Route) : Type 0 where
+pub record MayMove (supply : Supply) (T : Tree) (room : Room) (from to : Route) (moved : ℕ) : Type 0 where
   pub differ : is_same_node T from to ≡ false
   pub outside : rest_after from to ≡ None
-  pub target : MayName supply T room to ⊎ MayReplace T moved to
+  pub target : MayName supply T room to ⊎ MayReplace T from to moved
 
 -- where both paths name one node nothing is done
 pub record MayRename (supply : Supply) (T : Tree) (room : Room) (from to : Route) : Type 0 where
   pub source : IsNodeAt T from
   pub old_holder : HasHolder T from
   pub new_holder : HasHolder T to
-  pub moves : (is_same_node T from to ≡ true) ⊎ MayMove supply T room source.id from to
+  pub moves : (is_same_node T from to ≡ true) ⊎ MayMove supply T room from to source.id
 
 -- ---- write, truncate
 
