@@ -119,13 +119,17 @@ gone-where_unnamed T' id node there =
     either true n = refl
     either false n = refl
 
-pub node_at-without_unnamed : (T' : Tree) (id : ℕ) → 1 ≤ path_count T' id → node_at (without_unnamed T') id ≡ node_at T' id
-node_at-without_unnamed T' id some =
-    node_kept T' id ∙ ap (λ b. cond b (node_at T' id) None) (named (path_in id T'.names.entries) (path_count T' id) (none_counted id T'.names.entries) some)
+-- a node that has a path stays, and where there is none, none comes
+pub node_at-without_unnamed : (T' : Tree) (id : ℕ) → (is_some (node_at T' id) ≡ true → 1 ≤ path_count T' id) → node_at (without_unnamed T') id ≡ node_at T' id
+node_at-without_unnamed T' id some = node_kept T' id ∙ stays (path_in id T'.names.entries) (path_count T' id) (none_counted id T'.names.entries) (node_at T' id) some
   where
-    named : (b : Bool) (n : ℕ) → not b ≡ (n == 0) → 1 ≤ n → b ≡ true
-    named true n e some = refl
-    named false n e some = grind (arith, nat_tests)
+    stays : (b : Bool) (n : ℕ) → not b ≡ (n == 0) → (o : Option Node) → (is_some o ≡ true → 1 ≤ n) → cond b o None ≡ o
+    stays true n e o some = refl
+    stays false n e None some = refl
+    stays false n e (Some node) some = absurd (none_counted_here n e (some refl))
+      where
+        none_counted_here : (n : ℕ) → true ≡ (n == 0) → 1 ≤ n → ⊥
+        none_counted_here n e some = grind (arith, nat_tests)
 
 pub path_count-node : (T' : Tree) (t : IsTree T') (id : ℕ) (node : Node) → node_at T' id ≡ Some node → 1 ≤ path_count T' id
 path_count-node T' t id node there =
