@@ -1,21 +1,15 @@
 -- An accepted command found what its record says.
-use Rattle.std.proofs.Common.{◌≡◌, ◌≢◌, ℕ, ◌+◌, ◌-◌, ◌≤◌, ◌⊎◌, inl, inr, Bool, true, false, not, cond, max, ◌&&◌, ◌||◌, ◌==◌, nat_lt, List, [], ◌∷◌, ◌++◌, length, take, drop, replicate, length-append, length-drop, Option, Some, None, is_some, is_none, unwrap_or, Result, Ok, Err, refl, sym, ap, subst, ◌∙◌, arith, true≢false, T, nat_cmp, is_eq, count_by}
+use Rattle.std.proofs.Common.{◌≡◌, ℕ, ◌+◌, ◌-◌, ◌≤◌, ◌⊎◌, inl, inr, Bool, true, false, cond, max, ◌&&◌, ◌||◌, ◌==◌, nat_lt, List, [], ◌∷◌, ◌++◌, length, take, drop, replicate, length-append, length-drop, Option, Some, None, is_some, is_none, unwrap_or, refl, sym, ap, subst, ◌∙◌, arith, true≢false}
 use Rattle.std.proofs.lemmas.List.{length-take, length-replicate}
-use Rattle.std.proofs.lemmas.List.Sums.{sum_by-cons}
-use Rattle.std.specs.Ordering.{eq_by_cmp}
-use Rattle.std.specs.List.{list_any}
-use Rattle.std.specs.FinMap.Entries.{find, where_key, is_sorted}
 use Rattle.std.proofs.lemmas.Bool.Decides.{nat_tests}
 use Rattle.tree_model.specs.PathText.{Route}
-use Rattle.tree_model.specs.Table.{get-retain}
-use Rattle.tree_model.specs.Tree.{Tree, Node, Directory, File, Room, IsTree, root_id, route_cmp, route_cmp_total, is_root, parent, rest_after, is_above, id_at, node_at, is_directory, is_file, is_directory_node, is_file_node, is_number, bytes_of, bytes_of_node, name_count, path_count}
+use Rattle.tree_model.specs.Tree.{Tree, Node, Directory, File, Room, IsTree, root_id, is_root, parent, rest_after, is_above, id_at, node_at, is_directory, is_file, is_directory_node, is_file_node, is_number, bytes_of, bytes_of_node, name_count, path_count}
 use Rattle.tree_model.specs.Capacity.{Supply, free_inodes, free_pages, file_limit}
-use Rattle.tree_model.specs.Walk.{Place, walk, walk_to_parent}
-use Rattle.tree_model.specs.Step.{first, at, fault_of, id_of, is_there, is_same_node, least_free_id, page_for_name, need, rise, read_limit, lacks_inodes, lacks_pages, refusal_with, with_bytes, with_moved, without_path, without_unnamed, resized, overwritten, tree_after}
-use Rattle.tree_model.specs.Accepted.{HasHolder, IsNodeAt, IsFileAt, IsDirectoryAt, MayName, MayMake, MayLink, MayUnlink, MayRemove, MayReplace, MayMove, MayRename, MayWrite, MayTruncate, MayRead, Accepted, bytes_after_write, size_after_write}
+use Rattle.tree_model.specs.Walk.{walk, walk_to_parent}
+use Rattle.tree_model.specs.Step.{first, at, fault_of, id_of, is_there, is_same_node, page_for_name, need, rise, read_limit, lacks_inodes, lacks_pages, refusal_with, with_bytes, with_moved, without_path, without_unnamed, resized, overwritten}
+use Rattle.tree_model.specs.Accepted.{HasHolder, IsNodeAt, IsFileAt, IsDirectoryAt, MayName, MayMake, MayLink, MayUnlink, MayRemove, MayReplace, MayMove, MayRename, MayWrite, MayTruncate, MayRead, Accepted}
 use Rattle.tree_model.specs.declared.command.Command.{Command}
 use Rattle.tree_model.specs.declared.command.Command.TheVariants.{Create, Mkdir, Link, Unlink, Rmdir, Rename, Write, Truncate, Read, Stat as Tell, List as Show, Df}
-use Rattle.tree_model.specs.declared.reply.Refusal.{Refusal}
 use Rattle.tree_model.specs.declared.reply.Refusal.TheVariants.{Root, Exists, IsDir, NotDir, NotEmpty, IntoItself, TooBig, NoInodes, NoPages}
 use Rattle.tree_model.proofs.Accepted.{first-none, at-none, fault_of-none, not_there}
 use Rattle.tree_model.proofs.WalkLaws.{holder-from_walk, id_at-from_walk}
@@ -24,7 +18,7 @@ use Rattle.tree_model.proofs.TreeMoved.{clear}
 use Rattle.tree_model.proofs.TreePruned.{IsTree-without_unnamed}
 use Rattle.tree_model.proofs.PathCounts.{path_count-without_path, path_count-with_moved, gone-where_unnamed}
 use Rattle.tree_model.proofs.TreeLess.{HasNoNames, HasNoNames-empty, less_was, IsAlmostTree-without_path}
-use Rattle.tree_model.proofs.TreeKept.{some_is, same_some, none_some, directory_is}
+use Rattle.tree_model.proofs.TreeKept.{some_is}
 use Rattle.tree_model.proofs.StepLaws.{neither_first, target_empty, not_inside, no_names}
 
 -- ---- tests
@@ -245,7 +239,7 @@ module _ (T' : Tree) (t : IsTree T') (from to : Route) (source : IsNodeAt T' fro
       → MayName supply T' room to ⊎ MayReplace T' from to source.id
   target_of supply room holder page None is =
       let needs : need T' room (Rename from to) ≡ page_for_name T' room (Some (id_of T' (parent to))) =
-          ap (λ b. page_for_name T' room (cond b None (Some (id_of T' (parent to))))) (ap is_some is) in
+      ap (λ b. page_for_name T' room (cond b None (Some (id_of T' (parent to))))) (ap is_some is) in
       inl (may_name T' t to supply room holder (ap is_some is) (omega (arith, page, needs)))
   target_of supply room holder page (Some id) is = inr (may_replace id is)
 

@@ -1,11 +1,11 @@
 -- What the fences of lines are at most, and where they are none.
-use Rattle.std.proofs.Common.{◌≡◌, ◌≢◌, ℕ, ◌+◌, ◌*◌, ◌≤◌, Bool, true, false, cond, ◌||◌, ◌&&◌, ◌==◌, nat_lt, nat_le, List, [], ◌∷◌, ◌++◌, length, Option, Some, None, Ok, Err, refl, ap, arith}
+use Rattle.std.proofs.Common.{◌≡◌, ◌≢◌, ℕ, ◌+◌, ◌*◌, ◌≤◌, Bool, true, false, cond, ◌||◌, ◌==◌, nat_lt, nat_le, List, [], ◌∷◌, ◌++◌, length, Option, Some, None, Ok, Err, refl, arith}
 use Rattle.layout.specs.Geometry.{pieces}
 use Rattle.tree_model.specs.PathText.{Route}
 use Rattle.tree_model.specs.Tree.{Tree, Room, page_bytes}
-use Rattle.tree_model.specs.Step.{Answer, Done, Count, Status, Bytes, Listed, Space, Refused, Unread, Fault, Stopped, is_full, is_same_node, is_there, gaining, page_for_name, need, refusal_of, step, resolved}
+use Rattle.tree_model.specs.Step.{Answer, Done, Count, Status, Bytes, Listed, Space, Refused, Unread, Fault, Stopped, is_full, is_same_node, is_there, gaining, page_for_name, need, resolved}
 use Rattle.tree_model.specs.Run.{State, Line, is_changing}
-use Rattle.tree_model.specs.Fences.{most_fences, one_where, needs_pages, gave, gone, clears_owners, size_before, pages_before, fences_for_name, fences_for_loss, fences_of_growth, fences_of_write, fences_of_truncate, fences_of_rename, fences_of_accepted, fences_of_change, fences_of, fences_of_run}
+use Rattle.tree_model.specs.Fences.{most_fences, one_where, needs_pages, gave, gone, clears_owners, size_before, pages_before, fences_for_loss, fences_of_growth, fences_of_write, fences_of_truncate, fences_of_rename, fences_of_accepted, fences_of_change, fences_of, fences_of_run}
 use Rattle.tree_model.specs.declared.command.Command.{Command}
 use Rattle.tree_model.specs.declared.command.Command.TheVariants.{Create, Mkdir, Link, Unlink, Rmdir, Rename, Write, Truncate, Read, Stat as Tell, List as Show, Df}
 

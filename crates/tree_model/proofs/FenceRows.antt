@@ -13,7 +13,7 @@ use Rattle.tree_model.specs.declared.command.Command.{Command}
 use Rattle.tree_model.specs.declared.command.Command.TheVariants.{Create, Mkdir, Link, Unlink, Rmdir, Rename, Write, Truncate, Read, Stat, List as Show, Df}
 use Rattle.tree_model.specs.declared.reply.LineFault.TheVariants.{BadLine}
 use Rattle.tree_model.specs.declared.reply.Refusal.TheVariants.{Exists, NoPages, NoMemory}
-use Rattle.tree_model.proofs.Rows.{a, b, c, d, f, below}
+use Rattle.tree_model.proofs.Rows.{a, b, c, d, below}
 
 -- ---- runs in which each loss of a name says whether it gives a page back, where it may do either
 

@@ -12,7 +12,7 @@ use Rattle.tree_model.specs.Step.{without_path, without_unnamed, with_moved, mov
 use Rattle.tree_model.proofs.EntryLaws.{front, back, find-below, measure_found, sum_by-put}
 use Rattle.tree_model.proofs.Lookups.{rest_after-append, rest_after-some, origin, origin_of, at_origin, AreClearOf, AreClearOf-from_find, moved_entries, find-moved}
 use Rattle.tree_model.proofs.TreeLaws.{same_id, same_route}
-use Rattle.tree_model.proofs.TreeKept.{none_some, some_is, same_some}
+use Rattle.tree_model.proofs.TreeKept.{none_some, same_some}
 
 abbrev pub path_in : ℕ → List (Route × ℕ) → Bool
 path_in id es = list_any (λ e. e.1 == id) es

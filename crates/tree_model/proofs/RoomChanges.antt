@@ -1,17 +1,17 @@
 -- The room after commands that leave the directories, and where a page is given back.
-use Rattle.std.proofs.Common.{◌≡◌, ◌≢◌, ℕ, ◌+◌, ◌-◌, ◌≤◌, inl, inr, Bool, true, false, cond, ◌&&◌, ◌==◌, nat_lt, List, length, Option, Some, None, is_some, unwrap_or, refl, sym, ap, subst, ◌∙◌, arith, true≢false, nat_cmp, add-zero}
+use Rattle.std.proofs.Common.{◌≡◌, ◌≢◌, ℕ, ◌+◌, ◌-◌, ◌≤◌, inl, inr, Bool, true, false, cond, ◌&&◌, ◌==◌, nat_lt, List, length, Option, Some, None, is_some, unwrap_or, refl, sym, ap, ◌∙◌, arith, true≢false, nat_cmp, add-zero}
 use Rattle.std.specs.Cmp.{nat_cmp_total}
 use Rattle.std.specs.Ordering.{eq_by_cmp}
 use Rattle.std.proofs.lemmas.Bool.Decides.{nat_tests}
 use Rattle.tree_model.specs.PathText.{Route}
 use Rattle.tree_model.specs.Table.{get, insert, get-insert}
-use Rattle.tree_model.specs.Tree.{Tree, Node, File, Room, IsTree, IsRoom, parent, rest_after, id_at, node_at, is_directory, is_directory_node, is_number, path_count, bytes_of, pages_in}
+use Rattle.tree_model.specs.Tree.{Tree, File, Room, IsTree, IsRoom, parent, rest_after, id_at, node_at, is_directory, is_directory_node, is_number, bytes_of, pages_in}
 use Rattle.tree_model.specs.Capacity.{Supply}
-use Rattle.tree_model.specs.Step.{id_of, is_there, is_same_node, is_full, gaining, losing, page_for_name, pages_after, room_after, tree_after, with_bytes, with_moved, without_path, without_unnamed, overwritten, resized, refusal_with, RoomAfterWith}
+use Rattle.tree_model.specs.Step.{id_of, is_same_node, gaining, losing, page_for_name, pages_after, room_after, tree_after, with_bytes, with_moved, without_path, without_unnamed, overwritten, resized, refusal_with, RoomAfterWith}
 use Rattle.tree_model.specs.Run.{State}
 use Rattle.tree_model.specs.Fences.{gave, gave_from}
 use Rattle.tree_model.specs.Rooms.{LeavesDirectories, LeavesNames, ExchangesNames, pages_exchanged, IsRoomExchanged}
-use Rattle.tree_model.specs.Accepted.{HasHolder, IsFileAt, MayMove, MayRename}
+use Rattle.tree_model.specs.Accepted.{HasHolder, IsFileAt}
 use Rattle.tree_model.specs.declared.command.Command.{Command}
 use Rattle.tree_model.specs.declared.command.Command.TheVariants.{Create, Mkdir, Link, Unlink, Rmdir, Rename, Write, Truncate, Read, Stat as Tell, List as Show, Df}
 use Rattle.tree_model.proofs.RoomLaws.{get-room_after, room_after-same, room-has_directory, directory-from_room}
@@ -42,7 +42,7 @@ moved_leaves : (T : Tree) (t : IsTree T) (from to : Route) (old_holder : HasHold
 moved_leaves T t from to old_holder new_holder absent outside id =
     let moved = with_moved (without_path T to) from to in
     let counted = path_count-with_moved (without_path T to) from to id
-        (clear T t from to new_holder.directory old_holder.below new_holder.below new_holder.held new_holder.holds (HasNoNames-absent T t to absent) outside) in
+    (clear T t from to new_holder.directory old_holder.below new_holder.below new_holder.held new_holder.holds (HasNoNames-absent T t to absent) outside) in
     let same = path_count-absent T to id absent in
     node_at-without_unnamed moved id (λ there.
     let node = some_is (node_at T id) there in

@@ -1,5 +1,5 @@
 -- What an accepted command found, and what it makes of it: one record a command.
-use Rattle.std.specs.Prelude.{◌≡◌, ◌≢◌, ℕ, ◌+◌, ◌≤◌, ◌==◌, Bool, true, false, if◌then◌else◌, max, List, length, Option, Some, None, is_none, ◌⊎◌}
+use Rattle.std.specs.Prelude.{◌≡◌, ◌≢◌, ℕ, ◌+◌, ◌≤◌, ◌==◌, true, false, if◌then◌else◌, max, List, length, Some, None, is_none, ◌⊎◌}
 use Rattle.tree_model.specs.PathText.{Route}
 use Rattle.tree_model.specs.Tree.{Tree, Node, Directory, File, Room, is_root, parent, rest_after, id_at, node_at, is_directory, name_count, path_count}
 use Rattle.tree_model.specs.Capacity.{Supply, free_inodes, free_pages, file_limit}

@@ -1,5 +1,5 @@
 -- The room after commands that leave the directories.
-use Rattle.std.specs.Prelude.{◌≡◌, ℕ, ◌+◌, ◌-◌, Bool, true, false, if◌then◌else◌, Option, Some, None}
+use Rattle.std.specs.Prelude.{◌≡◌, ℕ, ◌+◌, ◌-◌, Bool, if◌then◌else◌, Some, None}
 use Rattle.std.specs.Cmp.{nat_cmp_total}
 use Rattle.tree_model.specs.Table.{insert}
 use Rattle.tree_model.specs.Tree.{Tree, Room, is_directory, pages_in}
