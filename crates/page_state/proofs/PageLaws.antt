@@ -12,7 +12,7 @@ use Rattle.layout.specs.Fields.{word, page_owner, page_kind, page_offset}
 use Rattle.fence_token.specs.Objects.{IsLocal, StoreNoneOf}
 use Rattle.fence_token.proofs.ObjectLaws.{stands_stays, goes_on_as, clean_as_events}
 use Rattle.page_state.specs.States.{IsFree}
-use Rattle.page_state.specs.Page.{PageView, EachPage, IsDescriptorWord, IsOwnWord, descriptor_of, fields_of_page, SayFields, HaveMeaning, IsWordOf, ReadAs, PageIsDirty}
+use Rattle.page_state.specs.Page.{PageView, EachPage, AreDataPages, IsDescriptorWord, IsOwnWord, descriptor_of, fields_of_page, SayFields, HaveMeaning, IsWordOf, ReadAs, PageIsDirty}
 
 -- the word of a field is the descriptor's
 pub descriptor_word_is : (volume_pages page field : ℕ) → field < 3 → IsDescriptorWord volume_pages page (descriptor_word_of volume_pages page field)
@@ -66,6 +66,14 @@ same_offset false offset = refl
 -- the first page's says the fields themselves
 pub first_page_fields : (fields : DescriptorFields) → fields ≡ fields_of_page fields 0
 first_page_fields fields = same_descriptor_fields fields (fields_of_page fields 0) refl refl (same_offset (fields.kind == 1) fields.offset)
+
+-- a list of one data page
+pub one_data_page : {data_pages : ℕ} (pages : List ℕ) → length pages ≡ 1 → slice_index pages 0 < data_pages → AreDataPages data_pages pages
+one_data_page {data_pages} pages one within = record {
+  some = omega (arith, one);
+  in_range = record { each = λ index inside. let here : index ≡ 0 = omega (arith, one, inside) in subst (λ (k : ℕ). slice_index pages k < data_pages) (sym here) within };
+  distinct = record { each = λ index other inside inside_too same. omega (arith, one, inside, inside_too) };
+}
 
 -- one page is alike
 pub one_page_alike : (volume_pages : ℕ) (pages words : List ℕ) → length pages ≡ 1 → SayFields volume_pages pages (descriptor_of volume_pages words (slice_index pages 0)) words
