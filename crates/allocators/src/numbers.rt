@@ -33,9 +33,7 @@ impl Numbers {
     pub fn new(alloc: Global, n: u64) -> Result<Numbers, NoMemory>
         ensures { IfOk result (λ numbers. numbers ≡ replicate n true) }
     {
-        let Ok(is_free) = vec![in alloc; true; n as usize] else {
-            return Err(NoMemory);
-        };
+        let is_free = vec![in alloc; true; n as usize]?;
         Ok(Numbers {
             is_free,
             lowest: 0,

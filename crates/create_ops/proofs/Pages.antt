@@ -7,9 +7,13 @@ use Rattle.pm_trait.specs.Trail.{Trail}
 use Rattle.pm_trait.specs.Device.{IsInterval, IsFlushed, IsClean, IsSettledAt}
 use Rattle.pm_trait.specs.DeviceView.{DeviceView, Stores}
 use Rattle.pm_trait.proofs.DeviceLaws.{interval_keeps, interval_length}
+use Rattle.pm_trait.proofs.DeviceViewLaws.{stores_weaker}
 use Rattle.layout.specs.Geometry.{IsVolumeSize, data_pages_of, descriptor_word_of}
-use Rattle.layout.specs.Fields.{word, page_owner, page_kind, page_offset}
-use Rattle.page_state.specs.Page.{EachPage, OfSome, IsOwnWord, IsFilledWord, IsOwnerWord, IsZeroPage}
+use Rattle.layout.specs.Fields.{word, page_owner}
+use Rattle.fence_token.proofs.StoredLaws.{exactly_stores, flushes_stores}
+use Rattle.page_state.specs.declared.page.Touched.{Touched}
+use Rattle.page_state.specs.Page.{EachPage, OfSome, IsOwnWord, IsFilledWord, IsOwnerWord, IsSlotPage, touched_lines}
+use Rattle.page_state.specs.Events.{FillsPages, ClaimsPages, FlushesPages}
 use Rattle.page_state.proofs.PageLaws.{own_word_within, descriptor_word_is}
 use Rattle.image_laws.specs.Create.{IsPageMadeWord, MakesPage, owned}
 
@@ -37,22 +41,22 @@ filled_word P j a (inl content) = inl (content.place, content.in_page, content.a
 filled_word P j a (inr (inl kind)) = inr (inl kind)
 filled_word P j a (inr (inr offset)) = inr (inr offset)
 
-made_of : {W A : List ℕ} {tw ta : Option Trail} (P : ℕ) (pages : List ℕ) → length pages ≡ 1 → EachPage pages (IsZeroPage P A) → EachPage pages (λ page. page_kind P A page ≡ 2) → EachPage pages (λ page. page_offset P A page ≡ 0)
-    → IsInterval (OfSome pages (IsFilledWord P)) W tw A ta → MakesPage P W A (slice_index pages 0)
+made_of : {W A : List ℕ} {tw ta : Option Trail} (P : ℕ) (pages : List ℕ) → length pages ≡ 1 → EachPage pages (IsSlotPage P A) → IsInterval (OfSome pages (IsFilledWord P)) W tw A ta → MakesPage P W A (slice_index pages 0)
 unfolding word
-made_of P pages one zero kind offset run = record {
-  size = interval_length run;
-  zeros = λ w lt. (zero.each 0 (omega (arith, one))).each w lt;
-  kind = kind.each 0 (omega (arith, one));
-  offset = offset.each 0 (omega (arith, one));
-  others = λ a out. interval_keeps a run (λ some. out (filled_word P (slice_index pages 0) a (of_one pages (IsFilledWord P) a one some)));
-}
+made_of P pages one filled run =
+    let page = filled.each 0 (omega (arith, one)) in
+    record {
+      size = interval_length run;
+      zeros = λ w lt. page.zero.each w lt;
+      kind = page.kind;
+      offset = page.offset;
+      others = λ a out. interval_keeps a run (λ some. out (filled_word P (slice_index pages 0) a (of_one pages (IsFilledWord P) a one some)));
+    }
 
 module _ (P V : ℕ) (pages ps : List ℕ) (volume : V ≡ P) (list : ps ≡ pages) (one : length pages ≡ 1) where
-  pub page_made : {W A B : List ℕ} {tw ta : Option Trail} → B ≡ A → EachPage ps (IsZeroPage V A) → EachPage ps (λ page. page_kind V A page ≡ 2) → EachPage ps (λ page. page_offset V A page ≡ 0)
-      → IsInterval (OfSome ps (IsFilledWord V)) W tw A ta → MakesPage P W B (slice_index pages 0)
-  page_made {W} {A} {B} same zero kind offset run =
-      let made : MakesPage V W A (slice_index ps 0) = made_of V ps (ap length list ∙ one) zero kind offset run in
+  pub page_made : {W A B : List ℕ} {tw ta : Option Trail} → B ≡ A → EachPage ps (IsSlotPage V A) → IsInterval (OfSome ps (IsFilledWord V)) W tw A ta → MakesPage P W B (slice_index pages 0)
+  page_made {W} {A} {B} same filled run =
+      let made : MakesPage V W A (slice_index ps 0) = made_of V ps (ap length list ∙ one) filled run in
       subst (λ (words : List ℕ). MakesPage P W words (slice_index pages 0)) (sym same)
       (subst (λ (v : ℕ). MakesPage v W A (slice_index pages 0)) volume (subst (λ (l : List ℕ). MakesPage V W A (slice_index l 0)) list made))
 
@@ -89,11 +93,16 @@ page_owned {a} {b} {c} P pages d same one inside owner run =
     x : ℕ
     x = descriptor_word_of P (slice_index pages 0) 0
 
--- what the calls of a page tell, in one
-pub told_stores : {W : ℕ → Type 0} {n : ℕ} (a b : DeviceView) (events : ℕ) → n ≡ events → IsInterval W a.words a.trail b.words b.trail → a.spare ≤ b.spare + n
-    → b.faults ≡ a.faults → b.refused ≡ a.refused → b.fences ≡ a.fences → b.acks ≡ a.acks → Stores W a b events
-told_stores a b events is run room faults refused fences acks = record {
-  stores = run;
-  room = omega (arith, room, is);
-  counts = record { faults = faults; refused = refused; fences = fences; acks = acks };
-}
+-- ---- the events of one page
+
+pub fill_stores : {a b : DeviceView} (V : ℕ) (pages : List ℕ) → length pages ≡ 1 → FillsPages V pages a b → Stores (OfSome pages (IsFilledWord V)) a b 514
+fill_stores V pages one filled = stores_weaker 514 (λ word is. is) (omega (arith, one)) (exactly_stores filled)
+
+pub claim_stores : {a b : DeviceView} (V : ℕ) (pages : List ℕ) (d : ℕ) → length pages ≡ 1 → ClaimsPages V pages d a b → Stores (OfSome pages (IsOwnerWord V)) a b 1
+claim_stores V pages d one claimed = stores_weaker 1 (λ word is. is) (omega (arith, one)) (exactly_stores claimed)
+
+pub page_flushes : {a b : DeviceView} (V : ℕ) (pages : List ℕ) (touched : Touched) (lines : ℕ) → touched_lines touched ≡ lines → length pages ≡ 1 → FlushesPages V pages touched a b → Stores (λ _. ⊥) a b lines
+page_flushes V pages touched lines many one flushes =
+    let all = ap (λ (n : ℕ). n * length pages) many in
+    let of_one = ap (λ (n : ℕ). lines * n) one in
+    stores_weaker lines (λ word is. is) (omega (arith, all, of_one)) (flushes_stores flushes)

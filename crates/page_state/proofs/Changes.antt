@@ -3,6 +3,7 @@ use Rattle.std.proofs.Common.{◌≡◌, ◌≢◌, ◌⊎◌, inl, inr, ⊎_eli
 use Rattle.std.specs.Prelude.{Option}
 use Rattle.pm_trait.specs.Trail.{Trail}
 use Rattle.pm_trait.specs.Device.{IsInterval, IsFlushed}
+use Rattle.pm_trait.specs.DeviceView.{DeviceView}
 use Rattle.pm_trait.proofs.DeviceLaws.{interval_keeps, interval_length, clean_stays, flushed_stays, flushed_if_clean}
 use Rattle.layout.specs.declared.fields.DescriptorFields.{DescriptorFields}
 use Rattle.layout.specs.Geometry.{data_pages_of, descriptor_word_of}
@@ -11,7 +12,8 @@ use Rattle.layout.specs.Fields.{word, page_owner, page_kind, page_offset}
 use Rattle.page_state.specs.declared.page.Touched.{Touched}
 use Rattle.page_state.specs.declared.page.Touched.TheVariants.{Descriptors, Whole}
 use Rattle.page_state.specs.States.{slots_fields, owned_fields, IsFree, IsFilled, IsLive}
-use Rattle.page_state.specs.Page.{EachPage, AreDataPages, OfSome, IsOwnWord, IsFilledWord, IsOwnerWord, IsTouched, IsSlotPage, descriptor_of, fields_of_page, HaveMeaning, PageIsDirty, PageIsClean}
+use Rattle.page_state.specs.Page.{PageView, EachPage, AreDataPages, OfSome, IsOwnWord, IsFilledWord, IsOwnerWord, IsTouched, IsSlotPage, descriptor_of, fields_of_page, HaveMeaning, PageIsDirty, PageIsClean}
+use Rattle.page_state.specs.Events.{FillsPages, ClaimsPages, FlushesPages}
 use Rattle.page_state.proofs.PageLaws.{same_descriptor_fields}
 
 -- a fill stores no owner
@@ -65,22 +67,22 @@ owned_mean pages fields owner some filled = record { each = λ index inside. (so
 -- ---- the objects
 
 -- free pages have no owner once they are filled
-pub filled_owners : {a b : List ℕ} {ta tb : Option Trail} (volume_pages : ℕ) (pages : List ℕ) (fields : DescriptorFields) (touched : Touched) (ticket : Option ℕ) → AreDataPages (data_pages_of volume_pages) pages → HaveMeaning IsFree pages fields
-    → PageIsClean (record { volume_pages = volume_pages; pages = pages; fields = fields; touched = touched; ticket = ticket }) a ta → IsInterval (OfSome pages (IsFilledWord volume_pages)) a ta b tb → EachPage pages (λ page. page_owner volume_pages b page ≡ 0)
+filled_owners : {a b : DeviceView} (volume_pages : ℕ) (pages : List ℕ) (fields : DescriptorFields) (touched : Touched) (ticket : Option ℕ) → AreDataPages (data_pages_of volume_pages) pages → HaveMeaning IsFree pages fields
+    → PageIsClean (record { volume_pages = volume_pages; pages = pages; fields = fields; touched = touched; ticket = ticket }) a → FillsPages volume_pages pages a b → EachPage pages (λ page. page_owner volume_pages b.words page ≡ 0)
 filled_owners volume_pages pages fields touched ticket valid free clean run = record {
-  each = λ index inside. fill_keeps_owners volume_pages pages valid run index inside ∙ ap (λ (said : DescriptorFields). said.owner) (clean.stands.reads.each index inside ∙ free.each index inside);
+  each = λ index inside. fill_keeps_owners volume_pages pages valid run.interval index inside ∙ ap (λ (said : DescriptorFields). said.owner) (clean.stands.reads.each index inside ∙ free.each index inside);
 }
 
 -- free pages that were filled
-pub filled_dirty : {a b : List ℕ} {ta tb : Option Trail} (volume_pages : ℕ) (pages : List ℕ) (fields : DescriptorFields) (touched : Touched) (ticket later : Option ℕ) → AreDataPages (data_pages_of volume_pages) pages → HaveMeaning IsFree pages fields
-    → PageIsClean (record { volume_pages = volume_pages; pages = pages; fields = fields; touched = touched; ticket = ticket }) a ta → IsInterval (OfSome pages (IsFilledWord volume_pages)) a ta b tb → EachPage pages (IsSlotPage volume_pages b)
-    → PageIsDirty (record { volume_pages = volume_pages; pages = pages; fields = slots_fields; touched = Whole; ticket = later }) b tb
+pub filled_dirty : {a b : DeviceView} (volume_pages : ℕ) (pages : List ℕ) (fields : DescriptorFields) (touched : Touched) (ticket later : Option ℕ) → AreDataPages (data_pages_of volume_pages) pages → HaveMeaning IsFree pages fields
+    → PageIsClean (record { volume_pages = volume_pages; pages = pages; fields = fields; touched = touched; ticket = ticket }) a → FillsPages volume_pages pages a b → EachPage pages (IsSlotPage volume_pages b.words)
+    → PageIsDirty (record { volume_pages = volume_pages; pages = pages; fields = slots_fields; touched = Whole; ticket = later }) b
 filled_dirty {b = b} volume_pages pages fields touched ticket later valid free clean run filled = record {
   stands = record {
-    inside = λ word own. let before = clean.stands.inside word own in omega (arith, before, interval_length run);
+    inside = λ word own. let before = clean.stands.inside word own in omega (arith, before, interval_length run.interval);
     reads = record {
       each = λ index inside.
-          same_descriptor_fields (descriptor_of volume_pages b (slice_index pages index)) (fields_of_page slots_fields index)
+          same_descriptor_fields (descriptor_of volume_pages b.words (slice_index pages index)) (fields_of_page slots_fields index)
           ((filled_owners volume_pages pages fields touched ticket valid free clean run).each index inside) (filled.each index inside).kind (filled.each index inside).offset;
     };
   };
@@ -88,33 +90,37 @@ filled_dirty {b = b} volume_pages pages fields touched ticket later valid free c
 }
 
 -- filled pages that got an owner
-pub claimed_dirty : {a b : List ℕ} {ta tb : Option Trail} (volume_pages : ℕ) (pages : List ℕ) (fields : DescriptorFields) (touched : Touched) (ticket later : Option ℕ) (owner : ℕ)
-    → PageIsClean (record { volume_pages = volume_pages; pages = pages; fields = fields; touched = touched; ticket = ticket }) a ta → IsInterval (OfSome pages (IsOwnerWord volume_pages)) a ta b tb → EachPage pages (λ page. page_owner volume_pages b page ≡ owner)
-    → PageIsDirty (record { volume_pages = volume_pages; pages = pages; fields = owned_fields fields owner; touched = Descriptors; ticket = later }) b tb
+pub claimed_dirty : {a b : DeviceView} (volume_pages : ℕ) (pages : List ℕ) (fields : DescriptorFields) (touched : Touched) (ticket later : Option ℕ) (owner : ℕ)
+    → PageIsClean (record { volume_pages = volume_pages; pages = pages; fields = fields; touched = touched; ticket = ticket }) a → ClaimsPages volume_pages pages owner a b → EachPage pages (λ page. page_owner volume_pages b.words page ≡ owner)
+    → PageIsDirty (record { volume_pages = volume_pages; pages = pages; fields = owned_fields fields owner; touched = Descriptors; ticket = later }) b
 claimed_dirty {b = b} volume_pages pages fields touched ticket later owner clean run claimed = record {
   stands = record {
-    inside = λ word own. let before = clean.stands.inside word own in omega (arith, before, interval_length run);
+    inside = λ word own. let before = clean.stands.inside word own in omega (arith, before, interval_length run.interval);
     reads = record {
       each = λ index inside.
           let page = slice_index pages index in
           let said = clean.stands.reads.each index inside in
-          same_descriptor_fields (descriptor_of volume_pages b page) (fields_of_page (owned_fields fields owner) index) (claimed.each index inside)
-          (claim_keeps_kinds volume_pages pages run page ∙ ap (λ (said : DescriptorFields). said.kind) said)
-          (claim_keeps_offsets volume_pages pages run page ∙ ap (λ (said : DescriptorFields). said.offset) said);
+          same_descriptor_fields (descriptor_of volume_pages b.words page) (fields_of_page (owned_fields fields owner) index) (claimed.each index inside)
+          (claim_keeps_kinds volume_pages pages run.interval page ∙ ap (λ (said : DescriptorFields). said.kind) said)
+          (claim_keeps_offsets volume_pages pages run.interval page ∙ ap (λ (said : DescriptorFields). said.offset) said);
     };
   };
-  untouched = λ word own kept. clean_stays word run (λ stored. kept (record { index = stored.index; before = stored.before; is = record { field = 0; is_field = omega arith; at = stored.is } })) (clean.clean word own);
+  untouched = λ word own kept. clean_stays word run.interval (λ stored. kept (record { index = stored.index; before = stored.before; is = record { field = 0; is_field = omega arith; at = stored.is } })) (clean.clean word own);
 }
 
+-- the owner that dirty pages say
+pub dirty_owners : {device : DeviceView} (view : PageView) (owner : ℕ) → view.fields.owner ≡ owner → PageIsDirty view device → EachPage view.pages (λ page. page_owner view.volume_pages device.words page ≡ owner)
+dirty_owners view owner is dirty = record { each = λ index inside. ap (λ (said : DescriptorFields). said.owner) (dirty.stands.reads.each index inside) ∙ is }
+
 -- once the lines that were stored to are flushed, all words are
-pub all_flushed : {a b : List ℕ} {ta tb : Option Trail} (touched : Touched) (volume_pages : ℕ) (pages : List ℕ) (fields : DescriptorFields) (ticket : Option ℕ) → AreDataPages (data_pages_of volume_pages) pages
-    → PageIsDirty (record { volume_pages = volume_pages; pages = pages; fields = fields; touched = touched; ticket = ticket }) a ta → IsInterval (λ _. ⊥) a ta b tb
-    → ((word : ℕ) → OfSome pages (IsTouched touched volume_pages) word → IsFlushed tb word) → (word : ℕ) → OfSome pages (IsOwnWord volume_pages) word → IsFlushed tb word
-all_flushed Whole volume_pages pages fields ticket valid dirty none flushed word own = flushed word own
-all_flushed Descriptors volume_pages pages fields ticket valid dirty none flushed word own = elim own.is [
+pub all_flushed : {a b : DeviceView} (touched : Touched) (volume_pages : ℕ) (pages : List ℕ) (fields : DescriptorFields) (ticket : Option ℕ) → AreDataPages (data_pages_of volume_pages) pages
+    → PageIsDirty (record { volume_pages = volume_pages; pages = pages; fields = fields; touched = touched; ticket = ticket }) a → FlushesPages volume_pages pages touched a b
+    → ((word : ℕ) → OfSome pages (IsTouched touched volume_pages) word → IsFlushed b.trail word) → (word : ℕ) → OfSome pages (IsOwnWord volume_pages) word → IsFlushed b.trail word
+all_flushed Whole volume_pages pages fields ticket valid dirty flushes flushed word own = flushed word own
+all_flushed Descriptors volume_pages pages fields ticket valid dirty flushes flushed word own = elim own.is [
   | inr field ↦ flushed word (record { index = own.index; before = own.before; is = field })
   | inl content ↦
-      flushed_stays word none (λ stored. stored) (flushed_if_clean (dirty.untouched word own (λ touched.
+      flushed_stays word flushes.stores_none (λ stored. stored) (flushed_if_clean (dirty.untouched word own (λ touched.
       let few = touched.is.is_field in
       descriptor_word_not_page_word volume_pages (slice_index pages touched.index) (slice_index pages own.index) touched.is.field content.place (valid.in_range.each touched.index touched.before) (omega (arith, few)) (sym touched.is.at ∙ content.at))))
 ]

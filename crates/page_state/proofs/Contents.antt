@@ -1,11 +1,6 @@
 -- The words of one page after stores to them.
 use Rattle.std.proofs.Common.{◌≡◌, ◌≢◌, inl, inr, ⊎_elim, ℕ, ◌+◌, ◌<◌, ◌≤◌, List, length, slice_index, slice_set, refl, sym, ◌∙◌, ap, arith, get_or-set_same, get_or-set_other, length-set}
-use Rattle.std.specs.Prelude.{Option}
 use Rattle.std.proofs.lemmas.Bool.{cases_eq}
-use Rattle.pm_trait.specs.declared.event.Event.TheVariants.{Store}
-use Rattle.pm_trait.specs.Trail.{Trail}
-use Rattle.pm_trait.specs.Device.{IsInterval, with_event}
-use Rattle.pm_trait.proofs.DeviceLaws.{interval_empty, interval_store, then_store, interval_weaker}
 use Rattle.layout.specs.Geometry.{data_pages_of, page_word_of, descriptor_word_of}
 use Rattle.layout.proofs.GeometryLaws.{same_page_word, descriptor_word_not_page_word, same_descriptor_word}
 use Rattle.layout.specs.Fields.{word, page_owner, page_kind, page_offset}
@@ -30,29 +25,13 @@ pub content_word_is : (volume_pages page place w : ℕ) → place < 512 → w �
 content_word_is volume_pages page place w inside at = record { place = place; in_page = inside; at = at }
 
 -- the word of a place is none of the earlier ones
-not_earlier : (volume_pages page place w : ℕ) → place < 512 → w ≡ page_word_of volume_pages page place → ¬ IsEarlierWord volume_pages page place w
+pub not_earlier : (volume_pages page place w : ℕ) → place < 512 → w ≡ page_word_of volume_pages page place → ¬ IsEarlierWord volume_pages page place w
 not_earlier volume_pages page place w inside at earlier =
     let before = earlier.before in
     let same = (same_page_word volume_pages page page place earlier.place inside (omega (arith, before)) (sym at ∙ earlier.at)).1 in
     omega (arith, before, same)
 
-pub none_stored : (volume_pages page : ℕ) (now : List ℕ) (trail : Option Trail) → IsInterval (IsEarlierWord volume_pages page 0) now trail now trail
-none_stored volume_pages page now trail = interval_weaker (λ word none. absurd none) (interval_empty now trail)
-
--- one more word of the page is stored
-pub stores_more : {a b c : List ℕ} {ta tb tc : Option Trail} (volume_pages page place w v : ℕ) → place < 512 → w ≡ page_word_of volume_pages page place
-    → IsInterval (IsEarlierWord volume_pages page place) a ta b tb → c ≡ slice_set b w v → tc ≡ with_event tb (Store w v) → IsInterval (IsEarlierWord volume_pages page (place + 1)) a ta c tc
-stores_more volume_pages page place w v inside at so_far is told =
-    interval_weaker (λ other either. elim either [
-      | inl earlier ↦ let before = earlier.before in record { place = earlier.place; before = omega (arith, before); at = earlier.at }
-      | inr here ↦ record { place = place; before = omega arith; at = here ∙ at }
-    ]) (then_store w v so_far (not_earlier volume_pages page place w inside at) is told)
-
--- all of them
-pub all_stored : {a b : List ℕ} {ta tb : Option Trail} (volume_pages page count : ℕ) → count ≤ 512 → IsInterval (IsEarlierWord volume_pages page count) a ta b tb → IsInterval (IsContentWord volume_pages page) a ta b tb
-all_stored volume_pages page count few run = interval_weaker (λ word earlier. let before = earlier.before in record { place = earlier.place; in_page = omega (arith, before, few); at = earlier.at }) run
-
--- and is zero
+-- one more word of the page is zero
 pub zero_more : (b c : List ℕ) (volume_pages page place w : ℕ) → place < 512 → w ≡ page_word_of volume_pages page place → w < length b → c ≡ slice_set b w 0
     → ((earlier : ℕ) → earlier < place → slice_index b (page_word_of volume_pages page earlier) ≡ 0) → (earlier : ℕ) → earlier < place + 1 → slice_index c (page_word_of volume_pages page earlier) ≡ 0
 zero_more b c volume_pages page place w inside at in_device is so_far earlier below = elim (cases_eq earlier place) [
@@ -63,23 +42,7 @@ zero_more b c volume_pages page place w inside at in_device is so_far earlier be
       ∙ so_far earlier (omega (arith, other, below))
 ]
 
--- the kind and the offset stored after the page's words
-pub fill_stores : {a b c d : List ℕ} {ta tb tc td : Option Trail} (volume_pages page w1 w2 v1 v2 : ℕ) → page < data_pages_of volume_pages → w1 ≡ descriptor_word_of volume_pages page 1 → w2 ≡ descriptor_word_of volume_pages page 2
-    → IsInterval (IsContentWord volume_pages page) a ta b tb → c ≡ slice_set b w1 v1 → tc ≡ with_event tb (Store w1 v1) → d ≡ slice_set c w2 v2 → td ≡ with_event tc (Store w2 v2) → IsInterval (IsFilledWord volume_pages page) a ta d td
-fill_stores volume_pages page w1 w2 v1 v2 in_range at1 at2 contents isc tc isd td =
-    let apart : (field w : ℕ) → field < 8 → w ≡ descriptor_word_of volume_pages page field → ¬ IsContentWord volume_pages page w = λ field w few at content. descriptor_word_not_page_word volume_pages page page field content.place in_range few (sym at ∙ content.at) in
-    let differ : w2 ≢ w1 = λ same. let fields = (same_descriptor_word volume_pages page page 2 1 (omega arith) (omega arith) (sym at2 ∙ same ∙ at1)).1 in omega (arith, fields) in
-    let kind = then_store w1 v1 contents (apart 1 w1 (omega arith) at1) isc tc in
-    let offset = then_store w2 v2 kind (λ either. ⊎_elim (apart 2 w2 (omega arith) at2) differ either) isd td in
-    interval_weaker (λ word either. elim either [
-      | inr is2 ↦ inr (inr (is2 ∙ at2))
-      | inl before ↦ elim before [
-        | inr is1 ↦ inr (inl (is1 ∙ at1))
-        | inl content ↦ inl content
-      ]
-    ]) offset
-
--- and the page is then one of free slots
+-- a page of zeros whose kind and offset are stored is one of free slots
 pub fill_reads : (b c d : List ℕ) (volume_pages page w1 w2 : ℕ) → page < data_pages_of volume_pages → w1 ≡ descriptor_word_of volume_pages page 1 → w2 ≡ descriptor_word_of volume_pages page 2
     → w1 < length b → w2 < length b → c ≡ slice_set b w1 2 → d ≡ slice_set c w2 0 → IsZeroPage volume_pages b page → IsSlotPage volume_pages d page
 unfolding page_kind page_offset word
@@ -122,7 +85,3 @@ owner_stays volume_pages page owner old new same before = same (descriptor_word_
 pub owner_stored : (volume_pages page owner w : ℕ) (old new : List ℕ) → w ≡ descriptor_word_of volume_pages page 0 → w < length old → new ≡ slice_set old w owner → page_owner volume_pages new page ≡ owner
 unfolding page_owner word
 owner_stored volume_pages page owner w old new at inside is = put old new w owner (descriptor_word_of volume_pages page 0) is at inside
-
--- the store of an owner
-pub owner_stores : {a b : List ℕ} {ta tb : Option Trail} (volume_pages page owner w : ℕ) → w ≡ descriptor_word_of volume_pages page 0 → b ≡ slice_set a w owner → tb ≡ with_event ta (Store w owner) → IsInterval (IsOwnerWord volume_pages page) a ta b tb
-owner_stores volume_pages page owner w at is told = interval_weaker (λ word here. here ∙ at) (interval_store w owner is told)

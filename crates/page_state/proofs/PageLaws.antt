@@ -1,18 +1,18 @@
 -- Laws of pages: what they say hangs on their own words alone, which no other page has, and they go on standing while others are stored.
 use Rattle.std.proofs.Common.{◌≡◌, ◌≢◌, inl, inr, ℕ, ◌*◌, ◌+◌, ◌<◌, ◌≤◌, Bool, true, false, ◌==◌, cond, List, length, slice_index, refl, sym, ◌∙◌, ap, subst, arith, add-zero, ◌%◌}
-use Rattle.std.specs.Prelude.{Option}
 use Rattle.pm_trait.specs.declared.event.Event.{Event}
-use Rattle.pm_trait.specs.Trail.{Trail, after_stores}
-use Rattle.pm_trait.specs.Device.{with_events, IsInterval}
+use Rattle.pm_trait.specs.Trail.{after_stores}
+use Rattle.pm_trait.specs.Device.{with_events}
+use Rattle.pm_trait.specs.DeviceView.{DeviceView, StoresOnly}
 use Rattle.pm_trait.proofs.DeviceLaws.{clean_stays}
 use Rattle.layout.specs.declared.fields.DescriptorFields.{DescriptorFields}
 use Rattle.layout.specs.Geometry.{IsVolumeSize, data_pages_of, descriptor_word_of, inodes_of, inode_word_of, slot_word_of, page_of_slot}
 use Rattle.layout.proofs.GeometryLaws.{same_descriptor_word, same_page_word, descriptor_word_within, page_word_within, descriptor_word_not_page_word, slot_word_in_page, descriptor_word_not_slot_word, inode_word_not_descriptor_word, inode_word_not_page_word}
 use Rattle.layout.specs.Fields.{word, page_owner, page_kind, page_offset}
 use Rattle.fence_token.specs.Objects.{IsLocal, StoreNoneOf}
-use Rattle.fence_token.proofs.ObjectLaws.{stands_stays, stands_events, clean_events}
+use Rattle.fence_token.proofs.ObjectLaws.{stands_stays, goes_on_as, clean_as_events}
 use Rattle.page_state.specs.States.{IsFree}
-use Rattle.page_state.specs.Page.{PageView, EachPage, IsDescriptorWord, IsOwnWord, descriptor_of, fields_of_page, SayFields, HaveMeaning, IsWordOf, ReadAs, PageIsDirty}
+use Rattle.page_state.specs.Page.{PageView, EachPage, AreDataPages, IsDescriptorWord, IsOwnWord, descriptor_of, fields_of_page, SayFields, HaveMeaning, IsWordOf, ReadAs, PageIsDirty}
 
 -- the word of a field is the descriptor's
 pub descriptor_word_is : (volume_pages page field : ℕ) → field < 3 → IsDescriptorWord volume_pages page (descriptor_word_of volume_pages page field)
@@ -67,6 +67,14 @@ same_offset false offset = refl
 pub first_page_fields : (fields : DescriptorFields) → fields ≡ fields_of_page fields 0
 first_page_fields fields = same_descriptor_fields fields (fields_of_page fields 0) refl refl (same_offset (fields.kind == 1) fields.offset)
 
+-- a list of one data page
+pub one_data_page : {data_pages : ℕ} (pages : List ℕ) → length pages ≡ 1 → slice_index pages 0 < data_pages → AreDataPages data_pages pages
+one_data_page {data_pages} pages one within = record {
+  some = omega (arith, one);
+  in_range = record { each = λ index inside. let here : index ≡ 0 = omega (arith, one, inside) in subst (λ (k : ℕ). slice_index pages k < data_pages) (sym here) within };
+  distinct = record { each = λ index other inside inside_too same. omega (arith, one, inside, inside_too) };
+}
+
 -- one page is alike
 pub one_page_alike : (volume_pages : ℕ) (pages words : List ℕ) → length pages ≡ 1 → SayFields volume_pages pages (descriptor_of volume_pages words (slice_index pages 0)) words
 one_page_alike volume_pages pages words one = record {
@@ -95,18 +103,20 @@ pages_are_local view = record {
 }
 
 -- pages that were stored to stay so while others are stored
-pub dirty_stays : {W : ℕ → Type 0} {a b : List ℕ} {ta tb : Option Trail} (view : PageView) → IsInterval W a ta b tb → ((word : ℕ) → IsWordOf view word → ¬ W word) → PageIsDirty view a ta → PageIsDirty view b tb
+pub dirty_stays : {W : ℕ → Type 0} {a b : DeviceView} (view : PageView) → StoresOnly W a b → ((word : ℕ) → IsWordOf view word → ¬ W word) → PageIsDirty view a → PageIsDirty view b
 dirty_stays view run apart dirty = record {
   stands = stands_stays (pages_are_local view) run apart dirty.stands;
   untouched = λ word own kept. clean_stays word run (apart word own) (dirty.untouched word own kept);
 }
 
 -- and over all events that store none of their words
-pub dirty_events : (view : PageView) (now : List ℕ) (trail : Option Trail) (events : List Event) → StoreNoneOf (IsWordOf view) events → PageIsDirty view now trail → PageIsDirty view (after_stores now events) (with_events trail events)
-dirty_events view now trail events none dirty = record {
-  stands = stands_events now events (pages_are_local view) none dirty.stands;
-  untouched = λ word own kept. clean_events trail events word (none.each word own) (dirty.untouched word own kept);
-}
+pub dirty_events : {a b : DeviceView} (view : PageView) (events : List Event) → StoreNoneOf (IsWordOf view) events → b.words ≡ after_stores a.words events → b.trail ≡ with_events a.trail events → PageIsDirty view a → PageIsDirty view b
+dirty_events view events none words trail dirty =
+    let goes = goes_on_as events (pages_are_local view) none words trail in
+    record {
+      stands = goes.stands dirty.stands;
+      untouched = λ word own kept. clean_as_events events word (none.each word own) words trail (dirty.untouched word own kept);
+    }
 
 -- two objects over lists with no page in common have no word in common
 pub objects_apart : (one two : PageView) → one.volume_pages ≡ two.volume_pages → EachPage one.pages (λ page. page < data_pages_of one.volume_pages) → EachPage two.pages (λ page. page < data_pages_of one.volume_pages)

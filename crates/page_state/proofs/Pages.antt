@@ -4,9 +4,9 @@ use Rattle.std.specs.Prelude.{Option}
 use Rattle.std.proofs.lemmas.Bool.{cases_eq}
 use Rattle.pm_trait.specs.Trail.{Trail}
 use Rattle.pm_trait.specs.Device.{IsInterval}
-use Rattle.pm_trait.proofs.DeviceLaws.{interval_empty, interval_joined, interval_weaker, interval_keeps}
+use Rattle.pm_trait.proofs.DeviceLaws.{interval_keeps}
 use Rattle.layout.specs.Geometry.{data_pages_of}
-use Rattle.page_state.specs.Page.{AreDataPages, OfFirst, IsOwnWord}
+use Rattle.page_state.specs.Page.{AreDataPages, IsOwnWord}
 use Rattle.page_state.proofs.PageLaws.{own_words_apart}
 
 -- a place before another has another page
@@ -16,23 +16,10 @@ pages_differ pages index count valid before inside same =
     omega (arith, place, before)
 
 -- no word of an earlier page is the next one's
-earlier_apart : (volume_pages : ℕ) (pages : List ℕ) (index count word : ℕ) → AreDataPages (data_pages_of volume_pages) pages → index < count → count < length pages → IsOwnWord volume_pages (slice_index pages index) word → ¬ IsOwnWord volume_pages (slice_index pages count) word
+pub earlier_apart : (volume_pages : ℕ) (pages : List ℕ) (index count word : ℕ) → AreDataPages (data_pages_of volume_pages) pages → index < count → count < length pages → IsOwnWord volume_pages (slice_index pages index) word → ¬ IsOwnWord volume_pages (slice_index pages count) word
 earlier_apart volume_pages pages index count word valid before inside =
     own_words_apart volume_pages (slice_index pages index) (slice_index pages count) word (valid.in_range.each index (omega (arith, before, inside))) (valid.in_range.each count inside)
     (pages_differ pages index count valid before inside)
-
--- no page yet
-pub no_pages : (Q : ℕ → ℕ → Type 0) (pages now : List ℕ) (trail : Option Trail) → IsInterval (OfFirst pages 0 Q) now trail now trail
-no_pages Q pages now trail = interval_weaker (λ word none. absurd none) (interval_empty now trail)
-
--- one more page is stored
-pub pages_more : {a b c : List ℕ} {ta tb tc : Option Trail} (Q : ℕ → ℕ → Type 0) (volume_pages count : ℕ) (pages : List ℕ) → ((page word : ℕ) → Q page word → IsOwnWord volume_pages page word) → AreDataPages (data_pages_of volume_pages) pages → count < length pages
-    → IsInterval (OfFirst pages count Q) a ta b tb → IsInterval (Q (slice_index pages count)) b tb c tc → IsInterval (OfFirst pages (count + 1) Q) a ta c tc
-pages_more Q volume_pages count pages own valid inside so_far step =
-    interval_weaker (λ word either. elim either [
-      | inl first ↦ let before = first.before in record { index = first.index; before = omega (arith, before); is = first.is }
-      | inr here ↦ record { index = count; before = omega arith; is = here }
-    ]) (interval_joined so_far step (λ word first here. earlier_apart volume_pages pages first.index count word valid first.before inside (own (slice_index pages first.index) word first.is) (own (slice_index pages count) word here)))
 
 -- the earlier pages' words are as before
 pub earlier_kept : {b c : List ℕ} {tb tc : Option Trail} (Q : ℕ → ℕ → Type 0) (volume_pages count : ℕ) (pages : List ℕ) → ((page word : ℕ) → Q page word → IsOwnWord volume_pages page word) → AreDataPages (data_pages_of volume_pages) pages → count < length pages

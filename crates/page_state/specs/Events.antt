@@ -1,12 +1,17 @@
--- What the calls of pages tell the device, event by event.
-use Rattle.std.specs.Prelude.{ℕ, ◌/◌, List, [], ◌∷◌, ◌++◌, map}
-use Rattle.std.specs.List.{range_with_len}
+-- What the calls of pages do to the device, event by event.
+use Rattle.std.specs.Prelude.{◌≡◌, ℕ, ◌*◌, ◌/◌, List, [], ◌∷◌, ◌++◌, length, map}
+use Rattle.std.specs.List.{range_with_len, flat_map}
 use Rattle.pm_trait.specs.declared.event.Event.{Event}
 use Rattle.pm_trait.specs.declared.event.Event.TheVariants.{Store, Flush}
+use Rattle.pm_trait.specs.Device.{IsFlushed}
+use Rattle.pm_trait.specs.DeviceView.{DeviceView}
 use Rattle.layout.specs.Geometry.{descriptor_word_of, page_word_of}
 use Rattle.fence_token.specs.Ticket.{flushes_of}
+use Rattle.fence_token.specs.Flushes.{Flushes}
+use Rattle.fence_token.specs.Stored.{StoresExactly}
 use Rattle.page_state.specs.declared.page.Touched.{Touched}
 use Rattle.page_state.specs.declared.page.Touched.TheVariants.{Descriptors, Whole}
+use Rattle.page_state.specs.Page.{OfSome, IsFilledWord, IsOwnerWord, touched_lines}
 
 -- a store of 0 to each of a page's 512 words
 unfoldable pub page_zeros : ℕ → ℕ → List Event
@@ -28,3 +33,24 @@ content_flushes volume_pages page = flushes_of (page_word_of volume_pages page 0
 abbrev pub flushes_of_page : Touched → ℕ → ℕ → List Event
 flushes_of_page Descriptors volume_pages page = Flush (descriptor_word_of volume_pages page 0 / 8) ∷ []
 flushes_of_page Whole volume_pages page = content_flushes volume_pages page ++ Flush (descriptor_word_of volume_pages page 0 / 8) ∷ []
+
+-- ---- page by page
+
+-- Each page is made one of free slots: 514 stores a page.
+abbrev pub FillsPages : ℕ → List ℕ → DeviceView → DeviceView → Type 0
+FillsPages volume_pages pages old new = StoresExactly (OfSome pages (IsFilledWord volume_pages)) old new (flat_map (fill_of_page volume_pages) pages) (514 * length pages)
+
+-- Each page gets the owner: one store a page.
+abbrev pub ClaimsPages : ℕ → List ℕ → ℕ → DeviceView → DeviceView → Type 0
+ClaimsPages volume_pages pages owner old new = StoresExactly (OfSome pages (IsOwnerWord volume_pages)) old new (flat_map (claim_of_page volume_pages owner) pages) (length pages)
+
+-- The lines of the pages that were stored to are flushed, each once.
+abbrev pub FlushesPages : ℕ → List ℕ → Touched → DeviceView → DeviceView → Type 0
+FlushesPages volume_pages pages touched old new = Flushes old new (flat_map (flushes_of_page touched volume_pages) pages) (touched_lines touched * length pages)
+
+-- The words that are in W are flushed by these events, and the ticket is that of the last of them.
+pub record FlushesWords (W : ℕ → Type 0) (old new : DeviceView) (events : List Event) (count ticket : ℕ) : Type 0 where
+  pub flushes : Flushes old new events count
+  pub open flushes use *
+  pub flushed : (word : ℕ) → W word → IsFlushed new.trail word
+  pub ticket_is : ticket ≡ new.fences

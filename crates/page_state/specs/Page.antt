@@ -1,7 +1,7 @@
 -- One or more data pages as a value that stands for their words and for those of their descriptors.
-use Rattle.std.specs.Prelude.{◌≡◌, ◌⊎◌, ℕ, ◌+◌, ◌==◌, ◌<◌, if◌then◌else◌, List, length, slice_index, Option}
-use Rattle.pm_trait.specs.Trail.{Trail}
+use Rattle.std.specs.Prelude.{◌≡◌, ◌⊎◌, ℕ, ◌+◌, ◌==◌, ◌<◌, if◌then◌else◌, List, length, slice_index, Option, None}
 use Rattle.pm_trait.specs.Device.{IsClean}
+use Rattle.pm_trait.specs.DeviceView.{DeviceView}
 use Rattle.layout.specs.declared.fields.DescriptorFields.{DescriptorFields}
 use Rattle.layout.specs.Geometry.{descriptor_word_of, page_word_of}
 use Rattle.layout.specs.Fields.{page_owner, page_kind, page_offset}
@@ -116,19 +116,24 @@ IsWordOf view word = OfSome view.pages (IsOwnWord view.volume_pages) word
 abbrev pub ReadAs : PageView → List ℕ → Type 0
 ReadAs view words = SayFields view.volume_pages view.pages view.fields words
 
+-- pages as they stand in these words
+abbrev pub pages_at : ℕ → List ℕ → List ℕ → PageView
+pages_at volume_pages pages words =
+    record { volume_pages = volume_pages; pages = pages; fields = descriptor_of volume_pages words (slice_index pages 0); touched = Descriptors; ticket = None }
+
 -- its words are the device's, and its descriptors say its fields
 abbrev pub PageStands : PageView → List ℕ → Type 0
 PageStands view now = Stands (IsWordOf view) (ReadAs view) now
 
--- and a stop leaves all of its words so but those of the lines that were stored to
-pub record PageIsDirty (view : PageView) (now : List ℕ) (trail : Option Trail) : Type 0 where
-  pub stands : PageStands view now
-  pub untouched : (word : ℕ) → IsWordOf view word → ¬ OfSome view.pages (IsTouched view.touched view.volume_pages) word → IsClean now trail word
+-- and a crash leaves all of its words so but those of the lines that were stored to
+pub record PageIsDirty (view : PageView) (device : DeviceView) : Type 0 where
+  pub stands : PageStands view device.words
+  pub untouched : (word : ℕ) → IsWordOf view word → ¬ OfSome view.pages (IsTouched view.touched view.volume_pages) word → IsClean device.words device.trail word
 
--- and a stop leaves all of its words so
-abbrev pub PageIsClean : PageView → List ℕ → Option Trail → Type 0
-PageIsClean view now trail = StandsClean (IsWordOf view) (ReadAs view) now trail
+-- and a crash leaves all of its words so
+abbrev pub PageIsClean : PageView → DeviceView → Type 0
+PageIsClean view device = StandsClean (IsWordOf view) (ReadAs view) device.words device.trail
 
 -- and they were flushed since their last store, at the time that the ticket says
-abbrev pub PageIsInFlight : PageView → List ℕ → Option Trail → Type 0
-PageIsInFlight view now trail = StandsInFlight (IsWordOf view) (ReadAs view) view.ticket now trail
+abbrev pub PageIsInFlight : PageView → DeviceView → Type 0
+PageIsInFlight view device = StandsInFlight (IsWordOf view) (ReadAs view) view.ticket device.words device.trail

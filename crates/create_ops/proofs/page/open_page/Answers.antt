@@ -1,7 +1,8 @@
 use Rattle.image_laws.specs.Frame.{SameMeaning}
-use Rattle.std.proofs.Common.{arith}
+use Rattle.std.proofs.Common.{ap, arith}
 use Rattle.pm_trait.proofs.DeviceLaws.{stays_then}
 use Rattle.pm_trait.proofs.DeviceViewLaws.{intervals_one, intervals_then, intervals_failed}
+use Rattle.page_state.specs.Page.{PageView}
 use Rattle.create_ops.proofs.Moments.{quiet_fenced, quiet_then, on_ok, reads_stay}
 use Rattle.create_ops.proofs.Opening.{filling, still_reads, claiming, opened}
 use Rattle.create_ops.proofs.page.open_page.Goals as goal
@@ -26,7 +27,7 @@ returns-clause-opened g c =
     let filled = c.in_ok-filled in
     on_ok c.claim_page.result
     (opened c.image_laws.ensures P W c.args.directory c.args.page c.requires.holder c.requires.page c.as_slice.result.now c.as_slice.ensures (g.P.Pm.view c.fill_page.new.pm).words fill.made
-    filled.filled.volume_pages filled.filled.pages (g.P.Pm.view c.claim_page.new.pm).words filled.ensures.volume filled.ensures.page c.claim_page.ensures.owned)
+    filled.filled.volume_pages filled.filled.pages (g.P.Pm.view c.claim_page.new.pm).words (ap (λ (view : PageView). view.volume_pages) filled.ensures.object) (ap (λ (view : PageView). view.pages) filled.ensures.object) c.claim_page.ensures.owned)
 
 pub returns-clause-any_moment : goal.returns-clause-any_moment
 returns-clause-any_moment g c =
@@ -39,7 +40,7 @@ returns-clause-any_moment g c =
     quiet_then (SameMeaning P W) fill.device.fenced.no_ack
     (quiet_fenced (SameMeaning P W) fill.device.fenced (filling c.image_laws.ensures P W c.args.directory c.args.page c.requires.holder c.requires.page c.as_slice.result.now c.as_slice.ensures A fill.made))
     (quiet_fenced (SameMeaning P W) claim.device.fenced (claiming c.image_laws.ensures P W c.args.directory c.args.page c.requires.holder c.requires.page c.as_slice.result.now c.as_slice.ensures A fill.made
-    filled.filled.volume_pages filled.filled.pages (g.P.Pm.view c.claim_page.new.pm).words filled.ensures.volume filled.ensures.page claim.owned))
+    filled.filled.volume_pages filled.filled.pages (g.P.Pm.view c.claim_page.new.pm).words (ap (λ (view : PageView). view.volume_pages) filled.ensures.object) (ap (λ (view : PageView). view.pages) filled.ensures.object) claim.owned))
 
 pub returns-clause-stays : goal.returns-clause-stays
 returns-clause-stays g c = λ before after reads differ.

@@ -7,14 +7,14 @@ use Rattle.page_state.proofs.page.PageH+Clean+S.at.Goals as goal
 
 pub returns-clause-clean : goal.returns-clause-clean
 returns-clause-clean g c =
-    let now = (g.P.Pm.view c.args.pm.now).words in
-    let trail = (g.P.Pm.view c.args.pm.now).trail in
+    let device = g.P.Pm.view c.args.pm.now in
+    let now = device.words in
     let geometry = c.args.geometry.now in
     let pages = c.args.pages.now in
     let read = c.descriptor_at-fields.ensures in
     let fields = descriptor_read geometry.pages (slice_index pages 0) c.image.result.now now c.descriptor_at-fields.result read.owner read.kind read.offset c.image.ensures in
-    let in_range = subst (λ (d : ℕ). EachPage pages (λ page. page < d)) geometry.data_pages_exact c.requires.in_range in
-    subst (λ (view : PageView). PageIsClean view now trail) (sym c.of.ensures)
+    let in_range = subst (λ (d : ℕ). EachPage pages (λ page. page < d)) geometry.data_pages_exact c.requires.data_pages.in_range in
+    subst (λ (view : PageView). PageIsClean view device) (sym c.of.ensures)
     (record {
       stands = record {
         inside = λ word own. let within = own_word_within geometry.pages _ word geometry.volume_size (in_range.each own.index own.before) own.is in omega (arith, within, c.requires.whole);

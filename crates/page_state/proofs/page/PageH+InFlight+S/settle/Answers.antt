@@ -5,8 +5,7 @@ use Rattle.page_state.proofs.page.PageH+InFlight+S.settle.Goals as goal
 
 pub returns-clause-clean : goal.returns-clause-clean
 returns-clause-clean g c =
-    let now = (g.P.Pm.view c.args.pm.now).words in
-    let trail = (g.P.Pm.view c.args.pm.now).trail in
-    let clean = stands_clean_by_token trail (g.met.P.Pm.honest c.args.pm.now) c.requires.in_flight c.requires.settles in
-    subst (λ (view : PageView). PageIsClean view now trail) (sym c.of.ensures)
-    (subst (λ (view : PageView). PageIsClean view now trail) (sym c.self.view_is) clean)
+    let device = g.P.Pm.view c.args.pm.now in
+    let clean = stands_clean_by_token device.trail (g.met.P.Pm.honest c.args.pm.now) c.requires.in_flight c.requires.settles in
+    subst (λ (view : PageView). PageIsClean view device) (sym c.of.ensures)
+    (subst (λ (view : PageView). PageIsClean view device) (sym c.self.view_is) clean)
