@@ -93,10 +93,11 @@ new_names : on 16 (Create a ∷ Create b ∷ []) ++ on 16 (Mkdir d ∷ Mkdir p �
 unfolding inodes_of data_pages_of
 new_names = refl
 
--- the file stays, or goes without pages, or with them, and no page of a directory is given back
+-- the file stays, also with pages, or goes without them, or with them, and no page of a directory is given back
 unlinks_beside_other_names :
-    on 16 (Create a ∷ Link a b ∷ Unlink b ∷ []) ++ on 16 (Create a ∷ Create b ∷ Unlink b ∷ []) ++ on 16 (Create a ∷ Write a 0 (codes "hi") ∷ Create b ∷ Unlink a ∷ [])
-    ≡ done (4 ∷ 2 ∷ 2 ∷ []) ++ done (4 ∷ 2 ∷ 3 ∷ []) ++ (4, Done) ∷ (3, Count 2) ∷ done (2 ∷ 4 ∷ [])
+    on 16 (Create a ∷ Link a b ∷ Unlink b ∷ Write a 0 (codes "hi") ∷ Link a b ∷ Unlink a ∷ []) ++ on 16 (Create a ∷ Create b ∷ Unlink b ∷ [])
+    ++ on 16 (Create a ∷ Write a 0 (codes "hi") ∷ Create b ∷ Unlink a ∷ [])
+    ≡ done (4 ∷ 2 ∷ 2 ∷ []) ++ (3, Count 2) ∷ done (2 ∷ 2 ∷ []) ++ done (4 ∷ 2 ∷ 3 ∷ []) ++ (4, Done) ∷ (3, Count 2) ∷ done (2 ∷ 4 ∷ [])
 unfolding inodes_of data_pages_of
 unlinks_beside_other_names = refl
 
@@ -122,11 +123,11 @@ renames_to_a_new_name :
 unfolding inodes_of data_pages_of
 renames_to_a_new_name = refl
 
--- the replaced file stays, or goes without pages, or with them; then an empty directory goes
+-- the replaced file stays, also with pages, or goes without them, or with them; then an empty directory goes
 renames_over_a_name :
-    on 64 (Create a ∷ Link a b ∷ Create c ∷ Rename c b ∷ []) ++ on 64 (Create a ∷ Create b ∷ Rename a b ∷ []) ++ on 64 (Create a ∷ Create b ∷ Write b 0 (codes "hi") ∷ Rename a b ∷ [])
+    on 64 (Create a ∷ Link a b ∷ Create c ∷ Rename c b ∷ Write a 0 (codes "hi") ∷ Link a d ∷ Rename b d ∷ []) ++ on 64 (Create a ∷ Create b ∷ Rename a b ∷ []) ++ on 64 (Create a ∷ Create b ∷ Write b 0 (codes "hi") ∷ Rename a b ∷ [])
     ++ on 64 (Mkdir d ∷ Mkdir p ∷ Rename d p ∷ [])
-    ≡ done (4 ∷ 2 ∷ 2 ∷ 5 ∷ []) ++ done (4 ∷ 2 ∷ 6 ∷ []) ++ (4, Done) ∷ (2, Done) ∷ (3, Count 2) ∷ (7, Done) ∷ done (4 ∷ 2 ∷ 6 ∷ [])
+    ≡ done (4 ∷ 2 ∷ 2 ∷ 5 ∷ []) ++ (3, Count 2) ∷ done (2 ∷ 5 ∷ []) ++ done (4 ∷ 2 ∷ 6 ∷ []) ++ (4, Done) ∷ (2, Done) ∷ (3, Count 2) ∷ (7, Done) ∷ done (4 ∷ 2 ∷ 6 ∷ [])
 unfolding inodes_of data_pages_of
 renames_over_a_name = refl
 
@@ -177,11 +178,11 @@ no_fault_is_counted = refl
 a_bad_line_takes_none : fences_of with_a_and_d (Err BadLine) (Unread BadLine) with_a_and_d ≡ 0
 a_bad_line_takes_none = refl
 
--- the fences of a script are the sum of its lines'
-abbrev pub four_lines : List Command
-four_lines = Create a ∷ Link a b ∷ Unlink a ∷ Unlink b ∷ Df ∷ []
+-- the fences of a script are the sum of its lines', each from the state that the one before left
+abbrev pub three_lines : List Command
+three_lines = Create a ∷ Create b ∷ Unlink a ∷ []
 
-sum_of_lines : fences_of_run fresh_state (map Ok four_lines) (plain_answers 16 fresh_state (map Ok four_lines)) (plain_states 16 fresh_state (map Ok four_lines)) ≡ 12
+sum_of_lines : fences_of_run fresh_state (map Ok three_lines) (plain_answers 16 fresh_state (map Ok three_lines)) (plain_states 16 fresh_state (map Ok three_lines)) ≡ 9
 unfolding inodes_of data_pages_of
 sum_of_lines = refl
 
