@@ -24,14 +24,13 @@ pub struct MemSink {
 impl MemSink {
     ghost use Rattle.io_edge.specs.MemSink.{IsNew, bytes_taken};
 
-    /// A sink that took nothing yet. It takes the memory for its room here and none later, and fails where there is none.
+    /// A sink that took nothing yet. It takes the memory for its room here and none later, and fails where there is
+    /// none.
     pub fn new(alloc: Global, room: usize, failing: Vec<u64>) -> Result<MemSink, NoMemory>
         ensures new { IfOk result (IsNew room failing.items) }
         ensures no_room { room ≡ 0 → IsOk result }
     {
-        let Ok(bytes) = Vec::with_capacity(alloc, room) else {
-            return Err(NoMemory);
-        };
+        let bytes = Vec::with_capacity(alloc, room).map_err(|_| NoMemory)?;
         Ok(MemSink {
             bytes,
             room,

@@ -4,15 +4,16 @@ ghost use Rattle.io_edge.specs.Bytes.{WritesSome, Writes};
 
 use thiserror::Error;
 
-/// A write failed. It took no byte.
+/// A write failed. None of the piece counts as taken, though what stands under the sink may hold a prefix of it.
 #[derive(Clone, Copy, Debug, PartialEq, Eq, Error)]
 #[error("write failed")]
 pub struct WriteFault;
 
 /// What takes bytes, a prefix of each piece.
 pub trait Sink {
-    /// The sink may be said to have taken these bytes in all. What it keeps of them decides: one that keeps the bytes may
-    /// be said to have taken just those, one that counts lines any bytes of so many lines, one that keeps nothing any bytes.
+    /// The sink may be said to have taken these bytes in all. What it keeps of them decides: one that keeps the bytes
+    /// may be said to have taken just those, one that counts lines any bytes of so many lines, one that keeps nothing
+    /// any bytes.
     ghost took: { Self → List ℕ → Type 0 };
 
     /// How often a write has failed.

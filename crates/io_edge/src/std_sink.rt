@@ -8,9 +8,9 @@ ghost use Rattle.io_edge.specs.Writer.{WritesThrough};
 use crate::{Sink, WriteFault};
 use std::io::{ErrorKind, Write};
 
-/// A sink over a writer of the standard library, which it flushes after each write. It doesn't tell which bytes it took,
-/// and after a fault the writer may hold a prefix of the piece. A write or a flush that a signal interrupts is made again,
-/// up to 2^64 - 1 times.
+/// A sink over a writer of the standard library, which it flushes after each write. It doesn't tell which bytes it
+/// took, and after a fault the writer may hold a prefix of the piece. A write or a flush that a signal interrupts is made
+/// again, up to 2^64 - 1 times.
 #[derive(Drop)]
 pub struct StdSink<W> {
     writer: W,
@@ -38,12 +38,14 @@ impl<W: Write> Sink for StdSink<W> {
 
     ghost faults = { failed_writes };
 
-    /// Passes a write on to the writer and flushes it. Each failure of either but an interruption is a fault, and so is a
-    /// writer that takes no byte of a piece that has one.
+    /// Passes a write on to the writer and flushes it. Each failure of either but an interruption is a fault, and so is
+    /// a writer that takes no byte of a piece that has one.
     fn write(&mut self, piece: &[u8]) -> Result<usize, WriteFault>
-        ensures writes { WritesSome (λ _. Unit {0}) (λ _. Unit {0}) (failed_writes self.old) (failed_writes self.new) piece.now result }
+        ensures writes { WritesSome (λ _. Unit {0}) (λ _. Unit {0})
+            (failed_writes self.old) (failed_writes self.new) piece.now result }
         ensures one_fault { OnErr result (failed_writes self.new ≡ one_more (failed_writes self.old)) }
-        ensures writer { WritesThrough (W.contents (writer_of self.old)) (W.contents (writer_of self.new)) piece.now result }
+        ensures writer { WritesThrough (W.contents (writer_of self.old)) (W.contents (writer_of self.new))
+            piece.now result }
     {
         let answer = write_through(&mut self.writer, piece);
         if answer.is_err() {

@@ -7,8 +7,8 @@ ghost use Rattle.io_edge.specs.Count.{one_more};
 use crate::{ReadFault, Source};
 use std::io::{ErrorKind, Read};
 
-/// A source over a reader of the standard library. It doesn't tell which bytes are left. A read that a signal interrupts
-/// is made again, up to 2^64 - 1 times.
+/// A source over a reader of the standard library. It doesn't tell which bytes are left. A read that a signal
+/// interrupts is made again, up to 2^64 - 1 times.
 #[derive(Drop)]
 pub struct StdSource<R> {
     reader: R,
@@ -38,7 +38,8 @@ impl<R: Read> Source for StdSource<R> {
     fn read(&mut self, buf: &mut [u8]) -> Result<usize, ReadFault>
         ensures gives { Reads None None (failed_reads self.old) (failed_reads self.new) buf.new result }
         ensures one_fault { OnErr result (failed_reads self.new ≡ one_more (failed_reads self.old)) }
-        ensures reader { ReadConsumes (R.remaining (reader_of self.old)) (R.remaining (reader_of self.new)) result buf.new }
+        ensures reader { ReadConsumes (R.remaining (reader_of self.old)) (R.remaining (reader_of self.new))
+            result buf.new }
     {
         let answer = read_uninterrupted(&mut self.reader, buf);
         if answer.is_err() {

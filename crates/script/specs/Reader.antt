@@ -1,5 +1,5 @@
 -- What a reader of lines shows.
-use Rattle.std.specs.Prelude.{ℕ, ◌-◌, Bool, List, take, drop}
+use Rattle.std.specs.Prelude.{◌≡◌, ℕ, ◌-◌, Bool, false, List, [], take, drop}
 use Rattle.script.specs.declared.lines.Lines.{Lines}
 
 -- the bytes that were read and not given
@@ -21,3 +21,10 @@ given_count l = l.read - (l.end - l.start)
 -- whether the end of the input was seen
 abbrev pub has_ended : Lines → Bool
 has_ended l = l.ended
+
+-- nothing was read yet
+pub record IsUnread (lines : Lines) : Type 0 where
+  pub no_line : current lines ≡ []
+  pub none : pending lines ≡ []
+  pub unread : read_count lines ≡ 0
+  pub unended : has_ended lines ≡ false

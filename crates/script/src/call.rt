@@ -15,9 +15,9 @@ pub enum Call<'a> {
 }
 
 impl<'a> Call<'a> {
-    /// What a line asks for. A line that is too long, of other words than a command and a path, or of a command that has
-    /// not come yet is refused before its path is read. `scratch`, of at least 32,768 bytes, is where the bytes of a line
-    /// are to be decoded.
+    /// What a line asks for. A line that is too long, of other words than a command and a path, or of a command that is
+    /// not supported is refused before its path is read. `scratch`, of at least 32,768 bytes, is where the bytes of a
+    /// line are to be decoded.
     pub fn parse(line: &'a [u8], scratch: &'a mut [u8]) -> Call<'a>
         requires scratch { 32768 ≤ length scratch.old }
         ensures call { line_of_call result ≡ call_of line.now }
@@ -35,7 +35,8 @@ impl<'a> Call<'a> {
 
 // The words of a line that has just two.
 fn two_words(line: &[u8]) -> Option<(&[u8], &[u8])>
-    ensures { MatchOption result (of_words (words_of line.now) ≡ Err LineFault.BadLine) (λ words. words_of line.now ≡ words.0.now ∷ words.1.now ∷ []) }
+    ensures { MatchOption result (of_words (words_of line.now) ≡ Err LineFault.BadLine)
+        (λ words. words_of line.now ≡ words.0.now ∷ words.1.now ∷ []) }
 {
     let Some((first, rest)) = next_word(line) else {
         return None;

@@ -12,7 +12,7 @@ pub const LONGEST_LINE: usize = 65_536;
 /// The most bytes that are read of a script.
 pub const SCRIPT_LIMIT: u64 = 1 << 32;
 
-// The least room that is lent to a read, but at the limit.
+// The least room that a read is given, but at the limit.
 const READ_SIZE: usize = 4_096;
 
 const CAPACITY: usize = LONGEST_LINE + READ_SIZE;
@@ -38,7 +38,7 @@ enum Found {
     Nothing,
 }
 
-/// The lines of a source, each lent from a buffer that is made once.
+/// The lines of a source, each borrowed from a buffer that is made once.
 #[derive(Drop)]
 pub struct Lines {
     buffer: Vec<u8>,
@@ -63,19 +63,16 @@ pub struct Lines {
 }
 
 impl Lines {
-    ghost use Rattle.pm_trait.specs.Device.{HasRisen};
     ghost use Rattle.io_edge.specs.Bytes.{IsEnd};
     ghost use Rattle.script.specs.Lines.{newline, line_limit, script_limit, IsUnbroken};
     ghost use Rattle.script.specs.Places.{BreaksAt};
-    ghost use Rattle.script.specs.Reader.{pending, current, read_count, given_count, has_ended};
-    ghost use Rattle.script.specs.Reading.{rest_of, IfTold, BreaksOff, ReadFront, GoesOn, GivesMore, ReadsOnto, ReadsOn, SkipsOn, IsFound};
+    ghost use Rattle.script.specs.Reader.{pending, current, read_count, given_count, has_ended, IsUnread};
+    ghost use Rattle.script.specs.Reading.{rest_of, IfTold, ReadFront, ReadsOnto, ReadsOn, IsFound};
+    ghost use Rattle.script.specs.Stepping.{StepsTo, CountsStep, IsBegun, TakesAt, TakesLast, DropsAll, Keeps, CountsRead, CountsPiece};
 
     /// Nothing is read yet. All the memory is taken here.
     pub fn new(alloc: Global) -> Result<Lines, NoMemory>
-        ensures line { IfOk result (λ lines. current lines ≡ []) }
-        ensures pending { IfOk result (λ lines. pending lines ≡ []) }
-        ensures read { IfOk result (λ lines. read_count lines ≡ 0) }
-        ensures unended { IfOk result (λ lines. has_ended lines ≡ false) }
+        ensures { IfOk result IsUnread }
     {
         let buffer = vec![in alloc; 0; CAPACITY].map_err(|_| NoMemory)?;
         Ok(Lines {
@@ -89,30 +86,18 @@ impl Lines {
         })
     }
 
-    /// Goes on to the next line. A line that was read already is given before anything is read, and each read is lent at
-    /// least 4,096 bytes, or what is left of the limit. After an `Err` a further step may begin inside the line that was
-    /// begun.
+    /// Goes on to the next line. A line that was read already is given before anything is read, and each read is given
+    /// room for at least 4,096 bytes, or what is left of the limit. After an `Err` a further step may begin inside the line
+    /// that was begun.
     ///
     /// Once the end of the input was seen, the source has to be one with none left.
     pub fn next<S: Source>(&mut self, source: &mut S) -> Result<Step, ReadFault>
-        requires ended { IsTrue (has_ended self.old) → IsEnd (S.left source.old) }
-        ensures step { IfOk result (λ step.
-            GoesOn step (current self.new) (read_count self.new) (has_ended self.new)
-            (rest_of (pending self.old) (S.left source.old))
-            (rest_of (pending self.new) (S.left source.new)) (S.left source.new)) }
-        ensures err { OnErr result
-            (IfTold (rest_of (pending self.old) (S.left source.old)) (S.left source.new) BreaksOff) }
-        ensures err_below { OnErr result (read_count self.new < script_limit) }
+        requires { IsTrue (has_ended self.old) → IsEnd (S.left source.old) }
+        ensures step { StepsTo (rest_of (pending self.old) (S.left source.old)) (S.left source.new) self.new result }
         ensures counted { IfTold (S.left source.old) (S.left source.new)
             (ReadFront (read_count self.old) (read_count self.new)) }
-        ensures never_fewer { read_count self.old ≤ read_count self.new }
-        ensures ended { IsTrue (has_ended self.new) → IsEnd (S.left source.new) }
-        ensures ok_faults { IfOk result (λ _. S.faults source.new ≡ S.faults source.old) }
-        ensures faults { S.faults source.old ≤ S.faults source.new }
-        ensures cause { OnErr result (HasRisen (S.faults source.old) (S.faults source.new)) }
-        ensures within { read_count self.new ≤ script_limit }
-        ensures given { IfOk result (λ step. GivesMore step (given_count self.old) (given_count self.new)) }
-        ensures given_within { given_count self.new ≤ script_limit }
+        ensures counts { CountsStep (S.left source.new)
+            (S.faults source.old) (S.faults source.new) self.old self.new result }
         ensures line_ready { Contains (pending self.old) newline → IsOk result × (source.new ≡ source.old) }
         ensures end_seen { IsTrue (has_ended self.old) → (result ≡ Ok Step.End) × (source.new ≡ source.old) }
     {
@@ -132,13 +117,8 @@ impl Lines {
 
     // Takes the line before this place, and the newline there, off the bytes that were read.
     fn take_line(&mut self, place: usize) -> Step
-        requires within { place < length (pending self.old) }
-        ensures line { current self.new ≡ take place (pending self.old) }
-        ensures behind { pending self.new ≡ drop (place + 1) (pending self.old) }
-        ensures read { read_count self.new ≡ read_count self.old }
-        ensures given { given_count self.old < given_count self.new }
-        ensures unended { has_ended self.new ≡ false }
-        ensures step { result ≡ (if nat_le place line_limit then Step.Line else Step.TooLong) }
+        requires { place < length (pending self.old) }
+        ensures { TakesAt place self.old self.new result }
     {
         self.line_start = self.start;
         self.line_end = self.start + place;
@@ -152,13 +132,8 @@ impl Lines {
 
     // Takes all the bytes that were read as the last line, if there are any: the input has ended.
     fn take_last(&mut self) -> Step
-        requires below { read_count self.old < script_limit }
-        ensures line { current self.new ≡ pending self.old }
-        ensures none { pending self.new ≡ [] }
-        ensures read { read_count self.new ≡ read_count self.old }
-        ensures given { given_count self.new ≡ given_count self.old + length (pending self.old) }
-        ensures ended { has_ended self.new ≡ true }
-        ensures step { result ≡ (if nat_le 1 (length (pending self.old)) then Step.Line else Step.End) }
+        requires { read_count self.old < script_limit }
+        ensures { TakesLast self.old self.new result }
     {
         self.line_start = self.start;
         self.line_end = self.end;
@@ -173,20 +148,15 @@ impl Lines {
 
     // Drops the bytes that were read.
     fn drop_pending(&mut self)
-        ensures none { pending self.new ≡ [] }
-        ensures read { read_count self.new ≡ read_count self.old }
-        ensures given { given_count self.new ≡ given_count self.old + length (pending self.old) }
-        ensures ended { has_ended self.new ≡ has_ended self.old }
+        ensures { DropsAll self.old self.new }
     {
         self.start = self.end;
     }
 
-    // Moves the bytes that were read to the front, where too little room is behind them.
+    // Moves the bytes that were read to the buffer's start, where too little room is behind them.
     fn make_room(&mut self)
-        requires room { length (pending self.old) ≤ line_limit }
-        ensures same { pending self.new ≡ pending self.old }
-        ensures read { read_count self.new ≡ read_count self.old }
-        ensures ended { has_ended self.new ≡ has_ended self.old }
+        requires { length (pending self.old) ≤ line_limit }
+        ensures keeps { Keeps self.old self.new }
         ensures room { self.new.end + READ_SIZE ≤ CAPACITY }
     {
         if self.end > CAPACITY - READ_SIZE {
@@ -210,18 +180,11 @@ impl Lines {
         requires room { length (pending self.old) ≤ line_limit }
         requires below { read_count self.old < script_limit }
         requires unended { has_ended self.old ≡ false }
-        ensures unended { has_ended self.new ≡ false }
         ensures behind { IfOk result (λ count.
             ReadsOnto count (S.left source.old) (pending self.old) (S.left source.new) (pending self.new)) }
-        ensures end { IfOk result (λ count. count ≡ 0 → IsEnd (S.left source.old)) }
-        ensures read { IfOk result (λ count. read_count self.new ≡ read_count self.old + count) }
-        ensures ok_faults { IfOk result (λ _. S.faults source.new ≡ S.faults source.old) }
         ensures err { OnErr result (pending self.new ≡ pending self.old) }
-        ensures err_read { OnErr result (read_count self.new ≡ read_count self.old) }
-        ensures given { given_count self.new ≡ given_count self.old }
-        ensures err_left { OnErr result (S.left source.new ≡ S.left source.old) }
-        ensures faults { S.faults source.old ≤ S.faults source.new }
-        ensures cause { OnErr result (HasRisen (S.faults source.old) (S.faults source.new)) }
+        ensures counts { CountsRead (S.left source.old) (S.left source.new) (S.faults source.old) (S.faults source.new)
+            self.old self.new result }
     {
         self.make_room();
         let room = self.room();
@@ -251,20 +214,13 @@ impl Lines {
     // Reads once, unless the limit is reached, and looks for a newline in what came.
     fn read_piece<S: Source>(&mut self, source: &mut S) -> Result<Found, ReadFault>
         requires room { length (pending self.old) ≤ line_limit }
-        requires unbroken { IsUnbroken (pending self.old) }
-        requires unended { has_ended self.old ≡ false }
-        ensures unended { has_ended self.new ≡ false }
+        requires begun { IsBegun self.old }
         ensures reads { ReadsOn (S.left source.old) (pending self.old) (read_count self.old)
             (S.left source.new) (pending self.new) (read_count self.new) }
         ensures found { IfOk result (λ found.
             IsFound found (S.left source.new) (pending self.old) (pending self.new)
             (read_count self.old) (read_count self.new)) }
-        ensures err_below { OnErr result (read_count self.new < script_limit) }
-        ensures given { given_count self.new ≡ given_count self.old }
-        ensures ok_faults { IfOk result (λ _. S.faults source.new ≡ S.faults source.old) }
-        ensures err { OnErr result (IsUnbroken (pending self.new)) }
-        ensures faults { S.faults source.old ≤ S.faults source.new }
-        ensures cause { OnErr result (HasRisen (S.faults source.old) (S.faults source.new)) }
+        ensures counts { CountsPiece (S.faults source.old) (S.faults source.new) self.old self.new result }
     {
         if self.read == SCRIPT_LIMIT {
             return Ok(Found::Limit);
@@ -282,23 +238,12 @@ impl Lines {
 
     // Reads on to the end of the line that was begun.
     fn read_line<S: Source>(&mut self, source: &mut S) -> Result<Step, ReadFault>
-        requires unbroken { IsUnbroken (pending self.old) }
-        requires unended { has_ended self.old ≡ false }
-        ensures step { IfOk result (λ step.
-            GoesOn step (current self.new) (read_count self.new) (has_ended self.new)
-            (rest_of (pending self.old) (S.left source.old))
-            (rest_of (pending self.new) (S.left source.new)) (S.left source.new)) }
-        ensures err { OnErr result
-            (IfTold (rest_of (pending self.old) (S.left source.old)) (S.left source.new) BreaksOff) }
-        ensures err_below { OnErr result (read_count self.new < script_limit) }
+        requires { IsBegun self.old }
+        ensures step { StepsTo (rest_of (pending self.old) (S.left source.old)) (S.left source.new) self.new result }
         ensures counted { IfTold (S.left source.old) (S.left source.new)
             (ReadFront (read_count self.old) (read_count self.new)) }
-        ensures never_fewer { read_count self.old ≤ read_count self.new }
-        ensures given { IfOk result (λ step. GivesMore step (given_count self.old) (given_count self.new)) }
-        ensures ended { IsTrue (has_ended self.new) → IsEnd (S.left source.new) }
-        ensures ok_faults { IfOk result (λ _. S.faults source.new ≡ S.faults source.old) }
-        ensures faults { S.faults source.old ≤ S.faults source.new }
-        ensures cause { OnErr result (HasRisen (S.faults source.old) (S.faults source.new)) }
+        ensures counts { CountsStep (S.left source.new)
+            (S.faults source.old) (S.faults source.new) self.old self.new result }
     {
         'reading: while self.end - self.start <= LONGEST_LINE {
             match self.read_piece(source) {
@@ -314,24 +259,13 @@ impl Lines {
 
     // Reads on to the end of a line that is over the limit.
     fn skip_line<S: Source>(&mut self, source: &mut S) -> Result<Step, ReadFault>
-        requires unbroken { IsUnbroken (pending self.old) }
+        requires begun { IsBegun self.old }
         requires long { line_limit < length (pending self.old) }
-        requires unended { has_ended self.old ≡ false }
-        ensures step { IfOk result (λ step.
-            GoesOn step (current self.new) (read_count self.new) (has_ended self.new)
-            (rest_of (pending self.old) (S.left source.old))
-            (rest_of (pending self.new) (S.left source.new)) (S.left source.new)) }
-        ensures err { OnErr result
-            (IfTold (rest_of (pending self.old) (S.left source.old)) (S.left source.new) BreaksOff) }
-        ensures err_below { OnErr result (read_count self.new < script_limit) }
+        ensures step { StepsTo (rest_of (pending self.old) (S.left source.old)) (S.left source.new) self.new result }
         ensures counted { IfTold (S.left source.old) (S.left source.new)
             (ReadFront (read_count self.old) (read_count self.new)) }
-        ensures never_fewer { read_count self.old ≤ read_count self.new }
-        ensures given { IfOk result (λ step. GivesMore step (given_count self.old) (given_count self.new)) }
-        ensures ended { IsTrue (has_ended self.new) → IsEnd (S.left source.new) }
-        ensures ok_faults { IfOk result (λ _. S.faults source.new ≡ S.faults source.old) }
-        ensures faults { S.faults source.old ≤ S.faults source.new }
-        ensures cause { OnErr result (HasRisen (S.faults source.old) (S.faults source.new)) }
+        ensures counts { CountsStep (S.left source.new)
+            (S.faults source.old) (S.faults source.new) self.old self.new result }
     {
         self.drop_pending();
         'skipping: loop {

@@ -1,22 +1,20 @@
-ghost use Rattle.std.specs.Prelude.{◌≡◌, ◌≤◌, ◌+◌, ◌++◌, ◌∷◌, [], length, codes, decimal, if◌then◌else◌, OnOk, OnErr};
+ghost use Rattle.std.specs.Prelude.{◌≡◌, ◌≤◌, ◌+◌, ◌++◌, ◌∷◌, [], length, codes, decimal, if◌then◌else◌};
 ghost use Rattle.arrayvec.specs.ArrayVec.{array_vec_len};
-ghost use Rattle.pm_trait.specs.Device.{HasRisen};
-ghost use Rattle.io_edge.specs.Bytes.{with_bytes, TookFront};
+ghost use Rattle.io_edge.specs.Bytes.{Writes};
 ghost use Rattle.script.specs.Lines.{newline, space};
-ghost use Rattle.script.specs.Texts.{name_text, byte_text, refusal_text, fault_text, stands_for_itself as stands_for_itself_of, answer_text};
+ghost use Rattle.script.specs.Texts.{name_text, byte_text, refusal_text, fault_text, stands_for_itself as stands_for_itself_of, answer_text, formatted_text, not_a_volume_text, damaged_text};
 ghost use Rattle.script.specs.Replies.{IsPlain, reply_text};
 ghost use Rattle.tree_model.specs.Step.{Answer};
 
 use arrayvec::ArrayVec;
 use io_edge::{Sink, WriteFault, write_all};
 use itoa::Buffer;
-use layout::Name;
+use layout::{Geometry, Name};
 use percent_encoding::percent_encode_byte;
 use tree_model::{Free, LineFault, Refusal, Reply, Stat};
 
-// No plain reply has a longer line.
-/// The text of a line that needs no bytes of a file, in at most 128 bytes.
-pub type LineText = ArrayVec<u8, 128>;
+// The text of a line that needs no bytes of a file. None is longer than 128 bytes.
+type LineText = ArrayVec<u8, 128>;
 
 // A name has at most 110 bytes, and each becomes at most three.
 type NameText = ArrayVec<u8, 330>;
@@ -24,57 +22,64 @@ type NameText = ArrayVec<u8, 330>;
 /// Writes the line of a reply that is neither `Bytes` nor `Names`.
 pub fn write_plain<K: Sink>(reply: &Reply, sink: &mut K) -> Result<(), WriteFault>
     requires plain { IsPlain reply.now }
-    ensures ok { OnOk result (K.taken sink.new ≡ with_bytes (K.taken sink.old) (reply_text reply.now)) }
-    ensures err { OnErr result (TookFront (K.taken sink.old) (reply_text reply.now) (K.taken sink.new)) }
-    ensures ok_faults { OnOk result (K.faults sink.new ≡ K.faults sink.old) }
-    ensures faults { K.faults sink.old ≤ K.faults sink.new }
-    ensures cause { OnErr result (HasRisen (K.faults sink.old) (K.faults sink.new)) }
+    ensures { Writes (K.took sink.old) (K.took sink.new) (K.faults sink.old) (K.faults sink.new)
+        (reply_text reply.now) result }
 {
     write_all(sink, reply_line(reply).as_slice())
 }
 
 /// Writes the beginning of the line of a listing, up to the number of names.
 pub fn write_count<K: Sink>(count: u64, sink: &mut K) -> Result<(), WriteFault>
-    ensures ok { OnOk result (K.taken sink.new ≡ with_bytes (K.taken sink.old) (codes "ok " ++ decimal count)) }
-    ensures err { OnErr result (TookFront (K.taken sink.old) (codes "ok " ++ decimal count) (K.taken sink.new)) }
-    ensures ok_faults { OnOk result (K.faults sink.new ≡ K.faults sink.old) }
-    ensures faults { K.faults sink.old ≤ K.faults sink.new }
-    ensures cause { OnErr result (HasRisen (K.faults sink.old) (K.faults sink.new)) }
+    ensures { Writes (K.took sink.old) (K.took sink.new) (K.faults sink.old) (K.faults sink.new)
+        (codes "ok " ++ decimal count) result }
 {
     write_all(sink, count_text(count).as_slice())
 }
 
 /// Writes a name, with `%` and two digits for each byte that does not stand for itself.
 pub fn write_name<K: Sink>(name: &Name, sink: &mut K) -> Result<(), WriteFault>
-    ensures ok { OnOk result (K.taken sink.new ≡ with_bytes (K.taken sink.old) (name_text name.now)) }
-    ensures err { OnErr result (TookFront (K.taken sink.old) (name_text name.now) (K.taken sink.new)) }
-    ensures ok_faults { OnOk result (K.faults sink.new ≡ K.faults sink.old) }
-    ensures faults { K.faults sink.old ≤ K.faults sink.new }
-    ensures cause { OnErr result (HasRisen (K.faults sink.old) (K.faults sink.new)) }
+    ensures { Writes (K.took sink.old) (K.took sink.new) (K.faults sink.old) (K.faults sink.new)
+        (name_text name.now) result }
 {
     write_all(sink, escaped(name).as_slice())
 }
 
 /// Writes a space.
 pub fn write_space<K: Sink>(sink: &mut K) -> Result<(), WriteFault>
-    ensures ok { OnOk result (K.taken sink.new ≡ with_bytes (K.taken sink.old) (space ∷ [])) }
-    ensures err { OnErr result (K.taken sink.new ≡ K.taken sink.old) }
-    ensures ok_faults { OnOk result (K.faults sink.new ≡ K.faults sink.old) }
-    ensures faults { K.faults sink.old ≤ K.faults sink.new }
-    ensures cause { OnErr result (HasRisen (K.faults sink.old) (K.faults sink.new)) }
+    ensures { Writes (K.took sink.old) (K.took sink.new) (K.faults sink.old) (K.faults sink.new) (space ∷ []) result }
 {
     write_all(sink, b" ")
 }
 
 /// Writes a newline.
 pub fn write_newline<K: Sink>(sink: &mut K) -> Result<(), WriteFault>
-    ensures ok { OnOk result (K.taken sink.new ≡ with_bytes (K.taken sink.old) (newline ∷ [])) }
-    ensures err { OnErr result (K.taken sink.new ≡ K.taken sink.old) }
-    ensures ok_faults { OnOk result (K.faults sink.new ≡ K.faults sink.old) }
-    ensures faults { K.faults sink.old ≤ K.faults sink.new }
-    ensures cause { OnErr result (HasRisen (K.faults sink.old) (K.faults sink.new)) }
+    ensures { Writes (K.took sink.old) (K.took sink.new) (K.faults sink.old) (K.faults sink.new) (newline ∷ []) result }
 {
     write_all(sink, b"\n")
+}
+
+/// Writes the line that tells the numbers of a fresh volume.
+pub fn write_formatted<K: Sink>(geometry: &Geometry, sink: &mut K) -> Result<(), WriteFault>
+    ensures { Writes (K.took sink.old) (K.took sink.new) (K.faults sink.old) (K.faults sink.new)
+        (formatted_text geometry.now.pages) result }
+{
+    write_all(sink, formatted_line(geometry).as_slice())
+}
+
+/// Writes the line that tells that a device holds no volume.
+pub fn write_not_a_volume<K: Sink>(sink: &mut K) -> Result<(), WriteFault>
+    ensures { Writes (K.took sink.old) (K.took sink.new) (K.faults sink.old) (K.faults sink.new)
+        not_a_volume_text result }
+{
+    write_all(sink, b"not a volume\n")
+}
+
+/// Writes the line that tells the rule that a device breaks, and where.
+pub fn write_damaged<K: Sink>(rule: u64, place: u64, sink: &mut K) -> Result<(), WriteFault>
+    ensures { Writes (K.took sink.old) (K.took sink.new) (K.faults sink.old) (K.faults sink.new)
+        (damaged_text rule place) result }
+{
+    write_all(sink, damaged_line(rule, place).as_slice())
 }
 
 // The line of a plain reply.
@@ -169,6 +174,32 @@ fn space_line(free: &Free) -> LineText
     line
 }
 
+fn formatted_line(geometry: &Geometry) -> LineText
+    ensures { result.items ≡ formatted_text geometry.now.pages }
+{
+    let mut line = ArrayVec::new();
+    push_text(&mut line, b"formatted pages ");
+    push_number(&mut line, geometry.pages);
+    push_text(&mut line, b" inodes ");
+    push_number(&mut line, geometry.inodes);
+    push_text(&mut line, b" data ");
+    push_number(&mut line, geometry.data_pages);
+    push_text(&mut line, b"\n");
+    line
+}
+
+fn damaged_line(rule: u64, place: u64) -> LineText
+    ensures { result.items ≡ damaged_text rule place }
+{
+    let mut line = ArrayVec::new();
+    push_text(&mut line, b"damaged ");
+    push_number(&mut line, rule);
+    push_text(&mut line, b" ");
+    push_number(&mut line, place);
+    push_text(&mut line, b"\n");
+    line
+}
+
 fn kind_word(dir: bool) -> &'static [u8]
     ensures word { result.now ≡ (if dir then codes "dir" else codes "file") }
     ensures short { length result.now ≤ 5 }
@@ -213,8 +244,8 @@ fn fault_name(fault: LineFault) -> &'static [u8]
     }
 }
 
-/// Adds a text.
-pub fn push_text<const SIZE: usize>(line: &mut ArrayVec<u8, SIZE>, text: &[u8])
+// Adds a text.
+fn push_text<const SIZE: usize>(line: &mut ArrayVec<u8, SIZE>, text: &[u8])
     requires room { array_vec_len line.old + length text.now ≤ SIZE }
     ensures items { line.new.items ≡ line.old.items ++ text.now }
     ensures len { array_vec_len line.new ≡ array_vec_len line.old + length text.now }
@@ -222,8 +253,8 @@ pub fn push_text<const SIZE: usize>(line: &mut ArrayVec<u8, SIZE>, text: &[u8])
     let _ = line.try_extend_from_slice(text);
 }
 
-/// Adds a number in decimal.
-pub fn push_number(line: &mut LineText, number: u64)
+// Adds a number in decimal.
+fn push_number(line: &mut LineText, number: u64)
     requires room { array_vec_len line.old + 20 ≤ 128 }
     ensures items { line.new.items ≡ line.old.items ++ decimal number }
     ensures len { array_vec_len line.new ≤ array_vec_len line.old + 20 }

@@ -1,8 +1,9 @@
-use Rattle.std.proofs.Common.{ℕ, ◌-◌, ◌<◌, ◌≤◌, length, List, drop, subst, sym, ap, ◌∙◌, arith}
+use Rattle.std.proofs.Common.{ℕ, ◌-◌, ◌<◌, ◌≤◌, length, List, Option, drop, subst, sym, ap, ◌∙◌, arith}
 use Rattle.std.proofs.lemmas.List.{length-take}
 use Rattle.script.specs.Lines.{line_limit, script_limit, IsUnbroken}
 use Rattle.script.specs.Reader.{pending, read_count}
 use Rattle.script.specs.Reading.{IfTold, ReadFront}
+use Rattle.script.specs.Stepping.{StepsTo}
 use Rattle.script.proofs.ReadingLaws.{reads_trans, line_given, last_given, breaks_off, counted_on}
 use Rattle.script.proofs.lines.Lines.read_line.Goals as goal
 
@@ -12,9 +13,9 @@ reading-preserved g c =
     record {
       reads = reads_trans _ _ _ _ _ _ _ _ _ c.reading.invariant.reads c.read_piece.ensures.reads;
       unbroken = found.0;
-      given = c.read_piece.ensures.given ∙ c.reading.invariant.given;
-      unended = c.read_piece.ensures.unended;
-      faults = c.in-Ok-Nothing.ensures.ok_faults ∙ c.reading.invariant.faults;
+      given = c.read_piece.ensures.counts.given ∙ c.reading.invariant.given;
+      unended = c.read_piece.ensures.counts.unended;
+      faults = c.in-Ok-Nothing.ensures.counts.no_fault ∙ c.reading.invariant.faults;
     }
 
 pub returns-in-Ok-Newline-clause-step : goal.returns-in-Ok-Newline-clause-step
@@ -49,11 +50,15 @@ returns-in-Ok-Limit-clause-step g c =
 pub returns-in-Ok-Limit-clause-counted : goal.returns-in-Ok-Limit-clause-counted
 returns-in-Ok-Limit-clause-counted g c = counted_on _ _ _ _ _ _ _ _ c.reading.invariant.reads c.read_piece.ensures.reads.front
 
-pub returns-in-Err-clause-err : goal.returns-in-Err-clause-err
-returns-in-Err-clause-err g c = breaks_off _ _ _ (c.read_piece.ensures.reads.rest ∙ c.reading.invariant.reads.rest) c.in-Err.ensures.err
+pub returns-in-Err-clause-step : goal.returns-in-Err-clause-step
+returns-in-Err-clause-step g c = breaks_off _ _ _ (c.read_piece.ensures.reads.rest ∙ c.reading.invariant.reads.rest) c.in-Err.ensures.counts.unbroken
 
 pub returns-in-Err-clause-counted : goal.returns-in-Err-clause-counted
 returns-in-Err-clause-counted g c = counted_on _ _ _ _ _ _ _ _ c.reading.invariant.reads c.read_piece.ensures.reads.front
 
 pub returns-clause-counted : goal.returns-clause-counted
 returns-clause-counted g c = counted_on _ _ _ _ _ _ _ _ c.reading.invariant.reads c.skip_line.ensures.counted
+
+pub returns-clause-step : goal.returns-clause-step
+returns-clause-step g c =
+    subst (λ (rest : Option (List ℕ)). StepsTo rest (g.S.Source.left c.skip_line.new.source) c.skip_line.new.self c.skip_line.result) c.reading.invariant.reads.rest c.skip_line.ensures.step

@@ -10,14 +10,15 @@ returns-in-Ok-clause-behind g c =
     let given = take c.in-Ok.count c.read.new.buf in
     let k = l.end + room - l.end in
     let long : length c.read.new.buf ≡ k = omega (arith, c.read.auto.buf, length-take k (drop l.end c.deref_mut.result.now), length-drop l.end c.deref_mut.result.now) in
-    let fits : c.in-Ok.count ≤ k = omega arith in
+    let within = c.in-Ok.ensures.within in
+    let fits : c.in-Ok.count ≤ k = omega (arith, within) in
     record {
       more = given;
       long = length-take-le c.in-Ok.count c.read.new.buf (omega arith);
       split = window_of_filled l.buffer c.deref_mut.result.now c.read.new.buf l.start l.end (l.end + c.in-Ok.count) c.in-Ok.count k c.deref_mut.ensures.len long (omega arith) (omega arith) fits refl
           ∙ ap (λ items. take (l.end - l.start) (drop l.start items) ++ given) c.deref_mut.ensures.value
-          ∙ ap (λ bytes. bytes ++ given) c.make_room.ensures.same;
-      given = c.in-Ok.ensures.bytes;
+          ∙ ap (λ bytes. bytes ++ given) c.make_room.ensures.keeps.same;
+      given = c.in-Ok.ensures.gives;
     }
 
 pub returns-in-Err-clause-err : goal.returns-in-Err-clause-err
@@ -29,4 +30,4 @@ returns-in-Err-clause-err g c =
     window_of_filled l.buffer c.deref_mut.result.now c.read.new.buf l.start l.end l.end 0 k c.deref_mut.ensures.len long (omega arith) (omega arith) (omega arith) (omega arith)
     ∙ append-nil (take (l.end - l.start) (drop l.start c.deref_mut.result.now))
     ∙ ap (λ items. take (l.end - l.start) (drop l.start items)) c.deref_mut.ensures.value
-    ∙ c.make_room.ensures.same
+    ∙ c.make_room.ensures.keeps.same

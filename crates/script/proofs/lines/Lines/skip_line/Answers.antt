@@ -13,8 +13,8 @@ skipping-preserved g c =
           (sym c.drop_pending-in-Ok-Nothing.ensures.read)
           (skip_on _ _ _ _ _ _ _ _ _ c.skipping.invariant.skips c.skipping.invariant.none c.read_piece.ensures.reads found.0);
       none = c.drop_pending-in-Ok-Nothing.ensures.none;
-      unended = c.drop_pending-in-Ok-Nothing.ensures.ended ∙ c.read_piece.ensures.unended;
-      faults = c.in-Ok-Nothing.ensures.ok_faults ∙ c.skipping.invariant.faults;
+      unended = c.drop_pending-in-Ok-Nothing.ensures.ended ∙ c.read_piece.ensures.counts.unended;
+      faults = c.in-Ok-Nothing.ensures.counts.no_fault ∙ c.skipping.invariant.faults;
     }
 
 pub returns-in-Ok-Newline-clause-step : goal.returns-in-Ok-Newline-clause-step
@@ -46,9 +46,9 @@ returns-in-Ok-Limit-clause-step g c =
 pub returns-in-Ok-Limit-clause-counted : goal.returns-in-Ok-Limit-clause-counted
 returns-in-Ok-Limit-clause-counted g c = skip_front _ _ _ _ _ _ _ _ _ c.skipping.invariant.skips c.read_piece.ensures.reads
 
-pub returns-in-Err-clause-err : goal.returns-in-Err-clause-err
-returns-in-Err-clause-err g c =
-    skip_breaks_off _ _ _ _ _ c.skipping.invariant.skips.skipped c.skipping.invariant.none c.read_piece.ensures.reads.rest c.in-Err.ensures.err
+pub returns-in-Err-clause-step : goal.returns-in-Err-clause-step
+returns-in-Err-clause-step g c =
+    skip_breaks_off _ _ _ _ _ c.skipping.invariant.skips.skipped c.skipping.invariant.none c.read_piece.ensures.reads.rest c.in-Err.ensures.counts.unbroken
 
 pub returns-in-Err-clause-counted : goal.returns-in-Err-clause-counted
 returns-in-Err-clause-counted g c = skip_front _ _ _ _ _ _ _ _ _ c.skipping.invariant.skips c.read_piece.ensures.reads
