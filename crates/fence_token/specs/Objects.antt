@@ -16,7 +16,7 @@ pub record Stands (Owns : ℕ → Type 0) (Reads : List ℕ → Type 0) (now : L
   pub inside : (word : ℕ) → Owns word → word < length now
   pub reads : Reads now
 
--- and a stop leaves them so
+-- and a crash leaves them so
 pub record StandsClean (Owns : ℕ → Type 0) (Reads : List ℕ → Type 0) (now : List ℕ) (trail : Option Trail) : Type 0 where
   pub stands : Stands Owns Reads now
   pub clean : (word : ℕ) → Owns word → IsClean now trail word
