@@ -3,9 +3,10 @@ use Rattle.std.specs.Prelude.{◌≡◌, ◌↔◌, ◌⊎◌, ℕ, ◌+◌, ◌
 use Rattle.layout.specs.Geometry.{inodes_of}
 use Rattle.layout.specs.Fields.{slot_inode}
 use Rattle.image_reading.specs.Reading.{IsDirectory, slot_owner, IsLive, Reached}
-use Rattle.image_reading.specs.Scan.{IsRename}
+use Rattle.image_reading.specs.Scan.{IsRename, IsLinked}
 use Rattle.image_reading.specs.Marks.{IsMarked}
 use Rattle.image_reading.specs.declared.reach.Reach.{Reach}
+use Rattle.image_reading.specs.declared.image.Walked.{Walked}
 
 -- inode i has been found
 abbrev pub IsFound : Reach → ℕ → Type 0
@@ -42,3 +43,8 @@ pub record Knows (P : ℕ) (I : List ℕ) (reach : Reach) : Type 0 where
   pub pointer : IsRename P I reach.rename.target reach.rename.inode
   pub size : vec_len reach.reached ≡ inodes_of P + 1
   pub reached : (i : ℕ) → IsFound reach i ↔ Reached P I i
+
+-- The lists have the pages of each inode, and the walk is done.
+pub record IsWalked (walked : Walked) : Type 0 where
+  pub linked : IsLinked walked.image.geometry.pages walked.image.words.now walked.lists.first.now walked.lists.next.now
+  pub known : Knows walked.image.geometry.pages walked.image.words.now walked.reach.now

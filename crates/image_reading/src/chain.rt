@@ -1,118 +1,94 @@
 // The rules, one after another.
 ghost use Rattle.std.specs.Prelude.{◌≡◌, ◌*◌, ◌+◌, length};
 ghost use Rattle.image_reading.specs.Scan.{FindsFault, IsLinked, KeepsBelow};
-ghost use Rattle.image_reading.specs.Walk.{Knows};
+ghost use Rattle.image_reading.specs.Walk.{IsWalked};
 
 use crate::Violation;
-use crate::faults::directories::second_name;
-use crate::faults::entries::{bad_inode_number, bad_name};
-use crate::faults::files::{doubled_page, missing_page};
-use crate::faults::heads::{bad_head, bad_root};
-use crate::faults::inodes::{bad_inode, bad_page_kind, bad_size};
-use crate::faults::links::too_few_links;
-use crate::faults::names::twin_name;
-use crate::faults::pointers::{bad_pointer, second_pointer};
+use crate::faults::directories::own_directories_broken_at;
+use crate::faults::entries::{inodes_broken_at, names_broken_at};
+use crate::faults::files::{all_pages_broken_at, own_offsets_broken_at};
+use crate::faults::heads::{head_broken_at, root_broken_at};
+use crate::faults::inodes::{kinds_broken_at, page_kinds_broken_at, sizes_broken_at};
+use crate::faults::links::links_broken_at;
+use crate::faults::names::own_names_broken_at;
+use crate::faults::pointers::{one_pointer_broken_at, pointers_broken_at};
+use crate::image::{Image, Walked};
 use crate::pages::Lists;
-use crate::reach::Reach;
-use layout::Geometry;
 
 /// Rules 1 to 4, which need no walk.
-pub fn fault_of_head(words: &[u64], geometry: &Geometry) -> Option<Violation>
-    requires { length words.now ≡ 512 * geometry.now.pages }
-    ensures { FindsFault geometry.now.pages words.now 5 result }
+pub fn fault_of_head(image: &Image<'_>) -> Option<Violation>
+    ensures { FindsFault image.now.geometry.pages image.now.words.now 5 result }
 {
-    if let Some(place) = bad_head(words, geometry) {
+    if let Some(place) = head_broken_at(image) {
         return Some(Violation { rule: 1, place });
     }
-    if let Some(place) = bad_root(words, geometry) {
+    if let Some(place) = root_broken_at(image) {
         return Some(Violation { rule: 2, place });
     }
-    if let Some(place) = bad_pointer(words, geometry) {
+    if let Some(place) = pointers_broken_at(image) {
         return Some(Violation { rule: 3, place });
     }
-    if let Some(place) = second_pointer(words, geometry) {
+    if let Some(place) = one_pointer_broken_at(image) {
         return Some(Violation { rule: 4, place });
     }
     None
 }
 
 /// Rules 5 to 9, which are about names. `named` is overwritten.
-pub fn fault_of_names(
-    words: &[u64],
-    geometry: &Geometry,
-    reach: &Reach,
-    lists: Lists<'_>,
-    named: &mut [bool],
-) -> Option<Violation>
-    requires whole { length words.now ≡ 512 * geometry.now.pages }
-    requires kept { KeepsBelow geometry.now.pages words.now 5 }
-    requires known { Knows geometry.now.pages words.now reach.now }
-    requires linked { IsLinked geometry.now.pages words.now lists.first.now lists.next.now }
-    requires marks { length named.old ≡ geometry.now.inodes + 1 }
-    ensures { FindsFault geometry.now.pages words.now 10 result }
+pub fn fault_of_names(walked: &Walked<'_>, named: &mut [bool]) -> Option<Violation>
+    requires kept { KeepsBelow walked.now.image.geometry.pages walked.now.image.words.now 5 }
+    requires walked { IsWalked walked.now }
+    requires marks { length named.old ≡ walked.now.image.geometry.inodes + 1 }
+    ensures { FindsFault walked.now.image.geometry.pages walked.now.image.words.now 10 result }
 {
-    if let Some(place) = bad_inode_number(words, geometry, reach) {
+    if let Some(place) = inodes_broken_at(walked) {
         return Some(Violation { rule: 5, place });
     }
-    if let Some(place) = bad_name(words, geometry, reach) {
+    if let Some(place) = names_broken_at(walked) {
         return Some(Violation { rule: 6, place });
     }
-    if let Some(place) = bad_inode(words, geometry, reach) {
+    if let Some(place) = kinds_broken_at(walked) {
         return Some(Violation { rule: 7, place });
     }
-    if let Some(place) = twin_name(words, geometry, reach, lists) {
+    if let Some(place) = own_names_broken_at(walked) {
         return Some(Violation { rule: 8, place });
     }
-    if let Some(place) = second_name(words, geometry, reach, named) {
+    if let Some(place) = own_directories_broken_at(walked, named) {
         return Some(Violation { rule: 9, place });
     }
     None
 }
 
 /// Rules 10 to 13, which are about pages. `stamps` is overwritten.
-pub fn fault_of_pages(
-    words: &[u64],
-    geometry: &Geometry,
-    reach: &Reach,
-    lists: Lists<'_>,
-    stamps: &mut [u64],
-) -> Option<Violation>
-    requires whole { length words.now ≡ 512 * geometry.now.pages }
-    requires kept { KeepsBelow geometry.now.pages words.now 10 }
-    requires known { Knows geometry.now.pages words.now reach.now }
-    requires linked { IsLinked geometry.now.pages words.now lists.first.now lists.next.now }
-    requires room { length stamps.old ≡ geometry.now.data_pages }
-    ensures { FindsFault geometry.now.pages words.now 14 result }
+pub fn fault_of_pages(walked: &Walked<'_>, stamps: &mut [u64]) -> Option<Violation>
+    requires kept { KeepsBelow walked.now.image.geometry.pages walked.now.image.words.now 10 }
+    requires walked { IsWalked walked.now }
+    requires room { length stamps.old ≡ walked.now.image.geometry.data_pages }
+    ensures { FindsFault walked.now.image.geometry.pages walked.now.image.words.now 14 result }
 {
-    if let Some(place) = bad_page_kind(words, geometry, reach) {
+    if let Some(place) = page_kinds_broken_at(walked) {
         return Some(Violation { rule: 10, place });
     }
-    if let Some(place) = bad_size(words, geometry, reach) {
+    if let Some(place) = sizes_broken_at(walked) {
         return Some(Violation { rule: 11, place });
     }
-    if let Some(place) = missing_page(words, geometry, reach, lists, stamps) {
+    if let Some(place) = all_pages_broken_at(walked, stamps) {
         return Some(Violation { rule: 12, place });
     }
-    if let Some(place) = doubled_page(words, geometry, reach, lists, stamps) {
+    if let Some(place) = own_offsets_broken_at(walked, stamps) {
         return Some(Violation { rule: 13, place });
     }
     None
 }
 
 /// Rule 14, which is about links. `tally` is overwritten.
-pub fn fault_of_links(
-    words: &[u64],
-    geometry: &Geometry,
-    reach: &Reach,
-    tally: &mut [u64],
-) -> Option<Violation>
-    requires whole { length words.now ≡ 512 * geometry.now.pages }
-    requires kept { KeepsBelow geometry.now.pages words.now 14 }
-    requires known { Knows geometry.now.pages words.now reach.now }
-    requires inodes { length tally.old ≡ geometry.now.inodes + 1 }
-    ensures { FindsFault geometry.now.pages words.now 15 result }
+pub fn fault_of_links(walked: &Walked<'_>, tally: &mut [u64]) -> Option<Violation>
+    requires kept { KeepsBelow walked.now.image.geometry.pages walked.now.image.words.now 14 }
+    requires walked { IsWalked walked.now }
+    requires inodes { length tally.old ≡ walked.now.image.geometry.inodes + 1 }
+    ensures { FindsFault walked.now.image.geometry.pages walked.now.image.words.now 15 result }
 {
-    if let Some(place) = too_few_links(words, geometry, reach, tally) {
+    if let Some(place) = links_broken_at(walked, tally) {
         return Some(Violation { rule: 14, place });
     }
     None

@@ -6,32 +6,31 @@ ghost use Rattle.image_reading.specs.Soundness.{IsOnlyPointer};
 ghost use Rattle.image_reading.specs.Scan.{IsRename};
 ghost use Rattle.image_reading.specs.Repairs.{IsPointer};
 
-use layout::Geometry;
+use crate::image::Image;
+use layout::{PAGE_SLOTS, SLOTS};
 
 /// Whether the slot stands in a page that is held as a directory page.
-pub fn is_held(words: &[u64], geometry: &Geometry, slot: u64) -> bool
-    requires { length words.now ≡ 512 * geometry.now.pages }
-    ensures { IsTrue result ↔ IsHeld geometry.now.pages words.now slot }
+pub fn is_held(image: &Image<'_>, slot: u64) -> bool
+    ensures { IsTrue result ↔ IsHeld image.now.geometry.pages image.now.words.now slot }
 {
-    if slot >= geometry.slots() {
+    if slot >= image.geometry.slots() {
         return false;
     }
-    let descriptor = geometry.descriptor_at(words, slot / 32);
-    if descriptor.kind != 2 {
+    let descriptor = image.geometry.descriptor_at(image.words, slot / PAGE_SLOTS);
+    if descriptor.kind != SLOTS {
         return false;
     }
     descriptor.owner != 0
 }
 
 /// Whether the slot is held and has a rename pointer.
-pub fn has_pointer(words: &[u64], geometry: &Geometry, slot: u64) -> bool
-    requires { length words.now ≡ 512 * geometry.now.pages }
-    ensures { IsTrue result ↔ IsPointer geometry.now.pages words.now slot }
+pub fn has_pointer(image: &Image<'_>, slot: u64) -> bool
+    ensures { IsTrue result ↔ IsPointer image.now.geometry.pages image.now.words.now slot }
 {
-    if !is_held(words, geometry, slot) {
+    if !is_held(image, slot) {
         return false;
     }
-    geometry.slot_at(words, slot).pointer != 0
+    image.geometry.slot_at(image.words, slot).pointer != 0
 }
 
 /// The one rename pointer of the held slots.
@@ -44,14 +43,13 @@ pub struct Rename {
 }
 
 /// The rename pointer, where one held slot at most has one.
-pub fn rename_of(words: &[u64], geometry: &Geometry) -> Rename
-    requires whole { length words.now ≡ 512 * geometry.now.pages }
-    requires one { (s : ℕ) → IsOnlyPointer geometry.now.pages words.now s }
-    ensures { IsRename geometry.now.pages words.now result.target result.inode }
+pub fn rename_of(image: &Image<'_>) -> Rename
+    requires { (s : ℕ) → IsOnlyPointer image.now.geometry.pages image.now.words.now s }
+    ensures { IsRename image.now.geometry.pages image.now.words.now result.target result.inode }
 {
-    for slot in 0..geometry.slots() {
-        if has_pointer(words, geometry, slot) {
-            let fields = geometry.slot_at(words, slot);
+    for slot in 0..image.geometry.slots() {
+        if has_pointer(image, slot) {
+            let fields = image.geometry.slot_at(image.words, slot);
             return Rename {
                 target: fields.pointer,
                 inode: fields.inode,
@@ -65,15 +63,14 @@ pub fn rename_of(words: &[u64], geometry: &Geometry) -> Rename
 }
 
 /// Whether the slot is live.
-pub fn is_live(words: &[u64], geometry: &Geometry, rename: Rename, slot: u64) -> bool
-    requires whole { length words.now ≡ 512 * geometry.now.pages }
-    requires pointer { IsRename geometry.now.pages words.now rename.target rename.inode }
-    ensures { IsTrue result ↔ IsLive geometry.now.pages words.now slot }
+pub fn is_live(image: &Image<'_>, rename: Rename, slot: u64) -> bool
+    requires { IsRename image.now.geometry.pages image.now.words.now rename.target rename.inode }
+    ensures { IsTrue result ↔ IsLive image.now.geometry.pages image.now.words.now slot }
 {
-    if !is_held(words, geometry, slot) {
+    if !is_held(image, slot) {
         return false;
     }
-    let inode = geometry.slot_at(words, slot).inode;
+    let inode = image.geometry.slot_at(image.words, slot).inode;
     if inode == 0 {
         return false;
     }

@@ -2,7 +2,7 @@
 ghost use Rattle.std.specs.Prelude.{◌≡◌, ◌*◌, ◌+◌, ℕ, length};
 ghost use Rattle.image_reading.specs.Scan.{IsLinked};
 
-use layout::Geometry;
+use crate::image::Image;
 
 /// The lists of pages. A link is one more than a page, or 0 for none.
 #[derive(Clone, Copy)]
@@ -15,18 +15,17 @@ pub struct Lists<'a> {
 
 /// Writes the lists: for each inode number one more than its first page, for each page one more than the next page of the
 /// same owner, 0 where there is none. Pages of owners past the last inode are left out.
-pub fn link_pages(words: &[u64], geometry: &Geometry, first: &mut [u64], next: &mut [u64])
-    requires whole { length words.now ≡ 512 * geometry.now.pages }
-    requires inodes { length first.old ≡ geometry.now.inodes + 1 }
-    requires pages { length next.old ≡ geometry.now.data_pages }
-    ensures { IsLinked geometry.now.pages words.now first.new next.new }
+pub fn link_pages(image: &Image<'_>, first: &mut [u64], next: &mut [u64])
+    requires inodes { length first.old ≡ image.now.geometry.inodes + 1 }
+    requires pages { length next.old ≡ image.now.geometry.data_pages }
+    ensures { IsLinked image.now.geometry.pages image.now.words.now first.new next.new }
 {
     first.fill(0);
-    let mut page = geometry.data_pages;
+    let mut page = image.geometry.data_pages;
     while page > 0 {
         page -= 1;
-        let owner = geometry.descriptor_at(words, page).owner;
-        if owner <= geometry.inodes {
+        let owner = image.geometry.descriptor_at(image.words, page).owner;
+        if owner <= image.geometry.inodes {
             next[page as usize] = first[owner as usize];
             first[owner as usize] = page + 1;
         }

@@ -27,12 +27,8 @@ impl Reach {
     pub fn new(alloc: Global, numbers: usize) -> Result<Reach, NoMemory>
         ensures { IfOk result (λ reach. vec_len reach.reached ≡ numbers) }
     {
-        let Ok(reached) = vec![in alloc; false; numbers] else {
-            return Err(NoMemory);
-        };
-        let Ok(order) = vec![in alloc; 0; numbers] else {
-            return Err(NoMemory);
-        };
+        let reached = vec![in alloc; false; numbers]?;
+        let order = vec![in alloc; 0; numbers]?;
         let rename = Rename {
             target: 0,
             inode: 0,

@@ -6,6 +6,7 @@ ghost use Rattle.image_reading.specs.Tidy.{Tidy};
 use crate::Violation;
 use crate::chain::{fault_of_head, fault_of_links, fault_of_names, fault_of_pages};
 use crate::held::rename_of;
+use crate::image::{Image, Walked};
 use crate::pages::{Lists, link_pages};
 use crate::reach::Reach;
 use crate::tidy::has_no_repairs;
@@ -44,28 +45,18 @@ impl Scan {
 
     /// Tables for volumes of this size.
     ///
-    /// Fails for want of memory, and for nothing else.
+    /// Fails where memory runs out, and for nothing else.
     pub fn new(alloc: Global, geometry: &Geometry) -> Result<Scan, NoMemory>
         ensures { IfOk result (λ scan. scan.geometry ≡ geometry.now) }
     {
         let inodes = geometry.inodes as usize + 1;
         let pages = geometry.data_pages as usize;
         let reach = Reach::new(alloc, inodes)?;
-        let Ok(first) = vec![in alloc; 0; inodes] else {
-            return Err(NoMemory);
-        };
-        let Ok(next) = vec![in alloc; 0; pages] else {
-            return Err(NoMemory);
-        };
-        let Ok(named) = vec![in alloc; false; inodes] else {
-            return Err(NoMemory);
-        };
-        let Ok(tally) = vec![in alloc; 0; inodes] else {
-            return Err(NoMemory);
-        };
-        let Ok(stamps) = vec![in alloc; 0; pages] else {
-            return Err(NoMemory);
-        };
+        let first = vec![in alloc; 0; inodes]?;
+        let next = vec![in alloc; 0; pages]?;
+        let named = vec![in alloc; false; inodes]?;
+        let tally = vec![in alloc; 0; inodes]?;
+        let stamps = vec![in alloc; 0; pages]?;
         Ok(Scan {
             geometry: *geometry,
             first,
@@ -85,19 +76,17 @@ impl Scan {
         ensures known { Knows self.old.geometry.pages words.now self.new.reach }
         ensures made_for { self.new.geometry ≡ self.old.geometry }
     {
-        let geometry = self.geometry;
-        let rename = rename_of(words, &geometry);
-        link_pages(
+        let image = Image {
             words,
-            &geometry,
-            self.first.as_mut_slice(),
-            self.next.as_mut_slice(),
-        );
+            geometry: self.geometry,
+        };
+        let rename = rename_of(&image);
+        link_pages(&image, self.first.as_mut_slice(), self.next.as_mut_slice());
         let lists = Lists {
             first: self.first.as_slice(),
             next: self.next.as_slice(),
         };
-        walk_tree(words, &geometry, rename, lists, &mut self.reach);
+        walk_tree(&image, rename, lists, &mut self.reach);
     }
 
     // Rules 5 to 14, where those before hold.
@@ -108,20 +97,22 @@ impl Scan {
         ensures made_for { self.new.geometry ≡ self.old.geometry }
     {
         self.walk(words);
-        let geometry = self.geometry;
+        let image = Image {
+            words,
+            geometry: self.geometry,
+        };
         let lists = Lists {
             first: self.first.as_slice(),
             next: self.next.as_slice(),
         };
-        let named = self.named.as_mut_slice();
-        if let Some(fault) = fault_of_names(words, &geometry, &self.reach, lists, named) {
+        let walked = Walked::new(image, lists, &self.reach);
+        if let Some(fault) = fault_of_names(&walked, self.named.as_mut_slice()) {
             return Some(fault);
         }
-        let stamps = self.stamps.as_mut_slice();
-        if let Some(fault) = fault_of_pages(words, &geometry, &self.reach, lists, stamps) {
+        if let Some(fault) = fault_of_pages(&walked, self.stamps.as_mut_slice()) {
             return Some(fault);
         }
-        fault_of_links(words, &geometry, &self.reach, self.tally.as_mut_slice())
+        fault_of_links(&walked, self.tally.as_mut_slice())
     }
 }
 
@@ -132,8 +123,11 @@ pub fn first_fault(words: &[u64], scan: &mut Scan) -> Option<Violation>
     ensures first { IfSome result (IsFirstViolation words.now) }
     ensures made_for { scan.new.geometry ≡ scan.old.geometry }
 {
-    let geometry = scan.geometry;
-    if let Some(fault) = fault_of_head(words, &geometry) {
+    let image = Image {
+        words,
+        geometry: scan.geometry,
+    };
+    if let Some(fault) = fault_of_head(&image) {
         return Some(fault);
     }
     scan.fault_of_tree(words)
@@ -147,6 +141,14 @@ pub fn is_tidy(words: &[u64], scan: &mut Scan) -> bool
     ensures made_for { scan.new.geometry ≡ scan.old.geometry }
 {
     scan.walk(words);
-    let geometry = scan.geometry;
-    has_no_repairs(words, &geometry, &scan.reach, scan.tally.as_mut_slice())
+    let image = Image {
+        words,
+        geometry: scan.geometry,
+    };
+    let lists = Lists {
+        first: scan.first.as_slice(),
+        next: scan.next.as_slice(),
+    };
+    let walked = Walked::new(image, lists, &scan.reach);
+    has_no_repairs(&walked, scan.tally.as_mut_slice())
 }

@@ -2,20 +2,19 @@
 ghost use Rattle.std.specs.Prelude.{◌≡◌, ◌↔◌, ◌*◌, ℕ, IsTrue, length};
 ghost use Rattle.image_reading.specs.Soundness.{NamesInode, HasName};
 ghost use Rattle.image_reading.specs.Scan.{Finds};
-ghost use Rattle.image_reading.specs.Walk.{Knows};
+ghost use Rattle.image_reading.specs.Walk.{IsWalked};
 
-use crate::reach::Reach;
+use crate::image::Walked;
 use crate::slots::is_reached_slot;
-use layout::{Geometry, name_of_words};
+use layout::{ROOT, name_of_words};
 
 /// Rule 5: a reached slot names an inode, and not the root.
-pub fn bad_inode_number(words: &[u64], geometry: &Geometry, reach: &Reach) -> Option<u64>
-    requires whole { length words.now ≡ 512 * geometry.now.pages }
-    requires known { Knows geometry.now.pages words.now reach.now }
-    ensures { Finds (NamesInode geometry.now.pages words.now) result }
+pub fn inodes_broken_at(walked: &Walked<'_>) -> Option<u64>
+    requires { IsWalked walked.now }
+    ensures { Finds (NamesInode walked.now.image.geometry.pages walked.now.image.words.now) result }
 {
-    for slot in 0..geometry.slots() {
-        if !names_inode(words, geometry, reach, slot) {
+    for slot in 0..walked.image.geometry.slots() {
+        if !names_inode(walked, slot) {
             return Some(slot);
         }
     }
@@ -23,29 +22,31 @@ pub fn bad_inode_number(words: &[u64], geometry: &Geometry, reach: &Reach) -> Op
 }
 
 // Whether the slot, if it is reached, names an inode other than the root.
-fn names_inode(words: &[u64], geometry: &Geometry, reach: &Reach, slot: u64) -> bool
-    requires whole { length words.now ≡ 512 * geometry.now.pages }
-    requires known { Knows geometry.now.pages words.now reach.now }
-    ensures { IsTrue result ↔ NamesInode geometry.now.pages words.now slot }
+fn names_inode(walked: &Walked<'_>, slot: u64) -> bool
+    requires { IsWalked walked.now }
+    ensures { IsTrue result ↔ NamesInode walked.now.image.geometry.pages walked.now.image.words.now slot }
 {
-    if !is_reached_slot(words, geometry, reach, slot) {
+    if !is_reached_slot(walked, slot) {
         return true;
     }
-    let inode = geometry.slot_at(words, slot).inode;
-    if inode < 2 {
+    let inode = walked
+        .image
+        .geometry
+        .slot_at(walked.image.words, slot)
+        .inode;
+    if inode <= ROOT {
         return false;
     }
-    inode <= geometry.inodes
+    inode <= walked.image.geometry.inodes
 }
 
 /// Rule 6: a reached slot has a name's words.
-pub fn bad_name(words: &[u64], geometry: &Geometry, reach: &Reach) -> Option<u64>
-    requires whole { length words.now ≡ 512 * geometry.now.pages }
-    requires known { Knows geometry.now.pages words.now reach.now }
-    ensures { Finds (HasName geometry.now.pages words.now) result }
+pub fn names_broken_at(walked: &Walked<'_>) -> Option<u64>
+    requires { IsWalked walked.now }
+    ensures { Finds (HasName walked.now.image.geometry.pages walked.now.image.words.now) result }
 {
-    for slot in 0..geometry.slots() {
-        if !has_name(words, geometry, reach, slot) {
+    for slot in 0..walked.image.geometry.slots() {
+        if !has_name(walked, slot) {
             return Some(slot);
         }
     }
@@ -53,13 +54,12 @@ pub fn bad_name(words: &[u64], geometry: &Geometry, reach: &Reach) -> Option<u64
 }
 
 // Whether the slot, if it is reached, has a name's words.
-fn has_name(words: &[u64], geometry: &Geometry, reach: &Reach, slot: u64) -> bool
-    requires whole { length words.now ≡ 512 * geometry.now.pages }
-    requires known { Knows geometry.now.pages words.now reach.now }
-    ensures { IsTrue result ↔ HasName geometry.now.pages words.now slot }
+fn has_name(walked: &Walked<'_>, slot: u64) -> bool
+    requires { IsWalked walked.now }
+    ensures { IsTrue result ↔ HasName walked.now.image.geometry.pages walked.now.image.words.now slot }
 {
-    if !is_reached_slot(words, geometry, reach, slot) {
+    if !is_reached_slot(walked, slot) {
         return true;
     }
-    name_of_words(&geometry.slot_at(words, slot).name).is_some()
+    name_of_words(&walked.image.geometry.slot_at(walked.image.words, slot).name).is_some()
 }

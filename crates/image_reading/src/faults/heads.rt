@@ -3,16 +3,16 @@ ghost use Rattle.std.specs.Prelude.{◌≡◌, ◌*◌, ℕ, length};
 ghost use Rattle.image_reading.specs.Soundness.{HasHead, HasRoot};
 ghost use Rattle.image_reading.specs.Scan.{Finds};
 
-use layout::Geometry;
+use crate::image::Image;
+use layout::{DIRECTORY, ROOT};
 
 /// Rule 1: the first five words are those of a volume of this size.
-pub fn bad_head(words: &[u64], geometry: &Geometry) -> Option<u64>
-    requires { length words.now ≡ 512 * geometry.now.pages }
-    ensures { Finds (HasHead geometry.now.pages words.now) result }
+pub fn head_broken_at(image: &Image<'_>) -> Option<u64>
+    ensures { Finds (HasHead image.now.geometry.pages image.now.words.now) result }
 {
-    let head = geometry.head();
+    let head = image.geometry.head();
     for k in 0..5usize {
-        if words[k] != head[k] {
+        if image.words[k] != head[k] {
             return Some(k as u64);
         }
     }
@@ -20,13 +20,12 @@ pub fn bad_head(words: &[u64], geometry: &Geometry) -> Option<u64>
 }
 
 /// Rule 2: the root is a directory with its own number.
-pub fn bad_root(words: &[u64], geometry: &Geometry) -> Option<u64>
-    requires { length words.now ≡ 512 * geometry.now.pages }
-    ensures { Finds (HasRoot words.now) result }
+pub fn root_broken_at(image: &Image<'_>) -> Option<u64>
+    ensures { Finds (HasRoot image.now.words.now) result }
 {
-    let root = geometry.inode_at(words, 1);
-    if root.kind != 2 || root.own != 1 {
-        return Some(1);
+    let root = image.geometry.inode_at(image.words, ROOT);
+    if root.kind != DIRECTORY || root.own != ROOT {
+        return Some(ROOT);
     }
     None
 }

@@ -2,23 +2,22 @@
 ghost use Rattle.std.specs.Prelude.{◌≡◌, ◌↔◌, ◌*◌, ◌<◌, ℕ, IsTrue, length};
 ghost use Rattle.image_reading.specs.Soundness.{IsWellFormed, HasOwnersKind, IsNotTooBig};
 ghost use Rattle.image_reading.specs.Scan.{Finds};
-ghost use Rattle.image_reading.specs.Walk.{Knows};
+ghost use Rattle.image_reading.specs.Walk.{IsWalked};
 
-use crate::reach::Reach;
-use layout::Geometry;
+use crate::image::Walked;
+use layout::{DIRECTORY, FILE};
 
 // No file has more bytes.
 const MOST_BYTES: u64 = 1 << 40;
 
 /// Rule 7: a reached inode is a file or a directory, with its own number.
-pub fn bad_inode(words: &[u64], geometry: &Geometry, reach: &Reach) -> Option<u64>
-    requires whole { length words.now ≡ 512 * geometry.now.pages }
-    requires known { Knows geometry.now.pages words.now reach.now }
-    ensures { Finds (IsWellFormed geometry.now.pages words.now) result }
+pub fn kinds_broken_at(walked: &Walked<'_>) -> Option<u64>
+    requires { IsWalked walked.now }
+    ensures { Finds (IsWellFormed walked.now.image.geometry.pages walked.now.image.words.now) result }
 {
-    let end = geometry.inodes + 1;
+    let end = walked.image.geometry.inodes + 1;
     for inode in 0..end {
-        if !is_well_formed(words, geometry, reach, inode) {
+        if !is_well_formed(walked, inode) {
             return Some(inode);
         }
     }
@@ -26,29 +25,27 @@ pub fn bad_inode(words: &[u64], geometry: &Geometry, reach: &Reach) -> Option<u6
 }
 
 // Whether the inode, if it is reached, is a file or a directory with its own number.
-fn is_well_formed(words: &[u64], geometry: &Geometry, reach: &Reach, inode: u64) -> bool
-    requires whole { length words.now ≡ 512 * geometry.now.pages }
-    requires known { Knows geometry.now.pages words.now reach.now }
-    ensures { IsTrue result ↔ IsWellFormed geometry.now.pages words.now inode }
+fn is_well_formed(walked: &Walked<'_>, inode: u64) -> bool
+    requires { IsWalked walked.now }
+    ensures { IsTrue result ↔ IsWellFormed walked.now.image.geometry.pages walked.now.image.words.now inode }
 {
-    if !reach.has(inode) {
+    if !walked.reach.has(inode) {
         return true;
     }
-    let fields = geometry.inode_at(words, inode);
-    if fields.kind != 1 && fields.kind != 2 {
+    let fields = walked.image.geometry.inode_at(walked.image.words, inode);
+    if fields.kind != FILE && fields.kind != DIRECTORY {
         return false;
     }
     fields.own == inode
 }
 
 /// Rule 10: a page of a reached file has kind 1, one of a reached directory kind 2.
-pub fn bad_page_kind(words: &[u64], geometry: &Geometry, reach: &Reach) -> Option<u64>
-    requires whole { length words.now ≡ 512 * geometry.now.pages }
-    requires known { Knows geometry.now.pages words.now reach.now }
-    ensures { Finds (HasOwnersKind geometry.now.pages words.now) result }
+pub fn page_kinds_broken_at(walked: &Walked<'_>) -> Option<u64>
+    requires { IsWalked walked.now }
+    ensures { Finds (HasOwnersKind walked.now.image.geometry.pages walked.now.image.words.now) result }
 {
-    for page in 0..geometry.data_pages {
-        if !has_owners_kind(words, geometry, reach, page) {
+    for page in 0..walked.image.geometry.data_pages {
+        if !has_owners_kind(walked, page) {
             return Some(page);
         }
     }
@@ -56,32 +53,37 @@ pub fn bad_page_kind(words: &[u64], geometry: &Geometry, reach: &Reach) -> Optio
 }
 
 // Whether the page, if a reached inode owns it, has the kind that the inode asks for.
-fn has_owners_kind(words: &[u64], geometry: &Geometry, reach: &Reach, page: u64) -> bool
-    requires whole { length words.now ≡ 512 * geometry.now.pages }
-    requires known { Knows geometry.now.pages words.now reach.now }
-    requires in_range { page < geometry.now.data_pages }
-    ensures { IsTrue result ↔ HasOwnersKind geometry.now.pages words.now page }
+fn has_owners_kind(walked: &Walked<'_>, page: u64) -> bool
+    requires walked { IsWalked walked.now }
+    requires in_range { page < walked.now.image.geometry.data_pages }
+    ensures { IsTrue result ↔ HasOwnersKind walked.now.image.geometry.pages walked.now.image.words.now page }
 {
-    let descriptor = geometry.descriptor_at(words, page);
-    if !reach.has(descriptor.owner) {
+    let descriptor = walked
+        .image
+        .geometry
+        .descriptor_at(walked.image.words, page);
+    if !walked.reach.has(descriptor.owner) {
         return true;
     }
-    let kind = geometry.inode_at(words, descriptor.owner).kind;
-    if kind != 1 && kind != 2 {
+    let kind = walked
+        .image
+        .geometry
+        .inode_at(walked.image.words, descriptor.owner)
+        .kind;
+    if kind != FILE && kind != DIRECTORY {
         return true;
     }
     descriptor.kind == kind
 }
 
 /// Rule 11: a reached file has at most 2^40 bytes.
-pub fn bad_size(words: &[u64], geometry: &Geometry, reach: &Reach) -> Option<u64>
-    requires whole { length words.now ≡ 512 * geometry.now.pages }
-    requires known { Knows geometry.now.pages words.now reach.now }
-    ensures { Finds (IsNotTooBig geometry.now.pages words.now) result }
+pub fn sizes_broken_at(walked: &Walked<'_>) -> Option<u64>
+    requires { IsWalked walked.now }
+    ensures { Finds (IsNotTooBig walked.now.image.geometry.pages walked.now.image.words.now) result }
 {
-    let end = geometry.inodes + 1;
+    let end = walked.image.geometry.inodes + 1;
     for inode in 0..end {
-        if !is_not_too_big(words, geometry, reach, inode) {
+        if !is_not_too_big(walked, inode) {
             return Some(inode);
         }
     }
@@ -89,16 +91,15 @@ pub fn bad_size(words: &[u64], geometry: &Geometry, reach: &Reach) -> Option<u64
 }
 
 // Whether the inode, if it is a reached file, has at most 2^40 bytes.
-fn is_not_too_big(words: &[u64], geometry: &Geometry, reach: &Reach, inode: u64) -> bool
-    requires whole { length words.now ≡ 512 * geometry.now.pages }
-    requires known { Knows geometry.now.pages words.now reach.now }
-    ensures { IsTrue result ↔ IsNotTooBig geometry.now.pages words.now inode }
+fn is_not_too_big(walked: &Walked<'_>, inode: u64) -> bool
+    requires { IsWalked walked.now }
+    ensures { IsTrue result ↔ IsNotTooBig walked.now.image.geometry.pages walked.now.image.words.now inode }
 {
-    if !reach.has(inode) {
+    if !walked.reach.has(inode) {
         return true;
     }
-    let fields = geometry.inode_at(words, inode);
-    if fields.kind != 1 {
+    let fields = walked.image.geometry.inode_at(walked.image.words, inode);
+    if fields.kind != FILE {
         return true;
     }
     fields.size <= MOST_BYTES

@@ -4,25 +4,21 @@ ghost use Rattle.layout.specs.Geometry.{slots_of, page_of_slot};
 ghost use Rattle.image_reading.specs.Reading.{IsReachedSlot, slot_owner};
 ghost use Rattle.image_reading.specs.Soundness.{HasOwnName, HasName};
 ghost use Rattle.image_reading.specs.Scan.{Finds, IsLinked, IsTwin};
-ghost use Rattle.image_reading.specs.Walk.{Knows};
+ghost use Rattle.image_reading.specs.Walk.{IsWalked};
 
+use crate::image::Walked;
 use crate::pages::Lists;
-use crate::reach::Reach;
 use crate::slots::is_reached_slot;
-use layout::Geometry;
+use layout::PAGE_SLOTS;
 
 /// Rule 8: no two reached slots of one directory have one name.
-pub fn twin_name(words: &[u64], geometry: &Geometry, reach: &Reach, lists: Lists<'_>) -> Option<u64>
-    requires whole { length words.now ≡ 512 * geometry.now.pages }
-    requires known { Knows geometry.now.pages words.now reach.now }
-    requires linked { IsLinked geometry.now.pages words.now lists.first.now lists.next.now }
-    requires named { (s : ℕ) → HasName geometry.now.pages words.now s }
-    ensures { Finds (HasOwnName geometry.now.pages words.now) result }
+pub fn own_names_broken_at(walked: &Walked<'_>) -> Option<u64>
+    requires walked { IsWalked walked.now }
+    requires named { (s : ℕ) → HasName walked.now.image.geometry.pages walked.now.image.words.now s }
+    ensures { Finds (HasOwnName walked.now.image.geometry.pages walked.now.image.words.now) result }
 {
-    for slot in 0..geometry.slots() {
-        if is_reached_slot(words, geometry, reach, slot)
-            && has_twin(words, geometry, reach, lists, slot)
-        {
+    for slot in 0..walked.image.geometry.slots() {
+        if is_reached_slot(walked, slot) && has_twin(walked, slot) {
             return Some(slot);
         }
     }
@@ -30,34 +26,35 @@ pub fn twin_name(words: &[u64], geometry: &Geometry, reach: &Reach, lists: Lists
 }
 
 // Whether an earlier slot of the same directory has the name of this one.
-fn has_twin(words: &[u64], geometry: &Geometry, reach: &Reach, lists: Lists<'_>, slot: u64) -> bool
-    requires whole { length words.now ≡ 512 * geometry.now.pages }
-    requires known { Knows geometry.now.pages words.now reach.now }
-    requires linked { IsLinked geometry.now.pages words.now lists.first.now lists.next.now }
-    requires reached { IsReachedSlot geometry.now.pages words.now slot }
-    ensures { IsTrue result ↔ ((r : ℕ) × (slot_owner geometry.now.pages words.now r ≡ slot_owner geometry.now.pages words.now slot) × IsTwin geometry.now.pages words.now slot r) }
+fn has_twin(walked: &Walked<'_>, slot: u64) -> bool
+    requires walked { IsWalked walked.now }
+    requires reached { IsReachedSlot walked.now.image.geometry.pages walked.now.image.words.now slot }
+    ensures { IsTrue result ↔ ((r : ℕ) × (slot_owner walked.now.image.geometry.pages walked.now.image.words.now r ≡ slot_owner walked.now.image.geometry.pages walked.now.image.words.now slot) × IsTwin walked.now.image.geometry.pages walked.now.image.words.now slot r) }
 {
-    let owner = geometry.descriptor_at(words, slot / 32).owner;
-    let mut link = lists.first[owner as usize];
+    let owner = walked
+        .image
+        .geometry
+        .descriptor_at(walked.image.words, slot / PAGE_SLOTS)
+        .owner;
+    let mut link = walked.lists.first[owner as usize];
     while link != 0 {
-        if page_has_twin(words, geometry, reach, link - 1, slot) {
+        if page_has_twin(walked, link - 1, slot) {
             return true;
         }
-        link = lists.next[(link - 1) as usize];
+        link = walked.lists.next[(link - 1) as usize];
     }
     false
 }
 
 // Whether an earlier slot of this page has the name of this slot.
-fn page_has_twin(words: &[u64], geometry: &Geometry, reach: &Reach, page: u64, slot: u64) -> bool
-    requires whole { length words.now ≡ 512 * geometry.now.pages }
-    requires known { Knows geometry.now.pages words.now reach.now }
-    requires page_in_range { page < geometry.now.data_pages }
-    requires slot_in_range { slot < slots_of geometry.now.pages }
-    ensures { IsTrue result ↔ ((r : ℕ) × (page_of_slot r ≡ page) × IsTwin geometry.now.pages words.now slot r) }
+fn page_has_twin(walked: &Walked<'_>, page: u64, slot: u64) -> bool
+    requires walked { IsWalked walked.now }
+    requires page_in_range { page < walked.now.image.geometry.data_pages }
+    requires slot_in_range { slot < slots_of walked.now.image.geometry.pages }
+    ensures { IsTrue result ↔ ((r : ℕ) × (page_of_slot r ≡ page) × IsTwin walked.now.image.geometry.pages walked.now.image.words.now slot r) }
 {
-    for entry in 0..32 {
-        if is_twin(words, geometry, reach, 32 * page + entry, slot) {
+    for entry in 0..PAGE_SLOTS {
+        if is_twin(walked, PAGE_SLOTS * page + entry, slot) {
             return true;
         }
     }
@@ -65,14 +62,18 @@ fn page_has_twin(words: &[u64], geometry: &Geometry, reach: &Reach, page: u64, s
 }
 
 // Whether the other slot is reached and earlier than this slot, and has its name.
-fn is_twin(words: &[u64], geometry: &Geometry, reach: &Reach, other: u64, slot: u64) -> bool
-    requires whole { length words.now ≡ 512 * geometry.now.pages }
-    requires known { Knows geometry.now.pages words.now reach.now }
-    requires slot_in_range { slot < slots_of geometry.now.pages }
-    ensures { IsTrue result ↔ IsTwin geometry.now.pages words.now slot other }
+fn is_twin(walked: &Walked<'_>, other: u64, slot: u64) -> bool
+    requires walked { IsWalked walked.now }
+    requires slot_in_range { slot < slots_of walked.now.image.geometry.pages }
+    ensures { IsTrue result ↔ IsTwin walked.now.image.geometry.pages walked.now.image.words.now slot other }
 {
-    if other >= slot || !is_reached_slot(words, geometry, reach, other) {
+    if other >= slot || !is_reached_slot(walked, other) {
         return false;
     }
-    geometry.slot_at(words, other).name == geometry.slot_at(words, slot).name
+    walked
+        .image
+        .geometry
+        .slot_at(walked.image.words, other)
+        .name
+        == walked.image.geometry.slot_at(walked.image.words, slot).name
 }

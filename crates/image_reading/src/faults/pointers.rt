@@ -5,15 +5,14 @@ ghost use Rattle.image_reading.specs.Soundness.{PointsAtHeld, IsOnlyPointer};
 ghost use Rattle.image_reading.specs.Scan.{Finds};
 
 use crate::held::{has_pointer, is_held};
-use layout::Geometry;
+use crate::image::Image;
 
 /// Rule 3: a held slot's rename pointer is 0 or names another held slot.
-pub fn bad_pointer(words: &[u64], geometry: &Geometry) -> Option<u64>
-    requires { length words.now ≡ 512 * geometry.now.pages }
-    ensures { Finds (PointsAtHeld geometry.now.pages words.now) result }
+pub fn pointers_broken_at(image: &Image<'_>) -> Option<u64>
+    ensures { Finds (PointsAtHeld image.now.geometry.pages image.now.words.now) result }
 {
-    for slot in 0..geometry.slots() {
-        if !points_at_held(words, geometry, slot) {
+    for slot in 0..image.geometry.slots() {
+        if !points_at_held(image, slot) {
             return Some(slot);
         }
     }
@@ -21,32 +20,30 @@ pub fn bad_pointer(words: &[u64], geometry: &Geometry) -> Option<u64>
 }
 
 // Whether the slot's rename pointer, if it is held, is 0 or names another held slot.
-fn points_at_held(words: &[u64], geometry: &Geometry, slot: u64) -> bool
-    requires whole { length words.now ≡ 512 * geometry.now.pages }
-    requires in_range { slot < slots_of geometry.now.pages }
-    ensures { IsTrue result ↔ PointsAtHeld geometry.now.pages words.now slot }
+fn points_at_held(image: &Image<'_>, slot: u64) -> bool
+    requires { slot < slots_of image.now.geometry.pages }
+    ensures { IsTrue result ↔ PointsAtHeld image.now.geometry.pages image.now.words.now slot }
 {
-    if !is_held(words, geometry, slot) {
+    if !is_held(image, slot) {
         return true;
     }
-    let pointer = geometry.slot_at(words, slot).pointer;
+    let pointer = image.geometry.slot_at(image.words, slot).pointer;
     if pointer == 0 {
         return true;
     }
     if pointer - 1 == slot {
         return false;
     }
-    is_held(words, geometry, pointer - 1)
+    is_held(image, pointer - 1)
 }
 
 /// Rule 4: one held slot at most has a rename pointer.
-pub fn second_pointer(words: &[u64], geometry: &Geometry) -> Option<u64>
-    requires { length words.now ≡ 512 * geometry.now.pages }
-    ensures { Finds (IsOnlyPointer geometry.now.pages words.now) result }
+pub fn one_pointer_broken_at(image: &Image<'_>) -> Option<u64>
+    ensures { Finds (IsOnlyPointer image.now.geometry.pages image.now.words.now) result }
 {
     let mut found = false;
-    for slot in 0..geometry.slots() {
-        if has_pointer(words, geometry, slot) {
+    for slot in 0..image.geometry.slots() {
+        if has_pointer(image, slot) {
             if found {
                 return Some(slot);
             }

@@ -5,16 +5,16 @@ use Rattle.image_reading.proofs.chain.fault_of_links.Goals as goal
 
 pub returns-in-Some : goal.returns-in-Some
 returns-in-Some c =
-    let P = c.args.geometry.now.pages in
-    let I = c.args.words.now in
+    let P = c.args.walked.now.image.geometry.pages in
+    let I = c.args.walked.now.image.words.now in
     lemmas.fault_at P I Rule.links _ refl c.requires.kept c.in-Some.ensures
 
 pub returns : goal.returns
 returns c =
-    let P = c.args.geometry.now.pages in
-    let I = c.args.words.now in
+    let P = c.args.walked.now.image.geometry.pages in
+    let I = c.args.walked.now.image.words.now in
     let after_links = lemmas.keeps_more P I Rule.links c.requires.kept c.in_default.ensures in
     after_links
 
-pub too_few_links-requires-clause-numbers : goal.too_few_links-requires-clause-numbers
-too_few_links-requires-clause-numbers c = λ s. c.requires.kept Rule.inodes s (omega arith)
+pub links_broken_at-requires-clause-numbers : goal.links_broken_at-requires-clause-numbers
+links_broken_at-requires-clause-numbers c = λ s. c.requires.kept Rule.inodes s (omega arith)

@@ -5,12 +5,12 @@ use Rattle.image_reading.proofs.held.is_held.Goals as goal
 
 pub descriptor_at-descriptor-requires-clause-page_in_range : goal.descriptor_at-descriptor-requires-clause-page_in_range
 descriptor_at-descriptor-requires-clause-page_in_range c =
-    let g = c.args.geometry.now in
-    let below = lemmas.slot_page_below g.pages c.args.words.now c.args.slot (omega (arith, c.slots.ensures)) in
+    let g = c.args.image.now.geometry in
+    let below = lemmas.slot_page_below g.pages c.args.image.now.words.now c.args.slot (omega (arith, c.slots.ensures)) in
     omega (arith, below, g.data_pages_exact)
 
-pub returns-then-descriptor-ne2 : goal.returns-then-descriptor-ne2
-returns-then-descriptor-ne2 c = (
+pub returns-then-descriptor-ne-SLOTS : goal.returns-then-descriptor-ne-SLOTS
+returns-then-descriptor-ne-SLOTS c = (
   (λ t. absurd (false≢true t)),
   (λ h. absurd (let kind = lemmas.held-kind _ _ _ h in omega (arith, c.descriptor_at-descriptor.ensures.kind))),
 )

@@ -6,7 +6,7 @@ use Rattle.image_reading.proofs.litter.has_exact_links.Goals as goal
 pub overflow_sub-result : goal.overflow_sub-result
 overflow_sub-result c =
     let fields = c.inode_at-fields.ensures in
-    let enough = enough_links c.args.geometry.now.pages c.args.words.now c.args.inode (get_or c.args.tally.now c.args.inode 0) c.requires.sound c.requires.reached
+    let enough = enough_links c.args.image.now.geometry.pages c.args.image.now.words.now c.args.inode (get_or c.args.tally.now c.args.inode 0) c.requires.sound c.requires.reached
     (c.requires.counted c.args.inode c.requires.in_range) (sym fields.kind ∙ c.if-fields-eq-DIRECTORY.true) in
     omega (arith, enough, fields.links)
 

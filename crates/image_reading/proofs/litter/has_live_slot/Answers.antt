@@ -7,5 +7,5 @@ use Rattle.image_reading.proofs.litter.has_live_slot.Goals as goal
 pub returns : goal.returns
 returns c = (
   (λ t. absurd (false≢true t)),
-  (λ (s, at, live). absurd (slots_of_page (λ s. ¬ IsLive c.args.geometry.now.pages c.args.words.now s) c.args.page (λ k lt. c.loop-place.invariant k (omega (arith, lt))) s at live)),
+  (λ (s, at, live). absurd (slots_of_page (λ s. ¬ IsLive c.args.walked.now.image.geometry.pages c.args.walked.now.image.words.now s) c.args.page (λ k lt. c.loop-place.invariant k (omega (arith, lt))) s at live)),
 )

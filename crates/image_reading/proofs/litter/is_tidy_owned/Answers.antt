@@ -8,13 +8,13 @@ use Rattle.image_reading.proofs.litter.is_tidy_owned.Goals as goal
 
 pub inode_at-inode-requires-clause-inode_in_range : goal.inode_at-inode-requires-clause-inode_in_range
 inode_at-inode-requires-clause-inode_in_range c =
-    let most = (in_range c.args.geometry.now.pages c.args.words.now _ c.requires.sound c.requires.reached).1 in
-    omega (arith, most, c.requires.owner, c.args.geometry.now.inodes_exact)
+    let most = (in_range c.args.walked.now.image.geometry.pages c.args.walked.now.image.words.now _ c.requires.sound c.requires.reached).1 in
+    omega (arith, most, c.requires.owner, c.args.walked.now.image.geometry.inodes_exact)
 
 pub returns-then-inode-eq-FILE : goal.returns-then-inode-eq-FILE
 returns-then-inode-eq-FILE c =
-    let P = c.args.geometry.now.pages in
-    let I = c.args.words.now in
+    let P = c.args.walked.now.image.geometry.pages in
+    let I = c.args.walked.now.image.words.now in
     let owner = page_owner P I c.args.page in
     let file = ap (inode_kind I) (sym c.requires.owner) ∙ sym c.inode_at-inode.ensures.kind ∙ c.if-inode-eq-FILE.true in
     let count : c.div_ceil.result ≡ pages_of_size (inode_size I owner) =
@@ -28,7 +28,7 @@ returns-then-inode-eq-FILE c =
 
 pub returns-then-not-has_live_slot : goal.returns-then-not-has_live_slot
 returns-then-not-has_live_slot c =
-    let kind = ap (inode_kind c.args.words.now) (sym c.requires.owner) ∙ sym c.inode_at-inode.ensures.kind in (
+    let kind = ap (inode_kind c.args.walked.now.image.words.now) (sym c.requires.owner) ∙ sym c.inode_at-inode.ensures.kind in (
       (λ t. absurd (false≢true t)),
       (λ tidy. absurd (tidy_live _ _ c.args.page c.requires.sound c.requires.in_range c.requires.owned c.requires.reached (λ file. c.if-inode-eq-FILE.false (sym kind ∙ file))
           (iff_false c.has_live_slot.ensures c.if-not-has_live_slot.true) tidy)),
@@ -36,8 +36,8 @@ returns-then-not-has_live_slot c =
 
 pub returns : goal.returns
 returns c =
-    let kind = ap (inode_kind c.args.words.now) (sym c.requires.owner) ∙ sym c.inode_at-inode.ensures.kind in
-    let other : ¬ IsFile c.args.words.now (page_owner c.args.geometry.now.pages c.args.words.now c.args.page) = λ file. c.if-inode-eq-FILE.false (sym kind ∙ file) in
+    let kind = ap (inode_kind c.args.walked.now.image.words.now) (sym c.requires.owner) ∙ sym c.inode_at-inode.ensures.kind in
+    let other : ¬ IsFile c.args.walked.now.image.words.now (page_owner c.args.walked.now.image.geometry.pages c.args.walked.now.image.words.now c.args.page) = λ file. c.if-inode-eq-FILE.false (sym kind ∙ file) in
     let live = c.has_live_slot.ensures.0 c.if-not-has_live_slot.false in (
       (λ t. directory_page_tidy _ _ c.args.page c.requires.sound c.requires.in_range c.requires.owned c.requires.reached other live (c.has_zero_slots.ensures.0 t)),
       (λ tidy. c.has_zero_slots.ensures.1 (tidy_zeros _ _ c.args.page c.requires.sound c.requires.in_range c.requires.owned c.requires.reached other live tidy)),

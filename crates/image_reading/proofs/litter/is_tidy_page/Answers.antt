@@ -14,5 +14,5 @@ pub returns-then-not-has : goal.returns-then-not-has
 returns-then-not-has c = (
   (λ t. absurd (false≢true t)),
   (λ tidy. absurd (unreached_litter _ _ c.args.page c.requires.sound c.requires.in_range (λ zero. c.if-owner-eq0.false (c.descriptor_at-owner.ensures.owner ∙ zero))
-      (λ reached. iff_false c.has.ensures c.if-not-has.true (subst (IsFound c.args.reach.now) (sym c.descriptor_at-owner.ensures.owner) ((c.requires.known.reached _).1 reached))) tidy)),
+      (λ reached. iff_false c.has.ensures c.if-not-has.true (subst (IsFound c.args.walked.now.reach.now) (sym c.descriptor_at-owner.ensures.owner) ((c.requires.walked.known.reached _).1 reached))) tidy)),
 )

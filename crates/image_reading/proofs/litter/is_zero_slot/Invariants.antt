@@ -4,4 +4,4 @@ use Rattle.layout.specs.Fields.{word}
 use Rattle.image_reading.proofs.litter.is_zero_slot.Given as goal
 
 abbrev pub invariant-loop-field : goal.invariant-loop-field
-invariant-loop-field l = (f : ℕ) → f < l.field → word l.words (slot_word_of l.geometry.pages l.slot f) ≡ 0
+invariant-loop-field l = (f : ℕ) → f < l.field → word l.image.words.now (slot_word_of l.image.geometry.pages l.slot f) ≡ 0

@@ -3,4 +3,4 @@ use Rattle.image_reading.specs.Litter.{IsTidyInode}
 use Rattle.image_reading.proofs.tidy.has_tidy_inodes.Given as goal
 
 abbrev pub invariant-loop-number : goal.invariant-loop-number
-invariant-loop-number l = (i : ℕ) → 1 ≤ i → i ≤ l.number → IsTidyInode l.geometry.pages l.words i
+invariant-loop-number l = (i : ℕ) → 1 ≤ i → i ≤ l.number → IsTidyInode l.walked.image.geometry.pages l.walked.image.words.now i

@@ -8,24 +8,24 @@ use Rattle.image_reading.proofs.walk.visit.Goals as goal
 
 pub inode_at-requires-clause-from_one : goal.inode_at-requires-clause-from_one
 inode_at-requires-clause-from_one c =
-    let g = c.args.geometry.now in
-    (lemmas.reached_range g.pages c.args.words.now c.args.inode (one_inode g.pages g.volume_size) c.requires.reached).0
+    let g = c.args.image.now.geometry in
+    (lemmas.reached_range g.pages c.args.image.now.words.now c.args.inode (one_inode g.pages g.volume_size) c.requires.reached).0
 
 pub loop-link-init : goal.loop-link-init
 loop-link-init c =
-    let g = c.args.geometry.now in
+    let g = c.args.image.now.geometry in
     let first = c.requires.linked.firsts c.args.inode (omega (arith, c.requires.in_range, g.inodes_exact)) in
     record {
       walk = c.requires.walk;
       extends = extends_itself c.args.reach.now;
-      pages = pages_begin g.pages c.args.words.now c.args.inode (lemmas.IsPageTaken g.pages c.args.words.now c.args.reach.now) (get_or c.args.lists.first.now c.args.inode 0) first;
+      pages = pages_begin g.pages c.args.image.now.words.now c.args.inode (lemmas.IsPageTaken g.pages c.args.image.now.words.now c.args.reach.now) (get_or c.args.lists.first.now c.args.inode 0) first;
     }
 
 pub loop-link-preserved : goal.loop-link-preserved
 loop-link-preserved c =
-    let g = c.args.geometry.now in
+    let g = c.args.image.now.geometry in
     let P = g.pages in
-    let I = c.args.words.now in
+    let I = c.args.image.now.words.now in
     let old = c.loop-link.reach in
     let new = c.visit_page.new.reach in
     let within : c.args.inode ≤ inodes_of P = omega (arith, c.requires.in_range, g.inodes_exact) in
@@ -40,9 +40,9 @@ loop-link-preserved c =
 
 pub loop-link-smaller : goal.loop-link-smaller
 loop-link-smaller c =
-    let g = c.args.geometry.now in
+    let g = c.args.image.now.geometry in
     let P = g.pages in
-    let I = c.args.words.now in
+    let I = c.args.image.now.words.now in
     let v = get_or c.args.lists.next.now (c.loop-link.link - 1) 0 in
     let within : c.args.inode ≤ inodes_of P = omega (arith, c.requires.in_range, g.inodes_exact) in
     let smaller = pages_smaller P I c.args.inode (lemmas.IsPageTaken P I c.loop-link.reach) c.loop-link.link v c.loop-link-test.true c.loop-link.invariant.pages
@@ -51,4 +51,4 @@ loop-link-smaller c =
 
 pub returns-clause-closed : goal.returns-clause-closed
 returns-clause-closed c =
-    lemmas.pages_closed c.args.geometry.now.pages c.args.words.now c.loop-link.reach c.args.inode c.loop-link.link c.loop-link-test.false c.loop-link.invariant.pages
+    lemmas.pages_closed c.args.image.now.geometry.pages c.args.image.now.words.now c.loop-link.reach c.args.inode c.loop-link.link c.loop-link-test.false c.loop-link.invariant.pages

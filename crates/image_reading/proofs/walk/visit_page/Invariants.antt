@@ -4,7 +4,7 @@ use Rattle.image_reading.proofs.walk.visit_page.Given as goal
 
 abbrev pub invariant-loop-entry : goal.invariant-loop-entry
 invariant-loop-entry l = record {
-  walk : IsWalk l.geometry.pages l.words l.reach;
+  walk : IsWalk l.image.geometry.pages l.image.words.now l.reach;
   extends : Extends l.initial.reach l.reach;
-  taken : (k : ℕ) → k < l.entry → IsTaken l.geometry.pages l.words l.reach (32 * l.page + k);
+  taken : (k : ℕ) → k < l.entry → IsTaken l.image.geometry.pages l.image.words.now l.reach (32 * l.page + k);
 }

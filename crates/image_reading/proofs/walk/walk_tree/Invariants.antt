@@ -4,10 +4,10 @@ use Rattle.image_reading.proofs.walk.walk_tree.Given as goal
 
 abbrev pub invariant-loop-place : goal.invariant-loop-place
 invariant-loop-place l = record {
-  walk : IsWalk l.geometry.pages l.words l.reach;
+  walk : IsWalk l.image.geometry.pages l.image.words.now l.reach;
   root : IsFound l.reach 1;
   before : l.place ≤ l.reach.seen;
-  done : (i : ℕ) → IsFound l.reach i → IsClosed l.geometry.pages l.words l.reach i ⊎ IsQueued l.reach l.place i;
+  done : (i : ℕ) → IsFound l.reach i → IsClosed l.image.geometry.pages l.image.words.now l.reach i ⊎ IsQueued l.reach l.place i;
 }
 
 abbrev pub decreases-loop-place : goal.decreases-loop-place

@@ -4,7 +4,7 @@ use Rattle.image_reading.proofs.Stamped.{FileWalk}
 use Rattle.image_reading.proofs.faults.files.doubled_page_of.Given as goal
 
 abbrev pub invariant-loop-link : goal.invariant-loop-link
-invariant-loop-link l = FileWalk l.geometry.pages l.words l.inode l.limit (HasOwnOffset l.geometry.pages l.words) l.stamps l.link
+invariant-loop-link l = FileWalk l.walked.image.geometry.pages l.walked.image.words.now l.inode l.limit (HasOwnOffset l.walked.image.geometry.pages l.walked.image.words.now) l.stamps l.link
 
 abbrev pub decreases-loop-link : goal.decreases-loop-link
-decreases-loop-link l = pages_left l.geometry.data_pages l.link
+decreases-loop-link l = pages_left l.walked.image.geometry.data_pages l.link

@@ -4,11 +4,11 @@ use Rattle.image_reading.proofs.faults.inodes.is_not_too_big.Goals as goal
 
 pub inode_at-fields-requires-clause-from_one : goal.inode_at-fields-requires-clause-from_one
 inode_at-fields-requires-clause-from_one c =
-    let g = c.args.geometry.now in
-    (lemmas.found_range g.pages c.args.words.now c.args.reach.now c.requires.known c.args.inode g.volume_size (c.has.ensures.0 c.if-not-has.false)).0
+    let g = c.args.walked.now.image.geometry in
+    (lemmas.found_range g.pages c.args.walked.now.image.words.now c.args.walked.now.reach.now c.requires.known c.args.inode g.volume_size (c.has.ensures.0 c.if-not-has.false)).0
 
 pub inode_at-fields-requires-clause-inode_in_range : goal.inode_at-fields-requires-clause-inode_in_range
 inode_at-fields-requires-clause-inode_in_range c =
-    let g = c.args.geometry.now in
-    let range = (lemmas.found_range g.pages c.args.words.now c.args.reach.now c.requires.known c.args.inode g.volume_size (c.has.ensures.0 c.if-not-has.false)).1 in
+    let g = c.args.walked.now.image.geometry in
+    let range = (lemmas.found_range g.pages c.args.walked.now.image.words.now c.args.walked.now.reach.now c.requires.known c.args.inode g.volume_size (c.has.ensures.0 c.if-not-has.false)).1 in
     omega (arith, range, g.inodes_exact)

@@ -13,9 +13,9 @@ credited-inode-requires-clause-most c = (c.requires.numbers c.loop-slot.slot).mo
 
 pub offset_bounds-tally-inode : goal.offset_bounds-tally-inode
 offset_bounds-tally-inode c =
-    let g = c.args.geometry.now in
+    let g = c.args.walked.now.image.geometry in
     let P = g.pages in
-    let I = c.args.words.now in
+    let I = c.args.walked.now.image.words.now in
     let s = c.loop-slot.slot in
     let slot = c.is_reached_slot.ensures.0 c.if-is_reached_slot.true in
     let owner = (reached_range P I (slot_owner P I s) (one_inode P g.volume_size) slot.owner).1 in
@@ -26,9 +26,9 @@ offset_bounds-tally-inode c =
 
 pub bounds-tally-inode : goal.bounds-tally-inode
 bounds-tally-inode c =
-    let g = c.args.geometry.now in
+    let g = c.args.walked.now.image.geometry in
     let P = g.pages in
-    let I = c.args.words.now in
+    let I = c.args.walked.now.image.words.now in
     let s = c.loop-slot.slot in
     let slot = c.is_reached_slot.ensures.0 c.if-is_reached_slot.true in
     let owner = (reached_range P I (slot_owner P I s) (one_inode P g.volume_size) slot.owner).1 in
@@ -38,9 +38,9 @@ bounds-tally-inode c =
 
 pub bounds-tally-inode-then-is_reached_slot : goal.bounds-tally-inode-then-is_reached_slot
 bounds-tally-inode-then-is_reached_slot c =
-    let g = c.args.geometry.now in
+    let g = c.args.walked.now.image.geometry in
     let P = g.pages in
-    let I = c.args.words.now in
+    let I = c.args.walked.now.image.words.now in
     let s = c.loop-slot.slot in
     let slot = c.is_reached_slot.ensures.0 c.if-is_reached_slot.true in
     let owner = (reached_range P I (slot_owner P I s) (one_inode P g.volume_size) slot.owner).1 in
@@ -49,13 +49,13 @@ bounds-tally-inode-then-is_reached_slot c =
     omega (arith, within, c.credited-inode.ensures)
 
 pub returns : goal.returns
-returns c = lemmas.tallied_all c.args.geometry.now.pages c.args.words.now c.loop-slot.slot c.loop-slot.tally (omega (arith, c.loop-slot-test.false, c.slots-slot-end.ensures)) c.loop-slot.invariant
+returns c = lemmas.tallied_all c.args.walked.now.image.geometry.pages c.args.walked.now.image.words.now c.loop-slot.slot c.loop-slot.tally (omega (arith, c.loop-slot-test.false, c.slots-slot-end.ensures)) c.loop-slot.invariant
 
 pub loop-slot-preserved : goal.loop-slot-preserved
 loop-slot-preserved c =
-    let g = c.args.geometry.now in
+    let g = c.args.walked.now.image.geometry in
     let P = g.pages in
-    let I = c.args.words.now in
+    let I = c.args.walked.now.image.words.now in
     let s = c.loop-slot.slot in
     let t = c.loop-slot.invariant in
     elim c.if-is_reached_slot.branch [

@@ -12,67 +12,67 @@ use Rattle.image_reading.proofs.faults.names.has_twin.Goals as goal
 
 pub descriptor_at-owner-requires-clause-page_in_range : goal.descriptor_at-owner-requires-clause-page_in_range
 descriptor_at-owner-requires-clause-page_in_range c =
-    let g = c.args.geometry.now in
-    let below = live_page g.pages c.args.words.now c.args.slot c.requires.reached.live in
+    let g = c.args.walked.now.image.geometry in
+    let below = live_page g.pages c.args.walked.now.image.words.now c.args.slot c.requires.reached.live in
     omega (arith, below, g.data_pages_exact)
 
-pub offset_bounds-lists-owner : goal.offset_bounds-lists-owner
-offset_bounds-lists-owner c =
-    let g = c.args.geometry.now in
-    let is = owner_is g.pages c.args.words.now c.args.slot c.descriptor_at-owner.result.owner c.descriptor_at-owner.ensures.owner in
-    let within = (reached_range g.pages c.args.words.now (slot_owner g.pages c.args.words.now c.args.slot) (one_inode g.pages g.volume_size) c.requires.reached.owner).1 in
+pub offset_bounds-walked-owner : goal.offset_bounds-walked-owner
+offset_bounds-walked-owner c =
+    let g = c.args.walked.now.image.geometry in
+    let is = owner_is g.pages c.args.walked.now.image.words.now c.args.slot c.descriptor_at-owner.result.owner c.descriptor_at-owner.ensures.owner in
+    let within = (reached_range g.pages c.args.walked.now.image.words.now (slot_owner g.pages c.args.walked.now.image.words.now c.args.slot) (one_inode g.pages g.volume_size) c.requires.reached.owner).1 in
     let few = inodes_below g.pages g.volume_size in
     let small : c.descriptor_at-owner.result.owner < 65537 = omega (arith, is, within, few, g.volume_size) in
     search (rules, small)
 
-pub bounds-lists-owner : goal.bounds-lists-owner
-bounds-lists-owner c =
-    let g = c.args.geometry.now in
-    let is = owner_is g.pages c.args.words.now c.args.slot c.descriptor_at-owner.result.owner c.descriptor_at-owner.ensures.owner in
-    let within = (reached_range g.pages c.args.words.now (slot_owner g.pages c.args.words.now c.args.slot) (one_inode g.pages g.volume_size) c.requires.reached.owner).1 in
-    omega (arith, is, within, c.requires.linked.inodes)
+pub bounds-walked-owner : goal.bounds-walked-owner
+bounds-walked-owner c =
+    let g = c.args.walked.now.image.geometry in
+    let is = owner_is g.pages c.args.walked.now.image.words.now c.args.slot c.descriptor_at-owner.result.owner c.descriptor_at-owner.ensures.owner in
+    let within = (reached_range g.pages c.args.walked.now.image.words.now (slot_owner g.pages c.args.walked.now.image.words.now c.args.slot) (one_inode g.pages g.volume_size) c.requires.reached.owner).1 in
+    omega (arith, is, within, c.requires.walked.linked.inodes)
 
 pub loop-link-init : goal.loop-link-init
 loop-link-init c =
-    let g = c.args.geometry.now in
+    let g = c.args.walked.now.image.geometry in
     let P = g.pages in
-    let I = c.args.words.now in
+    let I = c.args.walked.now.image.words.now in
     let s = c.args.slot in
     let owner = c.descriptor_at-owner.result.owner in
     let is = owner_is P I s owner c.descriptor_at-owner.ensures.owner in
     let within = (reached_range P I (slot_owner P I s) (one_inode P g.volume_size) c.requires.reached.owner).1 in
-    let first : IsNextPage P I owner 0 (get_or c.args.lists.first.now owner 0) = c.requires.linked.firsts owner (omega (arith, is, within)) in
-    pages_begin P I (slot_owner P I s) (lemmas.IsTwinFree P I s) _ (subst (λ o. IsNextPage P I o 0 (get_or c.args.lists.first.now owner 0)) is first)
+    let first : IsNextPage P I owner 0 (get_or c.args.walked.now.lists.first.now owner 0) = c.requires.walked.linked.firsts owner (omega (arith, is, within)) in
+    pages_begin P I (slot_owner P I s) (lemmas.IsTwinFree P I s) _ (subst (λ o. IsNextPage P I o 0 (get_or c.args.walked.now.lists.first.now owner 0)) is first)
 
 pub returns-then-page_has_twin : goal.returns-then-page_has_twin
 returns-then-page_has_twin c =
     let (r, e, twin) = c.page_has_twin.ensures.0 c.if-page_has_twin.true in
-    ((λ _. lemmas.twin_there c.args.geometry.now.pages c.args.words.now c.args.slot c.loop-link.link r c.loop-link-test.true c.loop-link.invariant e twin), (λ _. refl))
+    ((λ _. lemmas.twin_there c.args.walked.now.image.geometry.pages c.args.walked.now.image.words.now c.args.slot c.loop-link.link r c.loop-link-test.true c.loop-link.invariant e twin), (λ _. refl))
 
 pub loop-link-preserved : goal.loop-link-preserved
 loop-link-preserved c =
-    let g = c.args.geometry.now in
+    let g = c.args.walked.now.image.geometry in
     let P = g.pages in
-    let I = c.args.words.now in
+    let I = c.args.walked.now.image.words.now in
     let s = c.args.slot in
     let within = (reached_range P I (slot_owner P I s) (one_inode P g.volume_size) c.requires.reached.owner).1 in
     let none = iff_false c.page_has_twin.ensures c.if-page_has_twin.false in
-    pages_step P I (slot_owner P I s) (lemmas.IsTwinFree P I s) c.loop-link.link (get_or c.args.lists.next.now (c.loop-link.link - 1) 0) c.loop-link-test.true c.loop-link.invariant (λ r e twin. none (r, e, twin))
-    (c.requires.linked.nexts (c.loop-link.link - 1)) within
+    pages_step P I (slot_owner P I s) (lemmas.IsTwinFree P I s) c.loop-link.link (get_or c.args.walked.now.lists.next.now (c.loop-link.link - 1) 0) c.loop-link-test.true c.loop-link.invariant (λ r e twin. none (r, e, twin))
+    (c.requires.walked.linked.nexts (c.loop-link.link - 1)) within
 
 pub loop-link-smaller : goal.loop-link-smaller
 loop-link-smaller c =
-    let g = c.args.geometry.now in
+    let g = c.args.walked.now.image.geometry in
     let P = g.pages in
-    let I = c.args.words.now in
+    let I = c.args.walked.now.image.words.now in
     let s = c.args.slot in
     let within = (reached_range P I (slot_owner P I s) (one_inode P g.volume_size) c.requires.reached.owner).1 in
-    let v = get_or c.args.lists.next.now (c.loop-link.link - 1) 0 in
-    let smaller = pages_smaller P I (slot_owner P I s) (lemmas.IsTwinFree P I s) c.loop-link.link v c.loop-link-test.true c.loop-link.invariant (c.requires.linked.nexts (c.loop-link.link - 1)) within in
+    let v = get_or c.args.walked.now.lists.next.now (c.loop-link.link - 1) 0 in
+    let smaller = pages_smaller P I (slot_owner P I s) (lemmas.IsTwinFree P I s) c.loop-link.link v c.loop-link-test.true c.loop-link.invariant (c.requires.walked.linked.nexts (c.loop-link.link - 1)) within in
     subst (λ n. pages_left n v < pages_left n c.loop-link.link) (sym g.data_pages_exact) smaller
 
 pub returns : goal.returns
 returns c = (
   (λ t. absurd (false≢true t)),
-  (λ twin. absurd (lemmas.twin_nowhere c.args.geometry.now.pages c.args.words.now c.args.slot c.loop-link.link c.loop-link-test.false c.loop-link.invariant twin)),
+  (λ twin. absurd (lemmas.twin_nowhere c.args.walked.now.image.geometry.pages c.args.walked.now.image.words.now c.args.slot c.loop-link.link c.loop-link-test.false c.loop-link.invariant twin)),
 )

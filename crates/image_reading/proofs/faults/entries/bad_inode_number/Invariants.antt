@@ -1,6 +1,0 @@
-use Rattle.std.proofs.Common.{ℕ, ◌<◌}
-use Rattle.image_reading.specs.Soundness.{NamesInode}
-use Rattle.image_reading.proofs.faults.entries.bad_inode_number.Given as goal
-
-abbrev pub invariant-loop-slot : goal.invariant-loop-slot
-invariant-loop-slot l = (x : ℕ) → x < l.slot → NamesInode l.geometry.pages l.words x

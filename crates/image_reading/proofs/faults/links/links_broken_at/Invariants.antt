@@ -1,0 +1,6 @@
+use Rattle.std.proofs.Common.{ℕ, ◌<◌}
+use Rattle.image_reading.specs.Soundness.{HasEnoughLinks}
+use Rattle.image_reading.proofs.faults.links.links_broken_at.Given as goal
+
+abbrev pub invariant-loop-inode : goal.invariant-loop-inode
+invariant-loop-inode l = (x : ℕ) → x < l.inode → HasEnoughLinks l.walked.image.geometry.pages l.walked.image.words.now x

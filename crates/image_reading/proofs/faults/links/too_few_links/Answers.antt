@@ -1,9 +1,0 @@
-use Rattle.std.proofs.Common.{arith}
-use Rattle.image_reading.proofs.Places.{holds_at_all}
-use Rattle.image_reading.proofs.Owners.{inode_past}
-use Rattle.image_reading.proofs.faults.links.too_few_links.Goals as goal
-
-pub returns : goal.returns
-returns c =
-    let g = c.args.geometry.now in
-    holds_at_all _ _ c.loop-inode.invariant (λ x past reached. absurd (inode_past g.pages c.args.words.now x g.inodes g.volume_size g.inodes_exact (omega (arith, past)) reached))

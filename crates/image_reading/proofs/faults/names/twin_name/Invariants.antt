@@ -1,6 +1,0 @@
-use Rattle.std.proofs.Common.{ℕ, ◌<◌}
-use Rattle.image_reading.specs.Soundness.{HasOwnName}
-use Rattle.image_reading.proofs.faults.names.twin_name.Given as goal
-
-abbrev pub invariant-loop-slot : goal.invariant-loop-slot
-invariant-loop-slot l = (x : ℕ) → x < l.slot → HasOwnName l.geometry.pages l.words x
