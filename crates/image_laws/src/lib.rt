@@ -18,7 +18,7 @@ ghost use Rattle.image_laws.specs.Shrunk.{ShrunkLaw};
 ghost use Rattle.image_laws.specs.Move.{MoveLaw};
 ghost use Rattle.image_laws.specs.Pointers.{PointerLaw, LeaveLaw};
 ghost use Rattle.image_laws.specs.Remove.{RemoveLaw, RemoveTreeLaw, RemoveRoomLaw};
-ghost use Rattle.image_laws.specs.Resize.{ResizeLaw};
+ghost use Rattle.image_laws.specs.Resize.{ResizeLaw, ResizeTreeLaw, ResizeRoomLaw};
 ghost use Rattle.image_laws.specs.Trees.{TreeLaw, FormLaw, RoomLaw};
 
 /// An image that agrees with a coherent one on what is used means the same.
@@ -65,13 +65,23 @@ pub fn create_law()
     ensures page { PageQuietLaw }
 {}
 
-/// What each of the other words that commit a call changes, and the tree and the room after one that removes.
-pub fn commit_law()
-    ensures remove { RemoveLaw }
-    ensures remove_tree { RemoveTreeLaw }
-    ensures remove_room { RemoveRoomLaw }
-    ensures shift { MoveLaw }
-    ensures resize { ResizeLaw }
+/// The word that commits unlink and rmdir: one path less, and the tree and the room after it.
+pub fn remove_law()
+    ensures paths { RemoveLaw }
+    ensures tree { RemoveTreeLaw }
+    ensures room { RemoveRoomLaw }
+{}
+
+/// The word that commits rename: a path with all below it stands elsewhere, and the tree and the room after it.
+pub fn move_law()
+    ensures paths { MoveLaw }
+{}
+
+/// The word that commits a write past the size and a truncation: a file of other bytes, and the tree and the room after it.
+pub fn resize_law()
+    ensures paths { ResizeLaw }
+    ensures tree { ResizeTreeLaw }
+    ensures room { ResizeRoomLaw }
 {}
 
 /// The words of a rename beside its commit change no meaning, and nor do the first two of a recovery.
