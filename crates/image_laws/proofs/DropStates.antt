@@ -22,7 +22,7 @@ use Rattle.image_laws.proofs.AddRoom.{get-here, get-other}
 use Rattle.image_laws.proofs.CreateSteps.{parent_is}
 use Rattle.image_laws.proofs.DropTidy.{drop_law, owner_after}
 use Rattle.image_laws.proofs.RemoveRoom.{get-gone, get-left}
-use Rattle.image_laws.proofs.RemoveTree.{directory_before}
+use Rattle.image_laws.proofs.Pruned.{directory_before}
 use Rattle.image_laws.proofs.RoomAfter.{clash, room_at, is_same, not_same}
 use Rattle.image_laws.proofs.Rooms.{dec_room}
 use Rattle.image_laws.proofs.Trees.{directory_is, is_directory-reached}

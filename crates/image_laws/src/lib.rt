@@ -15,7 +15,7 @@ ghost use Rattle.image_laws.specs.Grown.{GrownLaw, NewPageGrownLaw};
 ghost use Rattle.image_laws.specs.Link.{LinkLaw, NewPageLinkLaw};
 ghost use Rattle.image_laws.specs.LinkStep.{LinkRoomLaw, LinkStepLaw, NewPageLinkStepLaw};
 ghost use Rattle.image_laws.specs.Shrunk.{ShrunkLaw};
-ghost use Rattle.image_laws.specs.Move.{MoveLaw};
+ghost use Rattle.image_laws.specs.Move.{MoveLaw, MoveTreeLaw, MoveRoomLaw};
 ghost use Rattle.image_laws.specs.Pointers.{PointerLaw, LeaveLaw};
 ghost use Rattle.image_laws.specs.Remove.{RemoveLaw, RemoveTreeLaw, RemoveRoomLaw};
 ghost use Rattle.image_laws.specs.Resize.{ResizeLaw, ResizeTreeLaw, ResizeRoomLaw};
@@ -75,6 +75,8 @@ pub fn remove_law()
 /// The word that commits rename: a path with all below it stands elsewhere, and the tree and the room after it.
 pub fn move_law()
     ensures paths { MoveLaw }
+    ensures tree { MoveTreeLaw }
+    ensures room { MoveRoomLaw }
 {}
 
 /// The word that commits a write past the size and a truncation: a file of other bytes, and the tree and the room after it.
