@@ -90,9 +90,6 @@ module _ (P : ℕ) (I J : List ℕ) (pa pb : Route) (s d i : ℕ) (coherent : Is
         ))
   ]
 
-  other_than_to : (p : Route) → rest_after to p ≡ None → p ≢ to
-  other_than_to p none same = none_some [] (sym none ∙ ap (rest_after to) (same ∙ sym (append-nil to)) ∙ rest_after-append to [])
-
   names_back : (q : Route) (x : ℕ) → Names P J (reverse q) x → id_at (with_moved (without_path T to) from to) q ≡ Some x
   names_back q x named = elim ((after.names (reverse q) x).0 named) [
     | inl (old, stays, other) ↦

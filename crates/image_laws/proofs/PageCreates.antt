@@ -21,8 +21,6 @@ use Rattle.image_laws.proofs.PageReady.{HasTaken, page_ready, inode_ready, no_ro
 use Rattle.image_laws.proofs.Ready.{IsReady, IsFreeInode}
 
 module _ (P : ℕ) (W A : List ℕ) (p : Route) (d j s : ℕ) (name : List ℕ) (can : CanName P W p d name) (page : IsFreePage P W j) (at_s : page_of_slot s ≡ j) (makes : MakesPage P W A j) where
-  making_stores : Stores P W A
-  making_stores = page_quiet.making_stores P W A p d j can.tidy.coherent can.path can.directory page makes
 
   same_page : SameMeaning P W A
   same_page = page_quiet.same_page P W A p d j can.tidy.coherent can.path can.directory page makes

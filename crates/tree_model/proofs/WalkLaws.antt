@@ -83,6 +83,3 @@ walk_there T t front (name ∷ names) i j at_front e =
     ∙ ap (λ o. walk_on T (place_at next o) names) child.1
     ∙ walk_there T t next names child.0 j child.1 (ap (id_at T) joined ∙ e)
     ∙ ap (λ p. Ok (record { path = p; id = j })) joined
-
-pub walk-there : (T : Tree) (path : Route) (id : ℕ) → IsTree T → id_at T path ≡ Some id → walk T path ≡ Ok (record { path = path; id = id })
-walk-there T path id t e = walk_there T t [] path root_id id t.root e
