@@ -1,7 +1,7 @@
 -- The intervals of create and mkdir: a new page of the directory where it needs one, the node's and the name's words,
 -- and the slot's inode number.
 use Rattle.std.specs.Prelude.{◌≡◌, ◌≢◌, ◌⊎◌, ℕ, ◌+◌, ◌<◌, ◌≤◌, List, [], ◌∷◌, length, reverse, set, slice_index}
-use Rattle.layout.specs.Fields.{word, inode_links, page_kind, page_offset, slot_inode, slot_name, slot_words}
+use Rattle.layout.specs.Fields.{word, inode_links, page_kind, page_offset, slot_inode, slot_pointer, slot_name, slot_words}
 use Rattle.layout.specs.Geometry.{inodes_of, page_of_slot, inode_word_of, descriptor_word_of, slot_word_of, page_word_of}
 use Rattle.layout.specs.Name.{IsNameWords, name_in_words}
 use Rattle.tree_model.specs.PathText.{Route}
@@ -98,13 +98,20 @@ CreateLaw = (P : ℕ) (W I : List ℕ) (p path : Route) (node : Node) (d s i : �
 abbrev pub IsPageMadeWord : ℕ → ℕ → ℕ → Type 0
 IsPageMadeWord P j a = IsAmong (page_word_of P j) 512 a ⊎ ((a ≡ descriptor_word_of P j 1) ⊎ (a ≡ descriptor_word_of P j 2))
 
--- From I to J page j becomes a directory page of zeros, still without an owner.
+-- From I to J page j becomes a directory page whose slots name nothing and point at nothing, still without an owner.
 pub record MakesPage (P : ℕ) (I J : List ℕ) (j : ℕ) : Type 0 where
   pub size : length J ≡ length I
-  pub zeros : (w : ℕ) → w < 512 → word J (page_word_of P j w) ≡ 0
+  pub numbers : (s : ℕ) → page_of_slot s ≡ j → slot_inode P J s ≡ 0
+  pub pointers : (s : ℕ) → page_of_slot s ≡ j → slot_pointer P J s ≡ 0
   pub kind : page_kind P J j ≡ 2
   pub offset : page_offset P J j ≡ 0
   pub others : (a : ℕ) → (IsPageMadeWord P j a → ⊥) → word J a ≡ word I a
+
+-- and each of its words is zero
+pub record MakesZeroPage (P : ℕ) (I J : List ℕ) (j : ℕ) : Type 0 where
+  pub makes : MakesPage P I J j
+  pub open makes use *
+  pub zeros : (w : ℕ) → w < 512 → word J (page_word_of P j w) ≡ 0
 
 -- directory d owns page j
 abbrev pub owned : ℕ → List ℕ → ℕ → ℕ → List ℕ
@@ -118,7 +125,7 @@ pub record IsPageQuiet (P : ℕ) (W A B : List ℕ) : Type 0 where
 -- The directory takes page j, and then slot s of it.
 abbrev pub NewPageLaw : Type 0
 NewPageLaw = (P : ℕ) (W A I : List ℕ) (p path : Route) (node : Node) (d j s i : ℕ) (name : List ℕ) → CanMake P W p d i name → IsFreePage P W j → page_of_slot s ≡ j
-    → IsEmptyNode node → MakesPage P W A j → MakesNode P (owned P A j d) I node d s i name → reverse path ≡ name_in_words name ∷ p
+    → IsEmptyNode node → MakesZeroPage P W A j → MakesNode P (owned P A j d) I node d s i name → reverse path ≡ name_in_words name ∷ p
     → IsPageQuiet P W A (owned P A j d) × IsCreate P W (owned P A j d) I (committed P I s i) path node i (λ room. with_node (with_page room d) i node)
 
 -- That much holds as soon as the page is made, whatever is made in it.
