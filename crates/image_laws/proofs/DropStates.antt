@@ -59,7 +59,6 @@ given_here T room d = ap (λ b. cond (b && true) (pages_in room d + 0 - 1) (page
 
 module _ (P : ℕ) (W I J K : List ℕ) (old : State) (p path : Route) (s y n : ℕ) (kind : Removal) (can : CanDrop P W p s) (h : Drops P W I J K s y)
     (is : reverse path ≡ slot_name P W s ∷ p) (reads : ReadsAs P W old) where
-
   read : Reads P K (without_unnamed (without_path old.tree path))
   read = (drop_law P W I J K p s y can h).reads old.tree path is reads.tree
 

@@ -13,7 +13,7 @@ use Rattle.image_reading.specs.Soundness.{Rule, IsCoherent}
 use Rattle.image_reading.specs.Tidy.{IsTidied}
 use Rattle.image_counts.specs.Entries.{IsFreePage}
 use Rattle.image_laws.specs.Add.{CanAdd, IsOldFile, with_page, with_node}
-use Rattle.image_laws.specs.Create.{IsVacant, MakesPage, committed, owned}
+use Rattle.image_laws.specs.Create.{IsVacant, MakesEmptyPage, committed, owned}
 use Rattle.image_laws.specs.Frame.{SameMeaning}
 use Rattle.image_laws.specs.Grown.{HasGrown}
 use Rattle.image_laws.specs.Link.{MakesLink, CanLink, IsLink, LinkLaw, NewPageLinkLaw}
@@ -130,7 +130,7 @@ link_law P W I p path d s i name can vacant makes is = link_made P W I p path d 
 
 -- ---- in a new page
 
-module _ (P : ℕ) (W A I : List ℕ) (p path : Route) (d j s i : ℕ) (name : List ℕ) (can : CanLink P W p d i name) (page : IsFreePage P W j) (at : page_of_slot s ≡ j) (made : MakesPage P W A j)
+module _ (P : ℕ) (W A I : List ℕ) (p path : Route) (d j s i : ℕ) (name : List ℕ) (can : CanLink P W p d i name) (page : IsFreePage P W j) (at : page_of_slot s ≡ j) (made : MakesEmptyPage P W A j)
     (makes : MakesLink P (owned P A j d) I s i name) (is : reverse path ≡ name_in_words name ∷ p) where
   page_taken : HasTaken P W (owned P A j d) j d
   page_taken = taken P W A p d j s name can.place page at made
@@ -161,7 +161,7 @@ module _ (P : ℕ) (W A I : List ℕ) (p path : Route) (d j s i : ℕ) (name : L
 
 pub new_page_link_law : NewPageLinkLaw
 new_page_link_law P W A I p path d j s i name can page at zero makes is =
-    let made = zero.makes in (
+    let made = zero.empty in (
       quiet P W A p d j s name can.place page at made,
       page_linked P W A I p path d j s i name can page at made makes is (clean P W A p d j s name can.place page at made zero.zeros),
       page_grown P W A I p path d j s i name can page at made makes is,

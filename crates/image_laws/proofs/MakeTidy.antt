@@ -36,7 +36,6 @@ count_single Q s is = (s ∷ [], ((λ c. c), tt), (λ x. ((λ c. elim c [ inl e 
 
 module _ (P : ℕ) (B C D : List ℕ) (p : Route) (node : Node) (d s i : ℕ) (name : List ℕ) (ready : IsReady P B p d s i name) (makes : MakesNode P B C node d s i name)
     (can : CanAdd P C p d s i) (only : OnlySlot P C D s) (stored : slot_inode P D s ≡ i) (others : (a : ℕ) → a ≢ slot_word_of P s 0 → word D a ≡ word C a) (coherent : IsCoherent P D) where
-
   -- ---- which words stay
 
   descriptor_same : (j f : ℕ) → j < data_pages_of P → f < 8 → word D (descriptor_word_of P j f) ≡ word B (descriptor_word_of P j f)

@@ -1,5 +1,5 @@
 -- The room after a slot took the inode number of another.
-use Rattle.std.proofs.Common.{◌≡◌, ◌≢◌, ◌↔◌, ◌⊎◌, inl, inr, ℕ, ◌+◌, ◌-◌, ◌<◌, List, [], ◌∷◌, ◌++◌, Option, Some, cond, unwrap_or, refl, sym, ap, subst, ◌∙◌, arith}
+use Rattle.std.proofs.Common.{◌≡◌, ◌≢◌, ◌↔◌, ◌⊎◌, inl, inr, ℕ, ◌+◌, ◌-◌, List, [], ◌∷◌, ◌++◌, Option, Some, unwrap_or, refl, sym, ap, subst, ◌∙◌, arith}
 use Rattle.std.proofs.lemmas.Bool.{cases_eq}
 use Rattle.std.specs.Cmp.{nat_cmp_total}
 use Rattle.layout.specs.Fields.{inode_kind, slot_inode, slot_pointer, slot_name}
@@ -9,7 +9,7 @@ use Rattle.tree_model.specs.Table.{get, insert, remove}
 use Rattle.tree_model.specs.Tree.{Room, pages_in}
 use Rattle.image_reading.specs.Counts.{Count}
 use Rattle.image_reading.specs.Reading.{IsDirectory, slot_owner, IsLive, Names, Reached, IsRoomOf, HasRoom}
-use Rattle.image_reading.specs.Soundness.{Rule, IsCoherent}
+use Rattle.image_reading.specs.Soundness.{IsCoherent}
 use Rattle.image_reading.proofs.Counts.{count_one}
 use Rattle.image_reading.proofs.Credits.{count_same, count_more}
 use Rattle.image_counts.proofs.Decided.{room_counted}
@@ -108,24 +108,40 @@ module _ (P : ℕ) (I J : List ℕ) (pa pb : Route) (s d i : ℕ) (coherent : Is
           let owner = slots.owner_same P I J pa pb s d i coherent a t l.live.held.in_range in
           elim (cases_eq t s) [
             | inl e ↦
-                let is : x ≡ i = sym l.inode ∙ ap (slot_inode P I) e ∙ a.inode in
-                (slot_name P I d ∷ pb, (after.names (slot_name P I d ∷ pb) x).1 (inr ([], refl, (s, a.source_path, record {
-                  directory = a.source_directory;
-                  live = a.source;
-                  name = refl;
-                  inode = a.inode ∙ sym is;
-                  in_range = l.in_range;
-                }))))
+                let is : x ≡ i = sym l.inode ∙ ap (slot_inode P I) e ∙ a.inode in (
+                  slot_name P I d ∷ pb,
+                  (after.names (slot_name P I d ∷ pb) x).1 (inr (
+                    [],
+                    refl,
+                    (
+                      s,
+                      a.source_path,
+                      record {
+                        directory = a.source_directory;
+                        live = a.source;
+                        name = refl;
+                        inode = a.inode ∙ sym is;
+                        in_range = l.in_range;
+                      },
+                    ),
+                  )),
+                )
             | inr ns ↦
                 let nd : t ≢ d = λ e. ne (sym l.inode ∙ ap (slot_inode P I) e) in
-                let (r, above) = go q (slot_owner P I t) b (no_owner t l.live (q, b) l.directory) in
-                (m ∷ r, (t, subst (Names P J r) (sym owner) above, record {
-                  directory = ap (inode_kind J) owner ∙ kind_same (slot_owner P I t) (q, b) ∙ l.directory;
-                  live = slots.live_forward P I J pa pb s d i coherent a t ns nd l.live;
-                  name = slots.name_same P I J pa pb s d i coherent a t ∙ l.name;
-                  inode = a.only.inode t nd ∙ l.inode;
-                  in_range = l.in_range;
-                }))
+                let (r, above) = go q (slot_owner P I t) b (no_owner t l.live (q, b) l.directory) in (
+                  m ∷ r,
+                  (
+                    t,
+                    subst (Names P J r) (sym owner) above,
+                    record {
+                      directory = ap (inode_kind J) owner ∙ kind_same (slot_owner P I t) (q, b) ∙ l.directory;
+                      live = slots.live_forward P I J pa pb s d i coherent a t ns nd l.live;
+                      name = slots.name_same P I J pa pb s d i coherent a t ∙ l.name;
+                      inode = a.only.inode t nd ∙ l.inode;
+                      in_range = l.in_range;
+                    },
+                  ),
+                )
           ]
 
   -- a directory that was replaced is reached no more
@@ -133,13 +149,17 @@ module _ (P : ℕ) (I J : List ℕ) (pa pb : Route) (s d i : ℕ) (coherent : Is
   replaced_gone (q, b) two =
       let old = reached_back (slot_inode P I d) (q, b) in
       let directory : IsDirectory I (slot_inode P I d) = sym (kind_same (slot_inode P I d) old) ∙ two in
-      let here : Names P I (slot_name P I d ∷ pb) (slot_inode P I d) = (d, a.target_path, record {
-        directory = a.target_directory;
-        live = replaced_live (reached_pos P I (slot_inode P I d) old);
-        name = refl;
-        inode = refl;
-        in_range = reached-le P I coherent (slot_inode P I d) old;
-      }) in
+      let here : Names P I (slot_name P I d ∷ pb) (slot_inode P I d) = (
+        d,
+        a.target_path,
+        record {
+          directory = a.target_directory;
+          live = replaced_live (reached_pos P I (slot_inode P I d) old);
+          name = refl;
+          inode = refl;
+          in_range = reached-le P I coherent (slot_inode P I d) old;
+        },
+      ) in
       elim ((after.names q (slot_inode P I d)).0 b) [
         | inl (stays, under, other) ↦ other (one_path P I coherent q (slot_name P I d ∷ pb) (slot_inode P I d) directory stays here)
         | inr (r, is, below) ↦ slots.not_under P I J pa pb s d i coherent a r (one_path P I coherent (slot_name P I d ∷ pb) (r ++ slot_name P I s ∷ pa) (slot_inode P I d) directory here below)

@@ -8,7 +8,7 @@ use Rattle.layout.proofs.GeometryLaws.{descriptor_word_within}
 use Rattle.image_reading.specs.Reading.{IsDirectory, slot_owner, IsHeld, Reached}
 use Rattle.image_reading.specs.Soundness.{Rule, IsCoherent, HasLinks}
 use Rattle.image_counts.specs.Entries.{IsFreePage}
-use Rattle.image_laws.specs.Create.{IsPageMadeWord, MakesPage, MakesZeroPage, owned}
+use Rattle.image_laws.specs.Create.{IsPageMadeWord, MakesEmptyPage, MakesPage, owned}
 use Rattle.image_laws.specs.Exempt.{IsExempt}
 use Rattle.image_laws.specs.Frame.{Alike, SameMeaning}
 use Rattle.image_laws.specs.Free.{IsFree, Stores}
@@ -39,11 +39,11 @@ links_kept P I J coherent same x r = subst (HasLinks P I x) (sym (same x r)) (co
 pub zero_slot : (P : ℕ) (A : List ℕ) (j : ℕ) → ((w : ℕ) → w < 512 → word A (page_word_of P j w) ≡ 0) → (t f : ℕ) → page_of_slot t ≡ j → f < 16 → word A (slot_word_of P t f) ≡ 0
 zero_slot P A j zeros t f at lt = ap (word A) (slot_word-in_page P t f) ∙ subst (λ z. word A (page_word_of P z (word_in_page t f)) ≡ 0) (sym at) (zeros (word_in_page t f) (word_in_page-lt t f lt))
 
-pub makes_zero_page : (P : ℕ) (W A : List ℕ) (j : ℕ) → length A ≡ length W → ((w : ℕ) → w < 512 → word A (page_word_of P j w) ≡ 0) → page_kind P A j ≡ 2 → page_offset P A j ≡ 0
-    → ((a : ℕ) → (IsPageMadeWord P j a → ⊥) → word A a ≡ word W a) → MakesZeroPage P W A j
+pub makes_page : (P : ℕ) (W A : List ℕ) (j : ℕ) → length A ≡ length W → ((w : ℕ) → w < 512 → word A (page_word_of P j w) ≡ 0) → page_kind P A j ≡ 2 → page_offset P A j ≡ 0
+    → ((a : ℕ) → (IsPageMadeWord P j a → ⊥) → word A a ≡ word W a) → MakesPage P W A j
 unfolding slot_inode slot_pointer
-makes_zero_page P W A j size zeros kind offset others = record {
-  makes = record {
+makes_page P W A j size zeros kind offset others = record {
+  empty = record {
     size = size;
     numbers = λ s at. zero_slot P A j zeros s 0 at (omega arith);
     pointers = λ s at. zero_slot P A j zeros s 1 at (omega arith);
@@ -56,7 +56,7 @@ makes_zero_page P W A j size zeros kind offset others = record {
 
 -- ---- the page is made
 
-module _ (P : ℕ) (W A : List ℕ) (j : ℕ) (coherent : IsCoherent P W) (page : IsFreePage P W j) (makes : MakesPage P W A j) where
+module _ (P : ℕ) (W A : List ℕ) (j : ℕ) (coherent : IsCoherent P W) (page : IsFreePage P W j) (makes : MakesEmptyPage P W A j) where
   pub made_descriptor : (x f : ℕ) → x < data_pages_of P → f < 8 → (x ≢ j) ⊎ (f ≡ 0) → word A (descriptor_word_of P x f) ≡ word W (descriptor_word_of P x f)
   made_descriptor x f lt l8 other = makes.others (descriptor_word_of P x f) (not_page_made P j (descriptor_word_of P x f)
       (λ w l. descriptor-ne_page P x f j w lt l8)

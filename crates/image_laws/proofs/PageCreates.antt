@@ -9,7 +9,7 @@ use Rattle.tree_model.specs.Tree.{Node, Room}
 use Rattle.image_reading.specs.Reading.{IsDirectory, Reached, IsRoomOf, HasRoom}
 use Rattle.image_counts.specs.Entries.{IsFreePage}
 use Rattle.image_laws.specs.Add.{with_page, with_node}
-use Rattle.image_laws.specs.Create.{IsEmptyNode, MakesPage, MakesNode, CanName, owned, committed, IsPageQuiet, IsCreate, NewPageLaw}
+use Rattle.image_laws.specs.Create.{IsEmptyNode, MakesEmptyPage, MakesNode, CanName, owned, committed, IsPageQuiet, IsCreate, NewPageLaw}
 use Rattle.image_laws.specs.Frame.{Alike, SameMeaning}
 use Rattle.image_laws.specs.Free.{Stores}
 use Rattle.image_laws.proofs.Adds.{add_room_law}
@@ -21,8 +21,7 @@ use Rattle.image_laws.proofs.PageQuiet as page_quiet
 use Rattle.image_laws.proofs.PageReady.{HasTaken, page_ready, page_clean, inode_ready, no_room}
 use Rattle.image_laws.proofs.Ready.{IsReady, IsCleanSlot, IsNamed, IsFreeInode}
 
-module _ (P : ℕ) (W A : List ℕ) (p : Route) (d j s : ℕ) (name : List ℕ) (can : CanName P W p d name) (page : IsFreePage P W j) (at_s : page_of_slot s ≡ j) (makes : MakesPage P W A j) where
-
+module _ (P : ℕ) (W A : List ℕ) (p : Route) (d j s : ℕ) (name : List ℕ) (can : CanName P W p d name) (page : IsFreePage P W j) (at_s : page_of_slot s ≡ j) (makes : MakesEmptyPage P W A j) where
   same_page : SameMeaning P W A
   same_page = page_quiet.same_page P W A p d j can.tidy.coherent can.path can.directory page makes
 
@@ -102,7 +101,7 @@ module _ (P : ℕ) (W A : List ℕ) (p : Route) (d j s : ℕ) (name : List ℕ) 
 
 pub new_page_law : NewPageLaw
 new_page_law P W A I p path node d j s i name can page at_s empty zero made is =
-    let makes = zero.makes in (
+    let makes = zero.empty in (
       quiet P W A p d j s name can.place page at_s makes,
       page_created P W A p d j s name can.place page at_s makes I path node i (free_inode P W p d i name can) empty made is (clean P W A p d j s name can.place page at_s makes zero.zeros),
     )

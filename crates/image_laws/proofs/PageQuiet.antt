@@ -1,19 +1,18 @@
 -- A directory takes a new page: the two intervals change no meaning.
-use Rattle.std.proofs.Common.{◌≡◌, ℕ, List, ◌∙◌, arith}
-use Rattle.layout.specs.Fields.{page_owner, slot_inode, slot_pointer}
-use Rattle.layout.specs.Geometry.{page_of_slot}
+use Rattle.std.proofs.Common.{◌≡◌, ℕ, List, ◌∙◌}
+use Rattle.layout.specs.Fields.{page_owner}
 use Rattle.tree_model.specs.PathText.{Route}
 use Rattle.image_reading.specs.Reading.{IsDirectory, Names, Reached}
 use Rattle.image_reading.specs.Soundness.{IsCoherent}
 use Rattle.image_counts.specs.Entries.{IsFreePage}
-use Rattle.image_laws.specs.Create.{MakesPage, owned, IsPageQuiet, PageQuietLaw}
+use Rattle.image_laws.specs.Create.{MakesEmptyPage, owned, IsPageQuiet, PageQuietLaw}
 use Rattle.image_laws.specs.Frame.{Alike, SameMeaning}
 use Rattle.image_laws.specs.Free.{Stores}
 use Rattle.image_laws.proofs.Free.{stores_law}
 use Rattle.image_laws.proofs.Meaning.{same_chained}
 use Rattle.image_laws.proofs.NewPage.{made_stores, made_owner, owned_stores, alike_stores, same_stores}
 
-module _ (P : ℕ) (W A : List ℕ) (p : Route) (d j : ℕ) (coherent : IsCoherent P W) (named : Names P W p d) (directory : IsDirectory W d) (page : IsFreePage P W j) (makes : MakesPage P W A j) where
+module _ (P : ℕ) (W A : List ℕ) (p : Route) (d j : ℕ) (coherent : IsCoherent P W) (named : Names P W p d) (directory : IsDirectory W d) (page : IsFreePage P W j) (makes : MakesEmptyPage P W A j) where
   pub making_stores : Stores P W A
   making_stores = made_stores P W A j coherent page makes
 

@@ -99,7 +99,7 @@ abbrev pub IsPageMadeWord : ℕ → ℕ → ℕ → Type 0
 IsPageMadeWord P j a = IsAmong (page_word_of P j) 512 a ⊎ ((a ≡ descriptor_word_of P j 1) ⊎ (a ≡ descriptor_word_of P j 2))
 
 -- From I to J page j becomes a directory page whose slots name nothing and point at nothing, still without an owner.
-pub record MakesPage (P : ℕ) (I J : List ℕ) (j : ℕ) : Type 0 where
+pub record MakesEmptyPage (P : ℕ) (I J : List ℕ) (j : ℕ) : Type 0 where
   pub size : length J ≡ length I
   pub numbers : (s : ℕ) → page_of_slot s ≡ j → slot_inode P J s ≡ 0
   pub pointers : (s : ℕ) → page_of_slot s ≡ j → slot_pointer P J s ≡ 0
@@ -107,10 +107,10 @@ pub record MakesPage (P : ℕ) (I J : List ℕ) (j : ℕ) : Type 0 where
   pub offset : page_offset P J j ≡ 0
   pub others : (a : ℕ) → (IsPageMadeWord P j a → ⊥) → word J a ≡ word I a
 
--- and each of its words is zero
-pub record MakesZeroPage (P : ℕ) (I J : List ℕ) (j : ℕ) : Type 0 where
-  pub makes : MakesPage P I J j
-  pub open makes use *
+-- and each of its words is zero, as a tidy image has it
+pub record MakesPage (P : ℕ) (I J : List ℕ) (j : ℕ) : Type 0 where
+  pub empty : MakesEmptyPage P I J j
+  pub open empty use *
   pub zeros : (w : ℕ) → w < 512 → word J (page_word_of P j w) ≡ 0
 
 -- directory d owns page j
@@ -125,9 +125,9 @@ pub record IsPageQuiet (P : ℕ) (W A B : List ℕ) : Type 0 where
 -- The directory takes page j, and then slot s of it.
 abbrev pub NewPageLaw : Type 0
 NewPageLaw = (P : ℕ) (W A I : List ℕ) (p path : Route) (node : Node) (d j s i : ℕ) (name : List ℕ) → CanMake P W p d i name → IsFreePage P W j → page_of_slot s ≡ j
-    → IsEmptyNode node → MakesZeroPage P W A j → MakesNode P (owned P A j d) I node d s i name → reverse path ≡ name_in_words name ∷ p
+    → IsEmptyNode node → MakesPage P W A j → MakesNode P (owned P A j d) I node d s i name → reverse path ≡ name_in_words name ∷ p
     → IsPageQuiet P W A (owned P A j d) × IsCreate P W (owned P A j d) I (committed P I s i) path node i (λ room. with_node (with_page room d) i node)
 
 -- That much holds as soon as the page is made, whatever is made in it.
 abbrev pub PageQuietLaw : Type 0
-PageQuietLaw = (P : ℕ) (W A : List ℕ) (p : Route) (d j : ℕ) → IsCoherent P W → Names P W p d → IsDirectory W d → IsFreePage P W j → MakesPage P W A j → IsPageQuiet P W A (owned P A j d)
+PageQuietLaw = (P : ℕ) (W A : List ℕ) (p : Route) (d j : ℕ) → IsCoherent P W → Names P W p d → IsDirectory W d → IsFreePage P W j → MakesEmptyPage P W A j → IsPageQuiet P W A (owned P A j d)

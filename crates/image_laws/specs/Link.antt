@@ -13,7 +13,7 @@ use Rattle.image_counts.specs.Entries.{IsFreePage}
 use Rattle.image_laws.specs.Frame.{SameMeaning}
 use Rattle.image_laws.specs.Quiet.{IsMix}
 use Rattle.image_laws.specs.Add.{IsOldFile, with_page}
-use Rattle.image_laws.specs.Create.{IsAmong, CanName, IsVacant, MakesZeroPage, IsPageQuiet, committed, owned}
+use Rattle.image_laws.specs.Create.{IsAmong, CanName, IsVacant, MakesPage, IsPageQuiet, committed, owned}
 use Rattle.image_laws.specs.Grown.{HasGrown}
 
 -- a name word of slot s, or the link word of inode i
@@ -48,5 +48,5 @@ LinkLaw = (P : ℕ) (W I : List ℕ) (p path : Route) (d s i : ℕ) (name : List
 -- The directory takes page j, and then slot s of it.
 abbrev pub NewPageLinkLaw : Type 0
 NewPageLinkLaw = (P : ℕ) (W A I : List ℕ) (p path : Route) (d j s i : ℕ) (name : List ℕ) → CanLink P W p d i name → IsFreePage P W j → page_of_slot s ≡ j
-    → MakesZeroPage P W A j → MakesLink P (owned P A j d) I s i name → reverse path ≡ name_in_words name ∷ p
+    → MakesPage P W A j → MakesLink P (owned P A j d) I s i name → reverse path ≡ name_in_words name ∷ p
     → IsPageQuiet P W A (owned P A j d) × IsLink P W (owned P A j d) I (committed P I s i) path i (λ room. with_page room d) × HasGrown P W (committed P I s i) d s i name
