@@ -14,7 +14,8 @@ use Rattle.image_reading.specs.Soundness.{Rule, IsCoherent}
 use Rattle.image_reading.specs.Tidy.{IsTidied}
 use Rattle.image_counts.proofs.Counting.{none_counted}
 use Rattle.image_laws.specs.Add.{IsFreeSlot, with_node}
-use Rattle.image_laws.specs.Create.{IsEmptyNode, MakesNode, CanName, CanMake, IsVacant, committed, IsCreate, CreateLaw}
+use Rattle.image_laws.specs.Commits.{Commits}
+use Rattle.image_laws.specs.Create.{IsEmptyNode, MakesNode, CanName, CanMake, IsVacant, committed, CreateLaw}
 use Rattle.image_laws.specs.Frame.{SameMeaning}
 use Rattle.image_laws.specs.Quiet.{IsMix}
 use Rattle.image_laws.proofs.Adds.{only, stored, add_law, add_tree_law, add_room_law}
@@ -65,7 +66,7 @@ module _ (P : ℕ) (W B C : List ℕ) (p path : Route) (node : Node) (d s i : �
   pub named : (after : Room → Room) → ((room : Room) → HasRoom P C room → HasRoom P (committed P C s i) (after room)) → IsNamed P W (committed P C s i) (λ T. with_new T path i node) after
   named after room = record { coherent = coherent; reads = reads; room = λ r h. room r (same_made.room r h) }
 
-  pub created : (after : Room → Room) → ((room : Room) → HasRoom P C room → HasRoom P (committed P C s i) (after room)) → IsCleanSlot P B s → IsCreate P W B C (committed P C s i) path node i after
+  pub created : (after : Room → Room) → ((room : Room) → HasRoom P C room → HasRoom P (committed P C s i) (after room)) → IsCleanSlot P B s → Commits P W B C (committed P C s i) (λ T. with_new T path i node) after
   created after room rest = record {
     before = λ M m. same_chained P W B M start (making.mixes P B C p node d s i name ready makes M m);
     commit = commit;
@@ -167,7 +168,7 @@ module _ (P : ℕ) (W I : List ℕ) (p path : Route) (node : Node) (d s i : ℕ)
   pub create_named : IsNamed P W (committed P I s i) (λ T. with_new T path i node) (λ room. with_node room i node)
   create_named = named P W W I p path node d s i name (same_itself P W can.place.tidy.coherent) ready empty makes is (λ room. with_node room i node) room_after
 
-  pub create_made : IsCreate P W W I (committed P I s i) path node i (λ room. with_node room i node)
+  pub create_made : Commits P W W I (committed P I s i) (λ T. with_new T path i node) (λ room. with_node room i node)
   create_made = created P W W I p path node d s i name (same_itself P W can.place.tidy.coherent) ready empty makes is (λ room. with_node room i node) room_after
       (clean_slot P W p d s name can.place vacant)
 

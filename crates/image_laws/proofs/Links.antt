@@ -13,10 +13,11 @@ use Rattle.image_reading.specs.Soundness.{Rule, IsCoherent}
 use Rattle.image_reading.specs.Tidy.{IsTidied}
 use Rattle.image_counts.specs.Entries.{IsFreePage}
 use Rattle.image_laws.specs.Add.{CanAdd, IsOldFile, with_page, with_node}
+use Rattle.image_laws.specs.Commits.{Commits}
 use Rattle.image_laws.specs.Create.{IsVacant, MakesEmptyPage, committed, owned}
 use Rattle.image_laws.specs.Frame.{SameMeaning}
 use Rattle.image_laws.specs.Grown.{HasGrown}
-use Rattle.image_laws.specs.Link.{MakesLink, CanLink, IsLink, LinkLaw, NewPageLinkLaw}
+use Rattle.image_laws.specs.Link.{MakesLink, CanLink, LinkLaw, NewPageLinkLaw}
 use Rattle.image_laws.specs.Quiet.{IsMix}
 use Rattle.image_laws.proofs.Adds.{only, stored, add_law, add_tree_law, add_room_law}
 use Rattle.image_laws.proofs.Contents.{node_of, node_is}
@@ -93,7 +94,7 @@ module _ (P : ℕ) (W B C : List ℕ) (p path : Route) (d s i : ℕ) (name : Lis
   pub named_link : (after : Room → Room) → ((room : Room) → HasRoom P C room → HasRoom P (committed P C s i) (after room)) → IsNamed P W (committed P C s i) (λ T. with_path T path i) after
   named_link after room = record { coherent = coherent; reads = reads; room = λ r h. room r (same_linked.room r h) }
 
-  pub is_link : (after : Room → Room) → ((room : Room) → HasRoom P C room → HasRoom P (committed P C s i) (after room)) → IsCleanSlot P B s → IsLink P W B C (committed P C s i) path i after
+  pub is_link : (after : Room → Room) → ((room : Room) → HasRoom P C room → HasRoom P (committed P C s i) (after room)) → IsCleanSlot P B s → Commits P W B C (committed P C s i) (λ T. with_path T path i) after
   is_link after room rest = record {
     before = λ M m. same_chained P W B M start (linking.mixes P B C p d s i name place file makes M m);
     commit = commit;
@@ -119,7 +120,7 @@ module _ (P : ℕ) (W I : List ℕ) (p path : Route) (d s i : ℕ) (name : List 
   pub link_named : IsNamed P W (committed P I s i) (λ T. with_path T path i) (λ room. room)
   link_named = named_link P W W I p path d s i name itself place_here can.file makes is (λ room. room) same_room
 
-  pub link_made : IsLink P W W I (committed P I s i) path i (λ room. room) × HasGrown P W (committed P I s i) d s i name
+  pub link_made : Commits P W W I (committed P I s i) (λ T. with_path T path i) (λ room. room) × HasGrown P W (committed P I s i) d s i name
   link_made = (
     is_link P W W I p path d s i name itself place_here can.file makes is (λ room. room) same_room (clean_slot P W p d s name can.place vacant),
     grown P W W I p path d s i name itself place_here can.file makes is,
@@ -153,7 +154,7 @@ module _ (P : ℕ) (W A I : List ℕ) (p path : Route) (d j s i : ℕ) (name : L
   pub page_link_named : IsNamed P W (committed P I s i) (λ T. with_path T path i) (λ room. with_page room d)
   page_link_named = named_link P W (owned P A j d) I p path d s i name page_taken.same place_there file_there makes is (λ room. with_page room d) more_room
 
-  pub page_linked : IsCleanSlot P (owned P A j d) s → IsLink P W (owned P A j d) I (committed P I s i) path i (λ room. with_page room d)
+  pub page_linked : IsCleanSlot P (owned P A j d) s → Commits P W (owned P A j d) I (committed P I s i) (λ T. with_path T path i) (λ room. with_page room d)
   page_linked rest = is_link P W (owned P A j d) I p path d s i name page_taken.same place_there file_there makes is (λ room. with_page room d) more_room rest
 
   pub page_grown : HasGrown P W (committed P I s i) d s i name

@@ -10,7 +10,8 @@ use Rattle.image_reading.specs.Soundness.{Rule, IsCoherent, HasLinks}
 use Rattle.image_counts.specs.Entries.{IsFreePage}
 use Rattle.image_laws.specs.Create.{IsPageMadeWord, MakesEmptyPage, MakesPage, owned}
 use Rattle.image_laws.specs.Exempt.{IsExempt}
-use Rattle.image_laws.specs.Frame.{Alike, SameMeaning}
+use Rattle.image_laws.specs.Agrees.{Alike}
+use Rattle.image_laws.specs.Frame.{SameMeaning}
 use Rattle.image_laws.specs.Free.{IsFree, Stores}
 use Rattle.image_laws.proofs.Addresses.{descriptor-ne_inode, descriptor-ne_slot, descriptor-ne_page, page-ne_inode, page-ne_slot, descriptor_word-one, word_in_page, word_in_page-lt, slot_word-in_page}
 use Rattle.image_laws.proofs.Frame.{alike}

@@ -9,8 +9,10 @@ use Rattle.tree_model.specs.Tree.{Node, Room}
 use Rattle.image_reading.specs.Reading.{IsDirectory, Reached, IsRoomOf, HasRoom}
 use Rattle.image_counts.specs.Entries.{IsFreePage}
 use Rattle.image_laws.specs.Add.{with_page, with_node}
-use Rattle.image_laws.specs.Create.{IsEmptyNode, MakesEmptyPage, MakesNode, CanName, owned, committed, IsPageQuiet, IsCreate, NewPageLaw}
-use Rattle.image_laws.specs.Frame.{Alike, SameMeaning}
+use Rattle.image_laws.specs.Commits.{Commits}
+use Rattle.image_laws.specs.Create.{IsEmptyNode, MakesEmptyPage, MakesNode, CanName, owned, committed, IsPageQuiet, NewPageLaw}
+use Rattle.image_laws.specs.Agrees.{Alike}
+use Rattle.image_laws.specs.Frame.{SameMeaning}
 use Rattle.image_laws.specs.Free.{Stores}
 use Rattle.image_laws.proofs.Adds.{add_room_law}
 use Rattle.image_laws.proofs.Creates.{named, created, free_inode}
@@ -96,7 +98,7 @@ module _ (P : ℕ) (W A : List ℕ) (p : Route) (d j s : ℕ) (name : List ℕ) 
     pub page_named : IsNamed P W (committed P I s i) (λ T. with_new T path i node) (λ room. with_node (with_page room d) i node)
     page_named = named P W (owned P A j d) I p path node d s i name start ready empty made is (λ room. with_node (with_page room d) i node) room_after
 
-    pub page_created : IsCleanSlot P (owned P A j d) s → IsCreate P W (owned P A j d) I (committed P I s i) path node i (λ room. with_node (with_page room d) i node)
+    pub page_created : IsCleanSlot P (owned P A j d) s → Commits P W (owned P A j d) I (committed P I s i) (λ T. with_new T path i node) (λ room. with_node (with_page room d) i node)
     page_created rest = created P W (owned P A j d) I p path node d s i name start ready empty made is (λ room. with_node (with_page room d) i node) room_after rest
 
 pub new_page_law : NewPageLaw

@@ -6,7 +6,8 @@ use Rattle.image_reading.specs.Reading.{IsDirectory, Names, Reached}
 use Rattle.image_reading.specs.Soundness.{IsCoherent}
 use Rattle.image_counts.specs.Entries.{IsFreePage}
 use Rattle.image_laws.specs.Create.{MakesEmptyPage, owned, IsPageQuiet, PageQuietLaw}
-use Rattle.image_laws.specs.Frame.{Alike, SameMeaning}
+use Rattle.image_laws.specs.Agrees.{Alike}
+use Rattle.image_laws.specs.Frame.{SameMeaning}
 use Rattle.image_laws.specs.Free.{Stores}
 use Rattle.image_laws.proofs.Free.{stores_law}
 use Rattle.image_laws.proofs.Meaning.{same_chained}

@@ -5,12 +5,13 @@ use Rattle.layout.specs.Fields.{word, inode_links, page_kind, page_offset, slot_
 use Rattle.layout.specs.Geometry.{inodes_of, page_of_slot, inode_word_of, descriptor_word_of, slot_word_of, page_word_of}
 use Rattle.layout.specs.Name.{IsNameWords, name_in_words}
 use Rattle.tree_model.specs.PathText.{Route}
-use Rattle.tree_model.specs.Tree.{Node, Directory, File, Tree, Room}
+use Rattle.tree_model.specs.Tree.{Node, Directory, File}
 use Rattle.tree_model.specs.Step.{with_new}
-use Rattle.image_reading.specs.Reading.{IsDirectory, slot_owner, IsHeld, Names, Reached, IsReachedSlot, Reads, HasRoom}
+use Rattle.image_reading.specs.Reading.{IsDirectory, slot_owner, IsHeld, Names, Reached, IsReachedSlot}
 use Rattle.image_reading.specs.Soundness.{IsCoherent}
 use Rattle.image_reading.specs.Tidy.{IsTidied}
 use Rattle.image_counts.specs.Entries.{IsFreePage}
+use Rattle.image_laws.specs.Commits.{Commits}
 use Rattle.image_laws.specs.Frame.{SameMeaning}
 use Rattle.image_laws.specs.Quiet.{IsMix}
 use Rattle.image_laws.specs.Add.{with_page, with_node}
@@ -78,19 +79,11 @@ pub record IsVacant (P : ℕ) (I : List ℕ) (d s : ℕ) : Type 0 where
 abbrev pub committed : ℕ → List ℕ → ℕ → ℕ → List ℕ
 committed P I s i = set I (slot_word_of P s 0) i
 
--- From B over I to J: a stop leaves what means W, or J. J is tidy, its tree is that of W with the new node, and its room is made of that of W.
-pub record IsCreate (P : ℕ) (W B I J : List ℕ) (path : Route) (node : Node) (i : ℕ) (after : Room → Room) : Type 0 where
-  pub before : (M : List ℕ) → IsMix B I M → SameMeaning P W M
-  pub commit : (M : List ℕ) → IsMix I J M → SameMeaning P W M ⊎ (M ≡ J)
-  pub tidy : IsTidied P J
-  pub reads : (T : Tree) → Reads P W T → Reads P J (with_new T path i node)
-  pub room : (room : Room) → HasRoom P W room → HasRoom P J (after room)
-
 -- The directory has a vacant slot.
 abbrev pub CreateLaw : Type 0
 CreateLaw = (P : ℕ) (W I : List ℕ) (p path : Route) (node : Node) (d s i : ℕ) (name : List ℕ) → CanMake P W p d i name → IsVacant P W d s
     → IsEmptyNode node → MakesNode P W I node d s i name → reverse path ≡ name_in_words name ∷ p
-    → IsCreate P W W I (committed P I s i) path node i (λ room. with_node room i node)
+    → Commits P W W I (committed P I s i) (λ T. with_new T path i node) (λ room. with_node room i node)
 
 -- ---- a new page
 
@@ -117,7 +110,7 @@ pub record MakesPage (P : ℕ) (I J : List ℕ) (j : ℕ) : Type 0 where
 abbrev pub owned : ℕ → List ℕ → ℕ → ℕ → List ℕ
 owned P I j d = set I (descriptor_word_of P j 0) d
 
--- From W over A to B: a stop leaves what means W.
+-- From W over A to B: a crash leaves what means W.
 pub record IsPageQuiet (P : ℕ) (W A B : List ℕ) : Type 0 where
   pub making : (M : List ℕ) → IsMix W A M → SameMeaning P W M
   pub owning : (M : List ℕ) → IsMix A B M → SameMeaning P W M
@@ -126,7 +119,7 @@ pub record IsPageQuiet (P : ℕ) (W A B : List ℕ) : Type 0 where
 abbrev pub NewPageLaw : Type 0
 NewPageLaw = (P : ℕ) (W A I : List ℕ) (p path : Route) (node : Node) (d j s i : ℕ) (name : List ℕ) → CanMake P W p d i name → IsFreePage P W j → page_of_slot s ≡ j
     → IsEmptyNode node → MakesPage P W A j → MakesNode P (owned P A j d) I node d s i name → reverse path ≡ name_in_words name ∷ p
-    → IsPageQuiet P W A (owned P A j d) × IsCreate P W (owned P A j d) I (committed P I s i) path node i (λ room. with_node (with_page room d) i node)
+    → IsPageQuiet P W A (owned P A j d) × Commits P W (owned P A j d) I (committed P I s i) (λ T. with_new T path i node) (λ room. with_node (with_page room d) i node)
 
 -- That much holds as soon as the page is made, whatever is made in it.
 abbrev pub PageQuietLaw : Type 0

@@ -1,7 +1,8 @@
 //! Laws of images: which stores change no meaning, and what a store that commits a call changes.
 #![tactic(auto)]
 
-ghost use Rattle.image_laws.specs.Frame.{FrameLaw, ShapeLaw, NodeLaw, MeaningsChain};
+ghost use Rattle.image_laws.specs.Agrees.{FrameLaw, ShapeLaw};
+ghost use Rattle.image_laws.specs.Frame.{NodeLaw, MeaningsChain};
 ghost use Rattle.image_laws.specs.Words.{WordLaw};
 ghost use Rattle.image_laws.specs.Exempt.{ExemptLaw};
 ghost use Rattle.image_laws.specs.Quiet.{MixLaw, WriteLaw};
@@ -79,7 +80,8 @@ pub fn move_law()
     ensures room { MoveRoomLaw }
 {}
 
-/// The word that commits a write past the size and a truncation: a file of other bytes, and the tree and the room after it.
+/// The word that commits a write past the size and a truncation: a file of other bytes, the tree after it, and the room,
+/// which stays.
 pub fn resize_law()
     ensures paths { ResizeLaw }
     ensures tree { ResizeTreeLaw }
@@ -120,8 +122,8 @@ pub fn link_step_law()
     ensures new_page { NewPageLinkStepLaw }
 {}
 
-/// While a name is unlinked or a directory removed, each mix of old and new words is the words before, or means what the
-/// first store leaves; the end is tidy, without the path.
+/// While a name is unlinked or a directory removed, each mix of old and new words is the words before, or means what
+/// the first store leaves; the end is tidy, without the path.
 pub fn drop_law()
     ensures { DropLaw }
 {}
