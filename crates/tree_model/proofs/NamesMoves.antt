@@ -13,7 +13,7 @@ use Rattle.tree_model.specs.declared.command.Command.TheVariants.{Create, Mkdir,
 use Rattle.tree_model.specs.declared.reply.Refusal.{Refusal}
 use Rattle.tree_model.specs.declared.reply.Refusal.TheVariants.{Root, Exists, IsDir, NotDir, NotEmpty}
 use Rattle.tree_model.proofs.EntryLaws.{where_key-agree, where_key-swap}
-use Rattle.tree_model.proofs.TreeLaws.{is_same, name_count-with_new_here, name_count-with_new_other, is_in-at, above}
+use Rattle.tree_model.proofs.TreeLaws.{name_count-with_new_here, name_count-with_new_other, is_in-at, above}
 use Rattle.tree_model.proofs.TreeKept.{some_is, is_some_at}
 use Rattle.tree_model.proofs.TreeLess.{HasNoNames, HasNoNames-file, HasNoNames-empty, less_was, less_kept}
 use Rattle.tree_model.proofs.Accepted.{first-none, at-none, fault_of-none, not_there}
