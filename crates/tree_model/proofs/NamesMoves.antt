@@ -69,7 +69,6 @@ NamesMove-link supply T room id from to t e =
 -- ---- a name less
 
 module _ (T : Tree) (t : IsTree T) (path : Route) (below : is_root path ≡ false) (empty : HasNoNames T path) where
-
   is_in_less : (d : ℕ) (q : Route) → is_some (id_at (without_path T path) q) ≡ true → is_in (without_path T path) d q ≡ is_in T d q
   is_in_less d q there =
       let found = some_is (id_at (without_path T path) q) there in
