@@ -13,7 +13,8 @@ use Rattle.tree_model.specs.Run.{State}
 use Rattle.tree_model.proofs.TreeLaws.{id_at-with_new_here}
 use Rattle.tree_model.specs.declared.reply.Refusal.{Refusal}
 use Rattle.image_reading.specs.Reading.{Reads}
-use Rattle.image_laws.specs.Create.{IsEmptyNode, MakesNode, IsCreate, owned, committed}
+use Rattle.image_laws.specs.Commits.{Commits}
+use Rattle.image_laws.specs.Create.{IsEmptyNode, MakesNode, owned, committed}
 use Rattle.image_laws.specs.Frame.{SameMeaning}
 use Rattle.image_laws.specs.Quiet.{IsMix}
 use Rattle.inode_state.specs.Inode.{fields_at}
@@ -130,12 +131,12 @@ module _ (laws : ImageLaws) (P : ℕ) (W : List ℕ) (state : State) (path : Rou
 
     module _ (is_name : IsName entry.name) (of_bytes : IsBytes entry.name) (I : List ℕ) (made : MakesNode P B I (node_of entry.kind) entry.directory entry.slot entry.inode (words_of_name entry.name)) where
       created_by : (new_page : Option ℕ) → IsPlace P W entry.directory entry.slot new_page → IsOpened P W B entry.directory new_page
-          → IsCreate P W B I (committed P I entry.slot entry.inode) path (node_of entry.kind) entry.inode (room_of entry new_page)
+          → Commits P W B I (committed P I entry.slot entry.inode) (λ (T : Tree). with_new T path entry.inode (node_of entry.kind)) (room_of entry new_page)
       created_by None place is =
           let node = node_of entry.kind in
           let made_here : MakesNode P W I node entry.directory entry.slot entry.inode (words_of_name entry.name)
           = subst (λ (l : List ℕ). MakesNode P l I node entry.directory entry.slot entry.inode (words_of_name entry.name)) is made in
-          subst (λ (l : List ℕ). IsCreate P W l I (committed P I entry.slot entry.inode) path node entry.inode (room_of entry None)) (sym is)
+          subst (λ (l : List ℕ). Commits P W l I (committed P I entry.slot entry.inode) (λ (T : Tree). with_new T path entry.inode node) (room_of entry None)) (sym is)
           (laws.create P W I (reverse (parent path)) path node entry.directory entry.slot entry.inode (words_of_name entry.name)
           (Plans.can laws P W state path entry at is_name of_bytes) (Plans.vacant laws P W state path entry at place.vacant) (empty_node entry.kind) made_here
           (Plans.path_reversed laws P W state path entry at is_name of_bytes))
@@ -144,12 +145,12 @@ module _ (laws : ImageLaws) (P : ℕ) (W : List ℕ) (state : State) (path : Rou
           let made_here : MakesNode P (owned P A page entry.directory) I node entry.directory entry.slot entry.inode (words_of_name entry.name)
           = subst (λ (l : List ℕ). MakesNode P l I node entry.directory entry.slot entry.inode (words_of_name entry.name)) is made in
           let plain : entry.slot ≡ 32 * page + 0 = omega (arith, place.slot_is) in
-          subst (λ (l : List ℕ). IsCreate P W l I (committed P I entry.slot entry.inode) path node entry.inode (room_of entry (Some page))) (sym is)
+          subst (λ (l : List ℕ). Commits P W l I (committed P I entry.slot entry.inode) (λ (T : Tree). with_new T path entry.inode node) (room_of entry (Some page))) (sym is)
           ((laws.new_page P W A I (reverse (parent path)) path node entry.directory page entry.slot entry.inode (words_of_name entry.name)
           (Plans.can laws P W state path entry at is_name of_bytes) place.page_is.free (ap (λ (s : ℕ). page_of_slot s) plain ∙ page_of_entry page 0 (omega arith)) (empty_node entry.kind) page_made made_here
           (Plans.path_reversed laws P W state path entry at is_name of_bytes)).1)
 
-      pub created : IsCreate P W B I (committed P I entry.slot entry.inode) path (node_of entry.kind) entry.inode (room_of entry entry.new_page)
+      pub created : Commits P W B I (committed P I entry.slot entry.inode) (λ (T : Tree). with_new T path entry.inode (node_of entry.kind)) (room_of entry entry.new_page)
       created = created_by entry.new_page (Plans.for_entry laws P W state path entry at).place opened
 
       pub writing : (image : List ℕ) → Mix B I image → MayReadAs P state (Some (making entry.kind path)) image

@@ -11,7 +11,8 @@ use Rattle.tree_model.specs.Run.{State, Steps}
 use Rattle.image_reading.specs.Reading.{Reads, HasRoom, ReadsAs}
 use Rattle.image_reading.specs.Tidy.{Tidy}
 use Rattle.image_reading.proofs.Tidied.{as_tidy}
-use Rattle.image_laws.specs.Create.{IsCreate, committed}
+use Rattle.image_laws.specs.Commits.{Commits}
+use Rattle.image_laws.specs.Create.{committed}
 use Rattle.volume.specs.declared.plan.NewEntry.{NewEntry}
 use Rattle.volume.specs.declared.plan.Action.TheVariants.{Make}
 use Rattle.volume.specs.Volume.{VolumeView}
@@ -43,7 +44,7 @@ planned_at volume device state path entry P is plan =
     subst (λ (p : ℕ). IsPlannedAt p device.words state path entry) (sym is) (record { tidy = plan.stands.tidy; reads = plan.stands.reads; planned = plan.planned })
 
 module _ (laws : ImageLaws) (P : ℕ) (W : List ℕ) (state : State) (path : Route) (entry : NewEntry) (at : IsPlannedAt P W state path entry) (after : DeviceView) (made : IsMade P W after.words entry) (is_name : IsName entry.name) (of_bytes : IsBytes entry.name) where
-  created : IsCreate P W made.opened made.placed.written (committed P made.placed.written entry.slot entry.inode) path (node_of entry.kind) entry.inode (room_of entry entry.new_page)
+  created : Commits P W made.opened made.placed.written (committed P made.placed.written entry.slot entry.inode) (λ (T : Tree). with_new T path entry.inode (node_of entry.kind)) (room_of entry entry.new_page)
   created = Created.created laws P W state path entry at made.opened made.page is_name of_bytes made.placed.written made.placed.node
 
   back : committed P made.placed.written entry.slot entry.inode ≡ after.words

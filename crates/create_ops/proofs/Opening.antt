@@ -24,7 +24,7 @@ module _ (laws : ImageLaws) (P : ℕ) (W : List ℕ) (d page : ℕ) (holder : Is
   free = (may.0, ap (λ (f : DescriptorFields). f.owner) may.1)
 
   quiet : IsPageQuiet P W A (owned P A page d)
-  quiet = laws.page_quiet P W A holder.path d page holder.sound holder.named holder.is_directory free made
+  quiet = laws.page_quiet P W A holder.path d page holder.sound holder.named holder.is_directory free made.empty
 
   pub filling : (image : List ℕ) → Mix W A image → SameMeaning P W image
   filling image mix = quiet.making image (is_mix W A image mix)

@@ -16,6 +16,7 @@ use Rattle.page_state.specs.Page.{EachPage, OfSome, IsOwnWord, IsFilledWord, IsO
 use Rattle.page_state.specs.Events.{FillsPages, ClaimsPages, FlushesPages}
 use Rattle.page_state.proofs.PageLaws.{own_word_within, descriptor_word_is}
 use Rattle.image_laws.specs.Create.{IsPageMadeWord, MakesPage, owned}
+use Rattle.image_laws.proofs.NewPage.{makes_page}
 
 -- a word of one of the pages is one of the page
 of_one : (pages : List ℕ) (Q : ℕ → ℕ → Type 0) (word : ℕ) → length pages ≡ 1 → OfSome pages Q word → Q (slice_index pages 0) word
@@ -43,15 +44,10 @@ filled_word P j a (inr (inr offset)) = inr (inr offset)
 
 made_of : {W A : List ℕ} {tw ta : Option Trail} (P : ℕ) (pages : List ℕ) → length pages ≡ 1 → EachPage pages (IsSlotPage P A) → IsInterval (OfSome pages (IsFilledWord P)) W tw A ta → MakesPage P W A (slice_index pages 0)
 unfolding word
-made_of P pages one filled run =
+made_of {W} {A} P pages one filled run =
     let page = filled.each 0 (omega (arith, one)) in
-    record {
-      size = interval_length run;
-      zeros = λ w lt. page.zero.each w lt;
-      kind = page.kind;
-      offset = page.offset;
-      others = λ a out. interval_keeps a run (λ some. out (filled_word P (slice_index pages 0) a (of_one pages (IsFilledWord P) a one some)));
-    }
+    makes_page P W A (slice_index pages 0) (interval_length run) page.zero.each page.kind page.offset
+    (λ a out. interval_keeps a run (λ some. out (filled_word P (slice_index pages 0) a (of_one pages (IsFilledWord P) a one some))))
 
 module _ (P V : ℕ) (pages ps : List ℕ) (volume : V ≡ P) (list : ps ≡ pages) (one : length pages ≡ 1) where
   pub page_made : {W A B : List ℕ} {tw ta : Option Trail} → B ≡ A → EachPage ps (IsSlotPage V A) → IsInterval (OfSome ps (IsFilledWord V)) W tw A ta → MakesPage P W B (slice_index pages 0)

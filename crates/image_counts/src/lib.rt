@@ -1,7 +1,9 @@
 //! What is counted in the words of an image is what is counted in the tree that the image reads as.
 #![tactic(auto)]
 
-ghost use Rattle.image_counts.specs.Laws.{EntryLaw, SizeLaw, InodeCountLaw, FreeInodeLaw, NameCountLaw, AbsenceLaw, LinkLaw, LinkWordLaw, KeptPageLaw, RoomLaw, PageCountLaw, FilePagesLaw, StateLaw};
+ghost use Rattle.image_counts.specs.Laws.{EntryLaw, AbsenceLaw, NameCountLaw};
+ghost use Rattle.image_counts.specs.Laws.{SizeLaw, InodeCountLaw, FreeInodeLaw, LinkLaw, LinkWordLaw};
+ghost use Rattle.image_counts.specs.Laws.{RoomLaw, FilePagesLaw, KeptPageLaw, PageCountLaw, StateLaw};
 
 /// The names in a directory are the reached slots of its pages.
 pub fn entry_law()
@@ -48,7 +50,8 @@ pub fn kept_page_law()
     ensures { KeptPageLaw }
 {}
 
-/// In a tidy image a directory's room is the number of its pages, and it is full where each slot of them has an inode number.
+/// In a tidy image a directory's room is the number of its pages, and it is full where each slot of them has an inode
+/// number.
 pub fn room_law()
     ensures { RoomLaw }
 {}

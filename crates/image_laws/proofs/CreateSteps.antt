@@ -10,10 +10,11 @@ use Rattle.image_counts.proofs.Slots.{equal_numbers}
 use Rattle.image_counts.proofs.States.{is_tree, is_room}
 use Rattle.image_counts.proofs.Tidied.{has_room_words}
 use Rattle.image_laws.specs.Add.{with_page, with_node}
-use Rattle.image_laws.specs.Create.{IsEmptyNode, CanName, CanMake, IsVacant, IsCreate, committed, owned}
+use Rattle.image_laws.specs.Create.{IsEmptyNode, CanName, CanMake, IsVacant, committed}
 use Rattle.image_laws.specs.CreateStep.{making, CanBeMade, IsStepped, CreateStepLaw, NewPageStepLaw}
-use Rattle.image_laws.proofs.Creates.{create_law}
-use Rattle.image_laws.proofs.PageCreates.{new_page_law}
+use Rattle.image_laws.proofs.Creates.{create_named, free_inode}
+use Rattle.image_laws.proofs.PageCreates.{page_named}
+use Rattle.image_laws.proofs.Ready.{IsNamed}
 use Rattle.image_laws.proofs.RoomAfter.{room_after_law, empty_node, tree_is}
 use Rattle.image_laws.proofs.Trees.{is_directory-reached, reverse_path}
 
@@ -41,17 +42,17 @@ module _ (P : ℕ) (W : List ℕ) (old : State) (p path : Route) (d i : ℕ) (na
     absent = none_if (node_at old.tree i) (λ x e. can.unreached ((reads.tree.nodes i x).0 e).0);
   }
 
-  stepped : (B I J : List ℕ) (node : Node) (after : Room → Room) → IsEmptyNode node → IsCreate P W B I J path node i after
+  stepped : (J : List ℕ) (node : Node) (after : Room → Room) → IsEmptyNode node → IsNamed P W J (λ T. with_new T path i node) after
       → after old.room ≡ room_after i old.tree old.room (making node path) false → IsStepped P J old (making node path) i
-  stepped B I J node after empty created room =
+  stepped J node after empty named room =
       let tree : with_new old.tree path i node ≡ tree_after i old.tree (making node path) = ap (with_new old.tree path i) (is_empty_node node empty) ∙ sym (tree_is old.tree node path i) in
-      let read = created.reads old.tree reads.tree in
-      let has = created.room old.room reads.room in
+      let read = named.reads old.tree reads.tree in
+      let has = named.room old.room reads.room in
       record {
         new = record { tree = with_new old.tree path i node; room = after old.room };
         reads = record { tree = read; room = has };
         tree = tree;
-        room = (false, room, subst (λ T. IsRoom T (after old.room)) tree (is_room P J (with_new old.tree path i node) created.tidy.coherent read (after old.room) has));
+        room = (false, room, subst (λ T. IsRoom T (after old.room)) tree (is_room P J (with_new old.tree path i node) named.coherent read (after old.room) has));
       }
 
 not_true : (b : Bool) → (b ≡ true → ⊥) → b ≡ false
@@ -66,12 +67,11 @@ not_full P W old p d s name can vacant reads = not_true (is_full old.tree old.ro
 
 pub create_step_law : CreateStepLaw
 create_step_law P W I old p path node d s i name can vacant empty makes is reads =
-    let created = create_law P W I p path node d s i name can vacant empty makes is in
-    stepped P W old p path d i name can is reads W I (committed P I s i) node (λ room. with_node room i node) empty created
+    stepped P W old p path d i name can is reads (committed P I s i) node (λ room. with_node room i node) empty (create_named P W I p path node d s i name can vacant empty makes is)
     (sym ((room_after_law old.tree old.room node path d i (can_be_made P W old p path d i name can is reads)).not_full false (not_full P W old p d s name can.place vacant reads)))
 
 pub new_page_step_law : NewPageStepLaw
 new_page_step_law P W A I old p path node d j s i name can page at empty made makes is reads full =
-    let (quiet, created) = new_page_law P W A I p path node d j s i name can page at empty made makes is in
-    stepped P W old p path d i name can is reads (owned P A j d) I (committed P I s i) node (λ room. with_node (with_page room d) i node) empty created
+    stepped P W old p path d i name can is reads (committed P I s i) node (λ room. with_node (with_page room d) i node) empty
+    (page_named P W A p d j s name can.place page at made I path node i (free_inode P W p d i name can) empty makes is)
     (sym ((room_after_law old.tree old.room node path d i (can_be_made P W old p path d i name can is reads)).full false full))

@@ -10,11 +10,12 @@ use Rattle.tree_model.specs.Tree.{Node, Tree, Room}
 use Rattle.tree_model.specs.Step.{with_new}
 use Rattle.image_reading.specs.Reading.{slot_owner, IsLive, Reached, IsRoomOf, Reads, HasRoom}
 use Rattle.image_reading.specs.Repairs.{IsLitterPage}
-use Rattle.image_reading.specs.Soundness.{Rule}
+use Rattle.image_reading.specs.Soundness.{Rule, IsCoherent}
 use Rattle.image_reading.specs.Tidy.{IsTidied}
 use Rattle.image_counts.proofs.Counting.{none_counted}
 use Rattle.image_laws.specs.Add.{IsFreeSlot, with_node}
-use Rattle.image_laws.specs.Create.{IsEmptyNode, MakesNode, CanName, CanMake, IsVacant, committed, IsCreate, CreateLaw}
+use Rattle.image_laws.specs.Commits.{Commits}
+use Rattle.image_laws.specs.Create.{IsEmptyNode, MakesNode, CanName, CanMake, IsVacant, committed, CreateLaw}
 use Rattle.image_laws.specs.Frame.{SameMeaning}
 use Rattle.image_laws.specs.Quiet.{IsMix}
 use Rattle.image_laws.proofs.Adds.{only, stored, add_law, add_tree_law, add_room_law}
@@ -23,7 +24,7 @@ use Rattle.image_laws.proofs.Free.{mix_one}
 use Rattle.image_laws.proofs.Making as making
 use Rattle.image_laws.proofs.MakeTidy.{tidy_after}
 use Rattle.image_laws.proofs.Meaning.{same_itself, same_chained}
-use Rattle.image_laws.proofs.Ready.{IsReady, IsReadySlot, IsFreeInode, IsTidyBut, tidy_but, no_pointer}
+use Rattle.image_laws.proofs.Ready.{IsReady, IsReadySlot, IsCleanSlot, IsNamed, IsFreeInode, IsTidyBut, tidy_but, no_pointer}
 use Rattle.image_laws.proofs.Rooms.{dec_room}
 
 -- ---- from an image that is ready
@@ -47,11 +48,14 @@ module _ (P : ℕ) (W B C : List ℕ) (p path : Route) (node : Node) (d s i : �
     | inr e ↦ inr e
   ]
 
-  tidy : IsTidied P (committed P C s i)
-  tidy =
+  coherent : IsCoherent P (committed P C s i)
+  coherent = (add_law P C p d s i (making.can_add P B C p node d s i name ready makes)).coherent
+
+  tidy : IsCleanSlot P B s → IsTidied P (committed P C s i)
+  tidy rest =
       let can = making.can_add P B C p node d s i name ready makes in
       tidy_after P B C (committed P C s i) p node d s i name ready makes can (only P C s i can.coherent) (stored P C s i can.coherent can.slot.held.in_range) other_words
-      (add_law P C p d s i can).coherent
+      coherent rest
 
   reads : (T : Tree) → Reads P W T → Reads P (committed P C s i) (with_new T path i node)
   reads T h =
@@ -59,11 +63,14 @@ module _ (P : ℕ) (W B C : List ℕ) (p path : Route) (node : Node) (d s i : �
       let path_is = is ∙ ap (λ n. n ∷ p) (sym (making.name_is P B C p node d s i name ready makes)) in
       (add_tree_law P C p path d s i can path_is).new_node T node (same_made.reads T h) (making.new_node P B C p node d s i name ready makes) (making.node_made P B C p node d s i name ready makes empty)
 
-  pub created : (after : Room → Room) → ((room : Room) → HasRoom P C room → HasRoom P (committed P C s i) (after room)) → IsCreate P W B C (committed P C s i) path node i after
-  created after room = record {
+  pub named : (after : Room → Room) → ((room : Room) → HasRoom P C room → HasRoom P (committed P C s i) (after room)) → IsNamed P W (committed P C s i) (λ T. with_new T path i node) after
+  named after room = record { coherent = coherent; reads = reads; room = λ r h. room r (same_made.room r h) }
+
+  pub created : (after : Room → Room) → ((room : Room) → HasRoom P C room → HasRoom P (committed P C s i) (after room)) → IsCleanSlot P B s → Commits P W B C (committed P C s i) (λ T. with_new T path i node) after
+  created after room rest = record {
     before = λ M m. same_chained P W B M start (making.mixes P B C p node d s i name ready makes M m);
     commit = commit;
-    tidy = tidy;
+    tidy = tidy rest;
     reads = reads;
     room = λ r h. room r (same_made.room r h);
   }
@@ -140,17 +147,30 @@ module _ (P : ℕ) (W : List ℕ) (p : Route) (d s : ℕ) (name : List ℕ) (can
     slot = free_slot;
     is_name = can.is_name;
     new = can.new;
-    but = but;
-    clean = clean;
   }
+
+  pub clean_slot : IsCleanSlot P W s
+  clean_slot = record { but = but; clean = clean }
 
 pub is_ready : (P : ℕ) (W : List ℕ) (p : Route) (d s i : ℕ) (name : List ℕ) → CanMake P W p d i name → IsVacant P W d s → IsReady P W p d s i name
 is_ready P W p d s i name can vacant = record { place = ready_slot P W p d s name can.place vacant; inode = free_inode P W p d i name can }
 
+module _ (P : ℕ) (W I : List ℕ) (p path : Route) (node : Node) (d s i : ℕ) (name : List ℕ) (can : CanMake P W p d i name) (vacant : IsVacant P W d s) (empty : IsEmptyNode node) (makes : MakesNode P W I node d s i name)
+    (is : reverse path ≡ name_in_words name ∷ p) where
+  ready : IsReady P W p d s i name
+  ready = is_ready P W p d s i name can vacant
+
+  room_after : (room : Room) → HasRoom P I room → HasRoom P (committed P I s i) (with_node room i node)
+  room_after room has =
+      let here = ((making.shape_made P W I p node d s i name ready makes).directories d (page_of_slot s)).0 (room_here P W p d s name can.place vacant) in
+      (add_room_law P I p d s i (making.can_add P W I p node d s i name ready makes)).old_page room node has (making.node_made P W I p node d s i name ready makes empty) here
+
+  pub create_named : IsNamed P W (committed P I s i) (λ T. with_new T path i node) (λ room. with_node room i node)
+  create_named = named P W W I p path node d s i name (same_itself P W can.place.tidy.coherent) ready empty makes is (λ room. with_node room i node) room_after
+
+  pub create_made : Commits P W W I (committed P I s i) (λ T. with_new T path i node) (λ room. with_node room i node)
+  create_made = created P W W I p path node d s i name (same_itself P W can.place.tidy.coherent) ready empty makes is (λ room. with_node room i node) room_after
+      (clean_slot P W p d s name can.place vacant)
+
 pub create_law : CreateLaw
-create_law P W I p path node d s i name can vacant empty makes is =
-    let ready = is_ready P W p d s i name can vacant in
-    let add = making.can_add P W I p node d s i name ready makes in
-    let room = ((making.shape_made P W I p node d s i name ready makes).directories d (page_of_slot s)).0 (room_here P W p d s name can.place vacant) in
-    created P W W I p path node d s i name (same_itself P W can.place.tidy.coherent) ready empty makes is (λ r. with_node r i node)
-    (λ r h. (add_room_law P I p d s i add).old_page r node h (making.node_made P W I p node d s i name ready makes empty) room)
+create_law P W I p path node d s i name can vacant empty makes is = create_made P W I p path node d s i name can vacant empty makes is

@@ -169,10 +169,6 @@ module _ (P : ℕ) (W I J K : List ℕ) (p : Route) (s y : ℕ) (can : CanDrop P
   clear_coherent : IsCoherent P I
   clear_coherent = (steps.same_clear P W I J K p s y can h).coherent
 
-  -- what is reached before the clearing is reached after it
-  forth : (x : ℕ) → Reached P (dropped P W s) x → Reached P I x
-  forth x (q, b) = (q, ((steps.same_clear P W I J K p s y can h).names q x).0 b)
-
   back : (x : ℕ) → Reached P I x → Reached P (dropped P W s) x
   back x (q, b) = (q, ((steps.same_clear P W I J K p s y can h).names q x).1 b)
 

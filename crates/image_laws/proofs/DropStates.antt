@@ -22,7 +22,7 @@ use Rattle.image_laws.proofs.AddRoom.{get-here, get-other}
 use Rattle.image_laws.proofs.CreateSteps.{parent_is}
 use Rattle.image_laws.proofs.DropTidy.{drop_law, owner_after}
 use Rattle.image_laws.proofs.RemoveRoom.{get-gone, get-left}
-use Rattle.image_laws.proofs.RemoveTree.{directory_before}
+use Rattle.image_laws.proofs.Pruned.{directory_before}
 use Rattle.image_laws.proofs.RoomAfter.{clash, room_at, is_same, not_same}
 use Rattle.image_laws.proofs.Rooms.{dec_room}
 use Rattle.image_laws.proofs.Trees.{directory_is, is_directory-reached}
@@ -59,9 +59,6 @@ given_here T room d = ap (λ b. cond (b && true) (pages_in room d + 0 - 1) (page
 
 module _ (P : ℕ) (W I J K : List ℕ) (old : State) (p path : Route) (s y n : ℕ) (kind : Removal) (can : CanDrop P W p s) (h : Drops P W I J K s y)
     (is : reverse path ≡ slot_name P W s ∷ p) (reads : ReadsAs P W old) where
-  after : Tree
-  after = without_unnamed (without_path old.tree path)
-
   read : Reads P K (without_unnamed (without_path old.tree path))
   read = (drop_law P W I J K p s y can h).reads old.tree path is reads.tree
 

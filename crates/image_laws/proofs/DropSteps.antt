@@ -55,9 +55,6 @@ module _ (P : ℕ) (W I J K : List ℕ) (p : Route) (s y : ℕ) (can : CanDrop P
   pub i_reached : Reached P W (slot_inode P W s)
   i_reached = facts.i_reached P W p s rm
 
-  i_pos : 1 ≤ slot_inode P W s
-  i_pos = let z = reached_pos P W (slot_inode P W s) i_reached in omega (arith, z)
-
   i_most : slot_inode P W s ≤ inodes_of P
   i_most = reached-le P W can.tidy.coherent (slot_inode P W s) i_reached
 

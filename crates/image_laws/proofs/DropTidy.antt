@@ -17,7 +17,8 @@ use Rattle.image_reading.proofs.Credits.{count_same}
 use Rattle.image_counts.specs.Entries.{IsSlotOf}
 use Rattle.image_counts.proofs.Decided.{room_below}
 use Rattle.image_laws.specs.Drop.{CanDrop, dropped, IsGiven, Drops, IsDrop, DropLaw}
-use Rattle.image_laws.specs.Frame.{SameMeaning, Alike}
+use Rattle.image_laws.specs.Agrees.{Alike}
+use Rattle.image_laws.specs.Frame.{SameMeaning}
 use Rattle.image_laws.specs.Shrunk.{HasShrunk, ShrunkLaw}
 use Rattle.image_laws.specs.Remove.{HasRoomRemoved, without_page}
 use Rattle.image_laws.proofs.Addresses.{descriptor-ne_slot, inode-ne_slot, slot-ne_slot}

@@ -6,7 +6,7 @@ use Rattle.layout.specs.Geometry.{page_of_slot}
 use Rattle.image_reading.specs.Reading.{Reached, pages_of_size}
 use Rattle.image_reading.specs.Soundness.{IsCoherent, Rule}
 use Rattle.image_laws.specs.Exempt.{IsExempt, ExemptLaw}
-use Rattle.image_laws.specs.Frame.{IsIdle, AreIdle}
+use Rattle.image_laws.specs.Agrees.{IsIdle, AreIdle}
 
 module _ (P : ℕ) (I J : List ℕ) (j g : ℕ) (coherent : IsCoherent P I) (e : IsExempt P I J j g) where
   idle : (X : List ℕ) → (page_owner P X j ≡ 0) ⊎ (page_owner P X j ≡ g) → page_kind P X j ≡ page_kind P I j → page_offset P X j ≡ page_offset P I j →

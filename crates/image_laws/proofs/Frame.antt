@@ -5,7 +5,7 @@ use Rattle.layout.specs.Geometry.{slots_of, page_of_slot}
 use Rattle.layout.proofs.GeometryLaws.{page_of_slot_below}
 use Rattle.image_reading.specs.Reading.{slot_owner, IsHeld, IsLive, Reached}
 use Rattle.image_reading.specs.Soundness.{Rule, Obeys, IsCoherent}
-use Rattle.image_laws.specs.Frame.{SamePage, IsIdle, AreIdle, SameDescriptor, SameSlot, Alike, Agrees, FrameLaw}
+use Rattle.image_laws.specs.Agrees.{SamePage, IsIdle, AreIdle, SameDescriptor, SameSlot, Alike, Agrees, FrameLaw}
 use Rattle.image_laws.proofs.Meaning.{shape, meaning}
 
 module _ (P : ℕ) (I J : List ℕ) (a : Agrees P I J) where

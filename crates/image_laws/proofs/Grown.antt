@@ -6,7 +6,7 @@ use Rattle.layout.specs.Geometry.{page_of_slot, slot_word_of}
 use Rattle.tree_model.specs.PathText.{Route}
 use Rattle.tree_model.specs.Tree.{Node}
 use Rattle.image_counts.specs.Entries.{IsFreePage}
-use Rattle.image_laws.specs.Create.{CanName, MakesPage, MakesNode, committed, owned}
+use Rattle.image_laws.specs.Create.{CanName, MakesEmptyPage, MakesNode, committed, owned}
 use Rattle.image_laws.specs.Grown.{HasGrown, GrownLaw, NewPageGrownLaw}
 use Rattle.image_laws.proofs.Adds.{only, stored, add_law}
 use Rattle.image_laws.proofs.Creates.{is_ready, free_inode}
@@ -30,7 +30,7 @@ pub grown_law : GrownLaw
 grown_law P W I p node d s i name can vacant makes = grown_from P W I p node d s i name (is_ready P W p d s i name can vacant) makes
 
 -- from the image in which the directory owns the new page to the one before
-pub grown_with_page : (P : ℕ) (W A J : List ℕ) (p : Route) (d j s i : ℕ) (name : List ℕ) (can : CanName P W p d name) (page : IsFreePage P W j) (at : page_of_slot s ≡ j) (made : MakesPage P W A j)
+pub grown_with_page : (P : ℕ) (W A J : List ℕ) (p : Route) (d j s i : ℕ) (name : List ℕ) (can : CanName P W p d name) (page : IsFreePage P W j) (at : page_of_slot s ≡ j) (made : MakesEmptyPage P W A j)
     → HasGrown P (owned P A j d) J d s i name → HasGrown P W J d s i name
 grown_with_page P W A J p d j s i name can page at made g =
     let t = taken P W A p d j s name can page at made in

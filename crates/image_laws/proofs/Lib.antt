@@ -30,6 +30,8 @@ pub mod Within
 pub mod RemoveSlot
 pub mod MoveSlot
 pub mod Removes
+pub mod MoveTree
+pub mod MoveRoom
 pub mod Resize
 pub mod Resizes
 pub mod Pointers
@@ -40,6 +42,7 @@ pub mod Linking
 pub mod LinkTidy
 pub mod Links
 pub mod LinkSteps
+pub mod Pruned
 pub mod RemoveTree
 pub mod RemoveFacts
 pub mod RemoveRoom

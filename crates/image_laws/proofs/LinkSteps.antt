@@ -13,13 +13,13 @@ use Rattle.tree_model.specs.declared.command.Command.TheVariants.{Link}
 use Rattle.image_reading.specs.Reading.{Names, ReadsAs}
 use Rattle.image_counts.proofs.States.{is_room}
 use Rattle.image_laws.specs.Add.{with_page}
-use Rattle.image_laws.specs.Create.{CanName, committed, owned}
+use Rattle.image_laws.specs.Create.{CanName, committed}
 use Rattle.image_laws.specs.CreateStep.{IsStepped}
-use Rattle.image_laws.specs.Link.{IsLink}
 use Rattle.image_laws.specs.LinkStep.{HasRoomLinked, LinkRoomLaw, LinkStepLaw, NewPageLinkStepLaw}
 use Rattle.image_laws.proofs.AddRoom.{get-here, get-other}
 use Rattle.image_laws.proofs.CreateSteps.{parent_is, not_full}
-use Rattle.image_laws.proofs.Links.{link_law, new_page_link_law}
+use Rattle.image_laws.proofs.Links.{link_named, page_link_named}
+use Rattle.image_laws.proofs.Ready.{IsNamed}
 use Rattle.image_laws.proofs.RoomAfter.{room_at, gained, gained_other, gained_here}
 use Rattle.image_laws.proofs.Trees.{is_directory-reached}
 
@@ -63,8 +63,8 @@ module _ (P : ℕ) (W : List ℕ) (old : State) (p from path : Route) (d i n : �
       ((reads.tree.names (parent path) d).1 (subst (λ q. Names P W q d) (sym (parent_is path p (name_in_words name) is)) can.path))
       (is_directory-reached P W old.tree can.tidy.coherent reads.tree d (p, can.path) can.directory)
 
-  stepped : (B I J : List ℕ) (after : Room → Room) → IsLink P W B I J path i after → after old.room ≡ room_after n old.tree old.room (Link from path) false → IsStepped P J old (Link from path) n
-  stepped B I J after linked room =
+  stepped : (J : List ℕ) (after : Room → Room) → IsNamed P W J (λ T. with_path T path i) after → after old.room ≡ room_after n old.tree old.room (Link from path) false → IsStepped P J old (Link from path) n
+  stepped J after linked room =
       let tree : with_path old.tree path i ≡ tree_after n old.tree (Link from path) = ap (λ o. with_path old.tree path (unwrap_or o root_id)) (sym source) in
       let read = linked.reads old.tree reads.tree in
       let has = linked.room old.room reads.room in
@@ -72,17 +72,15 @@ module _ (P : ℕ) (W : List ℕ) (old : State) (p from path : Route) (d i n : �
         new = record { tree = with_path old.tree path i; room = after old.room };
         reads = record { tree = read; room = has };
         tree = tree;
-        room = (false, room, subst (λ T. IsRoom T (after old.room)) tree (is_room P J (with_path old.tree path i) linked.tidy.coherent read (after old.room) has));
+        room = (false, room, subst (λ T. IsRoom T (after old.room)) tree (is_room P J (with_path old.tree path i) linked.coherent read (after old.room) has));
       }
 
 pub link_step_law : LinkStepLaw
 link_step_law P W I old p from path d s i n name can vacant makes is reads source =
-    let (linked, grown) = link_law P W I p path d s i name can vacant makes is in
-    stepped P W old p from path d i n name can.place is reads source W I (committed P I s i) (λ room. room) linked
+    stepped P W old p from path d i n name can.place is reads source (committed P I s i) (λ room. room) (link_named P W I p path d s i name can vacant makes is)
     (sym ((room_is_linked P W old p from path d i n name can.place is reads source).not_full false (not_full P W old p d s name can.place vacant reads)))
 
 pub new_page_link_step_law : NewPageLinkStepLaw
 new_page_link_step_law P W A I old p from path d j s i n name can page at made makes is reads source full =
-    let (quiet, linked, grown) = new_page_link_law P W A I p path d j s i name can page at made makes is in
-    stepped P W old p from path d i n name can.place is reads source (owned P A j d) I (committed P I s i) (λ room. with_page room d) linked
+    stepped P W old p from path d i n name can.place is reads source (committed P I s i) (λ room. with_page room d) (page_link_named P W A I p path d j s i name can page at made makes is)
     (sym ((room_is_linked P W old p from path d i n name can.place is reads source).full false full))

@@ -10,7 +10,8 @@ use Rattle.image_reading.specs.Counts.{AtMost}
 use Rattle.image_reading.specs.Reading.{slot_owner, IsHeld, IsLive, Reached, IsNameOf}
 use Rattle.image_reading.specs.Soundness.{Rule, HasLinks}
 use Rattle.image_laws.specs.Add.{IsFreeSlot, IsOldFile, CanAdd}
-use Rattle.image_laws.specs.Frame.{Alike, SameMeaning, SameShape}
+use Rattle.image_laws.specs.Agrees.{Alike}
+use Rattle.image_laws.specs.Frame.{SameMeaning, SameShape}
 use Rattle.image_laws.specs.Free.{IsFree, Stores}
 use Rattle.image_laws.specs.Link.{IsLinkedWord, MakesLink}
 use Rattle.image_laws.specs.Quiet.{IsMix}

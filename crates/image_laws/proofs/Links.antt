@@ -9,25 +9,27 @@ use Rattle.tree_model.specs.PathText.{Route}
 use Rattle.tree_model.specs.Step.{with_path}
 use Rattle.tree_model.specs.Tree.{Node, Directory, File, Tree, Room}
 use Rattle.image_reading.specs.Reading.{HasBytes, IsNode, IsRoomOf, Reads, HasRoom}
-use Rattle.image_reading.specs.Soundness.{Rule}
+use Rattle.image_reading.specs.Soundness.{Rule, IsCoherent}
 use Rattle.image_reading.specs.Tidy.{IsTidied}
+use Rattle.image_counts.specs.Entries.{IsFreePage}
 use Rattle.image_laws.specs.Add.{CanAdd, IsOldFile, with_page, with_node}
-use Rattle.image_laws.specs.Create.{committed, owned}
+use Rattle.image_laws.specs.Commits.{Commits}
+use Rattle.image_laws.specs.Create.{IsVacant, MakesEmptyPage, committed, owned}
 use Rattle.image_laws.specs.Frame.{SameMeaning}
 use Rattle.image_laws.specs.Grown.{HasGrown}
-use Rattle.image_laws.specs.Link.{MakesLink, IsLink, LinkLaw, NewPageLinkLaw}
+use Rattle.image_laws.specs.Link.{MakesLink, CanLink, LinkLaw, NewPageLinkLaw}
 use Rattle.image_laws.specs.Quiet.{IsMix}
 use Rattle.image_laws.proofs.Adds.{only, stored, add_law, add_tree_law, add_room_law}
 use Rattle.image_laws.proofs.Contents.{node_of, node_is}
-use Rattle.image_laws.proofs.Creates.{ready_slot, room_here}
+use Rattle.image_laws.proofs.Creates.{ready_slot, clean_slot, room_here}
 use Rattle.image_laws.proofs.Free.{mix_one}
 use Rattle.image_laws.proofs.Grown.{grown_with_page}
 use Rattle.image_laws.proofs.Linking as linking
 use Rattle.image_laws.proofs.LinkTidy as linked
 use Rattle.image_laws.proofs.Meaning.{same_itself, same_chained}
-use Rattle.image_laws.proofs.PageCreates.{taken, quiet}
-use Rattle.image_laws.proofs.PageReady.{page_ready, forth, kind_as_before, no_room}
-use Rattle.image_laws.proofs.Ready.{IsReadySlot}
+use Rattle.image_laws.proofs.PageCreates.{taken, quiet, clean}
+use Rattle.image_laws.proofs.PageReady.{HasTaken, page_ready, forth, kind_as_before, no_room}
+use Rattle.image_laws.proofs.Ready.{IsReadySlot, IsCleanSlot, IsNamed}
 
 -- a file takes no place in a room
 no_place : (P : ℕ) (I : List ℕ) (i : ℕ) (node : Node) (room : Room) → HasBytes I i → IsNode P I i node → with_node room i node ≡ room
@@ -56,9 +58,12 @@ module _ (P : ℕ) (W B C : List ℕ) (p path : Route) (d s i : ℕ) (name : Lis
     | inr e ↦ inr e
   ]
 
-  tidy : IsTidied P (committed P C s i)
-  tidy = linked.tidy_after P B C (committed P C s i) p d s i name place file makes can (only P C s i can.coherent) (stored P C s i can.coherent can.slot.held.in_range) other_words
-      (add_law P C p d s i can).coherent
+  coherent : IsCoherent P (committed P C s i)
+  coherent = (add_law P C p d s i can).coherent
+
+  tidy : IsCleanSlot P B s → IsTidied P (committed P C s i)
+  tidy rest = linked.tidy_after P B C (committed P C s i) p d s i name place file makes can (only P C s i can.coherent) (stored P C s i can.coherent can.slot.held.in_range) other_words
+      coherent rest
 
   pub grown : HasGrown P B (committed P C s i) d s i name
   grown = linked.grown_after P B C (committed P C s i) p d s i name place file makes can (only P C s i can.coherent) (stored P C s i can.coherent can.slot.held.in_range) other_words
@@ -86,36 +91,79 @@ module _ (P : ℕ) (W B C : List ℕ) (p path : Route) (d s i : ℕ) (name : Lis
   pub new_page_room : (IsRoomOf P C d (page_of_slot s) → ⊥) → (room : Room) → HasRoom P C room → HasRoom P (committed P C s i) (with_page room d)
   new_page_room none room has = subst (HasRoom P (committed P C s i)) (forget (with_page room d)) ((add_room_law P C p d s i can).new_page room node has node_here none)
 
-  pub is_link : (after : Room → Room) → ((room : Room) → HasRoom P C room → HasRoom P (committed P C s i) (after room)) → IsLink P W B C (committed P C s i) path i after
-  is_link after room = record {
+  pub named_link : (after : Room → Room) → ((room : Room) → HasRoom P C room → HasRoom P (committed P C s i) (after room)) → IsNamed P W (committed P C s i) (λ T. with_path T path i) after
+  named_link after room = record { coherent = coherent; reads = reads; room = λ r h. room r (same_linked.room r h) }
+
+  pub is_link : (after : Room → Room) → ((room : Room) → HasRoom P C room → HasRoom P (committed P C s i) (after room)) → IsCleanSlot P B s → Commits P W B C (committed P C s i) (λ T. with_path T path i) after
+  is_link after room rest = record {
     before = λ M m. same_chained P W B M start (linking.mixes P B C p d s i name place file makes M m);
     commit = commit;
-    tidy = tidy;
+    tidy = tidy rest;
     reads = reads;
     room = λ r h. room r (same_linked.room r h);
   }
 
+-- ---- in a page that the directory has
+
+module _ (P : ℕ) (W I : List ℕ) (p path : Route) (d s i : ℕ) (name : List ℕ) (can : CanLink P W p d i name) (vacant : IsVacant P W d s) (makes : MakesLink P W I s i name) (is : reverse path ≡ name_in_words name ∷ p) where
+  place_here : IsReadySlot P W p d s name
+  place_here = ready_slot P W p d s name can.place vacant
+
+  itself : SameMeaning P W W
+  itself = same_itself P W can.place.tidy.coherent
+
+  same_room : (room : Room) → HasRoom P I room → HasRoom P (committed P I s i) room
+  same_room =
+      let here = ((linking.shape_linked P W I p d s i name place_here can.file makes).directories d (page_of_slot s)).0 (room_here P W p d s name can.place vacant) in
+      old_page_room P W W I p path d s i name itself place_here can.file makes is here
+
+  pub link_named : IsNamed P W (committed P I s i) (λ T. with_path T path i) (λ room. room)
+  link_named = named_link P W W I p path d s i name itself place_here can.file makes is (λ room. room) same_room
+
+  pub link_made : Commits P W W I (committed P I s i) (λ T. with_path T path i) (λ room. room) × HasGrown P W (committed P I s i) d s i name
+  link_made = (
+    is_link P W W I p path d s i name itself place_here can.file makes is (λ room. room) same_room (clean_slot P W p d s name can.place vacant),
+    grown P W W I p path d s i name itself place_here can.file makes is,
+  )
+
 pub link_law : LinkLaw
-link_law P W I p path d s i name can vacant makes is =
-    let place = ready_slot P W p d s name can.place vacant in
-    let start = same_itself P W can.place.tidy.coherent in
-    let here = ((linking.shape_linked P W I p d s i name place can.file makes).directories d (page_of_slot s)).0 (room_here P W p d s name can.place vacant) in (
-      is_link P W W I p path d s i name start place can.file makes is (λ room. room) (old_page_room P W W I p path d s i name start place can.file makes is here),
-      grown P W W I p path d s i name start place can.file makes is,
-    )
+link_law P W I p path d s i name can vacant makes is = link_made P W I p path d s i name can vacant makes is
+
+-- ---- in a new page
+
+module _ (P : ℕ) (W A I : List ℕ) (p path : Route) (d j s i : ℕ) (name : List ℕ) (can : CanLink P W p d i name) (page : IsFreePage P W j) (at : page_of_slot s ≡ j) (made : MakesEmptyPage P W A j)
+    (makes : MakesLink P (owned P A j d) I s i name) (is : reverse path ≡ name_in_words name ∷ p) where
+  page_taken : HasTaken P W (owned P A j d) j d
+  page_taken = taken P W A p d j s name can.place page at made
+
+  place_there : IsReadySlot P (owned P A j d) p d s name
+  place_there = page_ready P W (owned P A j d) p d j s name can.place page at page_taken
+
+  file_there : IsOldFile P (owned P A j d) i
+  file_there = record {
+    reached = forth P W (owned P A j d) p d j s name can.place page at page_taken i can.file.reached;
+    file = kind_as_before P W (owned P A j d) p d j s name can.place page at page_taken i can.file.reached can.file.file;
+  }
+
+  more_room : (room : Room) → HasRoom P I room → HasRoom P (committed P I s i) (with_page room d)
+  more_room =
+      let none : IsRoomOf P I d (page_of_slot s) → ⊥ = λ room. no_room P W (owned P A j d) p d j s name can.place page at page_taken
+      (((linking.shape_linked P (owned P A j d) I p d s i name place_there file_there makes).directories d (page_of_slot s)).1 room) in
+      new_page_room P W (owned P A j d) I p path d s i name page_taken.same place_there file_there makes is none
+
+  pub page_link_named : IsNamed P W (committed P I s i) (λ T. with_path T path i) (λ room. with_page room d)
+  page_link_named = named_link P W (owned P A j d) I p path d s i name page_taken.same place_there file_there makes is (λ room. with_page room d) more_room
+
+  pub page_linked : IsCleanSlot P (owned P A j d) s → Commits P W (owned P A j d) I (committed P I s i) (λ T. with_path T path i) (λ room. with_page room d)
+  page_linked rest = is_link P W (owned P A j d) I p path d s i name page_taken.same place_there file_there makes is (λ room. with_page room d) more_room rest
+
+  pub page_grown : HasGrown P W (committed P I s i) d s i name
+  page_grown = grown_with_page P W A (committed P I s i) p d j s i name can.place page at made (grown P W (owned P A j d) I p path d s i name page_taken.same place_there file_there makes is)
 
 pub new_page_link_law : NewPageLinkLaw
-new_page_link_law P W A I p path d j s i name can page at made makes is =
-    let t = taken P W A p d j s name can.place page at made in
-    let place = page_ready P W (owned P A j d) p d j s name can.place page at t in
-    let file : IsOldFile P (owned P A j d) i = record {
-      reached = forth P W (owned P A j d) p d j s name can.place page at t i can.file.reached;
-      file = kind_as_before P W (owned P A j d) p d j s name can.place page at t i can.file.reached can.file.file;
-    } in
-    let none : IsRoomOf P I d (page_of_slot s) → ⊥ = λ room. no_room P W (owned P A j d) p d j s name can.place page at t
-    (((linking.shape_linked P (owned P A j d) I p d s i name place file makes).directories d (page_of_slot s)).1 room) in (
+new_page_link_law P W A I p path d j s i name can page at zero makes is =
+    let made = zero.empty in (
       quiet P W A p d j s name can.place page at made,
-      is_link P W (owned P A j d) I p path d s i name t.same place file makes is (λ room. with_page room d)
-          (new_page_room P W (owned P A j d) I p path d s i name t.same place file makes is none),
-      grown_with_page P W A (committed P I s i) p d j s i name can.place page at made (grown P W (owned P A j d) I p path d s i name t.same place file makes is),
+      page_linked P W A I p path d j s i name can page at made makes is (clean P W A p d j s name can.place page at made zero.zeros),
+      page_grown P W A I p path d j s i name can page at made makes is,
     )

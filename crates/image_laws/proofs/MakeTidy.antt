@@ -27,7 +27,7 @@ use Rattle.image_laws.proofs.Meaning.{reached_slot}
 use Rattle.image_laws.proofs.OnlySlot.{OnlySlot}
 use Rattle.image_laws.proofs.OnlySlot as slots
 use Rattle.image_laws.proofs.Paths.{reached_pos, reached-le, reach}
-use Rattle.image_laws.proofs.Ready.{IsReady, tidy_from}
+use Rattle.image_laws.proofs.Ready.{IsReady, IsCleanSlot, tidy_from}
 use Rattle.image_laws.proofs.Words.{slot_words-same}
 
 -- exactly one has Q
@@ -36,9 +36,6 @@ count_single Q s is = (s ∷ [], ((λ c. c), tt), (λ x. ((λ c. elim c [ inl e 
 
 module _ (P : ℕ) (B C D : List ℕ) (p : Route) (node : Node) (d s i : ℕ) (name : List ℕ) (ready : IsReady P B p d s i name) (makes : MakesNode P B C node d s i name)
     (can : CanAdd P C p d s i) (only : OnlySlot P C D s) (stored : slot_inode P D s ≡ i) (others : (a : ℕ) → a ≢ slot_word_of P s 0 → word D a ≡ word C a) (coherent : IsCoherent P D) where
-  i_pos : 1 ≤ i
-  i_pos = let least = ready.inode.least in omega (arith, least)
-
   -- ---- which words stay
 
   descriptor_same : (j f : ℕ) → j < data_pages_of P → f < 8 → word D (descriptor_word_of P j f) ≡ word B (descriptor_word_of P j f)
@@ -161,19 +158,19 @@ module _ (P : ℕ) (B C D : List ℕ) (p : Route) (node : Node) (d s i : ℕ) (n
 
   -- ---- no pointers, slots, pages and inodes to be repaired
 
-  no_pointer : (t : ℕ) → IsPointer P D t → ⊥
-  no_pointer t h = ready.place.but.pointers t (record { held = held_back t h.held; nonzero = λ z. h.nonzero (pointer_same t ∙ z) })
+  no_pointer : IsCleanSlot P B s → (t : ℕ) → IsPointer P D t → ⊥
+  no_pointer rest t h = rest.but.pointers t (record { held = held_back t h.held; nonzero = λ z. h.nonzero (pointer_same t ∙ z) })
 
-  no_slot : (t : ℕ) → IsLitterSlot P D t → ⊥
-  no_slot t l = elim (cases_eq t s) [
+  no_slot : IsCleanSlot P B s → (t : ℕ) → IsLitterSlot P D t → ⊥
+  no_slot rest t l = elim (cases_eq t s) [
     | inl e ↦ l.dead (subst (IsLive P D) (sym e) (added.live_new P C D p d s i can only stored))
     | inr ne ↦
         let (f, lt, nonzero) = l.nonzero in
         let word_nonzero : word B (slot_word_of P t f) ≢ 0 = λ z. nonzero (slot_same t f lt ne ∙ z) in
         let dead : IsLive P B t → ⊥ = λ live. l.dead (added.live_forward P C D p d s i can only stored t (making.live_forward P B C p node d s i name ready makes t live)) in
         elim (room_back (page_owner P D (page_of_slot t)) (page_of_slot t) l.page) [
-          | inl here ↦ word_nonzero (ready.place.clean t f here.1 dead lt)
-          | inr old ↦ ready.place.but.slots t (record {
+          | inl here ↦ word_nonzero (rest.clean t f here.1 dead lt)
+          | inr old ↦ rest.but.slots t (record {
             page = subst (λ x. IsRoomOf P B x (page_of_slot t)) (owner_same (page_of_slot t) (room_below P D (page_owner P D (page_of_slot t)) (page_of_slot t) l.page)) old;
             dead = dead;
             nonzero = (f, lt, word_nonzero);
@@ -198,22 +195,22 @@ module _ (P : ℕ) (B C D : List ℕ) (p : Route) (node : Node) (d s i : ℕ) (n
     | inr room ↦ inr (subst (λ x. IsRoomOf P D x j) (sym (owner_same j lt)) (room_forth (page_owner P B j) j room))
   ]
 
-  page_cases : (j : ℕ) → IsLitterPage P D j → j ≡ page_of_slot s
-  page_cases j l =
+  page_cases : IsCleanSlot P B s → (j : ℕ) → IsLitterPage P D j → j ≡ page_of_slot s
+  page_cases rest j l =
       let (f, lt, nonzero) = l.nonzero in
-      ready.place.but.pages j (record { in_range = l.in_range; free = λ k. l.free (kept_forward j l.in_range k); nonzero = (f, lt, λ z. nonzero (descriptor_same j f l.in_range (omega arith) ∙ z)) })
+      rest.but.pages j (record { in_range = l.in_range; free = λ k. l.free (kept_forward j l.in_range k); nonzero = (f, lt, λ z. nonzero (descriptor_same j f l.in_range (omega arith) ∙ z)) })
 
   -- the slot's page is kept
   no_slot_page : IsLitterPage P D (page_of_slot s) → ⊥
   unfolding slot_owner
   no_slot_page l = l.free (inr (subst (λ x. IsRoomOf P D x (page_of_slot s)) (sym (slot_owner_same s ready.place.slot.held.in_range ∙ ready.place.slot.owner)) (room_here P C D p d s i can only stored)))
 
-  no_inode : (x : ℕ) → IsLitterInode P D x → ⊥
-  no_inode x l =
+  no_inode : IsCleanSlot P B s → (x : ℕ) → IsLitterInode P D x → ⊥
+  no_inode rest x l =
       let (f, lt, nonzero) = l.nonzero in
       let other : x ≢ i = λ e. l.unreached (subst (Reached P D) (sym e) (slot_name P C s ∷ p, added.names_new P C D p d s i can only stored)) in
       let parent : x ≢ d = λ e. l.unreached (subst (Reached P D) (sym e) (reached_forward d (p, ready.place.slot.path))) in
-      ready.place.but.inodes x (record {
+      rest.but.inodes x (record {
         least = l.least;
         most = l.most;
         unreached = λ r. l.unreached (reached_forward x r);
@@ -322,14 +319,14 @@ module _ (P : ℕ) (B C D : List ℕ) (p : Route) (node : Node) (d s i : ℕ) (n
     directory = λ dir. directory_children x r (count.directory (sym (node_kind_same x r) ∙ dir));
   }
 
-  no_count : (x : ℕ) → IsLitterCount P D x → ⊥
-  no_count x l = elim (reached_cases x l.reached) [
-    | inl old ↦ ready.place.but.counts x (record { reached = old; other = λ count. l.other (old_links x old count) })
+  no_count : IsCleanSlot P B s → (x : ℕ) → IsLitterCount P D x → ⊥
+  no_count rest x l = elim (reached_cases x l.reached) [
+    | inl old ↦ rest.but.counts x (record { reached = old; other = λ count. l.other (old_links x old count) })
     | inr e ↦ l.other (subst (λ y. IsLinkCount P D y (inode_links D y)) (sym e) (new_links node made_kind made_links))
   ]
 
-  pub tidy_after : IsTidied P D
-  tidy_after = tidy_from P D (page_of_slot s) coherent (record { pointers = no_pointer; slots = no_slot; pages = page_cases; inodes = no_inode; counts = no_count }) no_slot_page
+  pub tidy_after : IsCleanSlot P B s → IsTidied P D
+  tidy_after rest = tidy_from P D (page_of_slot s) coherent (record { pointers = no_pointer rest; slots = no_slot rest; pages = page_cases rest; inodes = no_inode rest; counts = no_count rest }) no_slot_page
 
   -- ---- what an index holds
 

@@ -13,7 +13,8 @@ use Rattle.image_reading.specs.Soundness.{Rule, HasLinks}
 use Rattle.image_reading.proofs.Counts.{at_most_none}
 use Rattle.image_laws.specs.Add.{IsFreeSlot, IsNewNode, CanAdd}
 use Rattle.image_laws.specs.Create.{IsEmptyNode, node_words, parent_links, IsMadeWord, MakesNode}
-use Rattle.image_laws.specs.Frame.{Alike, SameMeaning, SameShape}
+use Rattle.image_laws.specs.Agrees.{Alike}
+use Rattle.image_laws.specs.Frame.{SameMeaning, SameShape}
 use Rattle.image_laws.specs.Free.{IsFree, Stores}
 use Rattle.image_laws.specs.Quiet.{IsMix}
 use Rattle.image_laws.proofs.Addresses.{descriptor-ne_inode, descriptor-ne_slot, inode-ne_inode, inode-ne_field, inode-ne_slot, slot-ne_slot, slot-ne_field}

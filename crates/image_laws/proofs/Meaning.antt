@@ -9,7 +9,8 @@ use Rattle.tree_model.specs.Tree.{Node, Directory, File}
 use Rattle.image_reading.specs.Reading.{slot_owner, IsLive, Leads, Names, Reached, IsReachedSlot, IsPageOf, IsContent, IsNode, pages_of_size, IsRoomOf, IsNameOf, IsChildOf}
 use Rattle.image_reading.specs.Soundness.{Rule, Obeys, IsCoherent, HasHead, HasLinks}
 use Rattle.image_reading.proofs.Credits.{count_same}
-use Rattle.image_laws.specs.Frame.{IsUnneeded, SameDescriptor, Alike, SameBytes, AllSameBytes, SameShape, SameMeaning, ShapeLaw, NodeLaw, MeaningLaw, MeaningsChain}
+use Rattle.image_laws.specs.Agrees.{IsUnneeded, SameDescriptor, Alike, ShapeLaw}
+use Rattle.image_laws.specs.Frame.{SameBytes, AllSameBytes, SameShape, SameMeaning, NodeLaw, MeaningsChain}
 use Rattle.image_laws.proofs.Addresses.{page_of_byte-lt}
 use Rattle.image_laws.proofs.Counts.{at_most}
 use Rattle.image_laws.proofs.Paths.{reached_pos}
@@ -330,7 +331,7 @@ module _ (P : ℕ) (I J : List ℕ) (h : SameShape P I J) where
 pub node : NodeLaw
 node P I J h i x r b = same_node P I J h i x r b
 
-pub meaning : MeaningLaw
+pub meaning : (P : ℕ) (I J : List ℕ) → SameShape P I J → AllSameBytes P I J → SameMeaning P I J
 meaning P I J h b = same_meaning P I J h b
 
 pub same_itself : (P : ℕ) (I : List ℕ) → IsCoherent P I → SameMeaning P I I

@@ -44,25 +44,25 @@ module _ (P : ℕ) (I J : List ℕ) (pa pb : Route) (s d i : ℕ) (coherent : Is
   new_path : Route
   new_path = slot_name P I d ∷ pb
 
-  owner_same : (t : ℕ) → t < slots_of P → slot_owner P J t ≡ slot_owner P I t
+  pub owner_same : (t : ℕ) → t < slots_of P → slot_owner P J t ≡ slot_owner P I t
   owner_same = same_owner P I J d a.only
 
-  name_same : (t : ℕ) → slot_name P J t ≡ slot_name P I t
+  pub name_same : (t : ℕ) → slot_name P J t ≡ slot_name P I t
   name_same = same_name P I J d a.only
 
-  apart : s ≢ d
+  pub apart : s ≢ d
   apart e = (coherent Rule.pointers d).other a.held (a.pointer ∙ ap (λ x. x + 1) e)
 
-  source_slot : IsReachedSlot P I s
+  pub source_slot : IsReachedSlot P I s
   source_slot = record { owner = (pa, a.source_path); directory = a.source_directory; live = a.source }
 
   source_inode : slot_inode P J s ≡ i
   source_inode = a.only.inode s apart ∙ a.inode
 
-  not_source : (t : ℕ) → IsLive P J t → t ≢ s
+  pub not_source : (t : ℕ) → IsLive P J t → t ≢ s
   not_source t l e = l.stays d (held_forward P I J d a.only d a.held) (a.only.pointer d ∙ a.pointer ∙ ap (λ x. x + 1) (sym e)) (a.moved ∙ sym source_inode ∙ ap (slot_inode P J) (sym e))
 
-  live_new : IsLive P J d
+  pub live_new : IsLive P J d
   live_new = record {
     held = held_forward P I J d a.only d a.held;
     names = λ z. a.source.names (a.inode ∙ sym a.moved ∙ z);
@@ -72,7 +72,7 @@ module _ (P : ℕ) (I J : List ℕ) (pa pb : Route) (s d i : ℕ) (coherent : Is
     ];
   }
 
-  live_forward : (t : ℕ) → t ≢ s → t ≢ d → IsLive P I t → IsLive P J t
+  pub live_forward : (t : ℕ) → t ≢ s → t ≢ d → IsLive P I t → IsLive P J t
   live_forward t ns nd l = let e = a.only.inode t nd in record {
     held = held_forward P I J d a.only t l.held;
     names = λ z. l.names (sym e ∙ z);
@@ -82,7 +82,7 @@ module _ (P : ℕ) (I J : List ℕ) (pa pb : Route) (s d i : ℕ) (coherent : Is
     ];
   }
 
-  live_back : (t : ℕ) → t ≢ d → IsLive P J t → IsLive P I t
+  pub live_back : (t : ℕ) → t ≢ d → IsLive P J t → IsLive P I t
   live_back t nd l = let e = a.only.inode t nd in record {
     held = held_back P I J d a.only t l.held;
     names = λ z. l.names (e ∙ z);
@@ -92,7 +92,7 @@ module _ (P : ℕ) (I J : List ℕ) (pa pb : Route) (s d i : ℕ) (coherent : Is
     ];
   }
 
-  kind_reached : (x : ℕ) → Reached P I x → inode_kind J x ≡ inode_kind I x
+  pub kind_reached : (x : ℕ) → Reached P I x → inode_kind J x ≡ inode_kind I x
   kind_reached x r = a.only.node_kind x (reached-le P I coherent x r)
 
   -- the step from a directory that J and I reach by paths q and q'
@@ -124,6 +124,27 @@ module _ (P : ℕ) (I J : List ℕ) (pa pb : Route) (s d i : ℕ) (coherent : Is
   IsUnder : Route → Type 0
   IsUnder q = (r : Route) × (q ≡ r ++ slot_name P I s ∷ pa)
 
+  -- nothing stands below the new path
+  pub none_below : (t : ℕ) (q : Route) → q ≡ slot_name P I d ∷ pb → Names P I q (slot_owner P I t) → {n : List ℕ} {y : ℕ} → Leads P I t n y → ⊥
+  none_below t q e b l =
+      let (w, c, k) = subst (λ z. Names P I z (slot_owner P I t)) e b in
+      let same : slot_owner P I w ≡ slot_owner P I d = one_inode P I coherent pb (slot_owner P I w) (slot_owner P I d) c a.target_path in
+      elim (cases_eq w d) [
+        | inl f ↦
+            let is : slot_inode P I d ≡ slot_owner P I t = ap (slot_inode P I) (sym f) ∙ k.inode in
+            a.leaf (subst (IsLive P I) f k.live) (ap (inode_kind I) is ∙ l.directory) t l.live (sym is)
+        | inr ne ↦ a.new w (slot_of P I w pb (slot_name P I d) (slot_owner P I t) c k) ne same k.name
+      ]
+
+  -- and it isn't the old one, nor below it
+  pub not_under : (r : Route) → slot_name P I d ∷ pb ≡ r ++ slot_name P I s ∷ pa → ⊥
+  not_under [] e =
+      let paths : pb ≡ pa = cc in
+      let names : slot_name P I d ≡ slot_name P I s = cc in
+      let owners = one_inode P I coherent pa (slot_owner P I s) (slot_owner P I d) a.source_path (subst (λ q. Names P I q (slot_owner P I d)) paths a.target_path) in
+      a.new s source_slot apart owners (sym names)
+  not_under (m ∷ r) e = let rest : pb ≡ r ++ slot_name P I s ∷ pa = cc in a.outside r rest
+
   -- paths that stay
   names_stay : (q : Route) (x : ℕ) → Names P I q x → (IsUnder q → ⊥) → q ≢ new_path → Names P J q x
   unfolding IsUnder new_path
@@ -141,22 +162,11 @@ module _ (P : ℕ) (I J : List ℕ) (pa pb : Route) (s d i : ℕ) (coherent : Is
       n whole in
       let o = owner_same t l.live.held.in_range in (
         t,
-        subst (Names P J q) (sym o) (names_stay q (slot_owner P I t) b (λ (r, e). u (m ∷ r, ap (λ z. m ∷ z) e)) (λ e. not_new t q e b l)),
+        subst (Names P J q) (sym o) (names_stay q (slot_owner P I t) b (λ (r, e). u (m ∷ r, ap (λ z. m ∷ z) e)) (λ e. none_below t q e b l)),
         leads_forward t m x ns nd (q, b) l,
       )
-    where
-      not_new : (t : ℕ) (q : Route) → q ≡ slot_name P I d ∷ pb → Names P I q (slot_owner P I t) → {n : List ℕ} {y : ℕ} → Leads P I t n y → ⊥
-      not_new t q e b l =
-          let (w, c, k) = subst (λ z. Names P I z (slot_owner P I t)) e b in
-          let same : slot_owner P I w ≡ slot_owner P I d = one_inode P I coherent pb (slot_owner P I w) (slot_owner P I d) c a.target_path in
-          elim (cases_eq w d) [
-            | inl f ↦
-                let is : slot_inode P I d ≡ slot_owner P I t = ap (slot_inode P I) (sym f) ∙ k.inode in
-                a.leaf (subst (IsLive P I) f k.live) (ap (inode_kind I) is ∙ l.directory) t l.live (sym is)
-            | inr ne ↦ a.new w (slot_of P I w pb (slot_name P I d) (slot_owner P I t) c k) ne same k.name
-          ]
 
-  pb_stays : Names P J pb (slot_owner P J d)
+  pub pb_stays : Names P J pb (slot_owner P J d)
   unfolding IsUnder new_path
   pb_stays = subst (Names P J pb) (sym (owner_same d a.held.in_range)) (names_stay pb (slot_owner P I d) a.target_path (λ (r, e). a.outside r e) (λ e. not_longer [] (slot_name P I d) pb e))
 
@@ -245,7 +255,7 @@ module _ (P : ℕ) (I J : List ℕ) (pa pb : Route) (s d i : ℕ) (coherent : Is
     ],
   )
 
-  reached_back : (x : ℕ) → Reached P J x → Reached P I x
+  pub reached_back : (x : ℕ) → Reached P J x → Reached P I x
   unfolding Stays Moved
   reached_back x (q, b) = elim (names_back q x b) [ inl h ↦ (q, h.0) | inr h ↦ (h.0 ++ slot_name P I s ∷ pa, h.2) ]
 

@@ -8,9 +8,10 @@ use Rattle.layout.proofs.GeometryLaws.{descriptor_word_within}
 use Rattle.image_reading.specs.Reading.{IsDirectory, slot_owner, IsHeld, Reached}
 use Rattle.image_reading.specs.Soundness.{Rule, IsCoherent, HasLinks}
 use Rattle.image_counts.specs.Entries.{IsFreePage}
-use Rattle.image_laws.specs.Create.{IsPageMadeWord, MakesPage, owned}
+use Rattle.image_laws.specs.Create.{IsPageMadeWord, MakesEmptyPage, MakesPage, owned}
 use Rattle.image_laws.specs.Exempt.{IsExempt}
-use Rattle.image_laws.specs.Frame.{Alike, SameMeaning}
+use Rattle.image_laws.specs.Agrees.{Alike}
+use Rattle.image_laws.specs.Frame.{SameMeaning}
 use Rattle.image_laws.specs.Free.{IsFree, Stores}
 use Rattle.image_laws.proofs.Addresses.{descriptor-ne_inode, descriptor-ne_slot, descriptor-ne_page, page-ne_inode, page-ne_slot, descriptor_word-one, word_in_page, word_in_page-lt, slot_word-in_page}
 use Rattle.image_laws.proofs.Frame.{alike}
@@ -35,9 +36,28 @@ not_page_made P j a f g m = elim m [
 pub links_kept : (P : ℕ) (I J : List ℕ) → IsCoherent P I → ((x : ℕ) → Reached P I x → inode_links J x ≡ inode_links I x) → (x : ℕ) → Reached P I x → HasLinks P I x (inode_links J x)
 links_kept P I J coherent same x r = subst (HasLinks P I x) (sym (same x r)) (coherent Rule.links x r)
 
+-- a page of zeros is one whose slots are zero
+pub zero_slot : (P : ℕ) (A : List ℕ) (j : ℕ) → ((w : ℕ) → w < 512 → word A (page_word_of P j w) ≡ 0) → (t f : ℕ) → page_of_slot t ≡ j → f < 16 → word A (slot_word_of P t f) ≡ 0
+zero_slot P A j zeros t f at lt = ap (word A) (slot_word-in_page P t f) ∙ subst (λ z. word A (page_word_of P z (word_in_page t f)) ≡ 0) (sym at) (zeros (word_in_page t f) (word_in_page-lt t f lt))
+
+pub makes_page : (P : ℕ) (W A : List ℕ) (j : ℕ) → length A ≡ length W → ((w : ℕ) → w < 512 → word A (page_word_of P j w) ≡ 0) → page_kind P A j ≡ 2 → page_offset P A j ≡ 0
+    → ((a : ℕ) → (IsPageMadeWord P j a → ⊥) → word A a ≡ word W a) → MakesPage P W A j
+unfolding slot_inode slot_pointer
+makes_page P W A j size zeros kind offset others = record {
+  empty = record {
+    size = size;
+    numbers = λ s at. zero_slot P A j zeros s 0 at (omega arith);
+    pointers = λ s at. zero_slot P A j zeros s 1 at (omega arith);
+    kind = kind;
+    offset = offset;
+    others = others;
+  };
+  zeros = zeros;
+}
+
 -- ---- the page is made
 
-module _ (P : ℕ) (W A : List ℕ) (j : ℕ) (coherent : IsCoherent P W) (page : IsFreePage P W j) (makes : MakesPage P W A j) where
+module _ (P : ℕ) (W A : List ℕ) (j : ℕ) (coherent : IsCoherent P W) (page : IsFreePage P W j) (makes : MakesEmptyPage P W A j) where
   pub made_descriptor : (x f : ℕ) → x < data_pages_of P → f < 8 → (x ≢ j) ⊎ (f ≡ 0) → word A (descriptor_word_of P x f) ≡ word W (descriptor_word_of P x f)
   made_descriptor x f lt l8 other = makes.others (descriptor_word_of P x f) (not_page_made P j (descriptor_word_of P x f)
       (λ w l. descriptor-ne_page P x f j w lt l8)
@@ -54,10 +74,6 @@ module _ (P : ℕ) (W A : List ℕ) (j : ℕ) (coherent : IsCoherent P W) (page 
   made_slot t f lt ne = makes.others (slot_word_of P t f) (not_page_made P j (slot_word_of P t f)
       (λ w l e. page-ne_slot P j w t f l lt (λ z. ne (sym z)) (sym e))
       (λ g low high e. descriptor-ne_slot P j g t f page.0 (omega arith) (sym e)))
-
-  -- the slots of the page are zero
-  pub made_zero : (t f : ℕ) → page_of_slot t ≡ j → f < 16 → word A (slot_word_of P t f) ≡ 0
-  made_zero t f at lt = ap (word A) (slot_word-in_page P t f) ∙ subst (λ z. word A (page_word_of P z (word_in_page t f)) ≡ 0) (sym at) (makes.zeros (word_in_page t f) (word_in_page-lt t f lt))
 
   pub made_owner : (x : ℕ) → x < data_pages_of P → page_owner P A x ≡ page_owner P W x
   unfolding page_owner

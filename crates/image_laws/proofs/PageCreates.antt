@@ -1,29 +1,29 @@
 -- Create and mkdir in a new page.
-use Rattle.std.proofs.Common.{◌≡◌, inl, inr, ℕ, List, ◌∷◌, reverse, ◌∙◌, arith}
-use Rattle.layout.specs.Fields.{page_owner, page_kind, slot_inode, slot_pointer}
-use Rattle.layout.specs.Geometry.{page_of_slot}
+use Rattle.std.proofs.Common.{◌≡◌, inl, inr, ℕ, ◌<◌, List, ◌∷◌, reverse, ◌∙◌, arith}
+use Rattle.layout.specs.Fields.{word, page_owner, page_kind, slot_inode, slot_pointer}
+use Rattle.layout.specs.Geometry.{page_of_slot, page_word_of}
 use Rattle.layout.specs.Name.{name_in_words}
 use Rattle.tree_model.specs.PathText.{Route}
-use Rattle.tree_model.specs.Tree.{Node}
-use Rattle.image_reading.specs.Reading.{IsDirectory, Reached, IsRoomOf}
+use Rattle.tree_model.specs.Step.{with_new}
+use Rattle.tree_model.specs.Tree.{Node, Room}
+use Rattle.image_reading.specs.Reading.{IsDirectory, Reached, IsRoomOf, HasRoom}
 use Rattle.image_counts.specs.Entries.{IsFreePage}
 use Rattle.image_laws.specs.Add.{with_page, with_node}
-use Rattle.image_laws.specs.Create.{IsEmptyNode, MakesPage, MakesNode, CanName, owned, committed, IsPageQuiet, IsCreate, NewPageLaw}
-use Rattle.image_laws.specs.Frame.{Alike, SameMeaning}
+use Rattle.image_laws.specs.Commits.{Commits}
+use Rattle.image_laws.specs.Create.{IsEmptyNode, MakesEmptyPage, MakesNode, CanName, owned, committed, IsPageQuiet, NewPageLaw}
+use Rattle.image_laws.specs.Agrees.{Alike}
+use Rattle.image_laws.specs.Frame.{SameMeaning}
 use Rattle.image_laws.specs.Free.{Stores}
 use Rattle.image_laws.proofs.Adds.{add_room_law}
-use Rattle.image_laws.proofs.Creates.{created, free_inode}
+use Rattle.image_laws.proofs.Creates.{named, created, free_inode}
 use Rattle.image_laws.proofs.Making as making
 use Rattle.image_laws.proofs.Meaning.{shape, reached_slot, reached_slot_forward, same_chained}
-use Rattle.image_laws.proofs.NewPage.{made_descriptor, made_inode, made_slot, made_zero, owned_owner, owned_descriptor, owned_inode, owned_slot, alike_stores}
+use Rattle.image_laws.proofs.NewPage.{made_descriptor, made_inode, made_slot, zero_slot, owned_owner, owned_descriptor, owned_inode, owned_slot, alike_stores}
 use Rattle.image_laws.proofs.PageQuiet as page_quiet
-use Rattle.image_laws.proofs.PageReady.{HasTaken, page_ready, inode_ready, no_room}
-use Rattle.image_laws.proofs.Ready.{IsReady, IsFreeInode}
+use Rattle.image_laws.proofs.PageReady.{HasTaken, page_ready, page_clean, inode_ready, no_room}
+use Rattle.image_laws.proofs.Ready.{IsReady, IsCleanSlot, IsNamed, IsFreeInode}
 
-module _ (P : ℕ) (W A : List ℕ) (p : Route) (d j s : ℕ) (name : List ℕ) (can : CanName P W p d name) (page : IsFreePage P W j) (at_s : page_of_slot s ≡ j) (makes : MakesPage P W A j) where
-  making_stores : Stores P W A
-  making_stores = page_quiet.making_stores P W A p d j can.tidy.coherent can.path can.directory page makes
-
+module _ (P : ℕ) (W A : List ℕ) (p : Route) (d j s : ℕ) (name : List ℕ) (can : CanName P W p d name) (page : IsFreePage P W j) (at_s : page_of_slot s ≡ j) (makes : MakesEmptyPage P W A j) where
   same_page : SameMeaning P W A
   same_page = page_quiet.same_page P W A p d j can.tidy.coherent can.path can.directory page makes
 
@@ -39,12 +39,6 @@ module _ (P : ℕ) (W A : List ℕ) (p : Route) (d j s : ℕ) (name : List ℕ) 
   unowned : page_owner P A j ≡ 0
   unowned = page_quiet.unowned P W A p d j can.tidy.coherent can.path can.directory page makes
 
-  zero_inode : (t : ℕ) → page_of_slot t ≡ j → slot_inode P A t ≡ 0
-  zero_inode = page_quiet.zero_inode P W A p d j can.tidy.coherent can.path can.directory page makes
-
-  zero_pointer : (t : ℕ) → page_of_slot t ≡ j → slot_pointer P A t ≡ 0
-  zero_pointer = page_quiet.zero_pointer P W A p d j can.tidy.coherent can.path can.directory page makes
-
   owning_stores : Stores P A (owned P A j d)
   owning_stores = page_quiet.owning_stores P W A p d j can.tidy.coherent can.path can.directory page makes
 
@@ -55,16 +49,17 @@ module _ (P : ℕ) (W A : List ℕ) (p : Route) (d j s : ℕ) (name : List ℕ) 
   alike_owned = alike_stores P A (owned P A j d) same_page.coherent owning_stores
 
   pub taken : HasTaken P W (owned P A j d) j d
-  unfolding page_kind
+  unfolding page_kind slot_inode slot_pointer
   taken = record {
-    owner = owned_owner P A j d same_page.coherent d_reached d_directory page.0 unowned makes.kind zero_inode zero_pointer;
-    kind = owned_descriptor P A j d same_page.coherent d_reached d_directory page.0 unowned makes.kind zero_inode zero_pointer j 1 (omega arith) (inr (omega arith)) ∙ makes.kind;
-    zeros = λ t f at lt. owned_slot P A j d same_page.coherent d_reached d_directory page.0 unowned makes.kind zero_inode zero_pointer t f ∙ made_zero P W A j can.tidy.coherent page makes t f at lt;
-    descriptors = λ x f lt l8 ne. owned_descriptor P A j d same_page.coherent d_reached d_directory page.0 unowned makes.kind zero_inode zero_pointer x f l8 (inl ne)
+    owner = owned_owner P A j d same_page.coherent d_reached d_directory page.0 unowned makes.kind makes.numbers makes.pointers;
+    kind = owned_descriptor P A j d same_page.coherent d_reached d_directory page.0 unowned makes.kind makes.numbers makes.pointers j 1 (omega arith) (inr (omega arith)) ∙ makes.kind;
+    numbers = λ t at. owned_slot P A j d same_page.coherent d_reached d_directory page.0 unowned makes.kind makes.numbers makes.pointers t 0 ∙ makes.numbers t at;
+    pointers = λ t at. owned_slot P A j d same_page.coherent d_reached d_directory page.0 unowned makes.kind makes.numbers makes.pointers t 1 ∙ makes.pointers t at;
+    descriptors = λ x f lt l8 ne. owned_descriptor P A j d same_page.coherent d_reached d_directory page.0 unowned makes.kind makes.numbers makes.pointers x f l8 (inl ne)
         ∙ made_descriptor P W A j can.tidy.coherent page makes x f lt l8 (inl ne);
-    inodes = λ x f some most lt. owned_inode P A j d same_page.coherent d_reached d_directory page.0 unowned makes.kind zero_inode zero_pointer x f some most lt
+    inodes = λ x f some most lt. owned_inode P A j d same_page.coherent d_reached d_directory page.0 unowned makes.kind makes.numbers makes.pointers x f some most lt
         ∙ made_inode P W A j can.tidy.coherent page makes x f some most lt;
-    slots = λ t f lt ne. owned_slot P A j d same_page.coherent d_reached d_directory page.0 unowned makes.kind zero_inode zero_pointer t f ∙ made_slot P W A j can.tidy.coherent page makes t f lt ne;
+    slots = λ t f lt ne. owned_slot P A j d same_page.coherent d_reached d_directory page.0 unowned makes.kind makes.numbers makes.pointers t f ∙ made_slot P W A j can.tidy.coherent page makes t f lt ne;
     same = same_chained P W A (owned P A j d) same_page same_owned;
     reached_slots = λ t. (
       (λ r. (reached_slot_forward P A (owned P A j d) alike_owned t (reached_slot_forward P W A alike_page t r).1).1),
@@ -79,24 +74,36 @@ module _ (P : ℕ) (W A : List ℕ) (p : Route) (d j s : ℕ) (name : List ℕ) 
   pub quiet : IsPageQuiet P W A (owned P A j d)
   quiet = page_quiet.quiet P W A p d j can.tidy.coherent can.path can.directory page makes
 
+  -- a page of zeros is clean
+  pub clean : ((w : ℕ) → w < 512 → word A (page_word_of P j w) ≡ 0) → IsCleanSlot P (owned P A j d) s
+  clean zeros = page_clean P W (owned P A j d) p d j s name can page at_s taken
+      (λ t f at lt. owned_slot P A j d same_page.coherent d_reached d_directory page.0 unowned makes.kind makes.numbers makes.pointers t f ∙ zero_slot P A j zeros t f at lt)
+
   module _ (I : List ℕ) (path : Route) (node : Node) (i : ℕ) (free : IsFreeInode P W i) (empty : IsEmptyNode node) (made : MakesNode P (owned P A j d) I node d s i name) (is : reverse path ≡ name_in_words name ∷ p) where
-    page_and_inode : IsReady P (owned P A j d) p d s i name
-    page_and_inode = record {
+    ready : IsReady P (owned P A j d) p d s i name
+    ready = record {
       place = page_ready P W (owned P A j d) p d j s name can page at_s taken;
       inode = inode_ready P W (owned P A j d) p d j s name can page at_s taken i free;
     }
 
-    page_created : IsCreate P W (owned P A j d) I (committed P I s i) path node i (λ room. with_node (with_page room d) i node)
-    page_created =
-        let ready = page_and_inode in
-        let add = making.can_add P (owned P A j d) I p node d s i name ready made in
-        let no_room_yet : IsRoomOf P I d (page_of_slot s) → ⊥ = λ room. no_room P W (owned P A j d) p d j s name can page at_s taken
-        (((making.shape_made P (owned P A j d) I p node d s i name ready made).directories d (page_of_slot s)).1 room) in
-        created P W (owned P A j d) I p path node d s i name (same_chained P W A (owned P A j d) same_page same_owned) ready empty made is (λ r. with_node (with_page r d) i node)
-        (λ r h. (add_room_law P I p d s i add).new_page r node h (making.node_made P (owned P A j d) I p node d s i name ready made empty) no_room_yet)
+    start : SameMeaning P W (owned P A j d)
+    start = same_chained P W A (owned P A j d) same_page same_owned
 
-    pub page_law : IsPageQuiet P W A (owned P A j d) × IsCreate P W (owned P A j d) I (committed P I s i) path node i (λ room. with_node (with_page room d) i node)
-    page_law = (quiet, page_created)
+    room_after : (room : Room) → HasRoom P I room → HasRoom P (committed P I s i) (with_node (with_page room d) i node)
+    room_after room has =
+        let none : IsRoomOf P I d (page_of_slot s) → ⊥ = λ old. no_room P W (owned P A j d) p d j s name can page at_s taken
+        (((making.shape_made P (owned P A j d) I p node d s i name ready made).directories d (page_of_slot s)).1 old) in
+        (add_room_law P I p d s i (making.can_add P (owned P A j d) I p node d s i name ready made)).new_page room node has (making.node_made P (owned P A j d) I p node d s i name ready made empty) none
+
+    pub page_named : IsNamed P W (committed P I s i) (λ T. with_new T path i node) (λ room. with_node (with_page room d) i node)
+    page_named = named P W (owned P A j d) I p path node d s i name start ready empty made is (λ room. with_node (with_page room d) i node) room_after
+
+    pub page_created : IsCleanSlot P (owned P A j d) s → Commits P W (owned P A j d) I (committed P I s i) (λ T. with_new T path i node) (λ room. with_node (with_page room d) i node)
+    page_created rest = created P W (owned P A j d) I p path node d s i name start ready empty made is (λ room. with_node (with_page room d) i node) room_after rest
 
 pub new_page_law : NewPageLaw
-new_page_law P W A I p path node d j s i name can page at_s empty makes made is = page_law P W A p d j s name can.place page at_s makes I path node i (free_inode P W p d i name can) empty made is
+new_page_law P W A I p path node d j s i name can page at_s empty zero made is =
+    let makes = zero.empty in (
+      quiet P W A p d j s name can.place page at_s makes,
+      page_created P W A p d j s name can.place page at_s makes I path node i (free_inode P W p d i name can) empty made is (clean P W A p d j s name can.place page at_s makes zero.zeros),
+    )

@@ -1,19 +1,19 @@
 -- A directory takes a new page: the two intervals change no meaning.
-use Rattle.std.proofs.Common.{◌≡◌, ℕ, List, ◌∙◌, arith}
-use Rattle.layout.specs.Fields.{page_owner, slot_inode, slot_pointer}
-use Rattle.layout.specs.Geometry.{page_of_slot}
+use Rattle.std.proofs.Common.{◌≡◌, ℕ, List, ◌∙◌}
+use Rattle.layout.specs.Fields.{page_owner}
 use Rattle.tree_model.specs.PathText.{Route}
 use Rattle.image_reading.specs.Reading.{IsDirectory, Names, Reached}
 use Rattle.image_reading.specs.Soundness.{IsCoherent}
 use Rattle.image_counts.specs.Entries.{IsFreePage}
-use Rattle.image_laws.specs.Create.{MakesPage, owned, IsPageQuiet, PageQuietLaw}
-use Rattle.image_laws.specs.Frame.{Alike, SameMeaning}
+use Rattle.image_laws.specs.Create.{MakesEmptyPage, owned, IsPageQuiet, PageQuietLaw}
+use Rattle.image_laws.specs.Agrees.{Alike}
+use Rattle.image_laws.specs.Frame.{SameMeaning}
 use Rattle.image_laws.specs.Free.{Stores}
 use Rattle.image_laws.proofs.Free.{stores_law}
 use Rattle.image_laws.proofs.Meaning.{same_chained}
-use Rattle.image_laws.proofs.NewPage.{made_stores, made_owner, made_zero, owned_stores, alike_stores, same_stores}
+use Rattle.image_laws.proofs.NewPage.{made_stores, made_owner, owned_stores, alike_stores, same_stores}
 
-module _ (P : ℕ) (W A : List ℕ) (p : Route) (d j : ℕ) (coherent : IsCoherent P W) (named : Names P W p d) (directory : IsDirectory W d) (page : IsFreePage P W j) (makes : MakesPage P W A j) where
+module _ (P : ℕ) (W A : List ℕ) (p : Route) (d j : ℕ) (coherent : IsCoherent P W) (named : Names P W p d) (directory : IsDirectory W d) (page : IsFreePage P W j) (makes : MakesEmptyPage P W A j) where
   pub making_stores : Stores P W A
   making_stores = made_stores P W A j coherent page makes
 
@@ -32,16 +32,8 @@ module _ (P : ℕ) (W A : List ℕ) (p : Route) (d j : ℕ) (coherent : IsCohere
   pub unowned : page_owner P A j ≡ 0
   unowned = made_owner P W A j coherent page makes j page.0 ∙ page.1
 
-  pub zero_inode : (t : ℕ) → page_of_slot t ≡ j → slot_inode P A t ≡ 0
-  unfolding slot_inode
-  zero_inode t at = made_zero P W A j coherent page makes t 0 at (omega arith)
-
-  pub zero_pointer : (t : ℕ) → page_of_slot t ≡ j → slot_pointer P A t ≡ 0
-  unfolding slot_pointer
-  zero_pointer t at = made_zero P W A j coherent page makes t 1 at (omega arith)
-
   pub owning_stores : Stores P A (owned P A j d)
-  owning_stores = owned_stores P A j d same_page.coherent d_reached d_directory page.0 unowned makes.kind zero_inode zero_pointer
+  owning_stores = owned_stores P A j d same_page.coherent d_reached d_directory page.0 unowned makes.kind makes.numbers makes.pointers
 
   pub same_owned : SameMeaning P A (owned P A j d)
   same_owned = same_stores P A (owned P A j d) same_page.coherent owning_stores

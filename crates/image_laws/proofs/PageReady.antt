@@ -16,14 +16,15 @@ use Rattle.image_laws.specs.Add.{IsFreeSlot}
 use Rattle.image_laws.specs.Create.{CanName}
 use Rattle.image_laws.specs.Frame.{SameMeaning}
 use Rattle.image_laws.proofs.Paths.{reached_pos, reached-le, reach}
-use Rattle.image_laws.proofs.Ready.{IsReadySlot, IsFreeInode, IsTidyBut, tidy_but, no_pointer}
+use Rattle.image_laws.proofs.Ready.{IsReadySlot, IsCleanSlot, IsFreeInode, IsTidyBut, tidy_but, no_pointer}
 use Rattle.image_laws.proofs.Words.{slot_words-same}
 
--- B is W but for page j, which directory d owns in B, and whose slots are zero there. The same slots are reached.
+-- B is W but for page j, which directory d owns in B, and whose slots name nothing and point at nothing there. The same slots are reached.
 pub record HasTaken (P : ℕ) (W B : List ℕ) (j d : ℕ) : Type 0 where
   pub owner : page_owner P B j ≡ d
   pub kind : page_kind P B j ≡ 2
-  pub zeros : (t f : ℕ) → page_of_slot t ≡ j → f < 16 → word B (slot_word_of P t f) ≡ 0
+  pub numbers : (t : ℕ) → page_of_slot t ≡ j → slot_inode P B t ≡ 0
+  pub pointers : (t : ℕ) → page_of_slot t ≡ j → slot_pointer P B t ≡ 0
   pub descriptors : (x f : ℕ) → x < data_pages_of P → f < 8 → x ≢ j → word B (descriptor_word_of P x f) ≡ word W (descriptor_word_of P x f)
   pub inodes : (x f : ℕ) → 1 ≤ x → x ≤ inodes_of P → f < 16 → word B (inode_word_of x f) ≡ word W (inode_word_of x f)
   pub slots : (t f : ℕ) → f < 16 → page_of_slot t ≢ j → word B (slot_word_of P t f) ≡ word W (slot_word_of P t f)
@@ -89,17 +90,9 @@ module _ (P : ℕ) (W B : List ℕ) (p : Route) (d j s : ℕ) (name : List ℕ) 
   unfolding slot_name
   name_same t ne = ap name_in_words (slot_words-same P W B t (λ f lt. taken.slots t (2 + f) (omega arith) ne))
 
-  zero_inode : (t : ℕ) → page_of_slot t ≡ j → slot_inode P B t ≡ 0
-  unfolding slot_inode
-  zero_inode t at = taken.zeros t 0 at (omega arith)
-
-  zero_pointer : (t : ℕ) → page_of_slot t ≡ j → slot_pointer P B t ≡ 0
-  unfolding slot_pointer
-  zero_pointer t at = taken.zeros t 1 at (omega arith)
-
   -- no live slot stands in the new page
   elsewhere : (t : ℕ) → IsLive P B t → page_of_slot t ≢ j
-  elsewhere t l at = l.names (zero_inode t at)
+  elsewhere t l at = l.names (taken.numbers t at)
 
   unowned : (t : ℕ) → page_of_slot t ≡ j → IsHeld P W t → ⊥
   unfolding slot_owner
@@ -119,7 +112,7 @@ module _ (P : ℕ) (W B : List ℕ) (p : Route) (d j s : ℕ) (name : List ℕ) 
 
   no_pointers : (t : ℕ) → IsHeld P B t → slot_pointer P B t ≡ 0
   no_pointers t h = elim (cases_eq (page_of_slot t) j) [
-    | inl at ↦ zero_pointer t at
+    | inl at ↦ taken.pointers t at
     | inr ne ↦ pointer_same t ne ∙ no_pointer P W j (tidy_but P W j can.tidy) t (held_before t ne h)
   ]
 
@@ -236,8 +229,8 @@ module _ (P : ℕ) (W B : List ℕ) (p : Route) (d j s : ℕ) (name : List ℕ) 
     directory = inode_kind_same d (p, can.path) ∙ can.directory;
     held = held;
     owner = owner_is;
-    free = zero_inode s at_s;
-    no_pointer = zero_pointer s at_s;
+    free = taken.numbers s at_s;
+    no_pointer = taken.pointers s at_s;
     no_target = λ t h e. (let none = no_pointers t h in omega (arith, none, e));
   }
     where
@@ -260,9 +253,10 @@ module _ (P : ℕ) (W B : List ℕ) (p : Route) (d j s : ℕ) (name : List ℕ) 
         let old = (taken.reached_slots t).1 r in
         let ne = elsewhere t r.live in
         can.new t old (sym (slot_owner_same t r.live.held.in_range ne) ∙ o) (sym (name_same t ne) ∙ e);
-    but = tidy_but_page;
-    clean = λ t f at dead lt. taken.zeros t f (at ∙ at_s) lt;
   }
+
+  pub page_clean : ((t f : ℕ) → page_of_slot t ≡ j → f < 16 → word B (slot_word_of P t f) ≡ 0) → IsCleanSlot P B s
+  page_clean zeros = record { but = tidy_but_page; clean = λ t f at dead lt. zeros t f (at ∙ at_s) lt }
 
   -- what is free stays free
   pub inode_ready : (i : ℕ) → IsFreeInode P W i → IsFreeInode P B i

@@ -7,7 +7,8 @@ use Rattle.layout.specs.Geometry.{inodes_of, data_pages_of, page_of_slot, inode_
 use Rattle.layout.proofs.GeometryLaws.{page_of_slot_below, slot_word_within}
 use Rattle.image_reading.specs.Reading.{slot_owner, IsHeld, IsLive}
 use Rattle.image_reading.specs.Soundness.{Rule, PointsAtHeld, IsOnlyPointer, IsCoherent, HasLinks}
-use Rattle.image_laws.specs.Frame.{SameSlot, SameInode, SameMeaning}
+use Rattle.image_laws.specs.Agrees.{SameSlot}
+use Rattle.image_laws.specs.Frame.{SameInode, SameMeaning}
 use Rattle.image_laws.specs.Pointers.{CanPoint, PointerLaw, IsLeft, LeaveLaw}
 use Rattle.image_laws.proofs.Addresses.{head-ne_slot, descriptor-ne_slot, some_inode, slot-ne_slot, slot-ne_field, page-ne_slot, inode-ne_slot0}
 use Rattle.image_laws.proofs.Meaning.{shape, meaning}

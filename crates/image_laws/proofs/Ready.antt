@@ -5,8 +5,8 @@ use Rattle.layout.specs.Fields.{word, page_owner, slot_pointer, slot_name}
 use Rattle.layout.specs.Geometry.{inodes_of, data_pages_of, page_of_slot, inode_word_of, slot_word_of}
 use Rattle.layout.specs.Name.{IsNameWords, name_in_words}
 use Rattle.tree_model.specs.PathText.{Route}
-use Rattle.tree_model.specs.Tree.{Node, Directory, File}
-use Rattle.image_reading.specs.Reading.{slot_owner, IsHeld, IsLive, Reached, IsReachedSlot}
+use Rattle.tree_model.specs.Tree.{Node, Directory, File, Tree, Room}
+use Rattle.image_reading.specs.Reading.{slot_owner, IsHeld, IsLive, Reached, IsReachedSlot, Reads, HasRoom}
 use Rattle.image_reading.specs.Repairs.{IsPointer, IsLitterSlot, IsLitterPage, IsLitterInode, IsLitterCount}
 use Rattle.image_reading.specs.Soundness.{IsCoherent}
 use Rattle.image_reading.specs.Tidy.{IsTidied}
@@ -60,16 +60,19 @@ pub record IsFreeInode (P : ℕ) (I : List ℕ) (i : ℕ) : Type 0 where
   pub unreached : Reached P I i → ⊥
   pub no_pages : (j : ℕ) → j < data_pages_of P → page_owner P I j ≢ i
 
--- Slot s may be taken, the page of the slot is clean, and it alone may be litter.
+-- Slot s may be taken.
 pub record IsReadySlot (P : ℕ) (I : List ℕ) (p : Route) (d s : ℕ) (name : List ℕ) : Type 0 where
   pub coherent : IsCoherent P I
   pub slot : IsFreeSlot P I p d s
   pub is_name : IsNameWords name
   pub new : (t : ℕ) → IsReachedSlot P I t → slot_owner P I t ≡ d → slot_name P I t ≢ name_in_words name
+
+-- The page of the slot is clean, and it alone may be litter.
+pub record IsCleanSlot (P : ℕ) (I : List ℕ) (s : ℕ) : Type 0 where
   pub but : IsTidyBut P I (page_of_slot s)
   pub clean : (t f : ℕ) → page_of_slot t ≡ page_of_slot s → (IsLive P I t → ⊥) → f < 16 → word I (slot_word_of P t f) ≡ 0
 
--- and inode i
+-- Slot s and inode i may be taken.
 pub record IsReady (P : ℕ) (I : List ℕ) (p : Route) (d s i : ℕ) (name : List ℕ) : Type 0 where
   pub place : IsReadySlot P I p d s name
   pub inode : IsFreeInode P I i
@@ -109,3 +112,11 @@ pub not_made : (P : ℕ) (node : Node) (d s i a : ℕ) → ((f : ℕ) → f < 4 
     → IsMadeWord P node d s i a → ⊥
 not_made P Directory d s i a f g h m = elim m [ inl (k, lt, e) ↦ f k lt e | inr n ↦ elim n [ inl (k, lt, e) ↦ g k lt e | inr e ↦ h e ] ]
 not_made P (File bytes) d s i a f g h m = elim m [ inl (k, lt, e) ↦ f k lt e | inr (k, lt, e) ↦ g k lt e ]
+
+-- ---- the name is there
+
+-- The tree and the room of W with the new name are those of J.
+pub record IsNamed (P : ℕ) (W J : List ℕ) (tree_after : Tree → Tree) (room_after : Room → Room) : Type 0 where
+  pub coherent : IsCoherent P J
+  pub reads : (T : Tree) → Reads P W T → Reads P J (tree_after T)
+  pub room : (room : Room) → HasRoom P W room → HasRoom P J (room_after room)

@@ -83,7 +83,7 @@ get-left room i x ne = get-remove nat_cmp_total room i x ∙ ap (λ b. cond b No
 none_some : (n : ℕ) → ◌≡◌ {A = Option ℕ} None (Some n) → ⊥
 none_some n e = cc
 
-removed_entry : (P : ℕ) (J : List ℕ) (room : Room) (i x n : ℕ) → (x ≢ i → (get room x ≡ Some n) ↔ IsEntry P J x n) → (Reached P J i → IsDirectory J i → ⊥)
+pub removed_entry : (P : ℕ) (J : List ℕ) (room : Room) (i x n : ℕ) → (x ≢ i → (get room x ≡ Some n) ↔ IsEntry P J x n) → (Reached P J i → IsDirectory J i → ⊥)
     → (get (remove room i) x ≡ Some n) ↔ IsEntry P J x n
 removed_entry P J room i x n others none = elim (cases_eq x i) [
   | inl e ↦ subst (λ y. (get (remove room i) y ≡ Some n) ↔ IsEntry P J y n) (sym e) (

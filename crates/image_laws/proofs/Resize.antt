@@ -1,5 +1,5 @@
 -- The size of a reached file becomes another: the commit of a write past the size and of a truncation.
-use Rattle.std.proofs.Common.{◌≡◌, ◌≢◌, ◌↔◌, inl, inr, ℕ, ◌+◌, ◌-◌, ◌/◌, ◌%◌, ◌^◌, ◌<◌, ◌≤◌, List, [], ◌∷◌, length, get_or, set, sym, ap, subst, ◌∙◌, arith, length-set}
+use Rattle.std.proofs.Common.{◌≡◌, ◌≢◌, ◌↔◌, inl, inr, ℕ, ◌+◌, ◌-◌, ◌/◌, ◌%◌, ◌^◌, ◌<◌, ◌≤◌, List, [], ◌∷◌, length, set, sym, ap, subst, ◌∙◌, arith, length-set}
 use Rattle.std.proofs.lemmas.Bool.{cases_eq}
 use Rattle.std.proofs.lemmas.List.{get_or-set_other}
 use Rattle.layout.specs.Fields.{word, inode_kind, inode_links, inode_size, inode_own, page_owner, page_kind, page_offset, slot_inode, slot_pointer, slot_name, slot_words, page_byte}
@@ -7,9 +7,11 @@ use Rattle.layout.specs.Geometry.{inodes_of, data_pages_of, slots_of, page_of_sl
 use Rattle.layout.proofs.GeometryLaws.{page_of_slot_below}
 use Rattle.layout.specs.Name.{name_in_words}
 use Rattle.tree_model.specs.PathText.{Route}
-use Rattle.tree_model.specs.Tree.{Node, Directory, File}
-use Rattle.image_reading.specs.Reading.{slot_owner, IsHeld, IsLive, Names, Reached, IsReachedSlot, IsPageOf, IsContent, IsNode, pages_of_size}
+use Rattle.tree_model.specs.Tree.{Node, Directory, File, Room}
+use Rattle.image_reading.specs.Reading.{slot_owner, IsHeld, IsLive, Names, Reached, IsReachedSlot, IsPageOf, IsContent, IsNode, IsRoomOf, HasRoom, pages_of_size}
 use Rattle.image_reading.specs.Soundness.{Rule, IsCoherent, HasLinks}
+use Rattle.image_reading.proofs.Credits.{count_same}
+use Rattle.image_laws.specs.Resize.{IsStored}
 use Rattle.image_laws.proofs.Addresses.{head-ne_inode, descriptor-ne_inode, inode-ne_slot, inode-ne_inode, inode-ne_field, page-ne_inode}
 use Rattle.image_laws.proofs.Meaning.{page_kind_is}
 use Rattle.image_laws.proofs.Paths.{reached_pos}
@@ -197,11 +199,43 @@ module _ (P : ℕ) (I J : List ℕ) (i z : ℕ) (coherent : IsCoherent P I) (a :
   resized_coherent = within_coherent P I J coherent within
 
   -- the content after: as many bytes as the new size, as they stand in the pages
-  pub resized_content : (bs : List ℕ) → length bs ≡ z → ((o j : ℕ) → o < z → IsPageOf P I i (o / 4096) j → get_or bs o 0 ≡ page_byte P I j (o % 4096)) → IsContent P J i bs
-  resized_content bs e f = record {
-    size = e ∙ sym a.size;
-    bytes_at = λ o j lt g. f o j (subst (λ y. o < y) a.size lt) (page_back i (o / 4096) j g) ∙ sym (a.only.bytes j (o % 4096));
+  pub resized_content : (bytes : List ℕ) → IsStored P I i z bytes → IsContent P J i bytes
+  resized_content bytes stored = record {
+    size = stored.size ∙ sym a.size;
+    bytes_at = λ o j lt g. stored.bytes_at o j (subst (λ y. o < y) a.size lt) (page_back i (o / 4096) j g) ∙ sym (a.only.bytes j (o % 4096));
   }
+
+  -- ---- the pages of directories
+
+  reached_forward : (x : ℕ) → Reached P I x → Reached P J x
+  reached_forward x (q, b) = (q, names_forward q x b)
+
+  room_forward : (x j : ℕ) → IsRoomOf P I x j → IsRoomOf P J x j
+  room_forward x j room =
+      let (t, at, o, live) = room.slot in
+      record {
+        reached = reached_forward x room.reached;
+        directory = a.only.node_kind x ∙ room.directory;
+        slot = (t, at, owner_same t live.held.in_range ∙ o, live_forward t live);
+      }
+
+  room_back : (x j : ℕ) → IsRoomOf P J x j → IsRoomOf P I x j
+  room_back x j room =
+      let (t, at, o, live) = room.slot in
+      record {
+        reached = reached_back x room.reached;
+        directory = sym (a.only.node_kind x) ∙ room.directory;
+        slot = (t, at, sym (owner_same t live.held.in_range) ∙ o, live_back t live);
+      }
+
+  pub resized_room : (room : Room) → HasRoom P I room → HasRoom P J room
+  resized_room room has x n = (
+    (λ e.
+        let (r, k, count) = (has x n).0 e in
+        (reached_forward x r, a.only.node_kind x ∙ k, count_same (IsRoomOf P I x) (IsRoomOf P J x) n (λ j. (room_forward x j, room_back x j)) count)),
+    (λ (r, k, count).
+        (has x n).1 (reached_back x r, sym (a.only.node_kind x) ∙ k, count_same (IsRoomOf P J x) (IsRoomOf P I x) n (λ j. (room_back x j, room_forward x j)) count)),
+  )
 
   pub resized_node : (x : ℕ) (y : Node) → 1 ≤ x → x ≢ i → IsNode P I x y ↔ IsNode P J x y
   resized_node x Directory p ne = (λ k. a.only.node_kind x ∙ k, λ k. sym (a.only.node_kind x) ∙ k)

@@ -3,7 +3,8 @@ use Rattle.std.proofs.Common.{◌≡◌, inl, inr, ℕ, zero, suc, ◌+◌, ◌*
 use Rattle.layout.specs.Fields.{word, words_from, inode_kind, inode_size, inode_own, page_owner, page_kind, page_offset, slot_inode, slot_pointer, slot_words, page_byte}
 use Rattle.layout.specs.Geometry.{inode_word_of, descriptor_word_of, page_word_of, slot_word_of}
 use Rattle.image_reading.specs.Soundness.{IsCoherent}
-use Rattle.image_laws.specs.Frame.{Agrees, SameBytes, SameShape}
+use Rattle.image_laws.specs.Agrees.{Agrees}
+use Rattle.image_laws.specs.Frame.{SameBytes, SameShape}
 use Rattle.image_laws.specs.Words.{IsUsed, IsByteOf, BytesAgree, WordsAgree, WordLaw}
 use Rattle.image_laws.proofs.Frame.{alike, frame}
 use Rattle.image_laws.proofs.Meaning.{shape}

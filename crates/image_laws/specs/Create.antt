@@ -1,16 +1,17 @@
 -- The intervals of create and mkdir: a new page of the directory where it needs one, the node's and the name's words,
 -- and the slot's inode number.
 use Rattle.std.specs.Prelude.{◌≡◌, ◌≢◌, ◌⊎◌, ℕ, ◌+◌, ◌<◌, ◌≤◌, List, [], ◌∷◌, length, reverse, set, slice_index}
-use Rattle.layout.specs.Fields.{word, inode_links, page_kind, page_offset, slot_inode, slot_name, slot_words}
+use Rattle.layout.specs.Fields.{word, inode_links, page_kind, page_offset, slot_inode, slot_pointer, slot_name, slot_words}
 use Rattle.layout.specs.Geometry.{inodes_of, page_of_slot, inode_word_of, descriptor_word_of, slot_word_of, page_word_of}
 use Rattle.layout.specs.Name.{IsNameWords, name_in_words}
 use Rattle.tree_model.specs.PathText.{Route}
-use Rattle.tree_model.specs.Tree.{Node, Directory, File, Tree, Room}
+use Rattle.tree_model.specs.Tree.{Node, Directory, File}
 use Rattle.tree_model.specs.Step.{with_new}
-use Rattle.image_reading.specs.Reading.{IsDirectory, slot_owner, IsHeld, Names, Reached, IsReachedSlot, Reads, HasRoom}
+use Rattle.image_reading.specs.Reading.{IsDirectory, slot_owner, IsHeld, Names, Reached, IsReachedSlot}
 use Rattle.image_reading.specs.Soundness.{IsCoherent}
 use Rattle.image_reading.specs.Tidy.{IsTidied}
 use Rattle.image_counts.specs.Entries.{IsFreePage}
+use Rattle.image_laws.specs.Commits.{Commits}
 use Rattle.image_laws.specs.Frame.{SameMeaning}
 use Rattle.image_laws.specs.Quiet.{IsMix}
 use Rattle.image_laws.specs.Add.{with_page, with_node}
@@ -78,19 +79,11 @@ pub record IsVacant (P : ℕ) (I : List ℕ) (d s : ℕ) : Type 0 where
 abbrev pub committed : ℕ → List ℕ → ℕ → ℕ → List ℕ
 committed P I s i = set I (slot_word_of P s 0) i
 
--- From B over I to J: a stop leaves what means W, or J. J is tidy, its tree is that of W with the new node, and its room is made of that of W.
-pub record IsCreate (P : ℕ) (W B I J : List ℕ) (path : Route) (node : Node) (i : ℕ) (after : Room → Room) : Type 0 where
-  pub before : (M : List ℕ) → IsMix B I M → SameMeaning P W M
-  pub commit : (M : List ℕ) → IsMix I J M → SameMeaning P W M ⊎ (M ≡ J)
-  pub tidy : IsTidied P J
-  pub reads : (T : Tree) → Reads P W T → Reads P J (with_new T path i node)
-  pub room : (room : Room) → HasRoom P W room → HasRoom P J (after room)
-
 -- The directory has a vacant slot.
 abbrev pub CreateLaw : Type 0
 CreateLaw = (P : ℕ) (W I : List ℕ) (p path : Route) (node : Node) (d s i : ℕ) (name : List ℕ) → CanMake P W p d i name → IsVacant P W d s
     → IsEmptyNode node → MakesNode P W I node d s i name → reverse path ≡ name_in_words name ∷ p
-    → IsCreate P W W I (committed P I s i) path node i (λ room. with_node room i node)
+    → Commits P W W I (committed P I s i) (λ T. with_new T path i node) (λ room. with_node room i node)
 
 -- ---- a new page
 
@@ -98,19 +91,26 @@ CreateLaw = (P : ℕ) (W I : List ℕ) (p path : Route) (node : Node) (d s i : �
 abbrev pub IsPageMadeWord : ℕ → ℕ → ℕ → Type 0
 IsPageMadeWord P j a = IsAmong (page_word_of P j) 512 a ⊎ ((a ≡ descriptor_word_of P j 1) ⊎ (a ≡ descriptor_word_of P j 2))
 
--- From I to J page j becomes a directory page of zeros, still without an owner.
-pub record MakesPage (P : ℕ) (I J : List ℕ) (j : ℕ) : Type 0 where
+-- From I to J page j becomes a directory page whose slots name nothing and point at nothing, still without an owner.
+pub record MakesEmptyPage (P : ℕ) (I J : List ℕ) (j : ℕ) : Type 0 where
   pub size : length J ≡ length I
-  pub zeros : (w : ℕ) → w < 512 → word J (page_word_of P j w) ≡ 0
+  pub numbers : (s : ℕ) → page_of_slot s ≡ j → slot_inode P J s ≡ 0
+  pub pointers : (s : ℕ) → page_of_slot s ≡ j → slot_pointer P J s ≡ 0
   pub kind : page_kind P J j ≡ 2
   pub offset : page_offset P J j ≡ 0
   pub others : (a : ℕ) → (IsPageMadeWord P j a → ⊥) → word J a ≡ word I a
+
+-- and each of its words is zero, as a tidy image has it
+pub record MakesPage (P : ℕ) (I J : List ℕ) (j : ℕ) : Type 0 where
+  pub empty : MakesEmptyPage P I J j
+  pub open empty use *
+  pub zeros : (w : ℕ) → w < 512 → word J (page_word_of P j w) ≡ 0
 
 -- directory d owns page j
 abbrev pub owned : ℕ → List ℕ → ℕ → ℕ → List ℕ
 owned P I j d = set I (descriptor_word_of P j 0) d
 
--- From W over A to B: a stop leaves what means W.
+-- From W over A to B: a crash leaves what means W.
 pub record IsPageQuiet (P : ℕ) (W A B : List ℕ) : Type 0 where
   pub making : (M : List ℕ) → IsMix W A M → SameMeaning P W M
   pub owning : (M : List ℕ) → IsMix A B M → SameMeaning P W M
@@ -119,8 +119,8 @@ pub record IsPageQuiet (P : ℕ) (W A B : List ℕ) : Type 0 where
 abbrev pub NewPageLaw : Type 0
 NewPageLaw = (P : ℕ) (W A I : List ℕ) (p path : Route) (node : Node) (d j s i : ℕ) (name : List ℕ) → CanMake P W p d i name → IsFreePage P W j → page_of_slot s ≡ j
     → IsEmptyNode node → MakesPage P W A j → MakesNode P (owned P A j d) I node d s i name → reverse path ≡ name_in_words name ∷ p
-    → IsPageQuiet P W A (owned P A j d) × IsCreate P W (owned P A j d) I (committed P I s i) path node i (λ room. with_node (with_page room d) i node)
+    → IsPageQuiet P W A (owned P A j d) × Commits P W (owned P A j d) I (committed P I s i) (λ T. with_new T path i node) (λ room. with_node (with_page room d) i node)
 
 -- That much holds as soon as the page is made, whatever is made in it.
 abbrev pub PageQuietLaw : Type 0
-PageQuietLaw = (P : ℕ) (W A : List ℕ) (p : Route) (d j : ℕ) → IsCoherent P W → Names P W p d → IsDirectory W d → IsFreePage P W j → MakesPage P W A j → IsPageQuiet P W A (owned P A j d)
+PageQuietLaw = (P : ℕ) (W A : List ℕ) (p : Route) (d j : ℕ) → IsCoherent P W → Names P W p d → IsDirectory W d → IsFreePage P W j → MakesEmptyPage P W A j → IsPageQuiet P W A (owned P A j d)

@@ -11,7 +11,7 @@ use Rattle.tree_model.specs.declared.command.Command.TheVariants.{Create, Mkdir}
 use Rattle.image_reading.specs.Reading.{ReadsAs}
 use Rattle.image_counts.specs.Entries.{IsFreePage}
 use Rattle.image_laws.specs.Add.{with_page, with_node}
-use Rattle.image_laws.specs.Create.{IsEmptyNode, CanMake, IsVacant, MakesNode, MakesPage, committed, owned}
+use Rattle.image_laws.specs.Create.{IsEmptyNode, CanMake, IsVacant, MakesNode, MakesEmptyPage, committed, owned}
 
 -- the command that makes such a node
 abbrev pub making : Node → Route → Command
@@ -50,5 +50,5 @@ CreateStepLaw = (P : ℕ) (W I : List ℕ) (old : State) (p path : Route) (node 
 -- and with a new page, where the directory is full
 abbrev pub NewPageStepLaw : Type 0
 NewPageStepLaw = (P : ℕ) (W A I : List ℕ) (old : State) (p path : Route) (node : Node) (d j s i : ℕ) (name : List ℕ) → CanMake P W p d i name → IsFreePage P W j
-    → page_of_slot s ≡ j → IsEmptyNode node → MakesPage P W A j → MakesNode P (owned P A j d) I node d s i name → reverse path ≡ name_in_words name ∷ p → ReadsAs P W old
+    → page_of_slot s ≡ j → IsEmptyNode node → MakesEmptyPage P W A j → MakesNode P (owned P A j d) I node d s i name → reverse path ≡ name_in_words name ∷ p → ReadsAs P W old
     → is_full old.tree old.room d ≡ true → IsStepped P (committed P I s i) old (making node path) i

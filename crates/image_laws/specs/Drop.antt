@@ -60,7 +60,7 @@ pub record Drops (P : ℕ) (W I J K : List ℕ) (s y : ℕ) : Type 0 where
   pub gives : GivesPages P I J (IsGiven P (dropped P W s) (slot_owner P W s) s (slot_inode P W s))
   pub rest : ClearsRest P J K (IsGiven P (dropped P W s) (slot_owner P W s) s (slot_inode P W s)) (Reached P (dropped P W s) (slot_inode P W s) → ⊥) (slot_inode P W s)
 
--- A stop leaves W, or what means what the first store leaves. The end is tidy, its tree is without the path, and its room without what was given back.
+-- A crash leaves W, or what means what the first store leaves. The end is tidy, its tree is without the path, and its room without what was given back.
 pub record IsDrop (P : ℕ) (W I J K : List ℕ) (p : Route) (s : ℕ) : Type 0 where
   pub commit : (M : List ℕ) → IsMix W (dropped P W s) M → (M ≡ W) ⊎ (M ≡ dropped P W s)
   pub clearing : (M : List ℕ) → IsMix (dropped P W s) I M → SameMeaning P (dropped P W s) M

@@ -4,7 +4,7 @@ use Rattle.layout.specs.Fields.{inode_size, page_owner, page_kind, page_offset, 
 use Rattle.layout.specs.Geometry.{page_of_slot}
 use Rattle.image_reading.specs.Reading.{IsDirectory, HasBytes, IsHeld, Reached, pages_of_size}
 use Rattle.image_reading.specs.Soundness.{IsCoherent}
-use Rattle.image_laws.specs.Frame.{AreIdle}
+use Rattle.image_laws.specs.Agrees.{AreIdle}
 
 -- The owner of page j is 0 or g in I and in J, the rest of what is used of it is the same in both, and the page isn't needed:
 -- g isn't reached, or is a reached file whose end is before the page, or is a directory that has no name in the page.

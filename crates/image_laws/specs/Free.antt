@@ -32,6 +32,6 @@ pub record Stores (P : ℕ) (I J : List ℕ) : Type 0 where
 abbrev pub FreeLaw : Type 0
 FreeLaw = (P : ℕ) (I J : List ℕ) → IsCoherent P I → Stores P I J → IsQuiet P I J × AllBytesAgree P I J
 
--- So whatever mix of old and new words a stop leaves means the same.
+-- So whatever mix of old and new words a crash leaves means the same.
 abbrev pub StoresLaw : Type 0
 StoresLaw = (P : ℕ) (I J M : List ℕ) → IsCoherent P I → Stores P I J → IsMix I J M → SameMeaning P I M

@@ -7,7 +7,7 @@ use Rattle.tree_model.specs.PathText.{Route}
 use Rattle.tree_model.specs.Tree.{Node}
 use Rattle.image_reading.specs.Reading.{HasBytes, Reached, IsReachedSlot, IsPageOf, IsRoomOf}
 use Rattle.image_counts.specs.Entries.{IsSlotOf, IsFreePage}
-use Rattle.image_laws.specs.Create.{CanMake, IsVacant, MakesNode, MakesPage, committed, owned}
+use Rattle.image_laws.specs.Create.{CanMake, IsVacant, MakesNode, MakesEmptyPage, committed, owned}
 
 -- J has what W has, and inode i, named by slot s of directory d.
 pub record HasGrown (P : ℕ) (W J : List ℕ) (d s i : ℕ) (name : List ℕ) : Type 0 where
@@ -28,4 +28,4 @@ GrownLaw = (P : ℕ) (W I : List ℕ) (p : Route) (node : Node) (d s i : ℕ) (n
 
 abbrev pub NewPageGrownLaw : Type 0
 NewPageGrownLaw = (P : ℕ) (W A I : List ℕ) (p : Route) (node : Node) (d j s i : ℕ) (name : List ℕ) → CanMake P W p d i name → IsFreePage P W j → page_of_slot s ≡ j
-    → MakesPage P W A j → MakesNode P (owned P A j d) I node d s i name → HasGrown P W (committed P I s i) d s i name
+    → MakesEmptyPage P W A j → MakesNode P (owned P A j d) I node d s i name → HasGrown P W (committed P I s i) d s i name

@@ -1,10 +1,12 @@
 pub mod Frame
+pub mod Agrees
 pub mod Words
 pub mod Exempt
 pub mod Quiet
 pub mod Free
 pub mod Trees
 pub mod Add
+pub mod Commits
 pub mod Create
 pub mod Remove
 pub mod Move

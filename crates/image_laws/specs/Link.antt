@@ -5,13 +5,9 @@ use Rattle.layout.specs.Fields.{word, inode_links, slot_words}
 use Rattle.layout.specs.Geometry.{page_of_slot, inode_word_of, slot_word_of}
 use Rattle.layout.specs.Name.{name_in_words}
 use Rattle.tree_model.specs.PathText.{Route}
-use Rattle.tree_model.specs.Tree.{Tree, Room}
 use Rattle.tree_model.specs.Step.{with_path}
-use Rattle.image_reading.specs.Reading.{Reads, HasRoom}
-use Rattle.image_reading.specs.Tidy.{IsTidied}
 use Rattle.image_counts.specs.Entries.{IsFreePage}
-use Rattle.image_laws.specs.Frame.{SameMeaning}
-use Rattle.image_laws.specs.Quiet.{IsMix}
+use Rattle.image_laws.specs.Commits.{Commits}
 use Rattle.image_laws.specs.Add.{IsOldFile, with_page}
 use Rattle.image_laws.specs.Create.{IsAmong, CanName, IsVacant, MakesPage, IsPageQuiet, committed, owned}
 use Rattle.image_laws.specs.Grown.{HasGrown}
@@ -32,21 +28,13 @@ pub record CanLink (P : ℕ) (I : List ℕ) (p : Route) (d i : ℕ) (name : List
   pub place : CanName P I p d name
   pub file : IsOldFile P I i
 
--- From B over I to J: a stop leaves what means W, or J. J is tidy, its tree is that of W with the new path, and its room is made of that of W.
-pub record IsLink (P : ℕ) (W B I J : List ℕ) (path : Route) (i : ℕ) (after : Room → Room) : Type 0 where
-  pub before : (M : List ℕ) → IsMix B I M → SameMeaning P W M
-  pub commit : (M : List ℕ) → IsMix I J M → SameMeaning P W M ⊎ (M ≡ J)
-  pub tidy : IsTidied P J
-  pub reads : (T : Tree) → Reads P W T → Reads P J (with_path T path i)
-  pub room : (room : Room) → HasRoom P W room → HasRoom P J (after room)
-
 -- The directory has a vacant slot.
 abbrev pub LinkLaw : Type 0
 LinkLaw = (P : ℕ) (W I : List ℕ) (p path : Route) (d s i : ℕ) (name : List ℕ) → CanLink P W p d i name → IsVacant P W d s → MakesLink P W I s i name
-    → reverse path ≡ name_in_words name ∷ p → IsLink P W W I (committed P I s i) path i (λ room. room) × HasGrown P W (committed P I s i) d s i name
+    → reverse path ≡ name_in_words name ∷ p → Commits P W W I (committed P I s i) (λ T. with_path T path i) (λ room. room) × HasGrown P W (committed P I s i) d s i name
 
 -- The directory takes page j, and then slot s of it.
 abbrev pub NewPageLinkLaw : Type 0
 NewPageLinkLaw = (P : ℕ) (W A I : List ℕ) (p path : Route) (d j s i : ℕ) (name : List ℕ) → CanLink P W p d i name → IsFreePage P W j → page_of_slot s ≡ j
     → MakesPage P W A j → MakesLink P (owned P A j d) I s i name → reverse path ≡ name_in_words name ∷ p
-    → IsPageQuiet P W A (owned P A j d) × IsLink P W (owned P A j d) I (committed P I s i) path i (λ room. with_page room d) × HasGrown P W (committed P I s i) d s i name
+    → IsPageQuiet P W A (owned P A j d) × Commits P W (owned P A j d) I (committed P I s i) (λ T. with_path T path i) (λ room. with_page room d) × HasGrown P W (committed P I s i) d s i name

@@ -10,7 +10,7 @@ use Rattle.tree_model.specs.declared.command.Command.TheVariants.{Link}
 use Rattle.image_reading.specs.Reading.{ReadsAs}
 use Rattle.image_counts.specs.Entries.{IsFreePage}
 use Rattle.image_laws.specs.Add.{with_page}
-use Rattle.image_laws.specs.Create.{IsVacant, MakesPage, committed, owned}
+use Rattle.image_laws.specs.Create.{IsVacant, MakesEmptyPage, committed, owned}
 use Rattle.image_laws.specs.CreateStep.{IsStepped}
 use Rattle.image_laws.specs.Link.{MakesLink, CanLink}
 
@@ -32,5 +32,5 @@ LinkStepLaw = (P : ℕ) (W I : List ℕ) (old : State) (p from path : Route) (d 
 -- and with a new page, where the directory is full
 abbrev pub NewPageLinkStepLaw : Type 0
 NewPageLinkStepLaw = (P : ℕ) (W A I : List ℕ) (old : State) (p from path : Route) (d j s i n : ℕ) (name : List ℕ) → CanLink P W p d i name → IsFreePage P W j
-    → page_of_slot s ≡ j → MakesPage P W A j → MakesLink P (owned P A j d) I s i name → reverse path ≡ name_in_words name ∷ p → ReadsAs P W old
+    → page_of_slot s ≡ j → MakesEmptyPage P W A j → MakesLink P (owned P A j d) I s i name → reverse path ≡ name_in_words name ∷ p → ReadsAs P W old
     → id_at old.tree from ≡ Some i → is_full old.tree old.room d ≡ true → IsStepped P (committed P I s i) old (Link from path) n

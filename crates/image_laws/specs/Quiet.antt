@@ -21,7 +21,7 @@ pub record IsQuiet (P : ℕ) (I J : List ℕ) : Type 0 where
   pub owners : (j : ℕ) → j < data_pages_of P → (page_owner P J j ≡ page_owner P I j) ⊎ ((g : ℕ) × IsExempt P I J j g)
   pub links : (i : ℕ) → Reached P I i → HasLinks P I i (inode_links J i)
 
--- whatever mix of old and new words a stop leaves means the same
+-- whatever mix of old and new words a crash leaves means the same
 abbrev pub MixLaw : Type 0
 MixLaw = (P : ℕ) (I J M : List ℕ) → IsCoherent P I → IsQuiet P I J → AllBytesAgree P I J → IsMix I J M → SameMeaning P I M
 

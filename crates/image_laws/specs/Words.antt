@@ -4,7 +4,8 @@ use Rattle.layout.specs.Fields.{word, inode_links, inode_size, page_owner}
 use Rattle.layout.specs.Geometry.{data_pages_of, inode_word_of, descriptor_word_of, page_word_of, slot_word_of}
 use Rattle.image_reading.specs.Reading.{HasBytes, IsHeld, Reached, IsReachedSlot, IsPageOf}
 use Rattle.image_reading.specs.Soundness.{IsCoherent, HasLinks}
-use Rattle.image_laws.specs.Frame.{AreIdle, SameMeaning}
+use Rattle.image_laws.specs.Agrees.{AreIdle}
+use Rattle.image_laws.specs.Frame.{SameMeaning}
 
 -- Word a is used: all but owners, which stand beside, link words, which only have a bound, and the bytes of files.
 pub data IsUsed (P : ℕ) (I : List ℕ) : ℕ → Type 0 where

@@ -1,7 +1,8 @@
 //! Laws of images: which stores change no meaning, and what a store that commits a call changes.
 #![tactic(auto)]
 
-ghost use Rattle.image_laws.specs.Frame.{FrameLaw, ShapeLaw, NodeLaw, MeaningsChain};
+ghost use Rattle.image_laws.specs.Agrees.{FrameLaw, ShapeLaw};
+ghost use Rattle.image_laws.specs.Frame.{NodeLaw, MeaningsChain};
 ghost use Rattle.image_laws.specs.Words.{WordLaw};
 ghost use Rattle.image_laws.specs.Exempt.{ExemptLaw};
 ghost use Rattle.image_laws.specs.Quiet.{MixLaw, WriteLaw};
@@ -15,10 +16,10 @@ ghost use Rattle.image_laws.specs.Grown.{GrownLaw, NewPageGrownLaw};
 ghost use Rattle.image_laws.specs.Link.{LinkLaw, NewPageLinkLaw};
 ghost use Rattle.image_laws.specs.LinkStep.{LinkRoomLaw, LinkStepLaw, NewPageLinkStepLaw};
 ghost use Rattle.image_laws.specs.Shrunk.{ShrunkLaw};
-ghost use Rattle.image_laws.specs.Move.{MoveLaw};
+ghost use Rattle.image_laws.specs.Move.{MoveLaw, MoveTreeLaw, MoveRoomLaw};
 ghost use Rattle.image_laws.specs.Pointers.{PointerLaw, LeaveLaw};
 ghost use Rattle.image_laws.specs.Remove.{RemoveLaw, RemoveTreeLaw, RemoveRoomLaw};
-ghost use Rattle.image_laws.specs.Resize.{ResizeLaw};
+ghost use Rattle.image_laws.specs.Resize.{ResizeLaw, ResizeTreeLaw, ResizeRoomLaw};
 ghost use Rattle.image_laws.specs.Trees.{TreeLaw, FormLaw, RoomLaw};
 
 /// An image that agrees with a coherent one on what is used means the same.
@@ -65,13 +66,26 @@ pub fn create_law()
     ensures page { PageQuietLaw }
 {}
 
-/// What each of the other words that commit a call changes, and the tree and the room after one that removes.
-pub fn commit_law()
-    ensures remove { RemoveLaw }
-    ensures remove_tree { RemoveTreeLaw }
-    ensures remove_room { RemoveRoomLaw }
-    ensures shift { MoveLaw }
-    ensures resize { ResizeLaw }
+/// The word that commits unlink and rmdir: one path less, and the tree and the room after it.
+pub fn remove_law()
+    ensures paths { RemoveLaw }
+    ensures tree { RemoveTreeLaw }
+    ensures room { RemoveRoomLaw }
+{}
+
+/// The word that commits rename: a path with all below it stands elsewhere, and the tree and the room after it.
+pub fn move_law()
+    ensures paths { MoveLaw }
+    ensures tree { MoveTreeLaw }
+    ensures room { MoveRoomLaw }
+{}
+
+/// The word that commits a write past the size and a truncation: a file of other bytes, the tree after it, and the room,
+/// which stays.
+pub fn resize_law()
+    ensures paths { ResizeLaw }
+    ensures tree { ResizeTreeLaw }
+    ensures room { ResizeRoomLaw }
 {}
 
 /// The words of a rename beside its commit change no meaning, and nor do the first two of a recovery.
@@ -108,8 +122,8 @@ pub fn link_step_law()
     ensures new_page { NewPageLinkStepLaw }
 {}
 
-/// While a name is unlinked or a directory removed, each mix of old and new words is the words before, or means what the
-/// first store leaves; the end is tidy, without the path.
+/// While a name is unlinked or a directory removed, each mix of old and new words is the words before, or means what
+/// the first store leaves; the end is tidy, without the path.
 pub fn drop_law()
     ensures { DropLaw }
 {}

@@ -13,7 +13,7 @@ use Rattle.tree_model.specs.declared.command.Command.TheVariants.{Create, Mkdir,
 use Rattle.tree_model.specs.declared.reply.Refusal.{Refusal}
 use Rattle.tree_model.specs.declared.reply.Refusal.TheVariants.{Root, Exists, IsDir, NotDir, NotEmpty}
 use Rattle.tree_model.proofs.EntryLaws.{where_key-agree, where_key-swap}
-use Rattle.tree_model.proofs.TreeLaws.{is_same, name_count-with_new_here, name_count-with_new_other, is_in-at, above}
+use Rattle.tree_model.proofs.TreeLaws.{name_count-with_new_here, name_count-with_new_other, is_in-at, above}
 use Rattle.tree_model.proofs.TreeKept.{some_is, is_some_at}
 use Rattle.tree_model.proofs.TreeLess.{HasNoNames, HasNoNames-file, HasNoNames-empty, less_was, less_kept}
 use Rattle.tree_model.proofs.Accepted.{first-none, at-none, fault_of-none, not_there}
@@ -69,9 +69,6 @@ NamesMove-link supply T room id from to t e =
 -- ---- a name less
 
 module _ (T : Tree) (t : IsTree T) (path : Route) (below : is_root path ≡ false) (empty : HasNoNames T path) where
-  kept_key : Route → Bool
-  kept_key q = not (is_same path q)
-
   is_in_less : (d : ℕ) (q : Route) → is_some (id_at (without_path T path) q) ≡ true → is_in (without_path T path) d q ≡ is_in T d q
   is_in_less d q there =
       let found = some_is (id_at (without_path T path) q) there in

@@ -1,7 +1,7 @@
 -- What a walk without a fault says of the names.
 use Rattle.std.proofs.Common.{◌≡◌, ℕ, Bool, true, false, cond, List, [], ◌∷◌, ◌++◌, Option, Some, None, is_some, Result, Ok, Err, refl, sym, ap, ◌∙◌, append_assoc, append-nil}
 use Rattle.tree_model.specs.PathText.{Route}
-use Rattle.tree_model.specs.Tree.{Tree, IsTree, root_id, id_at, is_directory, parent}
+use Rattle.tree_model.specs.Tree.{Tree, IsTree, id_at, is_directory, parent}
 use Rattle.tree_model.specs.Walk.{Place, root_place, place_at, walk, walk_on, walk_to_parent, step_into, only_directory}
 use Rattle.tree_model.proofs.TreeLaws.{above, there-front, parent-below, not_root-below}
 use Rattle.tree_model.specs.declared.reply.Refusal.{Refusal}
@@ -83,6 +83,3 @@ walk_there T t front (name ∷ names) i j at_front e =
     ∙ ap (λ o. walk_on T (place_at next o) names) child.1
     ∙ walk_there T t next names child.0 j child.1 (ap (id_at T) joined ∙ e)
     ∙ ap (λ p. Ok (record { path = p; id = j })) joined
-
-pub walk-there : (T : Tree) (path : Route) (id : ℕ) → IsTree T → id_at T path ≡ Some id → walk T path ≡ Ok (record { path = path; id = id })
-walk-there T path id t e = walk_there T t [] path root_id id t.root e
