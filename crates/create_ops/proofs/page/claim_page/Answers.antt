@@ -1,4 +1,4 @@
-use Rattle.std.proofs.Common.{◌≡◌, ◌∙◌, ap, subst, ℕ, length}
+use Rattle.std.proofs.Common.{◌≡◌, ◌∙◌, ap, subst, length}
 use Rattle.pm_trait.proofs.DeviceViewLaws.{stores_flushed, ok_ends, err_ends}
 use Rattle.layout.specs.Fields.{page_owner}
 use Rattle.fence_token.proofs.ObjectLaws.{stands_in_flight_fence}
