@@ -78,14 +78,6 @@ slot_word_is_no_inode_word pages slot inode word some in_range is_slot is_inode 
     let field = is_inode.is_field in
     inode_word_not_slot_word pages inode slot is_inode.field is_slot.field some in_range (omega (arith, field)) (sym is_inode.at ∙ is_slot.at)
 
--- the sixteen words stand in two lines
-pub slot_lines : (pages slot word : ℕ) → IsSlotWord pages slot word → (slot_word_of pages slot 0 ≤ word) × (word ≤ slot_word_of pages slot 15)
-unfolding slot_word_of
-slot_lines pages slot word is =
-    let field = is.is_field in
-    let at = is.at in
-    (omega (arith, field, at), omega (arith, field, at))
-
 -- the sixteen words are words of the volume
 pub slot_word_in_volume : (pages slot word : ℕ) → slot < slots_of pages → IsSlotWord pages slot word → word < 512 * pages
 slot_word_in_volume pages slot word in_range is =

@@ -61,29 +61,11 @@ stands_in_flight_event {Owns} {ticket = ticket} {ta = ta} {tb = tb} event none s
   flight = flight_goes_on {Owns = Owns} {old = ta} {new = tb} ticket (λ fences word own flight. in_flight_event event ta word (none word) appended flight) stands.flight;
 }
 
-pub stands_clean_flush : {Owns : ℕ → Type 0} {Reads : List ℕ → Type 0} {a b : List ℕ} {ta tb : Option Trail} (line : ℕ) → b ≡ a → tb ≡ with_event ta (Flush line) → StandsClean Owns Reads a ta → StandsClean Owns Reads b tb
-stands_clean_flush line same appended stands = stands_clean_event (Flush line) (λ word. refl) same appended stands
-
-pub stands_in_flight_flush : {Owns : ℕ → Type 0} {Reads : List ℕ → Type 0} {ticket : Option ℕ} {a b : List ℕ} {ta tb : Option Trail} (line : ℕ) → b ≡ a → tb ≡ with_event ta (Flush line) → StandsInFlight Owns Reads ticket a ta → StandsInFlight Owns Reads ticket b tb
-stands_in_flight_flush line same appended stands = stands_in_flight_event (Flush line) (λ word. refl) same appended stands
-
 pub stands_clean_fence : {Owns : ℕ → Type 0} {Reads : List ℕ → Type 0} {a b : List ℕ} {ta tb : Option Trail} → b ≡ a → tb ≡ with_event ta Fence → StandsClean Owns Reads a ta → StandsClean Owns Reads b tb
 stands_clean_fence same appended stands = stands_clean_event Fence (λ word. refl) same appended stands
 
 pub stands_in_flight_fence : {Owns : ℕ → Type 0} {Reads : List ℕ → Type 0} {ticket : Option ℕ} {a b : List ℕ} {ta tb : Option Trail} → b ≡ a → tb ≡ with_event ta Fence → StandsInFlight Owns Reads ticket a ta → StandsInFlight Owns Reads ticket b tb
 stands_in_flight_fence same appended stands = stands_in_flight_event Fence (λ word. refl) same appended stands
-
-pub stands_clean_bad_fence : {Owns : ℕ → Type 0} {Reads : List ℕ → Type 0} {a b : List ℕ} {ta tb : Option Trail} → b ≡ a → tb ≡ with_event ta BadFence → StandsClean Owns Reads a ta → StandsClean Owns Reads b tb
-stands_clean_bad_fence same appended stands = stands_clean_event BadFence (λ word. refl) same appended stands
-
-pub stands_in_flight_bad_fence : {Owns : ℕ → Type 0} {Reads : List ℕ → Type 0} {ticket : Option ℕ} {a b : List ℕ} {ta tb : Option Trail} → b ≡ a → tb ≡ with_event ta BadFence → StandsInFlight Owns Reads ticket a ta → StandsInFlight Owns Reads ticket b tb
-stands_in_flight_bad_fence same appended stands = stands_in_flight_event BadFence (λ word. refl) same appended stands
-
-pub stands_clean_ack : {Owns : ℕ → Type 0} {Reads : List ℕ → Type 0} {a b : List ℕ} {ta tb : Option Trail} → b ≡ a → tb ≡ with_event ta Ack → StandsClean Owns Reads a ta → StandsClean Owns Reads b tb
-stands_clean_ack same appended stands = stands_clean_event Ack (λ word. refl) same appended stands
-
-pub stands_in_flight_ack : {Owns : ℕ → Type 0} {Reads : List ℕ → Type 0} {ticket : Option ℕ} {a b : List ℕ} {ta tb : Option Trail} → b ≡ a → tb ≡ with_event ta Ack → StandsInFlight Owns Reads ticket a ta → StandsInFlight Owns Reads ticket b tb
-stands_in_flight_ack same appended stands = stands_in_flight_event Ack (λ word. refl) same appended stands
 
 -- ---- flushed and settled objects
 
@@ -103,13 +85,6 @@ pub stands_clean_by_token : {Owns : ℕ → Type 0} {Reads : List ℕ → Type 0
 stands_clean_by_token {Owns} {ticket = ticket} trail honest stands settles = record {
   stands = stands.stands;
   clean = settled_words {Owns = Owns} ticket trail honest stands.stands.inside stands.flight settles;
-}
-
--- and each that stands on a settled device is clean
-pub stands_clean_settled : {Owns : ℕ → Type 0} {Reads : List ℕ → Type 0} {now : List ℕ} {trail : Option Trail} → IsSettledAt now trail → Stands Owns Reads now → StandsClean Owns Reads now trail
-stands_clean_settled settled stands = record {
-  stands = stands;
-  clean = λ word own. settled.each word (stands.inside word own);
 }
 
 -- ---- as records

@@ -5,11 +5,6 @@ use Rattle.std.proofs.Math.Seq.{drop-cons}
 use Rattle.layout.specs.Fields.{word, words_from, byte_of}
 use Rattle.layout.specs.Name.{bytes_of_word, bytes_of_words}
 
-pub length-words_from : (I : List ℕ) (a n : ℕ) → length (words_from I a n) ≡ n
-unfolding words_from
-length-words_from I a zero = refl
-length-words_from I a (suc n) = ap suc (length-words_from I (a + 1) n)
-
 -- word k of them
 pub get_or-words_from : (I : List ℕ) (a n k : ℕ) → k < n → get_or (words_from I a n) k 0 ≡ word I (a + k)
 unfolding words_from

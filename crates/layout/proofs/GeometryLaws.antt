@@ -4,16 +4,6 @@ use Rattle.layout.specs.Geometry.{IsVolumeSize, inodes_of, inode_pages_of, descr
 
 -- ---- sizes
 
--- the regions fill the device
-pub regions_fill : (P : ℕ) → IsVolumeSize P → 1 + inode_pages_of P + descriptor_pages_of P + data_pages_of P ≡ P
-unfolding data_pages_of
-regions_fill P h = omega arith
-
--- there is a data page
-pub some_data_page : (P : ℕ) → IsVolumeSize P → 1 ≤ data_pages_of P
-unfolding data_pages_of
-some_data_page P h = omega arith
-
 pub data_pages_below : (P : ℕ) → IsVolumeSize P → data_pages_of P < P
 unfolding data_pages_of
 data_pages_below P h = omega arith
@@ -52,11 +42,6 @@ page_of_entry j k h = omega arith
 pub slot_word_in_page : (P s f : ℕ) → slot_word_of P s f ≡ page_word_of P (page_of_slot s) (16 * (s % 32) + f)
 unfolding slot_word_of page_word_of page_of_slot
 slot_word_in_page P s f = omega arith
-
--- and the words of a page are words of its slots
-pub page_word_in_slot : (P j k : ℕ) → page_word_of P j k ≡ slot_word_of P (32 * j + k / 16) (k % 16)
-unfolding slot_word_of page_word_of
-page_word_in_slot P j k = omega arith
 
 -- ---- one place, one address
 

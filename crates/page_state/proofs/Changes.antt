@@ -54,9 +54,6 @@ pub descriptor_read : (volume_pages page : ℕ) (words now : List ℕ) (fields :
 descriptor_read volume_pages page words now fields owner kind offset same =
     same_descriptor_fields fields (descriptor_of volume_pages words page) owner kind offset ∙ ap (λ (l : List ℕ). descriptor_of volume_pages l page) same
 
-pub slots_mean : (pages : List ℕ) → HaveMeaning IsFilled pages slots_fields
-slots_mean pages = record { each = λ index inside. (refl, inr (refl, refl)) }
-
 filled_kind : (fields : DescriptorFields) → (fields.kind ≡ 1) ⊎ ((fields.kind ≡ 2) × (fields.offset ≡ 0)) → (fields.kind ≡ 1) ⊎ (fields.kind ≡ 2)
 filled_kind fields (inl bytes) = inl bytes
 filled_kind fields (inr slots) = inr slots.0

@@ -90,10 +90,6 @@ free_pages_alike volume_pages pages words free = record {
   each = λ index inside. free.each index inside ∙ sym (ap (λ (first : DescriptorFields). fields_of_page first index) (free.each 0 (omega (arith, inside))));
 }
 
--- what each of some alike pages means, the object's fields mean
-pub alike_mean : (means : DescriptorFields → Type 0) (volume_pages : ℕ) (pages words : List ℕ) (fields : DescriptorFields) → EachPage pages (λ page. means (descriptor_of volume_pages words page)) → SayFields volume_pages pages fields words → HaveMeaning means pages fields
-alike_mean means volume_pages pages words fields meant say = record { each = λ index inside. subst means (say.each index inside) (meant.each index inside) }
-
 -- what the pages say hangs on their own words alone
 pub pages_are_local : (view : PageView) → IsLocal (IsWordOf view) (ReadAs view)
 pages_are_local view = record {

@@ -26,13 +26,6 @@ clean_event {now} {after} {old} {new} event word none same appended clean =
     subst (λ (t : Option Trail). IsClean after t word) (sym appended)
     (clean_more after old (event ∷ []) word none (ap (λ (l : List ℕ). slice_index l word) same) clean)
 
--- so over a fence and over an acknowledgement
-pub clean_fence : {now after : List ℕ} {old new : Option Trail} (word : ℕ) → after ≡ now → new ≡ with_event old Fence → IsClean now old word → IsClean after new word
-clean_fence word same appended clean = clean_event Fence word refl same appended clean
-
-pub clean_ack : {now after : List ℕ} {old new : Option Trail} (word : ℕ) → after ≡ now → new ≡ with_event old Ack → IsClean now old word → IsClean after new word
-clean_ack word same appended clean = clean_event Ack word refl same appended clean
-
 long_more : {now : List ℕ} (after : List ℕ) (trail : Option Trail) (more : List Event) → after ≡ now → IfSome trail (λ told. length told.base ≡ length now) → IfSome (with_events trail more) (λ told. length told.base ≡ length after)
 long_more after None more same long = tt
 long_more after (Some trail) more same long = long ∙ ap length (sym same)
@@ -44,22 +37,8 @@ settled_event {now} {after} {old} {new} event none same appended settled = recor
   each = λ word inside. clean_event event word (none word) same appended (settled.each word (omega (arith, ap length same, inside)));
 }
 
-pub settled_flush : {now after : List ℕ} {old new : Option Trail} (line : ℕ) → after ≡ now → new ≡ with_event old (Flush line) → IsSettledAt now old → IsSettledAt after new
-settled_flush line same appended settled = settled_event (Flush line) (λ word. refl) same appended settled
-
-pub settled_fence : {now after : List ℕ} {old new : Option Trail} → after ≡ now → new ≡ with_event old Fence → IsSettledAt now old → IsSettledAt after new
-settled_fence same appended settled = settled_event Fence (λ word. refl) same appended settled
-
-pub settled_bad_fence : {now after : List ℕ} {old new : Option Trail} → after ≡ now → new ≡ with_event old BadFence → IsSettledAt now old → IsSettledAt after new
-settled_bad_fence same appended settled = settled_event BadFence (λ word. refl) same appended settled
-
 pub settled_ack : {now after : List ℕ} {old new : Option Trail} → after ≡ now → new ≡ with_event old Ack → IsSettledAt now old → IsSettledAt after new
 settled_ack same appended settled = settled_event Ack (λ word. refl) same appended settled
-
--- and over a call that leaves words and trail as they are, as a reserve
-pub settled_same : {now after : List ℕ} {old new : Option Trail} → after ≡ now → new ≡ old → IsSettledAt now old → IsSettledAt after new
-settled_same {now} {after} {old} {new} same is settled =
-    subst (λ (t : Option Trail). IsSettledAt after t) (sym is) (subst (λ (l : List ℕ). IsSettledAt l old) (sym same) settled)
 
 -- One acknowledgement
 
@@ -103,12 +82,6 @@ acks_none Q run none = record {
   continues = run;
   each = λ moment from before is. absurd (is_ack_at-quiet moment run none from is);
 }
-
-pub acks_interval : {W : ℕ → Type 0} {a b : List ℕ} {ta tb : Option Trail} (Q : ℕ → List ℕ → Type 0) → IsInterval W a ta b tb → AcksSettled ta tb Q
-acks_interval Q run = acks_none Q (interval_continues run) (interval_acks run)
-
-pub acks_fenced : {T E : Type 0} {a b : List ℕ} {ta tb : Option Trail} {result : Result T E} (Q : ℕ → List ℕ → Type 0) → IsFenced a ta b tb result → AcksSettled ta tb Q
-acks_fenced Q fenced = acks_none Q fenced.leaves.continues fenced.no_ack
 
 pub acks_weaker : {Q R : ℕ → List ℕ → Type 0} {old new : Option Trail} → ((k : ℕ) (image : List ℕ) → Q k image → R k image) → AcksSettled old new Q → AcksSettled old new R
 acks_weaker {old = old} {new = new} implies run = record {

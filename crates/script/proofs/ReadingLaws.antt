@@ -49,28 +49,6 @@ reads_trans left-0 pending-0 count-0 left-1 pending-1 count-1 left-2 pending-2 c
       never_fewer = omega (arith, fewer_one, fewer_two);
     }
 
-onto_rest : (old_left left : Option (List ℕ)) (old more : List ℕ) → GivesFirst old_left more left → rest_of (old ++ more) left ≡ rest_of old old_left
-onto_rest None None old more given = refl
-onto_rest None (Some left) old more given = cc
-onto_rest (Some old_left) None old more given = absurd given
-onto_rest (Some old_left) (Some left) old more given = ap Some (append_assoc old more left ∙ ap (λ rest. old ++ rest) (sym given))
-
-onto_front : (old_left left : Option (List ℕ)) (more : List ℕ) (before now : ℕ) → now ≡ before + length more → GivesFirst old_left more left → IfTold old_left left (ReadFront before now)
-onto_front None left more before now counted given = given
-onto_front (Some old_left) None more before now counted given = absurd given
-onto_front (Some old_left) (Some left) more before now counted given = record { front = more; split = given; counted = counted }
-
--- what one read gave stands behind what was kept
-pub reads_onto : (count : ℕ) (old_left left : Option (List ℕ)) (old new : List ℕ) (before now : ℕ) → ReadsOnto count old_left old left new → now ≡ before + count
-    → ReadsOn old_left old before left new now
-reads_onto count old_left left old new before now read counted =
-    let long = read.long in
-    record {
-      rest = ap (λ bytes. rest_of bytes left) read.split ∙ onto_rest old_left left old read.more read.given;
-      front = onto_front old_left left read.more before now (omega (arith, counted, long)) read.given;
-      never_fewer = omega (arith, counted);
-    }
-
 -- ---- steps
 
 pub told_map : (a b : Option (List ℕ)) (R S : List ℕ → List ℕ → Type 0) → ((x y : List ℕ) → R x y → S x y) → IfTold a b R → IfTold a b S
@@ -151,15 +129,6 @@ pub breaks_off : (old left : Option (List ℕ)) (pending : List ℕ) → rest_of
 breaks_off old left pending rest unbroken = subst (λ (o : Option (List ℕ)). IfTold o left BreaksOff) rest (off_told left pending unbroken)
 
 -- ---- lines over the limit
-
-skip_told : (left : Option (List ℕ)) (pending : List ℕ) → IsUnbroken pending → line_limit < length pending → IfTold (rest_of pending left) left HasSkipped
-skip_told None pending unbroken long = refl
-skip_told (Some left) pending unbroken long = record { begun = pending; unbroken = unbroken; long = long; split = refl }
-
-pub skip_begun : (left : Option (List ℕ)) (pending : List ℕ) (count now : ℕ) → IsUnbroken pending → line_limit < length pending → now ≡ count → SkipsOn left pending count left now
-skip_begun left pending count now unbroken long same =
-    subst (λ (n : ℕ). SkipsOn left pending count left n) (sym same)
-    (let reads = reads_none left pending count in record { skipped = skip_told left pending unbroken long; front = reads.front; never_fewer = reads.never_fewer })
 
 -- what is left once these bytes were read
 left_of : (left-1 left-2 : Option (List ℕ)) (pending : List ℕ) → rest_of pending left-2 ≡ rest_of [] left-1 → IfTold left-1 left-2 (λ x y. x ≡ pending ++ y)

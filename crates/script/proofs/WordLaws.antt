@@ -7,14 +7,6 @@ use Rattle.std.proofs.lemmas.Bool.Decides.{nat_tests}
 use Rattle.script.specs.Places.{Lacks, BreaksAt}
 use Rattle.script.specs.Lines.{space, is_space, is_filled, words_of}
 
-pub words-space : (b : ℕ) (rest : List ℕ) → is_space b ≡ true → words_of (b ∷ rest) ≡ words_of rest
-words-space b rest is = ap (filter is_filled) (slice_split-cons_yes is_space b rest is)
-
--- a space further on
-pub words_drop_more : (text : List ℕ) (place : ℕ) → place < length text → is_space (slice_index text place) ≡ true → words_of (drop (place + 1) text) ≡ words_of (drop place text)
-words_drop_more text place within is =
-    sym (ap words_of (drop_more text place 0 within) ∙ words-space (slice_index text place) (drop (place + 1) text) is)
-
 filled : (word : List ℕ) → 0 < length word → is_filled word ≡ true
 filled word some = grind (arith, nat_tests)
 
