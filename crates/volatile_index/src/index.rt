@@ -63,7 +63,8 @@ impl Index {
     pub fn find(&self, directory: u64, name: &Name) -> Option<u64>
         requires from_one { 1 ≤ directory }
         requires in_range { directory ≤ inodes_of_index self.now }
-        ensures slot { MatchOption result (IsAbsent (entries_of self.now directory) name.now) (λ slot. Contains (entries_of self.now directory) (record { name = name.now; slot = slot })) }
+        ensures slot { MatchOption result (IsAbsent (entries_of self.now directory) name.now)
+            (λ slot. Contains (entries_of self.now directory) (record { name = name.now; slot = slot })) }
         ensures sorted { IsSorted (entries_of self.now directory) }
     {
         self.nodes[place_of(directory)].find(name)
@@ -136,7 +137,8 @@ impl Index {
         requires from_one { 1 ≤ inode }
         requires in_range { inode ≤ inodes_of_index self.old }
         requires place { place < length (pages_of self.old inode) }
-        ensures { ChangesNode inode self.old self.new (λ old new. IsWithPages (slice_set old.pages place page) old new) }
+        ensures { ChangesNode inode self.old self.new (λ old new.
+            IsWithPages (slice_set old.pages place page) old new) }
     {
         self.nodes[place_of(inode)].set_page(place, page);
     }
@@ -146,7 +148,8 @@ impl Index {
         requires from_one { 1 ≤ inode }
         requires in_range { inode ≤ inodes_of_index self.old }
         requires count { n ≤ length (pages_of self.old inode) }
-        ensures { ChangesNode inode self.old self.new (λ old new. IsWithPages (take (length old.pages - n) old.pages) old new) }
+        ensures { ChangesNode inode self.old self.new (λ old new.
+            IsWithPages (take (length old.pages - n) old.pages) old new) }
     {
         self.nodes[place_of(inode)].cut_pages(n);
     }

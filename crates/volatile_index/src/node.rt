@@ -59,7 +59,8 @@ impl Node {
 
     /// The slot of a name.
     pub fn find(&self, name: &Name) -> Option<u64>
-        ensures slot { MatchOption result (IsAbsent self.now.entries name.now) (λ slot. Contains self.now.entries (record { name = name.now; slot = slot })) }
+        ensures slot { MatchOption result (IsAbsent self.now.entries name.now)
+            (λ slot. Contains self.now.entries (record { name = name.now; slot = slot })) }
         ensures sorted { IsSorted self.now.entries }
     {
         match self.search(name) {
@@ -70,7 +71,8 @@ impl Node {
 
     // Where the entry of a name stands, or would stand.
     fn search(&self, name: &Name) -> Result<usize, usize>
-        ensures found { IfOk result (λ place. IsSomeAnd (slice_get self.now.entries place) (λ entry. entry.name ≡ name.now)) }
+        ensures found { IfOk result (λ place. IsSomeAnd (slice_get self.now.entries place)
+            (λ entry. entry.name ≡ name.now)) }
         ensures gap { IfErr result (λ place. IsGap self.now.entries place name.now) }
     {
         self.entries.binary_search_by(|entry| entry.name.cmp(name))
