@@ -1,4 +1,4 @@
-use Rattle.std.proofs.Common.{◌≡◌, ◌+◌, ◌-◌, ◌%◌, inl, inr, [], ◌∷◌, ℕ, length, get_or, sym, ◌∙◌, ap, arith, length-append}
+use Rattle.std.proofs.Common.{◌+◌, ◌-◌, ◌%◌, inl, inr, [], ◌∷◌, ℕ, length, get_or, ◌∙◌, ap, arith, length-append}
 use Rattle.pm_trait.specs.Trail.{Trail}
 use Rattle.pm_memory.specs.Chosen.{chosen_store}
 use Rattle.pm_memory.specs.Plain.{plain}
