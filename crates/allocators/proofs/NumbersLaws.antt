@@ -5,7 +5,7 @@ use Rattle.std.proofs.lemmas.List.{length-set, get_or-set_same, get_or-set_other
 use Rattle.std.proofs.lemmas.List.Sums.{sum_by-set, sum_by-cons, get_or-le-sum_by}
 use Rattle.std.proofs.lemmas.List.Folds.{sum_by-replicate}
 use Rattle.std.proofs.lemmas.Option.{slice_get-get_or, slice_get_within, get_or_from_slice_get}
-use Rattle.allocators.specs.Numbers.{IsFree, free_in}
+use Rattle.allocators.specs.Numbers.{IsFree, free_in, Takes, Gives}
 
 pub free_here : (numbers : List Bool) (k : ℕ) → k < length numbers → get_or numbers k false ≡ true → IsFree numbers k
 free_here numbers k within is = slice_get-get_or numbers k false within ∙ ap Some is
@@ -58,6 +58,22 @@ count_after_take numbers k free =
     let was = ap counted (reads_free numbers k free) in
     let change = count_with numbers k false (slice_get_within numbers k true free) in
     omega (arith, was, change)
+
+-- ---- the calls
+
+pub takes : (numbers : List Bool) (k : ℕ) → IsFree numbers k → Takes k numbers (set numbers k false)
+takes numbers k free = record {
+  numbers = refl;
+  taken = taken_after_take numbers k (slice_get_within numbers k true free);
+  count = count_after_take numbers k free;
+}
+
+pub gives : (numbers : List Bool) (k : ℕ) → k < length numbers → ¬ IsFree numbers k → Gives k numbers (set numbers k true)
+gives numbers k within taken = record {
+  numbers = refl;
+  free = free_after_give numbers k within;
+  count = count_after_give numbers k within taken;
+}
 
 -- ---- whether one is free
 

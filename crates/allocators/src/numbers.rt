@@ -1,5 +1,5 @@
-ghost use Rattle.std.specs.Prelude.{◌≡◌, ◌≢◌, ◌+◌, ◌<◌, ◌≤◌, ℕ, true, false, length, replicate, slice_set, IfOk, MatchOption};
-ghost use Rattle.allocators.specs.Numbers.{IsFree, IsLowest, free_in};
+ghost use Rattle.std.specs.Prelude.{◌≡◌, ◌<◌, ◌≤◌, ℕ, true, length, replicate, IfOk, MatchOption};
+ghost use Rattle.allocators.specs.Numbers.{IsFree, IsLowest, free_in, Takes, Gives};
 ghost use Rattle.allocators.specs.NumbersKept.{IsLowestPlace};
 
 use pm_trait::NoMemory;
@@ -55,9 +55,7 @@ impl Numbers {
     /// Takes a free number.
     pub fn take(&mut self, k: u64)
         requires free { IsFree self.old k }
-        ensures numbers { self.new ≡ slice_set self.old k false }
-        ensures taken { ¬ IsFree self.new k }
-        ensures count { free_in self.new + 1 ≡ free_in self.old }
+        ensures { Takes k self.old self.new }
     {
         let place = k as usize;
         self.is_free[place] = false;
@@ -71,9 +69,7 @@ impl Numbers {
     pub fn give(&mut self, k: u64)
         requires in_range { k < length self.old }
         requires taken { ¬ IsFree self.old k }
-        ensures numbers { self.new ≡ slice_set self.old k true }
-        ensures free { IsFree self.new k }
-        ensures count { free_in self.new ≡ free_in self.old + 1 }
+        ensures { Gives k self.old self.new }
     {
         let place = k as usize;
         self.is_free[place] = true;

@@ -17,7 +17,7 @@ use Rattle.image_counts.specs.Entries.{IsEntryOf, IsPageIn}
 use Rattle.image_laws.specs.Create.{MakesNode, committed}
 use Rattle.allocators.specs.Numbers.{IsFree}
 use Rattle.allocators.proofs.NumbersLaws.{taken_after_take, free_before, free_still}
-use Rattle.volatile_index.specs.Index.{Held, entries_of, pages_of}
+use Rattle.volatile_index.specs.Index.{NodeView, entries_of, pages_of}
 use Rattle.volatile_index.proofs.EntryLaws.{contains_entry, contains_still, contains_before as entry_among}
 use Rattle.volatile_index.specs.declared.entry.Entry.{Entry}
 use Rattle.volume.specs.declared.plan.NewEntry.{NewEntry}
@@ -140,7 +140,7 @@ module _ (laws : ImageLaws) (P : ℕ) (W : List ℕ) (state : State) (path : Rou
 
     entries_elsewhere : (e t : ℕ) (bytes : List ℕ) → 1 ≤ e → e ≤ inodes_of P → e ≢ entry.directory → Contains (entries_of new.index e) (record { name = bytes; slot = t }) ↔ IsEntryOf P J e bytes t
     entries_elsewhere e t bytes some most away =
-        let same = ap (λ (h : Held). h.entries) (entered.elsewhere.others e away) in (
+        let same = ap (λ (h : NodeView). h.entries) (entered.elsewhere.others e away) in (
           (λ has. After.entry_after laws P W state path entry at B I J opened made commit after tidy reads e bytes t some most
               ((nodes.entries e t bytes some most).0 (subst (λ (l : List Entry). Contains l (record { name = bytes; slot = t })) same has))),
           (λ is. elim (cases_eq t entry.slot) [
@@ -184,7 +184,7 @@ module _ (laws : ImageLaws) (P : ℕ) (W : List ℕ) (state : State) (path : Rou
 
     pages_elsewhere : (x page : ℕ) → 1 ≤ x → x ≤ inodes_of P → x ≢ entry.directory → Contains (pages_of new.index x) page ↔ IsPageIn P J x page
     pages_elsewhere x page some most away =
-        let same = ap (λ (h : Held). h.pages) (entered.elsewhere.others x away) in
+        let same = ap (λ (h : NodeView). h.pages) (entered.elsewhere.others x away) in
         let known = nodes.pages x page some most in (
           (λ has. page_after x page some (known.0 (subst (λ (l : List ℕ). Contains l page) same has))),
           (λ is. subst (λ (l : List ℕ). Contains l page) (sym same) (known.1 (page_before x page (λ here. away (sym is.owner ∙ (new_in page here).owner)) is))),
@@ -201,7 +201,7 @@ module _ (laws : ImageLaws) (P : ℕ) (W : List ℕ) (state : State) (path : Rou
       | inl same ↦ subst (λ (y : ℕ). IsDistinct (pages_of new.index y)) (sym same) (subst IsDistinct (sym entered.pages)
           (distinct_pages (pages_of volume.index entry.directory) entry.new_page (nodes.once entry.directory d_least d_most) (λ page here has.
           After.owned_old laws P W state path entry at page entry.directory ((nodes.pages entry.directory page d_least d_most).0 has).owner d_least here)))
-      | inr away ↦ subst IsDistinct (sym (ap (λ (h : Held). h.pages) (entered.elsewhere.others x away))) (nodes.once x some most)
+      | inr away ↦ subst IsDistinct (sym (ap (λ (h : NodeView). h.pages) (entered.elsewhere.others x away))) (nodes.once x some most)
     ]
 
     offset_elsewhere : (x k page : ℕ) → 1 ≤ x → x ≤ inodes_of P → Reached P J x → HasBytes J x → x ≢ entry.directory → slice_get (pages_of volume.index x) k ≡ Some page → page_offset P J page ≡ k
@@ -224,7 +224,7 @@ module _ (laws : ImageLaws) (P : ℕ) (W : List ℕ) (state : State) (path : Rou
         elim (cases_eq x entry.directory) [
           | inl same ↦ absurd (not_file (subst (λ (y : ℕ). HasBytes J y) same bytes))
           | inr away ↦ offset_elsewhere x k page (range.least x reached) (range.most x reached) reached bytes away
-              (ap (λ (h : Held). slice_get h.pages k) (sym (entered.elsewhere.others x away)) ∙ stands)
+              (ap (λ (h : NodeView). slice_get h.pages k) (sym (entered.elsewhere.others x away)) ∙ stands)
         ]
 
     nodes_known : KnowsNodes P new.index J

@@ -12,7 +12,7 @@ use Rattle.image_reading.specs.Tidy.{Tidy}
 use Rattle.image_counts.specs.Entries.{IsEntryOf, IsPageIn}
 use Rattle.volatile_index.specs.Entries.{IsAbsent, IsWithEntry}
 use Rattle.volatile_index.proofs.EntryLaws.{contains_none, contains_entry, contains_still, contains_before}
-use Rattle.volatile_index.specs.Index.{Held, held_of, inodes_of_index, IsSameElsewhere}
+use Rattle.volatile_index.specs.Index.{NodeView, node_of, inodes_of_index, IsSameElsewhere}
 use Rattle.volatile_index.specs.declared.entry.Entry.{Entry}
 use Rattle.volume.specs.Stands.{KnowsNodes}
 use Rattle.mount_scan.specs.Building.{HasPlacesOf, HasPlaces, HoldsOf, Holds}
@@ -29,7 +29,7 @@ in_page p slot low high = omega arith
 -- ---- before the first page
 
 module _ (P : ℕ) (I : List ℕ) where
-  places_hold : (i : ℕ) (held : Held) → HasPlacesOf I i held → HoldsOf P I 0 0 i held
+  places_hold : (i : ℕ) (held : NodeView) → HasPlacesOf I i held → HoldsOf P I 0 0 i held
   places_hold i held has = record {
     entries = λ slot bytes. (
       (λ there. absurd (contains_none (record { name = bytes; slot = slot }) (subst (λ (es : List Entry). Contains es (record { name = bytes; slot = slot })) has.entries there))),
@@ -44,15 +44,15 @@ module _ (P : ℕ) (I : List ℕ) where
     of_file = λ file page is below. absurd (omega (arith, below));
   }
 
-  pub all_places_hold : (index : List Held) → HasPlaces P I (inodes_of P) index → Holds P I 0 0 index
+  pub all_places_hold : (index : List NodeView) → HasPlaces P I (inodes_of P) index → Holds P I 0 0 index
   all_places_hold index has = record {
     each_inode = has.each_inode;
-    each = λ i least most. places_hold i (held_of index i) (has.made i least most);
+    each = λ i least most. places_hold i (node_of index i) (has.made i least most);
   }
 
   -- ---- pages and slots of which there is nothing to hold
 
-  pub more_pages : (i p more s : ℕ) (held : Held) → ((page : ℕ) → p ≤ page → page < more → ¬ IsPageIn P I i page) → p ≤ more → HoldsOf P I p s i held → HoldsOf P I more s i held
+  pub more_pages : (i p more s : ℕ) (held : NodeView) → ((page : ℕ) → p ≤ page → page < more → ¬ IsPageIn P I i page) → p ≤ more → HoldsOf P I p s i held → HoldsOf P I more s i held
   more_pages i p more s held none le holds = record {
     entries = holds.entries;
     of_others = λ other page. (
@@ -67,7 +67,7 @@ module _ (P : ℕ) (I : List ℕ) where
       old : (page : ℕ) → IsPageIn P I i page → page < more → page < p
       old page is below = elim (cases_lt page p) [ inl lt ↦ lt | inr ge ↦ absurd (none page ge below is) ]
 
-  pub more_slots : (i p s more : ℕ) (held : Held) → ((slot : ℕ) (bytes : List ℕ) → s ≤ slot → slot < more → ¬ IsEntryOf P I i bytes slot) → s ≤ more → HoldsOf P I p s i held → HoldsOf P I p more i held
+  pub more_slots : (i p s more : ℕ) (held : NodeView) → ((slot : ℕ) (bytes : List ℕ) → s ≤ slot → slot < more → ¬ IsEntryOf P I i bytes slot) → s ≤ more → HoldsOf P I p s i held → HoldsOf P I p more i held
   more_slots i p s more held none le holds = record {
     entries = λ slot bytes. (
       (λ there. let (is, below) = (holds.entries slot bytes).0 there in (is, omega (arith, below, le))),
@@ -81,7 +81,7 @@ module _ (P : ℕ) (I : List ℕ) where
 
   -- ---- one page more
 
-  pub with_page : (i p s : ℕ) (old new : Held) → inode_kind I i ≢ 1 → IsPageIn P I i p → new.pages ≡ old.pages ++ p ∷ [] → new.entries ≡ old.entries → HoldsOf P I p s i old → HoldsOf P I (p + 1) s i new
+  pub with_page : (i p s : ℕ) (old new : NodeView) → inode_kind I i ≢ 1 → IsPageIn P I i p → new.pages ≡ old.pages ++ p ∷ [] → new.entries ≡ old.entries → HoldsOf P I p s i old → HoldsOf P I (p + 1) s i new
   with_page i p s old new other page pages entries holds = record {
     entries = λ slot bytes. subst (λ (es : List Entry). Contains es (record { name = bytes; slot = slot }) ↔ (IsEntryOf P I i bytes slot × (slot < s))) (sym entries) (holds.entries slot bytes);
     of_others = λ not_file x. subst (λ (xs : List ℕ). Contains xs x ↔ (IsPageIn P I i x × (x < p + 1))) (sym pages) (to x, from x);
@@ -102,7 +102,7 @@ module _ (P : ℕ) (I : List ℕ) where
         | inr ge ↦ let same : p ≡ x = omega (arith, below, ge) in subst (λ (y : ℕ). Contains (old.pages ++ p ∷ []) y) same (push_there old.pages p)
       ]
 
-  pub with_file_page : (i p s : ℕ) (old new : Held) → Tidy P I → 1 ≤ i → i ≤ inodes_of P → inode_kind I i ≡ 1 → IsPageIn P I i p
+  pub with_file_page : (i p s : ℕ) (old new : NodeView) → Tidy P I → 1 ≤ i → i ≤ inodes_of P → inode_kind I i ≡ 1 → IsPageIn P I i p
       → new.pages ≡ set old.pages (page_offset P I p) p → new.entries ≡ old.entries → HoldsOf P I p s i old → HoldsOf P I (p + 1) s i new
   with_file_page i p s old new tidy least most file page pages entries holds = record {
     entries = λ slot bytes. subst (λ (es : List Entry). Contains es (record { name = bytes; slot = slot }) ↔ (IsEntryOf P I i bytes slot × (slot < s))) (sym entries) (holds.entries slot bytes);
@@ -124,7 +124,7 @@ module _ (P : ℕ) (I : List ℕ) where
 
   -- ---- one entry more
 
-  pub with_entry : (i p s : ℕ) (old new : Held) (bytes : List ℕ) → IsEntryOf P I i bytes s → IsWithEntry old.entries new.entries (record { name = bytes; slot = s }) → new.pages ≡ old.pages
+  pub with_entry : (i p s : ℕ) (old new : NodeView) (bytes : List ℕ) → IsEntryOf P I i bytes s → IsWithEntry old.entries new.entries (record { name = bytes; slot = s }) → new.pages ≡ old.pages
       → HoldsOf P I p s i old → HoldsOf P I p (s + 1) i new
   with_entry i p s old new bytes entry with pages holds = record {
     entries = λ slot name. (to slot name, from slot name);
@@ -152,13 +152,13 @@ module _ (P : ℕ) (I : List ℕ) where
             subst (λ (e : Entry). Contains new.entries e) (λ k. record { name = names k; slot = same k }) (contains_entry old.entries new.entries (record { name = bytes; slot = s }) with)
       ]
 
-  pub entry_absent : (i p s : ℕ) (held : Held) (bytes : List ℕ) → Tidy P I → IsEntryOf P I i bytes s → HoldsOf P I p s i held → IsAbsent held.entries bytes
+  pub entry_absent : (i p s : ℕ) (held : NodeView) (bytes : List ℕ) → Tidy P I → IsEntryOf P I i bytes s → HoldsOf P I p s i held → IsAbsent held.entries bytes
   entry_absent i p s held bytes tidy entry holds other there same =
       let (is, below) = (holds.entries other.slot other.name).0 there in
       let one = one_entry P I tidy i other.slot s bytes (subst (λ (name : List ℕ). IsEntryOf P I i name other.slot) same is) entry in
       omega (arith, below, one)
 
-  kept : (i p s : ℕ) (old new : Held) → new.entries ≡ old.entries → new.pages ≡ old.pages → HoldsOf P I p s i old → HoldsOf P I p s i new
+  kept : (i p s : ℕ) (old new : NodeView) → new.entries ≡ old.entries → new.pages ≡ old.pages → HoldsOf P I p s i old → HoldsOf P I p s i new
   kept i p s old new entries pages holds = record {
     entries = λ slot bytes. subst (λ (es : List Entry). Contains es (record { name = bytes; slot = slot }) ↔ (IsEntryOf P I i bytes slot × (slot < s))) (sym entries) (holds.entries slot bytes);
     of_others = λ other x. subst (λ (xs : List ℕ). Contains xs x ↔ (IsPageIn P I i x × (x < p))) (sym pages) (holds.of_others other x);
@@ -169,44 +169,44 @@ module _ (P : ℕ) (I : List ℕ) where
 
   -- ---- a step at one inode
 
-  pub at_one : (d p s more_p more_s : ℕ) (old new : List Held) → IsSameElsewhere d old new → HoldsOf P I more_p more_s d (held_of new d)
-      → ((i : ℕ) → 1 ≤ i → i ≢ d → (held : Held) → HoldsOf P I p s i held → HoldsOf P I more_p more_s i held) → Holds P I p s old → Holds P I more_p more_s new
+  pub at_one : (d p s more_p more_s : ℕ) (old new : List NodeView) → IsSameElsewhere d old new → HoldsOf P I more_p more_s d (node_of new d)
+      → ((i : ℕ) → 1 ≤ i → i ≢ d → (held : NodeView) → HoldsOf P I p s i held → HoldsOf P I more_p more_s i held) → Holds P I p s old → Holds P I more_p more_s new
   at_one d p s more_p more_s old new elsewhere here others holds = record {
     each_inode = elsewhere.inodes ∙ holds.each_inode;
     each = λ i least most. elim (cases_eq i d) [
-      | inl same ↦ subst (λ (k : ℕ). HoldsOf P I more_p more_s k (held_of new k)) (sym same) here
-      | inr other ↦ subst (HoldsOf P I more_p more_s i) (sym (elsewhere.others i other)) (others i least other (held_of old i) (holds.each i least most))
+      | inl same ↦ subst (λ (k : ℕ). HoldsOf P I more_p more_s k (node_of new k)) (sym same) here
+      | inr other ↦ subst (HoldsOf P I more_p more_s i) (sym (elsewhere.others i other)) (others i least other (node_of old i) (holds.each i least most))
     ];
   }
 
-  pub slot_skipped : (p s : ℕ) (index : List Held) → ((i : ℕ) (bytes : List ℕ) → ¬ IsEntryOf P I i bytes s) → Holds P I p s index → Holds P I p (s + 1) index
+  pub slot_skipped : (p s : ℕ) (index : List NodeView) → ((i : ℕ) (bytes : List ℕ) → ¬ IsEntryOf P I i bytes s) → Holds P I p s index → Holds P I p (s + 1) index
   slot_skipped p s index none holds = record {
     each_inode = holds.each_inode;
-    each = λ i least most. more_slots i p s (s + 1) (held_of index i)
+    each = λ i least most. more_slots i p s (s + 1) (node_of index i)
         (λ slot bytes low high entry. let same : slot ≡ s = omega (arith, low, high) in none i bytes (subst (IsEntryOf P I i bytes) same entry))
         (omega arith) (holds.each i least most);
   }
 
   -- what is held stays
-  pub all_kept : (d p s : ℕ) (old new : List Held) → IsSameElsewhere d old new → (held_of new d).entries ≡ (held_of old d).entries → (held_of new d).pages ≡ (held_of old d).pages
+  pub all_kept : (d p s : ℕ) (old new : List NodeView) → IsSameElsewhere d old new → (node_of new d).entries ≡ (node_of old d).entries → (node_of new d).pages ≡ (node_of old d).pages
       → Holds P I p s old → Holds P I p s new
   all_kept d p s old new elsewhere entries pages holds = record {
     each_inode = elsewhere.inodes ∙ holds.each_inode;
     each = λ i least most. elim (cases_eq i d) [
-      | inl same ↦ kept i p s (held_of old i) (held_of new i)
-          (ap (λ k. (held_of new k).entries) same ∙ entries ∙ ap (λ k. (held_of old k).entries) (sym same))
-          (ap (λ k. (held_of new k).pages) same ∙ pages ∙ ap (λ k. (held_of old k).pages) (sym same)) (holds.each i least most)
+      | inl same ↦ kept i p s (node_of old i) (node_of new i)
+          (ap (λ k. (node_of new k).entries) same ∙ entries ∙ ap (λ k. (node_of old k).entries) (sym same))
+          (ap (λ k. (node_of new k).pages) same ∙ pages ∙ ap (λ k. (node_of old k).pages) (sym same)) (holds.each i least most)
       | inr other ↦ subst (HoldsOf P I p s i) (sym (elsewhere.others i other)) (holds.each i least most)
     ];
   }
 
-  pub entry_put : (d p s : ℕ) (old new : List Held) (bytes : List ℕ) → 1 ≤ d → d ≤ inodes_of P → IsEntryOf P I d bytes s → IsSameElsewhere d old new
-      → IsWithEntry (held_of old d).entries (held_of new d).entries (record { name = bytes; slot = s }) → (held_of new d).pages ≡ (held_of old d).pages
+  pub entry_put : (d p s : ℕ) (old new : List NodeView) (bytes : List ℕ) → 1 ≤ d → d ≤ inodes_of P → IsEntryOf P I d bytes s → IsSameElsewhere d old new
+      → IsWithEntry (node_of old d).entries (node_of new d).entries (record { name = bytes; slot = s }) → (node_of new d).pages ≡ (node_of old d).pages
       → Holds P I p s old → Holds P I p (s + 1) new
   entry_put d p s old new bytes least most entry elsewhere with pages holds =
-      at_one d p s p (s + 1) old new elsewhere (with_entry d p s (held_of old d) (held_of new d) bytes entry with pages (holds.each d least most)) others holds
+      at_one d p s p (s + 1) old new elsewhere (with_entry d p s (node_of old d) (node_of new d) bytes entry with pages (holds.each d least most)) others holds
     where
-      others : (i : ℕ) → 1 ≤ i → i ≢ d → (held : Held) → HoldsOf P I p s i held → HoldsOf P I p (s + 1) i held
+      others : (i : ℕ) → 1 ≤ i → i ≢ d → (held : NodeView) → HoldsOf P I p s i held → HoldsOf P I p (s + 1) i held
       others i from_one apart held = more_slots i p s (s + 1) held
           (λ slot name low high other.
           let same : slot ≡ s = omega (arith, low, high) in
@@ -223,38 +223,38 @@ module _ (P : ℕ) (I : List ℕ) where
   no_other_page : (p i page : ℕ) → page_owner P I p ≢ i → p ≤ page → page < p + 1 → ¬ IsPageIn P I i page
   no_other_page p i page apart low high is = let same : page ≡ p = omega (arith, low, high) in apart (ap (page_owner P I) (sym same) ∙ is.owner)
 
-  not_mine : (p i : ℕ) (held : Held) → page_owner P I p ≢ i → HoldsOf P I p (32 * p) i held → HoldsOf P I (p + 1) (32 * (p + 1)) i held
+  not_mine : (p i : ℕ) (held : NodeView) → page_owner P I p ≢ i → HoldsOf P I p (32 * p) i held → HoldsOf P I (p + 1) (32 * (p + 1)) i held
   not_mine p i held apart holds =
       more_slots i (p + 1) (32 * p) (32 * (p + 1)) held (λ slot bytes. no_slot_in p i slot bytes (λ same. absurd (apart same))) (omega arith)
       (more_pages i p (p + 1) (32 * p) held (λ page. no_other_page p i page apart) (omega arith) holds)
 
-  pub page_skipped : (p : ℕ) (index : List Held) → page_owner P I p ≡ 0 → Holds P I p (32 * p) index → Holds P I (p + 1) (32 * (p + 1)) index
+  pub page_skipped : (p : ℕ) (index : List NodeView) → page_owner P I p ≡ 0 → Holds P I p (32 * p) index → Holds P I (p + 1) (32 * (p + 1)) index
   page_skipped p index free holds = record {
     each_inode = holds.each_inode;
-    each = λ i least most. not_mine p i (held_of index i) (λ same. omega (arith, least, free, same)) (holds.each i least most);
+    each = λ i least most. not_mine p i (node_of index i) (λ same. omega (arith, least, free, same)) (holds.each i least most);
   }
 
-  pub file_page_set : (p : ℕ) (old new : List Held) → Tidy P I → p < data_pages_of P → page_owner P I p ≢ 0 → inode_kind I (page_owner P I p) ≡ 1 → IsSameElsewhere (page_owner P I p) old new
-      → (held_of new (page_owner P I p)).pages ≡ set (held_of old (page_owner P I p)).pages (page_offset P I p) p
-      → (held_of new (page_owner P I p)).entries ≡ (held_of old (page_owner P I p)).entries
+  pub file_page_set : (p : ℕ) (old new : List NodeView) → Tidy P I → p < data_pages_of P → page_owner P I p ≢ 0 → inode_kind I (page_owner P I p) ≡ 1 → IsSameElsewhere (page_owner P I p) old new
+      → (node_of new (page_owner P I p)).pages ≡ set (node_of old (page_owner P I p)).pages (page_offset P I p) p
+      → (node_of new (page_owner P I p)).entries ≡ (node_of old (page_owner P I p)).entries
       → Holds P I p (32 * p) old → Holds P I (p + 1) (32 * (p + 1)) new
   file_page_set p old new tidy within owned file elsewhere pages entries holds =
       at_one (page_owner P I p) p (32 * p) (p + 1) (32 * (p + 1)) old new elsewhere
-      (more_slots (page_owner P I p) (p + 1) (32 * p) (32 * (p + 1)) (held_of new (page_owner P I p))
+      (more_slots (page_owner P I p) (p + 1) (32 * p) (32 * (p + 1)) (node_of new (page_owner P I p))
       (λ slot bytes. no_slot_in p (page_owner P I p) slot bytes (λ same directory. omega (arith, file, directory))) (omega arith)
-      (with_file_page (page_owner P I p) p (32 * p) (held_of old (page_owner P I p)) (held_of new (page_owner P I p)) tidy range.0 range.1 file (record { in_range = within; owner = refl }) pages entries (holds.each (page_owner P I p) range.0 range.1)))
+      (with_file_page (page_owner P I p) p (32 * p) (node_of old (page_owner P I p)) (node_of new (page_owner P I p)) tidy range.0 range.1 file (record { in_range = within; owner = refl }) pages entries (holds.each (page_owner P I p) range.0 range.1)))
       (λ i least apart held. not_mine p i held (λ same. apart (sym same))) holds
     where
       range : (1 ≤ page_owner P I p) × (page_owner P I p ≤ inodes_of P)
       range = in_table P I tidy (page_owner P I p) (owner_reached P I tidy p within owned)
 
-  pub page_pushed : (p : ℕ) (old new : List Held) → Tidy P I → p < data_pages_of P → page_owner P I p ≢ 0 → inode_kind I (page_owner P I p) ≡ 2 → IsSameElsewhere (page_owner P I p) old new
-      → (held_of new (page_owner P I p)).pages ≡ (held_of old (page_owner P I p)).pages ++ p ∷ []
-      → (held_of new (page_owner P I p)).entries ≡ (held_of old (page_owner P I p)).entries
+  pub page_pushed : (p : ℕ) (old new : List NodeView) → Tidy P I → p < data_pages_of P → page_owner P I p ≢ 0 → inode_kind I (page_owner P I p) ≡ 2 → IsSameElsewhere (page_owner P I p) old new
+      → (node_of new (page_owner P I p)).pages ≡ (node_of old (page_owner P I p)).pages ++ p ∷ []
+      → (node_of new (page_owner P I p)).entries ≡ (node_of old (page_owner P I p)).entries
       → Holds P I p (32 * p) old → Holds P I (p + 1) (32 * p) new
   page_pushed p old new tidy within owned directory elsewhere pages entries holds =
       at_one (page_owner P I p) p (32 * p) (p + 1) (32 * p) old new elsewhere
-      (with_page (page_owner P I p) p (32 * p) (held_of old (page_owner P I p)) (held_of new (page_owner P I p)) (λ file. omega (arith, file, directory)) (record { in_range = within; owner = refl }) pages entries (holds.each (page_owner P I p) range.0 range.1))
+      (with_page (page_owner P I p) p (32 * p) (node_of old (page_owner P I p)) (node_of new (page_owner P I p)) (λ file. omega (arith, file, directory)) (record { in_range = within; owner = refl }) pages entries (holds.each (page_owner P I p) range.0 range.1))
       (λ i least apart held. more_pages i p (p + 1) (32 * p) held (λ page. no_other_page p i page (λ same. apart (sym same))) (omega arith)) holds
     where
       range : (1 ≤ page_owner P I p) × (page_owner P I p ≤ inodes_of P)
@@ -262,44 +262,44 @@ module _ (P : ℕ) (I : List ℕ) where
 
   -- the same for a page with a known owner
 
-  pub owner_in_index : (p d : ℕ) (index : List Held) → Tidy P I → p < data_pages_of P → d ≡ page_owner P I p → d ≢ 0 → inodes_of_index index ≡ inodes_of P → d ≤ inodes_of_index index
+  pub owner_in_index : (p d : ℕ) (index : List NodeView) → Tidy P I → p < data_pages_of P → d ≡ page_owner P I p → d ≢ 0 → inodes_of_index index ≡ inodes_of P → d ≤ inodes_of_index index
   owner_in_index p d index tidy within owner owned size =
       let most = (in_table P I tidy (page_owner P I p) (owner_reached P I tidy p within (λ zero. owned (owner ∙ zero)))).1 in
       omega (arith, most, owner, size)
 
-  pub offset_in_file : (p d offset : ℕ) (index : List Held) → Tidy P I → p < data_pages_of P → d ≡ page_owner P I p → d ≢ 0 → page_kind P I p ≡ 1 → offset ≡ page_offset P I p → Holds P I p (32 * p) index
-      → offset < length (held_of index d).pages
+  pub offset_in_file : (p d offset : ℕ) (index : List NodeView) → Tidy P I → p < data_pages_of P → d ≡ page_owner P I p → d ≢ 0 → page_kind P I p ≡ 1 → offset ≡ page_offset P I p → Holds P I p (32 * p) index
+      → offset < length (node_of index d).pages
   offset_in_file p d offset index tidy within owner owned kind offset_is holds =
       let range = in_table P I tidy (page_owner P I p) (owner_reached P I tidy p within (λ zero. owned (owner ∙ zero))) in
       let file = file_owner P I tidy p within (λ zero. owned (owner ∙ zero)) kind in
       let below = offset_below P I tidy (page_owner P I p) range.0 range.1 file p (record { in_range = within; owner = refl }) in
       let long = (holds.each (page_owner P I p) range.0 range.1).places file in
-      let same = ap (λ k. length (held_of index k).pages) owner in
+      let same = ap (λ k. length (node_of index k).pages) owner in
       omega (arith, below, long, same, offset_is)
 
-  pub with_set_page : (p d offset : ℕ) (old new : List Held) → Tidy P I → p < data_pages_of P → d ≡ page_owner P I p → d ≢ 0 → page_kind P I p ≡ 1 → offset ≡ page_offset P I p
-      → IsSameElsewhere d old new → (held_of new d).pages ≡ set (held_of old d).pages offset p → (held_of new d).entries ≡ (held_of old d).entries
+  pub with_set_page : (p d offset : ℕ) (old new : List NodeView) → Tidy P I → p < data_pages_of P → d ≡ page_owner P I p → d ≢ 0 → page_kind P I p ≡ 1 → offset ≡ page_offset P I p
+      → IsSameElsewhere d old new → (node_of new d).pages ≡ set (node_of old d).pages offset p → (node_of new d).entries ≡ (node_of old d).entries
       → Holds P I p (32 * p) old → Holds P I (p + 1) (32 * (p + 1)) new
   with_set_page p d offset old new tidy within owner owned kind offset_is elsewhere pages entries =
       file_page_set p old new tidy within (λ zero. owned (owner ∙ zero)) (file_owner P I tidy p within (λ zero. owned (owner ∙ zero)) kind)
       (subst (λ (k : ℕ). IsSameElsewhere k old new) owner elsewhere)
-      (subst (λ (k : ℕ). (held_of new k).pages ≡ set (held_of old k).pages (page_offset P I p) p) owner (pages ∙ ap (λ (o : ℕ). set (held_of old d).pages o p) offset_is))
-      (subst (λ (k : ℕ). (held_of new k).entries ≡ (held_of old k).entries) owner entries)
+      (subst (λ (k : ℕ). (node_of new k).pages ≡ set (node_of old k).pages (page_offset P I p) p) owner (pages ∙ ap (λ (o : ℕ). set (node_of old d).pages o p) offset_is))
+      (subst (λ (k : ℕ). (node_of new k).entries ≡ (node_of old k).entries) owner entries)
 
-  pub with_pushed_page : (p d : ℕ) (old new : List Held) → Tidy P I → p < data_pages_of P → d ≡ page_owner P I p → d ≢ 0 → page_kind P I p ≢ 1
-      → IsSameElsewhere d old new → (held_of new d).pages ≡ (held_of old d).pages ++ p ∷ [] → (held_of new d).entries ≡ (held_of old d).entries
+  pub with_pushed_page : (p d : ℕ) (old new : List NodeView) → Tidy P I → p < data_pages_of P → d ≡ page_owner P I p → d ≢ 0 → page_kind P I p ≢ 1
+      → IsSameElsewhere d old new → (node_of new d).pages ≡ (node_of old d).pages ++ p ∷ [] → (node_of new d).entries ≡ (node_of old d).entries
       → Holds P I p (32 * p) old → Holds P I (p + 1) (32 * p) new
   with_pushed_page p d old new tidy within owner owned kind elsewhere pages entries =
       page_pushed p old new tidy within (λ zero. owned (owner ∙ zero)) (directory_owner P I tidy p within (λ zero. owned (owner ∙ zero)) kind)
       (subst (λ (k : ℕ). IsSameElsewhere k old new) owner elsewhere)
-      (subst (λ (k : ℕ). (held_of new k).pages ≡ (held_of old k).pages ++ p ∷ []) owner pages)
-      (subst (λ (k : ℕ). (held_of new k).entries ≡ (held_of old k).entries) owner entries)
+      (subst (λ (k : ℕ). (node_of new k).pages ≡ (node_of old k).pages ++ p ∷ []) owner pages)
+      (subst (λ (k : ℕ). (node_of new k).entries ≡ (node_of old k).entries) owner entries)
 
   -- ---- after the last page
 
-  module _ (tidy : Tidy P I) (index : List Held) (holds : Holds P I (data_pages_of P) (slots_of P) index) where
+  module _ (tidy : Tidy P I) (index : List NodeView) (holds : Holds P I (data_pages_of P) (slots_of P) index) where
     abbrev pages_at : ℕ → List ℕ
-    pages_at i = (held_of index i).pages
+    pages_at i = (node_of index i).pages
 
     module _ (i : ℕ) (least : 1 ≤ i) (most : i ≤ inodes_of P) (file : inode_kind I i ≡ 1) where
       placed : (k x : ℕ) → slice_get (pages_at i) k ≡ Some x → IsPageIn P I i x × (page_offset P I x ≡ k)

@@ -5,11 +5,11 @@ use Rattle.std.specs.Int.{div_ceil}
 use Rattle.layout.specs.Geometry.{inodes_of}
 use Rattle.layout.specs.Fields.{inode_kind, inode_size}
 use Rattle.image_reading.specs.Reading.{pages_of_size}
-use Rattle.volatile_index.specs.Index.{Held, held_of, inodes_of_index, IsSameElsewhere}
+use Rattle.volatile_index.specs.Index.{NodeView, node_of, inodes_of_index, IsSameElsewhere}
 use Rattle.mount_scan.specs.Building.{HasPlacesOf, HasPlaces}
 
 module _ (P : ℕ) (I : List ℕ) where
-  pub no_places : (index : List Held) → inodes_of_index index ≡ inodes_of P → ((i : ℕ) → (held_of index i).entries ≡ []) → ((i : ℕ) → (held_of index i).pages ≡ []) → HasPlaces P I 0 index
+  pub no_places : (index : List NodeView) → inodes_of_index index ≡ inodes_of P → ((i : ℕ) → (node_of index i).entries ≡ []) → ((i : ℕ) → (node_of index i).pages ≡ []) → HasPlaces P I 0 index
   no_places index size entries pages = record {
     each_inode = size;
     made = λ i least most. absurd (omega (arith, least, most));
@@ -17,7 +17,7 @@ module _ (P : ℕ) (I : List ℕ) where
     pages = λ i low. pages i;
   }
 
-  pub place_skipped : (n : ℕ) (index : List Held) → inode_kind I (n + 1) ≢ 1 → HasPlaces P I n index → HasPlaces P I (n + 1) index
+  pub place_skipped : (n : ℕ) (index : List NodeView) → inode_kind I (n + 1) ≢ 1 → HasPlaces P I n index → HasPlaces P I (n + 1) index
   place_skipped n index other has = record {
     each_inode = has.each_inode;
     made = λ i least most. elim (cases_eq i (n + 1)) [
@@ -32,20 +32,20 @@ module _ (P : ℕ) (I : List ℕ) where
     pages = λ i low. has.pages i (omega (arith, low));
   }
 
-  pub places_added : (n count : ℕ) (old new : List Held) → inode_kind I (n + 1) ≡ 1 → count ≡ pages_of_size (inode_size I (n + 1)) → IsSameElsewhere (n + 1) old new
-      → length (held_of new (n + 1)).pages ≡ length (held_of old (n + 1)).pages + count → (held_of new (n + 1)).entries ≡ (held_of old (n + 1)).entries
+  pub places_added : (n count : ℕ) (old new : List NodeView) → inode_kind I (n + 1) ≡ 1 → count ≡ pages_of_size (inode_size I (n + 1)) → IsSameElsewhere (n + 1) old new
+      → length (node_of new (n + 1)).pages ≡ length (node_of old (n + 1)).pages + count → (node_of new (n + 1)).entries ≡ (node_of old (n + 1)).entries
       → HasPlaces P I n old → HasPlaces P I (n + 1) new
   places_added n count old new file size elsewhere long entries has = record {
     each_inode = elsewhere.inodes ∙ has.each_inode;
     made = λ i least most. elim (cases_eq i (n + 1)) [
-      | inl same ↦ subst (λ (k : ℕ). HasPlacesOf I k (held_of new k)) (sym same) here
+      | inl same ↦ subst (λ (k : ℕ). HasPlacesOf I k (node_of new k)) (sym same) here
       | inr apart ↦ subst (HasPlacesOf I i) (sym (elsewhere.others i apart)) (has.made i least (omega (arith, most, apart)))
     ];
-    entries = λ i low. ap (λ (held : Held). held.entries) (elsewhere.others i (λ same. omega (arith, low, same))) ∙ has.entries i (omega (arith, low));
-    pages = λ i low. ap (λ (held : Held). held.pages) (elsewhere.others i (λ same. omega (arith, low, same))) ∙ has.pages i (omega (arith, low));
+    entries = λ i low. ap (λ (held : NodeView). held.entries) (elsewhere.others i (λ same. omega (arith, low, same))) ∙ has.entries i (omega (arith, low));
+    pages = λ i low. ap (λ (held : NodeView). held.pages) (elsewhere.others i (λ same. omega (arith, low, same))) ∙ has.pages i (omega (arith, low));
   }
     where
-      here : HasPlacesOf I (n + 1) (held_of new (n + 1))
+      here : HasPlacesOf I (n + 1) (node_of new (n + 1))
       here =
           let none = ap length (has.pages (n + 1) (omega arith)) in
           record {
@@ -54,7 +54,7 @@ module _ (P : ℕ) (I : List ℕ) where
             of_others = λ other. absurd (other file);
           }
 
-pub same_twice : (inode : ℕ) (first second third : List Held) → IsSameElsewhere inode first second → IsSameElsewhere inode second third → IsSameElsewhere inode first third
+pub same_twice : (inode : ℕ) (first second third : List NodeView) → IsSameElsewhere inode first second → IsSameElsewhere inode second third → IsSameElsewhere inode first third
 same_twice inode first second third one two = record {
   inodes = two.inodes ∙ one.inodes;
   others = λ other apart. two.others other apart ∙ one.others other apart;

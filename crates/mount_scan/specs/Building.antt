@@ -5,24 +5,24 @@ use Rattle.layout.specs.Fields.{inode_kind, inode_size, page_offset}
 use Rattle.image_reading.specs.Counts.{IsDistinct}
 use Rattle.image_reading.specs.Reading.{pages_of_size}
 use Rattle.image_counts.specs.Entries.{IsEntryOf, IsPageIn}
-use Rattle.volatile_index.specs.Index.{Held, held_of, inodes_of_index}
+use Rattle.volatile_index.specs.Index.{NodeView, node_of, inodes_of_index}
 
 -- so many pages have a place: a file's as many as its size takes, and no others
-pub record HasPlacesOf (I : List ℕ) (i : ℕ) (held : Held) : Type 0 where
+pub record HasPlacesOf (I : List ℕ) (i : ℕ) (held : NodeView) : Type 0 where
   pub entries : held.entries ≡ []
   pub of_file : inode_kind I i ≡ 1 → length held.pages ≡ pages_of_size (inode_size I i)
   pub of_others : inode_kind I i ≢ 1 → held.pages ≡ []
 
 -- each inode up to a limit has its places, and of the others nothing is held
-pub record HasPlaces (P : ℕ) (I : List ℕ) (limit : ℕ) (index : List Held) : Type 0 where
+pub record HasPlaces (P : ℕ) (I : List ℕ) (limit : ℕ) (index : List NodeView) : Type 0 where
   pub each_inode : inodes_of_index index ≡ inodes_of P
-  pub made : (i : ℕ) → 1 ≤ i → i ≤ limit → HasPlacesOf I i (held_of index i)
-  pub entries : (i : ℕ) → limit < i → (held_of index i).entries ≡ []
-  pub pages : (i : ℕ) → limit < i → (held_of index i).pages ≡ []
+  pub made : (i : ℕ) → 1 ≤ i → i ≤ limit → HasPlacesOf I i (node_of index i)
+  pub entries : (i : ℕ) → limit < i → (node_of index i).entries ≡ []
+  pub pages : (i : ℕ) → limit < i → (node_of index i).pages ≡ []
 
 -- Of the inode the entries in slots below a limit are held, and its pages below a limit. A file's stand each in the place
 -- of its offset.
-pub record HoldsOf (P : ℕ) (I : List ℕ) (pages slots i : ℕ) (held : Held) : Type 0 where
+pub record HoldsOf (P : ℕ) (I : List ℕ) (pages slots i : ℕ) (held : NodeView) : Type 0 where
   pub entries : (slot : ℕ) (bytes : List ℕ) → Contains held.entries (record { name = bytes; slot = slot }) ↔ (IsEntryOf P I i bytes slot × (slot < slots))
   pub of_others : inode_kind I i ≢ 1 → (page : ℕ) → Contains held.pages page ↔ (IsPageIn P I i page × (page < pages))
   pub once : inode_kind I i ≢ 1 → IsDistinct held.pages
@@ -30,6 +30,6 @@ pub record HoldsOf (P : ℕ) (I : List ℕ) (pages slots i : ℕ) (held : Held) 
   pub of_file : inode_kind I i ≡ 1 → (page : ℕ) → IsPageIn P I i page → page < pages → slice_get held.pages (page_offset P I page) ≡ Some page
 
 -- and so of each inode
-pub record Holds (P : ℕ) (I : List ℕ) (pages slots : ℕ) (index : List Held) : Type 0 where
+pub record Holds (P : ℕ) (I : List ℕ) (pages slots : ℕ) (index : List NodeView) : Type 0 where
   pub each_inode : inodes_of_index index ≡ inodes_of P
-  pub each : (i : ℕ) → 1 ≤ i → i ≤ inodes_of P → HoldsOf P I pages slots i (held_of index i)
+  pub each : (i : ℕ) → 1 ≤ i → i ≤ inodes_of P → HoldsOf P I pages slots i (node_of index i)

@@ -1,6 +1,7 @@
-ghost use Rattle.std.specs.Prelude.{◌≡◌, ◌≢◌, ◌+◌, ◌-◌, ◌<◌, ◌≤◌, ℕ, [], ◌∷◌, ◌++◌, length, take, slice_get, slice_set, Contains, MatchOption, IfOk, IsOk, OnOk, OnErr, Some};
-ghost use Rattle.volatile_index.specs.Entries.{IsSorted, IsAbsent, IsPresent, IsWithEntry};
-ghost use Rattle.volatile_index.specs.Index.{inodes_of_index, entries_of, places_of, pages_of, page_places_of, IsSameElsewhere};
+// What is held of each inode.
+ghost use Rattle.std.specs.Prelude.{◌≡◌, ◌+◌, ◌-◌, ◌<◌, ◌≤◌, ℕ, [], ◌∷◌, ◌++◌, length, take, slice_get, slice_set, Contains, MatchOption, IfOk, Some};
+ghost use Rattle.volatile_index.specs.Entries.{IsSorted, IsAbsent, IsPresent};
+ghost use Rattle.volatile_index.specs.Index.{inodes_of_index, node_of, entries_of, places_of, pages_of, page_places_of, IsEmpty, ReservesEntry, PutsEntry, RemovesEntry, ReservesPages, IsWithPages, ChangesNode};
 
 use crate::entry::Entry;
 use crate::node::Node;
@@ -17,9 +18,9 @@ pub struct Index {
 
 impl Model for Index {
     ghost use Rattle.std.specs.Prelude.{List};
-    ghost use Rattle.volatile_index.specs.Index.{Held};
+    ghost use Rattle.volatile_index.specs.Index.{NodeView};
 
-    ghost Value = { List Held };
+    ghost Value = { List NodeView };
 
     ghost view = { λ index. index.nodes.items };
 }
@@ -28,14 +29,11 @@ impl Index {
     /// An index of all inodes of the volume, of each of which nothing is held.
     pub fn new(alloc: Global, geometry: &Geometry) -> Result<Index, NoMemory>
         ensures inodes { IfOk result (λ index. inodes_of_index index ≡ geometry.now.inodes) }
-        ensures entries { IfOk result (λ index. (inode : ℕ) → entries_of index inode ≡ []) }
-        ensures pages { IfOk result (λ index. (inode : ℕ) → pages_of index inode ≡ []) }
+        ensures empty { IfOk result (λ index. (inode : ℕ) → IsEmpty (node_of index inode)) }
     {
         let mut nodes = Vec::new(alloc);
         for _ in 0..geometry.inodes {
-            if nodes.push(Node::new(alloc)).is_err() {
-                return Err(NoMemory);
-            }
+            nodes.push(Node::new(alloc))?;
         }
         Ok(Index { nodes })
     }
@@ -65,7 +63,8 @@ impl Index {
     pub fn find(&self, directory: u64, name: &Name) -> Option<u64>
         requires from_one { 1 ≤ directory }
         requires in_range { directory ≤ inodes_of_index self.now }
-        ensures slot { MatchOption result (IsAbsent (entries_of self.now directory) name.now) (λ slot. Contains (entries_of self.now directory) (record { name = name.now; slot = slot })) }
+        ensures slot { MatchOption result (IsAbsent (entries_of self.now directory) name.now)
+            (λ slot. Contains (entries_of self.now directory) (record { name = name.now; slot = slot })) }
         ensures sorted { IsSorted (entries_of self.now directory) }
     {
         self.nodes[place_of(directory)].find(name)
@@ -73,18 +72,11 @@ impl Index {
 
     /// Takes memory for one more entry of a directory. Whether there is any or not, what is held stays.
     ///
-    /// Fails for want of memory, and never where the place is there already.
+    /// Fails only where memory is out, and never where the place is there already.
     pub fn reserve_one(&mut self, directory: u64) -> Result<(), NoMemory>
         requires from_one { 1 ≤ directory }
         requires in_range { directory ≤ inodes_of_index self.old }
-        ensures ok { OnOk result (length (entries_of self.new directory) < places_of self.new directory) }
-        ensures err { OnErr result (places_of self.new directory ≡ places_of self.old directory) }
-        ensures enough { length (entries_of self.old directory) < places_of self.old directory → IsOk result }
-        ensures places { places_of self.old directory ≤ places_of self.new directory }
-        ensures entries { entries_of self.new directory ≡ entries_of self.old directory }
-        ensures pages { pages_of self.new directory ≡ pages_of self.old directory }
-        ensures page_places { page_places_of self.new directory ≡ page_places_of self.old directory }
-        ensures elsewhere { IsSameElsewhere directory self.old self.new }
+        ensures { ChangesNode directory self.old self.new (ReservesEntry result) }
     {
         self.nodes[place_of(directory)].reserve_one()
     }
@@ -95,12 +87,7 @@ impl Index {
         requires in_range { directory ≤ inodes_of_index self.old }
         requires absent { IsAbsent (entries_of self.old directory) name }
         requires room { length (entries_of self.old directory) < places_of self.old directory }
-        ensures entries { IsWithEntry (entries_of self.old directory) (entries_of self.new directory) (record { name = name; slot = slot }) }
-        ensures sorted { IsSorted (entries_of self.new directory) }
-        ensures places { places_of self.new directory ≡ places_of self.old directory }
-        ensures pages { pages_of self.new directory ≡ pages_of self.old directory }
-        ensures page_places { page_places_of self.new directory ≡ page_places_of self.old directory }
-        ensures elsewhere { IsSameElsewhere directory self.old self.new }
+        ensures { ChangesNode directory self.old self.new (PutsEntry (record { name = name; slot = slot })) }
     {
         self.nodes[place_of(directory)].put(name, slot);
     }
@@ -110,12 +97,7 @@ impl Index {
         requires from_one { 1 ≤ directory }
         requires in_range { directory ≤ inodes_of_index self.old }
         requires present { IsPresent (entries_of self.old directory) name.now }
-        ensures entries { (slot : ℕ) × IsWithEntry (entries_of self.new directory) (entries_of self.old directory) (record { name = name.now; slot = slot }) }
-        ensures sorted { IsSorted (entries_of self.new directory) }
-        ensures places { places_of self.new directory ≡ places_of self.old directory }
-        ensures pages { pages_of self.new directory ≡ pages_of self.old directory }
-        ensures page_places { page_places_of self.new directory ≡ page_places_of self.old directory }
-        ensures elsewhere { IsSameElsewhere directory self.old self.new }
+        ensures { ChangesNode directory self.old self.new (RemovesEntry name.now) }
     {
         self.nodes[place_of(directory)].remove(name);
     }
@@ -131,18 +113,11 @@ impl Index {
 
     /// Takes memory for `n` more pages of an inode. Whether there is any or not, what is held stays.
     ///
-    /// Fails for want of memory, and never where the places are there already.
+    /// Fails only where memory is out, and never where the places are there already.
     pub fn reserve_pages(&mut self, inode: u64, n: u64) -> Result<(), NoMemory>
         requires from_one { 1 ≤ inode }
         requires in_range { inode ≤ inodes_of_index self.old }
-        ensures ok { OnOk result (length (pages_of self.new inode) + n ≤ page_places_of self.new inode) }
-        ensures err { OnErr result (page_places_of self.new inode ≡ page_places_of self.old inode) }
-        ensures enough { length (pages_of self.old inode) + n ≤ page_places_of self.old inode → IsOk result }
-        ensures page_places { page_places_of self.old inode ≤ page_places_of self.new inode }
-        ensures pages { pages_of self.new inode ≡ pages_of self.old inode }
-        ensures entries { entries_of self.new inode ≡ entries_of self.old inode }
-        ensures places { places_of self.new inode ≡ places_of self.old inode }
-        ensures elsewhere { IsSameElsewhere inode self.old self.new }
+        ensures { ChangesNode inode self.old self.new (ReservesPages n result) }
     {
         self.nodes[place_of(inode)].reserve_pages(n)
     }
@@ -152,11 +127,7 @@ impl Index {
         requires from_one { 1 ≤ inode }
         requires in_range { inode ≤ inodes_of_index self.old }
         requires room { length (pages_of self.old inode) < page_places_of self.old inode }
-        ensures pages { pages_of self.new inode ≡ pages_of self.old inode ++ page ∷ [] }
-        ensures page_places { page_places_of self.new inode ≡ page_places_of self.old inode }
-        ensures entries { entries_of self.new inode ≡ entries_of self.old inode }
-        ensures places { places_of self.new inode ≡ places_of self.old inode }
-        ensures elsewhere { IsSameElsewhere inode self.old self.new }
+        ensures { ChangesNode inode self.old self.new (λ old new. IsWithPages (old.pages ++ page ∷ []) old new) }
     {
         self.nodes[place_of(inode)].push_page(page);
     }
@@ -166,11 +137,8 @@ impl Index {
         requires from_one { 1 ≤ inode }
         requires in_range { inode ≤ inodes_of_index self.old }
         requires place { place < length (pages_of self.old inode) }
-        ensures pages { pages_of self.new inode ≡ slice_set (pages_of self.old inode) place page }
-        ensures page_places { page_places_of self.new inode ≡ page_places_of self.old inode }
-        ensures entries { entries_of self.new inode ≡ entries_of self.old inode }
-        ensures places { places_of self.new inode ≡ places_of self.old inode }
-        ensures elsewhere { IsSameElsewhere inode self.old self.new }
+        ensures { ChangesNode inode self.old self.new (λ old new.
+            IsWithPages (slice_set old.pages place page) old new) }
     {
         self.nodes[place_of(inode)].set_page(place, page);
     }
@@ -180,11 +148,8 @@ impl Index {
         requires from_one { 1 ≤ inode }
         requires in_range { inode ≤ inodes_of_index self.old }
         requires count { n ≤ length (pages_of self.old inode) }
-        ensures pages { pages_of self.new inode ≡ take (length (pages_of self.old inode) - n) (pages_of self.old inode) }
-        ensures page_places { page_places_of self.new inode ≡ page_places_of self.old inode }
-        ensures entries { entries_of self.new inode ≡ entries_of self.old inode }
-        ensures places { places_of self.new inode ≡ places_of self.old inode }
-        ensures elsewhere { IsSameElsewhere inode self.old self.new }
+        ensures { ChangesNode inode self.old self.new (λ old new.
+            IsWithPages (take (length old.pages - n) old.pages) old new) }
     {
         self.nodes[place_of(inode)].cut_pages(n);
     }

@@ -1,6 +1,7 @@
 // What is held of one inode.
-ghost use Rattle.std.specs.Prelude.{◌≡◌, ◌+◌, ◌-◌, ◌<◌, ◌≤◌, ℕ, [], ◌∷◌, ◌++◌, length, take, slice_get, slice_set, Contains, IsSomeAnd, MatchOption, IfOk, IfErr, IsOk, OnOk, OnErr, Some};
-ghost use Rattle.volatile_index.specs.Entries.{IsSorted, IsAbsent, IsPresent, IsWithEntry};
+ghost use Rattle.std.specs.Prelude.{◌≡◌, ◌-◌, ◌<◌, ◌≤◌, ℕ, [], ◌∷◌, ◌++◌, length, take, slice_get, slice_set, Contains, IsSomeAnd, MatchOption, IfOk, IfErr, Some};
+ghost use Rattle.volatile_index.specs.Entries.{IsSorted, IsAbsent, IsPresent};
+ghost use Rattle.volatile_index.specs.Index.{IsEmpty, ReservesEntry, PutsEntry, RemovesEntry, ReservesPages, IsWithPages};
 ghost use Rattle.volatile_index.specs.Place.{IsGap};
 
 use crate::entry::Entry;
@@ -19,9 +20,9 @@ pub struct Node {
 impl Model for Node {
     ghost use Rattle.std.specs.Vec.{vec_capacity};
     ghost use Rattle.volatile_index.specs.Entries.{IsSorted};
-    ghost use Rattle.volatile_index.specs.Index.{Held};
+    ghost use Rattle.volatile_index.specs.Index.{NodeView};
 
-    ghost Value = { Held };
+    ghost Value = { NodeView };
 
     ghost view = { λ node. record { entries = node.entries.items; places = vec_capacity node.entries; pages = node.pages.items; page_places = vec_capacity node.pages } };
 
@@ -31,8 +32,7 @@ impl Model for Node {
 impl Node {
     /// Nothing is held.
     pub fn new(alloc: Global) -> Node
-        ensures entries { result.entries ≡ [] }
-        ensures pages { result.pages ≡ [] }
+        ensures { IsEmpty result }
     {
         Node {
             entries: Vec::new(alloc),
@@ -59,7 +59,8 @@ impl Node {
 
     /// The slot of a name.
     pub fn find(&self, name: &Name) -> Option<u64>
-        ensures slot { MatchOption result (IsAbsent self.now.entries name.now) (λ slot. Contains self.now.entries (record { name = name.now; slot = slot })) }
+        ensures slot { MatchOption result (IsAbsent self.now.entries name.now)
+            (λ slot. Contains self.now.entries (record { name = name.now; slot = slot })) }
         ensures sorted { IsSorted self.now.entries }
     {
         match self.search(name) {
@@ -70,7 +71,8 @@ impl Node {
 
     // Where the entry of a name stands, or would stand.
     fn search(&self, name: &Name) -> Result<usize, usize>
-        ensures found { IfOk result (λ place. IsSomeAnd (slice_get self.now.entries place) (λ entry. entry.name ≡ name.now)) }
+        ensures found { IfOk result (λ place. IsSomeAnd (slice_get self.now.entries place)
+            (λ entry. entry.name ≡ name.now)) }
         ensures gap { IfErr result (λ place. IsGap self.now.entries place name.now) }
     {
         self.entries.binary_search_by(|entry| entry.name.cmp(name))
@@ -78,17 +80,9 @@ impl Node {
 
     /// Takes memory for one more entry.
     pub fn reserve_one(&mut self) -> Result<(), NoMemory>
-        ensures ok { OnOk result (length self.new.entries < self.new.places) }
-        ensures err { OnErr result (self.new.places ≡ self.old.places) }
-        ensures enough { length self.old.entries < self.old.places → IsOk result }
-        ensures places { self.old.places ≤ self.new.places }
-        ensures entries { self.new.entries ≡ self.old.entries }
-        ensures pages { self.new.pages ≡ self.old.pages }
-        ensures page_places { self.new.page_places ≡ self.old.page_places }
+        ensures { ReservesEntry result self.old self.new }
     {
-        if self.entries.reserve(1).is_err() {
-            return Err(NoMemory);
-        }
+        self.entries.reserve(1)?;
         Ok(())
     }
 
@@ -96,11 +90,7 @@ impl Node {
     pub fn put(&mut self, name: Name, slot: u64)
         requires absent { IsAbsent self.old.entries name }
         requires room { length self.old.entries < self.old.places }
-        ensures entries { IsWithEntry self.old.entries self.new.entries (record { name = name; slot = slot }) }
-        ensures sorted { IsSorted self.new.entries }
-        ensures places { self.new.places ≡ self.old.places }
-        ensures pages { self.new.pages ≡ self.old.pages }
-        ensures page_places { self.new.page_places ≡ self.old.page_places }
+        ensures { PutsEntry (record { name = name; slot = slot }) self.old self.new }
     {
         if let Err(place) = self.search(&name) {
             let _ = self.entries.insert(place, Entry { name, slot });
@@ -110,11 +100,7 @@ impl Node {
     /// Removes the entry of a name.
     pub fn remove(&mut self, name: &Name)
         requires present { IsPresent self.old.entries name.now }
-        ensures entries { (slot : ℕ) × IsWithEntry self.new.entries self.old.entries (record { name = name.now; slot = slot }) }
-        ensures sorted { IsSorted self.new.entries }
-        ensures places { self.new.places ≡ self.old.places }
-        ensures pages { self.new.pages ≡ self.old.pages }
-        ensures page_places { self.new.page_places ≡ self.old.page_places }
+        ensures { RemovesEntry name.now self.old self.new }
     {
         if let Ok(place) = self.search(name) {
             let _ = self.entries.remove(place);
@@ -130,27 +116,16 @@ impl Node {
 
     /// Takes memory for `n` more pages.
     pub fn reserve_pages(&mut self, n: u64) -> Result<(), NoMemory>
-        ensures ok { OnOk result (length self.new.pages + n ≤ self.new.page_places) }
-        ensures err { OnErr result (self.new.page_places ≡ self.old.page_places) }
-        ensures enough { length self.old.pages + n ≤ self.old.page_places → IsOk result }
-        ensures page_places { self.old.page_places ≤ self.new.page_places }
-        ensures pages { self.new.pages ≡ self.old.pages }
-        ensures entries { self.new.entries ≡ self.old.entries }
-        ensures places { self.new.places ≡ self.old.places }
+        ensures { ReservesPages n result self.old self.new }
     {
-        if self.pages.reserve(n as usize).is_err() {
-            return Err(NoMemory);
-        }
+        self.pages.reserve(n as usize)?;
         Ok(())
     }
 
     /// Adds a page at the end.
     pub fn push_page(&mut self, page: u64)
         requires room { length self.old.pages < self.old.page_places }
-        ensures pages { self.new.pages ≡ self.old.pages ++ page ∷ [] }
-        ensures page_places { self.new.page_places ≡ self.old.page_places }
-        ensures entries { self.new.entries ≡ self.old.entries }
-        ensures places { self.new.places ≡ self.old.places }
+        ensures { IsWithPages (self.old.pages ++ page ∷ []) self.old self.new }
     {
         // Unlike `push`, `insert` says that it grows no vector that has room.
         let end = self.pages.len();
@@ -160,10 +135,7 @@ impl Node {
     /// Puts a page in the place of the one that stands there.
     pub fn set_page(&mut self, place: u64, page: u64)
         requires place { place < length self.old.pages }
-        ensures pages { self.new.pages ≡ slice_set self.old.pages place page }
-        ensures page_places { self.new.page_places ≡ self.old.page_places }
-        ensures entries { self.new.entries ≡ self.old.entries }
-        ensures places { self.new.places ≡ self.old.places }
+        ensures { IsWithPages (slice_set self.old.pages place page) self.old self.new }
     {
         self.pages[place as usize] = page;
     }
@@ -171,10 +143,7 @@ impl Node {
     /// Drops the last `n` pages.
     pub fn cut_pages(&mut self, n: u64)
         requires count { n ≤ length self.old.pages }
-        ensures pages { self.new.pages ≡ take (length self.old.pages - n) self.old.pages }
-        ensures page_places { self.new.page_places ≡ self.old.page_places }
-        ensures entries { self.new.entries ≡ self.old.entries }
-        ensures places { self.new.places ≡ self.old.places }
+        ensures { IsWithPages (take (length self.old.pages - n) self.old.pages) self.old self.new }
     {
         self.pages.truncate(self.pages.len() - n as usize);
     }

@@ -9,17 +9,17 @@ use Rattle.image_reading.specs.Counts.{IsDistinct}
 use Rattle.image_reading.specs.Reading.{ReadsAs}
 use Rattle.image_reading.specs.Tidy.{Tidy}
 use Rattle.image_counts.specs.Entries.{IsEntryOf, IsPageIn}
-use Rattle.volatile_index.specs.Index.{Held}
+use Rattle.volatile_index.specs.Index.{NodeView}
 use Rattle.volatile_index.specs.declared.entry.Entry.{Entry}
 use Rattle.volume.specs.Volume.{VolumeView}
 use Rattle.volume.specs.Stands.{KnowsNodes, Knows, StandsFor}
 use Rattle.volume.specs.Prepared.{HasSameContents, IsSameButPlaces}
 
 -- a volume with another index that holds the same
-abbrev with_index : VolumeView → List Held → VolumeView
+abbrev with_index : VolumeView → List NodeView → VolumeView
 with_index volume index = record { size = volume.size; index = index; inodes = volume.inodes; data_pages = volume.data_pages; stopped = volume.stopped }
 
-nodes_still : (P : ℕ) (I : List ℕ) (old new : List Held) → HasSameContents old new → KnowsNodes P old I → KnowsNodes P new I
+nodes_still : (P : ℕ) (I : List ℕ) (old new : List NodeView) → HasSameContents old new → KnowsNodes P old I → KnowsNodes P new I
 nodes_still P I old new same knows = record {
   each_inode = same.each_inode ∙ knows.each_inode;
   entries = λ d slot bytes least most. subst (λ (entries : List Entry). Contains entries (record { name = bytes; slot = slot }) ↔ IsEntryOf P I d bytes slot) (sym (same.entries d)) (knows.entries d slot bytes least most);
@@ -28,7 +28,7 @@ nodes_still P I old new same knows = record {
   offsets = λ i k page reached file there. knows.offsets i k page reached file (ap (λ (pages : List ℕ). slice_get pages k) (sym (same.pages i)) ∙ there);
 }
 
-knows_still : (old : VolumeView) (index : List Held) (I : List ℕ) → HasSameContents old.index index → Knows old I → Knows (with_index old index) I
+knows_still : (old : VolumeView) (index : List NodeView) (I : List ℕ) → HasSameContents old.index index → Knows old I → Knows (with_index old index) I
 knows_still old index I same knows = record {
   whole = knows.whole;
   nodes = nodes_still old.size I old.index index same knows.nodes;

@@ -7,7 +7,7 @@ use Rattle.tree_model.specs.declared.command.Command.{Command}
 use Rattle.tree_model.specs.declared.command.Command.TheVariants.{Create, Mkdir, Link, Unlink, Rmdir, Rename, Write, Truncate, Read, Stat as Tell, List as Show, Df}
 use Rattle.tree_model.specs.declared.reply.Refusal.{Refusal}
 use Rattle.tree_model.specs.declared.reply.Refusal.TheVariants.{NoMemory}
-use Rattle.volatile_index.specs.Index.{Held, inodes_of_index, entries_of, places_of, pages_of, page_places_of}
+use Rattle.volatile_index.specs.Index.{NodeView, inodes_of_index, entries_of, places_of, pages_of, page_places_of}
 use Rattle.volume.specs.Volume.{VolumeView}
 use Rattle.volume.specs.declared.plan.NodeKind.{NodeKind}
 use Rattle.volume.specs.declared.plan.NodeKind.TheVariants.{File, Directory}
@@ -53,7 +53,7 @@ IsMadeIn inodes (Names inode) = Unit {0}
 IsMadeIn inodes Space = Unit {0}
 
 -- the same entries and pages of each inode, and no fewer places for more
-pub record HasSameContents (old new : List Held) : Type 0 where
+pub record HasSameContents (old new : List NodeView) : Type 0 where
   pub each_inode : inodes_of_index new ≡ inodes_of_index old
   pub entries : (i : ℕ) → entries_of new i ≡ entries_of old i
   pub pages : (i : ℕ) → pages_of new i ≡ pages_of old i

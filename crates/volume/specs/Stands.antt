@@ -10,11 +10,11 @@ use Rattle.image_reading.specs.Reading.{HasBytes, Reached, ReadsAs}
 use Rattle.image_reading.specs.Tidy.{Tidy}
 use Rattle.image_counts.specs.Entries.{IsEntryOf, IsPageIn}
 use Rattle.allocators.specs.Numbers.{IsFree}
-use Rattle.volatile_index.specs.Index.{Held, inodes_of_index, entries_of, pages_of}
+use Rattle.volatile_index.specs.Index.{NodeView, inodes_of_index, entries_of, pages_of}
 use Rattle.volume.specs.Volume.{VolumeView}
 
 -- The index holds the entries of each directory, and the pages of each inode, a file's in the order of their offsets.
-pub record KnowsNodes (P : ℕ) (index : List Held) (I : List ℕ) : Type 0 where
+pub record KnowsNodes (P : ℕ) (index : List NodeView) (I : List ℕ) : Type 0 where
   pub each_inode : inodes_of_index index ≡ inodes_of P
   pub entries : (d slot : ℕ) (bytes : List ℕ) → 1 ≤ d → d ≤ inodes_of P → Contains (entries_of index d) (record { name = bytes; slot = slot }) ↔ IsEntryOf P I d bytes slot
   pub pages : (i page : ℕ) → 1 ≤ i → i ≤ inodes_of P → Contains (pages_of index i) page ↔ IsPageIn P I i page

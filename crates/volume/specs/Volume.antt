@@ -1,12 +1,12 @@
 -- What callers see of a mounted volume.
 use Rattle.std.specs.Prelude.{ℕ, Bool, List}
-use Rattle.volatile_index.specs.Index.{Held}
+use Rattle.volatile_index.specs.Index.{NodeView}
 
 -- the number of its pages; what its index holds; which inodes are free, inode i at place i - 1, and which data pages; and
 -- whether a fence has failed
 pub record VolumeView : Type 0 where
   pub size : ℕ
-  pub index : List Held
+  pub index : List NodeView
   pub inodes : List Bool
   pub data_pages : List Bool
   pub stopped : Bool

@@ -2,7 +2,7 @@ use Rattle.std.proofs.Common.{◌+◌, List, sym, subst, ◌∙◌, arith}
 use Rattle.layout.specs.Geometry.{page_of_slot}
 use Rattle.layout.specs.Name.{IsNameWords}
 use Rattle.volatile_index.specs.Entries.{IsAbsent}
-use Rattle.volatile_index.specs.Index.{held_of}
+use Rattle.volatile_index.specs.Index.{node_of}
 use Rattle.volatile_index.specs.declared.entry.Entry.{Entry}
 use Rattle.mount_scan.proofs.Facts.{directory_below, slot_named, named_entry}
 use Rattle.mount_scan.proofs.Holding.{slot_skipped, all_kept, entry_put, entry_absent}
@@ -40,8 +40,8 @@ put-requires-clause-absent c =
     let most = directory_below P I tidy slot d c.requires.in_range c.requires.from_one c.requires.owner in
     let entry = named_entry P I tidy slot d c.slot_at-fields.result.name c.in-Some.name c.requires.in_range c.requires.from_one c.requires.owner c.requires.kind
     (λ zero. c.if-fields-eq0.false (c.slot_at-fields.ensures.inode ∙ zero)) c.slot_at-fields.ensures.name c.in-Some.ensures.1 in
-    let absent = entry_absent P I d (page_of_slot slot + 1) slot (held_of c.args.index.now d) c.in-Some.name tidy entry (c.requires.holds.each d c.requires.from_one most) in
-    subst (λ (entries : List Entry). IsAbsent entries c.in-Some.name) (sym c.reserve_one.ensures.entries) absent
+    let absent = entry_absent P I d (page_of_slot slot + 1) slot (node_of c.args.index.now d) c.in-Some.name tidy entry (c.requires.holds.each d c.requires.from_one most) in
+    subst (λ (entries : List Entry). IsAbsent entries c.in-Some.name) (sym c.reserve_one.ensures.node.entries) absent
 
 pub returns : goal.returns
 returns c =
@@ -53,5 +53,5 @@ returns c =
     let most = directory_below P I tidy slot d c.requires.in_range c.requires.from_one c.requires.owner in
     let entry = named_entry P I tidy slot d c.slot_at-fields.result.name c.in-Some.name c.requires.in_range c.requires.from_one c.requires.owner c.requires.kind
     (λ zero. c.if-fields-eq0.false (c.slot_at-fields.ensures.inode ∙ zero)) c.slot_at-fields.ensures.name c.in-Some.ensures.1 in
-    let reserved = all_kept P I d (page_of_slot slot + 1) slot c.args.index.now c.reserve_one.new.self c.reserve_one.ensures.elsewhere c.reserve_one.ensures.entries c.reserve_one.ensures.pages c.requires.holds in
-    entry_put P I d (page_of_slot slot + 1) slot c.reserve_one.new.self c.put.new.self c.in-Some.name c.requires.from_one most entry c.put.ensures.elsewhere c.put.ensures.entries c.put.ensures.pages reserved
+    let reserved = all_kept P I d (page_of_slot slot + 1) slot c.args.index.now c.reserve_one.new.self c.reserve_one.ensures.elsewhere c.reserve_one.ensures.node.entries c.reserve_one.ensures.node.pages c.requires.holds in
+    entry_put P I d (page_of_slot slot + 1) slot c.reserve_one.new.self c.put.new.self c.in-Some.name c.requires.from_one most entry c.put.ensures.elsewhere c.put.ensures.node.entries c.put.ensures.node.pages reserved

@@ -22,7 +22,7 @@ returns-then-fields-eq-FILE c =
     let fields = c.descriptor_at-fields in
     let set = c.set_page.ensures in
     with_set_page _ _ c.args.page fields.result.owner fields.result.offset c.args.index.now c.set_page.new.self c.requires.tidy c.requires.in_range fields.ensures.owner c.if-fields-eq0.false
-    (sym fields.ensures.kind ∙ c.if-fields-eq-FILE.true) fields.ensures.offset set.elsewhere set.pages set.entries c.requires.holds
+    (sym fields.ensures.kind ∙ c.if-fields-eq-FILE.true) fields.ensures.offset set.elsewhere set.node.pages set.node.entries c.requires.holds
 
 pub reserve_pages-requires-clause-in_range : goal.reserve_pages-requires-clause-in_range
 reserve_pages-requires-clause-in_range c =
@@ -46,6 +46,6 @@ add_entries-requires-clause-holds c =
     let fields = c.descriptor_at-fields in
     let reserve = c.reserve_pages.ensures in
     let push = c.push_page.ensures in
-    let reserved = all_kept P I fields.result.owner c.args.page (32 * c.args.page) c.args.index.now c.reserve_pages.new.self reserve.elsewhere reserve.entries reserve.pages c.requires.holds in
+    let reserved = all_kept P I fields.result.owner c.args.page (32 * c.args.page) c.args.index.now c.reserve_pages.new.self reserve.elsewhere reserve.node.entries reserve.node.pages c.requires.holds in
     with_pushed_page P I c.args.page fields.result.owner c.reserve_pages.new.self c.push_page.new.self c.requires.tidy c.requires.in_range fields.ensures.owner c.if-fields-eq0.false
-    (λ file. c.if-fields-eq-FILE.false (fields.ensures.kind ∙ file)) push.elsewhere push.pages push.entries reserved
+    (λ file. c.if-fields-eq-FILE.false (fields.ensures.kind ∙ file)) push.elsewhere push.node.pages push.node.entries reserved

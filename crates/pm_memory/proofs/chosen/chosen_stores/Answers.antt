@@ -1,9 +1,8 @@
-use Rattle.std.proofs.Common.{◌≡◌, ◌+◌, ◌-◌, ◌%◌, inl, inr, [], ◌∷◌, ℕ, length, get_or, sym, ◌∙◌, ap, arith, length-append}
-use Rattle.std.specs.Prelude.{is_err, false}
+use Rattle.std.proofs.Common.{◌+◌, ◌-◌, ◌%◌, inl, inr, [], ◌∷◌, ℕ, length, get_or, ◌∙◌, ap, arith, length-append}
 use Rattle.pm_trait.specs.Trail.{Trail}
 use Rattle.pm_memory.specs.Chosen.{chosen_store}
 use Rattle.pm_memory.specs.Plain.{plain}
-use Rattle.pm_memory.proofs.Picked.{rank_more, pushed_ok, each_more}
+use Rattle.pm_memory.proofs.Picked.{rank_more, each_more}
 use Rattle.pm_memory.proofs.Stores.{chosen_number}
 use Rattle.pm_memory.proofs.Tallied.{counts_read, length-plain}
 use Rattle.pm_memory.proofs.chosen.chosen_stores.Goals as goal
@@ -26,8 +25,7 @@ loop-word-preserved c =
     let so_far = c.loop-word.invariant in
     let number = chosen_number (plain c.args.entries.now) c.args.keep.now c.loop-word.word c.loop-word.rank _ _ counts.unsettled_is counts.stores_is so_far.rank_is in
     let reckoned : ℕ = get_or c.deref-stores-items.result.now c.loop-word.word 0 - c.index-unsettled.result.now + get_or c.args.keep.now (c.loop-word.rank % length c.args.keep.now) 0 % (c.index-unsettled.result.now + 1) in
-    let fine : is_err c.push.result ≡ false = sym c.is_err.ensures.value ∙ c.if-is_err.false in
-    let items = pushed_ok c.push.result c.push.new.self.items _ _ fine c.push.ensures.items in
+    let items = c.in_ok-push.ensures.items in
     record {
       long = ap length items ∙ omega (arith, so_far.long, length-append c.loop-word.numbers.items (reckoned ∷ []));
       rank_is = rank_more trail c.loop-word.word c.loop-word.rank c.if-unsettled-gt0.rank c.index-unsettled.result.now counts.unsettled_is so_far.rank_is (elim c.if-unsettled-gt0.branch [

@@ -1,6 +1,6 @@
 use Rattle.std.proofs.Common.{◌+◌, ◌<◌, length, ◌∙◌, ap, sym}
 use Rattle.allocators.specs.Numbers.{IsFree}
-use Rattle.allocators.proofs.NumbersLaws.{free_after_give, count_after_give}
+use Rattle.allocators.proofs.NumbersLaws.{count_after_give, gives}
 use Rattle.allocators.proofs.Lists.{lowest_after_give, given_is_lowest}
 use Rattle.allocators.proofs.numbers.Numbers.give.Goals as goal
 
@@ -18,14 +18,8 @@ invariant_of-self-else-place-self c =
     let taken : ¬ IsFree numbers c.args.k = rw c.self.view_is c.requires.taken in
     (lowest_after_give numbers c.args.k c.self.inside.lowest within c.self.invariant.0 c.if-place-self.false, ap (λ n. n + 1) c.self.invariant.1 ∙ sym (count_after_give numbers c.args.k within taken))
 
-pub returns-then-place-self-clause-free : goal.returns-then-place-self-clause-free
-returns-then-place-self-clause-free c = rw c.self.view_is (free_after_give c.args.self.now c.args.k c.requires.in_range)
+pub returns-then-place-self : goal.returns-then-place-self
+returns-then-place-self c = rw c.self.view_is (gives c.args.self.now c.args.k c.requires.in_range c.requires.taken)
 
-pub returns-then-place-self-clause-count : goal.returns-then-place-self-clause-count
-returns-then-place-self-clause-count c = rw c.self.view_is (count_after_give c.args.self.now c.args.k c.requires.in_range c.requires.taken)
-
-pub returns-else-place-self-clause-free : goal.returns-else-place-self-clause-free
-returns-else-place-self-clause-free c = rw c.self.view_is (free_after_give c.args.self.now c.args.k c.requires.in_range)
-
-pub returns-else-place-self-clause-count : goal.returns-else-place-self-clause-count
-returns-else-place-self-clause-count c = rw c.self.view_is (count_after_give c.args.self.now c.args.k c.requires.in_range c.requires.taken)
+pub returns-else-place-self : goal.returns-else-place-self
+returns-else-place-self c = rw c.self.view_is (gives c.args.self.now c.args.k c.requires.in_range c.requires.taken)

@@ -2,7 +2,7 @@ use Rattle.std.proofs.Common.{true, sym, subst, arith}
 use Rattle.std.proofs.lemmas.Option.{slice_get_within}
 use Rattle.allocators.specs.Numbers.{IsFree}
 use Rattle.allocators.specs.NumbersKept.{IsLowestPlace}
-use Rattle.allocators.proofs.NumbersLaws.{taken_after_take, count_after_take}
+use Rattle.allocators.proofs.NumbersLaws.{count_after_take, takes}
 use Rattle.allocators.proofs.Lists.{lowest_after_take, next_is_lowest}
 use Rattle.allocators.proofs.numbers.Numbers.take.Goals as goal
 
@@ -32,14 +32,8 @@ invariant_of-self-else-place-self c =
     let all = c.self.invariant.1 in
     (lowest_after_take numbers c.args.k c.self.inside.lowest within c.self.invariant.0 (λ is. c.if-place-self.false (sym is)), omega (arith, change, all))
 
-pub returns-then-place-self-clause-taken : goal.returns-then-place-self-clause-taken
-returns-then-place-self-clause-taken c = rw c.self.view_is (taken_after_take c.args.self.now c.args.k (slice_get_within c.args.self.now c.args.k true c.requires.free))
+pub returns-then-place-self : goal.returns-then-place-self
+returns-then-place-self c = rw c.self.view_is (takes c.args.self.now c.args.k c.requires.free)
 
-pub returns-then-place-self-clause-count : goal.returns-then-place-self-clause-count
-returns-then-place-self-clause-count c = rw c.self.view_is (count_after_take c.args.self.now c.args.k c.requires.free)
-
-pub returns-else-place-self-clause-taken : goal.returns-else-place-self-clause-taken
-returns-else-place-self-clause-taken c = rw c.self.view_is (taken_after_take c.args.self.now c.args.k (slice_get_within c.args.self.now c.args.k true c.requires.free))
-
-pub returns-else-place-self-clause-count : goal.returns-else-place-self-clause-count
-returns-else-place-self-clause-count c = rw c.self.view_is (count_after_take c.args.self.now c.args.k c.requires.free)
+pub returns-else-place-self : goal.returns-else-place-self
+returns-else-place-self c = rw c.self.view_is (takes c.args.self.now c.args.k c.requires.free)

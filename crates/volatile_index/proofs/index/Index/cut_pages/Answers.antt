@@ -1,25 +1,10 @@
-use Rattle.std.proofs.Common.{◌≡◌, ◌-◌, ◌≤◌, length, take}
-use Rattle.volatile_index.proofs.Nodes.{Stands, stands, changed, elsewhere, at_node}
+use Rattle.std.proofs.Common.{◌-◌, ◌≤◌, length, take}
+use Rattle.volatile_index.specs.Index.{IsWithPages}
+use Rattle.volatile_index.proofs.Nodes.{stands, changes, at_node}
 use Rattle.volatile_index.proofs.index.Index.cut_pages.Goals as goal
 
 pub cut_pages-requires : goal.cut_pages-requires
-cut_pages-requires c = record { count = at_node (stands c.self.view_is c.place_of.ensures.place c.requires.in_range c.index_mut.ensures.value) (λ held. c.args.n ≤ length held.pages) c.requires.count }
+cut_pages-requires c = record { count = at_node (stands c.self.view_is c.place_of.ensures.place c.requires.in_range c.index_mut.ensures.value) (λ node. c.args.n ≤ length node.pages) c.requires.count }
 
--- the node of the inode
-here : (c : goal.After-self-1) → Stands c.args.self.now c.self.inside.nodes.items c.args.inode c.place_of.result c.index_mut.result.now
-here c = stands c.self.view_is c.place_of.ensures.place c.requires.in_range c.index_mut.ensures.value
-
-pub returns-clause-pages : goal.returns-clause-pages
-returns-clause-pages c = changed (here c) c.cut_pages.new.self (λ old new. new.pages ≡ take (length old.pages - c.args.n) old.pages) c.cut_pages.ensures.pages
-
-pub returns-clause-page_places : goal.returns-clause-page_places
-returns-clause-page_places c = changed (here c) c.cut_pages.new.self (λ old new. new.page_places ≡ old.page_places) c.cut_pages.ensures.page_places
-
-pub returns-clause-entries : goal.returns-clause-entries
-returns-clause-entries c = changed (here c) c.cut_pages.new.self (λ old new. new.entries ≡ old.entries) c.cut_pages.ensures.entries
-
-pub returns-clause-places : goal.returns-clause-places
-returns-clause-places c = changed (here c) c.cut_pages.new.self (λ old new. new.places ≡ old.places) c.cut_pages.ensures.places
-
-pub returns-clause-elsewhere : goal.returns-clause-elsewhere
-returns-clause-elsewhere c = elsewhere (here c) c.cut_pages.new.self
+pub returns : goal.returns
+returns c = changes (stands c.self.view_is c.place_of.ensures.place c.requires.in_range c.index_mut.ensures.value) c.cut_pages.new.self (λ old new. IsWithPages (take (length old.pages - c.args.n) old.pages) old new) c.cut_pages.ensures

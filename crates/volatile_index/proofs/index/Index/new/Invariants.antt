@@ -1,5 +1,5 @@
 use Rattle.std.proofs.Common.{◌≡◌, All, vec_len}
-use Rattle.volatile_index.proofs.Nodes.{IsEmpty}
+use Rattle.volatile_index.specs.Index.{IsEmpty}
 use Rattle.volatile_index.proofs.index.Index.new.Given as goal
 
 abbrev pub invariant-loop : goal.invariant-loop

@@ -1,16 +1,22 @@
-use Rattle.std.proofs.Common.{◌≡◌, ℕ, ◌++◌, suc, take, drop, ap, sym, subst, ◌∙◌}
+use Rattle.std.proofs.Common.{◌≡◌, ℕ, ◌++◌, suc, take, drop, ap, sym, subst, ◌∙◌, rules}
 use Rattle.volatile_index.specs.Entries.{IsWithEntry}
-use Rattle.volatile_index.specs.Index.{Held}
+use Rattle.volatile_index.specs.Index.{NodeView}
 use Rattle.volatile_index.proofs.Places.{without_entry, gap_not_present}
 use Rattle.volatile_index.proofs.node.Node.remove.Goals as goal
 
-pub returns-in-Ok-clause-entries : goal.returns-in-Ok-clause-entries
-returns-in-Ok-clause-entries c =
-    let same : c.self.inside.entries.items ≡ c.args.self.now.entries = ap (λ (held : Held). held.entries) c.self.view_is in
+pub returns-in-Ok : goal.returns-in-Ok
+returns-in-Ok c =
+    let same : c.self.inside.entries.items ≡ c.args.self.now.entries = ap (λ (held : NodeView). held.entries) c.self.view_is in
     let without = ap (λ entries. take c.in-Ok.place entries ++ drop (suc c.in-Ok.place) entries) same in
-    subst (λ entries. (slot : ℕ) × IsWithEntry entries c.args.self.now.entries (record { name = c.args.name.now; slot = slot }))
-    (sym (c.remove.ensures.items ∙ without))
-    (without_entry c.args.self.now.entries c.in-Ok.place c.args.name.now c.in-Ok.ensures.found)
+    record {
+      entries = subst (λ entries. (slot : ℕ) × IsWithEntry entries c.args.self.now.entries (record { name = c.args.name.now; slot = slot }))
+          (sym (c.remove.ensures.items ∙ without))
+          (without_entry c.args.self.now.entries c.in-Ok.place c.args.name.now c.in-Ok.ensures.found);
+      sorted = search rules;
+      places = search rules;
+      pages = search rules;
+      page_places = search rules;
+    }
 
-pub returns-in_default-clause-entries : goal.returns-in_default-clause-entries
-returns-in_default-clause-entries c = absurd (gap_not_present _ _ _ c.in_default.ensures.gap c.requires.present)
+pub returns-in_default : goal.returns-in_default
+returns-in_default c = absurd (gap_not_present _ _ _ c.in_default.ensures.gap c.requires.present)
