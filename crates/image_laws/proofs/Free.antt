@@ -11,6 +11,7 @@ use Rattle.image_laws.specs.Quiet.{IsMix}
 use Rattle.image_laws.specs.Words.{IsUsed, IsByteOf}
 use Rattle.image_laws.proofs.Addresses.{head-ne_inode, head-ne_slot, descriptor-ne_inode, descriptor-ne_slot, inode-ne_slot, page-ne_inode, head-ne_descriptor, head-ne_page, descriptor-ne_page, inode_word-one, descriptor_word-one, slot_word-one, slot_in_page, page_word-one, word_in_page, word_in_page-lt, slot_word-in_page}
 use Rattle.image_laws.proofs.Quiet.{mix_law}
+use Rattle.image_laws.proofs.Words.{bytes_from_words}
 use Rattle.image_laws.proofs.Paths.{reached_pos, reached-le}
 
 module _ (P : ℕ) (I : List ℕ) (coherent : IsCoherent P I) where
@@ -131,7 +132,7 @@ free_law P I J coherent t = (
 )
 
 pub stores_law : StoresLaw
-stores_law P I J M coherent t m = let (quiet, bytes) = free_law P I J coherent t in mix_law P I J M coherent quiet bytes m
+stores_law P I J M coherent t m = let (quiet, bytes) = free_law P I J coherent t in mix_law P I J M coherent quiet (λ i r file. bytes_from_words P I J i (bytes i r file)) m
 
 -- a mix of a list and the list with one word stored is one of the two
 pub mix_one : (A M : List ℕ) (x v : ℕ) → x < length A → IsMix A (set A x v) M → (M ≡ A) ⊎ (M ≡ set A x v)

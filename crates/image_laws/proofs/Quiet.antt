@@ -1,14 +1,15 @@
 -- A mix of two images between which no used word changes.
-use Rattle.std.proofs.Common.{◌≡◌, ◌⊎◌, inl, inr, ℕ, ◌/◌, ◌%◌, ◌^◌, List, refl, sym, ap, subst}
+use Rattle.std.proofs.Common.{◌≡◌, ◌⊎◌, inl, inr, ℕ, ◌/◌, ◌%◌, ◌^◌, List, refl, sym, ap, subst, ◌∙◌}
 use Rattle.layout.specs.Fields.{word, inode_links, page_owner, page_kind, page_offset, slot_inode, slot_pointer, page_byte}
 use Rattle.layout.specs.Geometry.{inode_word_of, descriptor_word_of, page_word_of, slot_word_of}
 use Rattle.image_reading.specs.Soundness.{Rule, IsCoherent, HasLinks}
 use Rattle.image_laws.specs.Exempt.{IsExempt}
+use Rattle.image_laws.specs.Frame.{SameBytes}
 use Rattle.image_laws.specs.Quiet.{IsMix, IsQuiet, MixLaw, WriteLaw}
-use Rattle.image_laws.specs.Words.{BytesAgree, WordsAgree}
+use Rattle.image_laws.specs.Words.{WordsAgree}
 use Rattle.image_laws.proofs.Exempt.{exempt_law}
 use Rattle.image_laws.proofs.Meaning.{node}
-use Rattle.image_laws.proofs.Words.{word_law, shape_from_words, bytes_from_words}
+use Rattle.image_laws.proofs.Words.{word_law, shape_from_words}
 
 pub quiet_agrees : (P : ℕ) (I J : List ℕ) → IsCoherent P I → IsQuiet P I J → WordsAgree P I J
 quiet_agrees P I J coherent q = record {
@@ -48,8 +49,15 @@ mix_quiet P I J M coherent q m = record {
   links = λ i r. both I J M m (HasLinks P I i) (inode_word_of i 1) (coherent Rule.links i r) (q.links i r);
 }
 
-mix_bytes : (P : ℕ) (I J M : List ℕ) (i : ℕ) → IsMix I J M → BytesAgree P I J i → BytesAgree P I M i
-mix_bytes P I J M i m b a u = both I J M m (λ z. z ≡ word I a) a refl (b a u)
+-- a byte that is the same in both is the same in a mix
+mix_bytes : (P : ℕ) (I J M : List ℕ) (i : ℕ) → IsMix I J M → SameBytes P I J i → SameBytes P I M i
+unfolding page_byte
+mix_bytes P I J M i m b = record {
+  bytes = λ o j lt g. elim (m.words (page_word_of P j (o % 4096 / 8))) [
+    | inl e ↦ ap (λ x. x / 256 ^ (o % 4096 % 8) % 256) e
+    | inr e ↦ ap (λ x. x / 256 ^ (o % 4096 % 8) % 256) e ∙ b.bytes o j lt g
+  ];
+}
 
 pub mix_law : MixLaw
 mix_law P I J M coherent q b m = word_law P I M coherent (quiet_agrees P I M coherent (mix_quiet P I J M coherent q m)) (λ i r k. mix_bytes P I J M i m (b i r k))
@@ -60,7 +68,7 @@ write_law P I J M i coherent q b m =
     let h = shape_from_words P I M coherent (quiet_agrees P I M coherent (mix_quiet P I J M coherent q m)) in
     record {
       shape = h;
-      others = λ k x r ne. node P I M h k x r (λ file. bytes_from_words P I M k (mix_bytes P I J M k m (b k r file ne)));
+      others = λ k x r ne. node P I M h k x r (λ file. mix_bytes P I J M k m (b k r file ne));
       bytes = λ j o. elim (m.words (page_word_of P j (o / 8))) [
         | inl e ↦ inl (ap (λ x. x / 256 ^ (o % 8) % 256) e)
         | inr e ↦ inr (ap (λ x. x / 256 ^ (o % 8) % 256) e)

@@ -67,4 +67,4 @@ pub shape_from_words : (P : ℕ) (I J : List ℕ) → IsCoherent P I → WordsAg
 shape_from_words P I J coherent w = shape P I J coherent (alike P I J (agrees_from_words P I J w) coherent)
 
 pub word_law : WordLaw
-word_law P I J coherent w b = frame P I J coherent (agrees_from_words P I J w) (λ i r k. bytes_from_words P I J i (b i r k))
+word_law P I J coherent w b = frame P I J coherent (agrees_from_words P I J w) b

@@ -6,8 +6,8 @@ use Rattle.tree_model.specs.Tree.{Node}
 use Rattle.image_reading.specs.Reading.{HasBytes, Reached, IsNode}
 use Rattle.image_reading.specs.Soundness.{IsCoherent, HasLinks}
 use Rattle.image_laws.specs.Exempt.{IsExempt}
-use Rattle.image_laws.specs.Frame.{SameShape, SameMeaning}
-use Rattle.image_laws.specs.Words.{IsUsed, BytesAgree, AllBytesAgree}
+use Rattle.image_laws.specs.Frame.{SameBytes, AllSameBytes, SameShape, SameMeaning}
+use Rattle.image_laws.specs.Words.{IsUsed}
 
 -- each word of M is that of A or that of B
 pub record IsMix (A B M : List ℕ) : Type 0 where
@@ -21,9 +21,10 @@ pub record IsQuiet (P : ℕ) (I J : List ℕ) : Type 0 where
   pub owners : (j : ℕ) → j < data_pages_of P → (page_owner P J j ≡ page_owner P I j) ⊎ ((g : ℕ) × IsExempt P I J j g)
   pub links : (i : ℕ) → Reached P I i → HasLinks P I i (inode_links J i)
 
--- whatever mix of old and new words a crash leaves means the same
+-- Whatever mix of old and new words a crash leaves means the same, where no byte of a file changes below its size. (A word
+-- that holds bytes on both sides of a file's end may change.)
 abbrev pub MixLaw : Type 0
-MixLaw = (P : ℕ) (I J M : List ℕ) → IsCoherent P I → IsQuiet P I J → AllBytesAgree P I J → IsMix I J M → SameMeaning P I M
+MixLaw = (P : ℕ) (I J M : List ℕ) → IsCoherent P I → IsQuiet P I J → AllSameBytes P I J → IsMix I J M → SameMeaning P I M
 
 -- M means what I means, but each byte of file i may be the one that J has in its place.
 pub record MixesBytes (P : ℕ) (I J M : List ℕ) (i : ℕ) : Type 0 where
@@ -34,4 +35,4 @@ pub record MixesBytes (P : ℕ) (I J M : List ℕ) (i : ℕ) : Type 0 where
 -- the interval in which a write stores its range
 abbrev pub WriteLaw : Type 0
 WriteLaw = (P : ℕ) (I J M : List ℕ) (i : ℕ) → IsCoherent P I → IsQuiet P I J →
-    ((k : ℕ) → Reached P I k → HasBytes I k → k ≢ i → BytesAgree P I J k) → IsMix I J M → MixesBytes P I J M i
+    ((k : ℕ) → Reached P I k → HasBytes I k → k ≢ i → SameBytes P I J k) → IsMix I J M → MixesBytes P I J M i

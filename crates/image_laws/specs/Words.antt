@@ -5,7 +5,7 @@ use Rattle.layout.specs.Geometry.{data_pages_of, inode_word_of, descriptor_word_
 use Rattle.image_reading.specs.Reading.{HasBytes, IsHeld, Reached, IsReachedSlot, IsPageOf}
 use Rattle.image_reading.specs.Soundness.{IsCoherent, HasLinks}
 use Rattle.image_laws.specs.Agrees.{AreIdle}
-use Rattle.image_laws.specs.Frame.{SameMeaning}
+use Rattle.image_laws.specs.Frame.{AllSameBytes, SameMeaning}
 
 -- Word a is used: all but owners, which stand beside, link words, which only have a bound, and the bytes of files.
 pub data IsUsed (P : ℕ) (I : List ℕ) : ℕ → Type 0 where
@@ -36,4 +36,4 @@ pub record WordsAgree (P : ℕ) (I J : List ℕ) : Type 0 where
   pub links : (i : ℕ) → Reached P I i → HasLinks P I i (inode_links J i)
 
 abbrev pub WordLaw : Type 0
-WordLaw = (P : ℕ) (I J : List ℕ) → IsCoherent P I → WordsAgree P I J → AllBytesAgree P I J → SameMeaning P I J
+WordLaw = (P : ℕ) (I J : List ℕ) → IsCoherent P I → WordsAgree P I J → AllSameBytes P I J → SameMeaning P I J

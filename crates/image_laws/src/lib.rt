@@ -36,7 +36,8 @@ pub fn owner_law()
     ensures { ExemptLaw }
 {}
 
-/// A mix of the words before and after an interval that changes no used word means the same.
+/// A mix of the words before and after an interval that changes no used word, and no byte of a file below its size, means
+/// the same.
 pub fn mix_law()
     ensures quiet { MixLaw }
     ensures write { WriteLaw }
