@@ -6,7 +6,6 @@ use Rattle.tree_model.specs.Tree.{parent, id_at}
 use Rattle.tree_model.specs.Run.{State}
 use Rattle.tree_model.specs.declared.command.Command.{Command}
 use Rattle.tree_model.specs.declared.command.Command.TheVariants.{Create, Mkdir, Link, Unlink, Rmdir, Rename, Write, Truncate, Read, Stat as Tell, List as Show, Df}
-use Rattle.image_counts.specs.Laws.{InodeCountLaw}
 use Rattle.volatile_index.specs.Index.{inodes_of_index}
 use Rattle.volume.specs.Volume.{VolumeView}
 use Rattle.volume.specs.Stands.{StandsFor}
@@ -35,11 +34,11 @@ directory_named P I state entry (Tell path) plan = cc
 directory_named P I state entry (Show path) plan = cc
 directory_named P I state entry Df plan = cc
 
-module _ (volume : VolumeView) (device : DeviceView) (state : State) (stands : StandsFor volume device state) (law : InodeCountLaw) (command : Command) where
+module _ (volume : VolumeView) (device : DeviceView) (state : State) (stands : StandsFor volume device state) (command : Command) where
   pub made_within : (action : Action) → IsPlanned volume.size device.words state command action → IsMadeIn (inodes_of_index volume.index) action
   made_within (Make entry) planned =
       let (path, named) = directory_named volume.size device.words state entry command planned.plan_is in
-      let within = in_table volume device entry.directory law (state, stands) (reached_at volume device state path entry.directory stands named) in
+      let within = in_table volume device entry.directory (state, stands) (reached_at volume device state path entry.directory stands named) in
       (within.0, omega (arith, within.1, stands.knows.nodes.each_inode))
   made_within (Status inode) planned = tt
   made_within (Names inode) planned = tt

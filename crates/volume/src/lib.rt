@@ -1,7 +1,6 @@
 //! A mounted volume: what it stands for, and the plans of commands on it.
 #![tactic(auto)]
 
-mod image_laws;
 mod names;
 mod place;
 mod plan;

@@ -59,6 +59,9 @@ impl Model for Plan {
 }
 
 impl Plan {
+    ghost use Rattle.volume.specs.Prepared.{IsMaking};
+    ghost use Rattle.volume.specs.declared.plan.Action.TheVariants.{Make};
+
     // The plan of an action.
     pub(crate) fn of(action: Action) -> Plan
         ensures { result ≡ action }
@@ -66,10 +69,21 @@ impl Plan {
         Plan { action }
     }
 
-    /// What the command does. The plan is spent.
-    pub fn into_action(self) -> Action
-        ensures { result ≡ self }
+    /// What the command does.
+    pub fn action(&self) -> &Action
+        ensures { result.now ≡ self.now }
     {
-        self.action
+        &self.action
+    }
+
+    /// The entry that the command makes. The plan is spent.
+    pub fn into_entry(self) -> NewEntry
+        requires { IsMaking self }
+        ensures { self ≡ Make result }
+    {
+        match self.action {
+            Action::Make(entry) => entry,
+            Action::Status(_) | Action::Names(_) | Action::Space => unreachable!(),
+        }
     }
 }
