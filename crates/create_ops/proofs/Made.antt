@@ -19,8 +19,9 @@ use Rattle.volume.specs.Volume.{VolumeView}
 use Rattle.volume.specs.Entered.{HasEntered}
 use Rattle.volume.specs.Planned.{fences_for}
 use Rattle.volume.specs.Stands.{Knows, StandsFor}
+use Rattle.volume.specs.Carried.{IsPlanFor}
 use Rattle.volume.specs.Prepared.{making}
-use Rattle.create_ops.specs.Making.{node_of, room_of, page_fences, IsMade, IsPlannedAt, IsPlanFor}
+use Rattle.create_ops.specs.Making.{node_of, room_of, page_fences, IsMade, IsPlannedAt}
 use Rattle.create_ops.specs.Laws.{ImageLaws}
 use Rattle.create_ops.proofs.Created
 use Rattle.create_ops.proofs.Knowing

@@ -1,6 +1,6 @@
 -- What is left at each moment of a call that acknowledges nothing.
 use Rattle.std.proofs.Common.{◌≡◌, ◌≢◌, inr, ℕ, List, length, refl, arith}
-use Rattle.std.specs.Prelude.{Option, Result, Ok, Err, OnOk}
+use Rattle.std.specs.Prelude.{Option, Result, Ok, Err, OnOk, IsErr}
 use Rattle.pm_trait.specs.Trail.{Trail}
 use Rattle.pm_trait.specs.Device.{LeavesOnly, StaysOnce, Mix, IsFenced, IsSettledAt, acks_from, moment_of}
 use Rattle.pm_trait.proofs.ContinuesLaws.{acks_from-then, continues_then}
@@ -37,6 +37,10 @@ acks_none_then one two three none also last =
 pub on_ok : {T E F : Type 0} (result : Result T E) → F → OnOk result F
 on_ok (Ok done) holds = holds
 on_ok (Err fault) holds = tt
+
+pub on_err : {T E F : Type 0} (result : Result T E) → IsErr result → OnOk result F
+on_err (Ok done) failed = absurd failed
+on_err (Err fault) failed = tt
 
 -- a mix as the laws of images say it
 pub is_mix : (a b image : List ℕ) → Mix a b image → IsMix a b image

@@ -10,7 +10,8 @@ use Rattle.volatile_index.specs.Index.{inodes_of_index}
 use Rattle.volume.specs.Volume.{VolumeView}
 use Rattle.volume.specs.Stands.{StandsFor}
 use Rattle.volume.specs.Planned.{IsPlanOf, IsPlanned}
-use Rattle.volume.specs.Prepared.{IsMadeIn}
+use Rattle.volume.specs.Prepared.{making, IsMadeIn}
+use Rattle.volume.specs.declared.plan.NodeKind.{NodeKind}
 use Rattle.volume.specs.declared.plan.NewEntry.{NewEntry}
 use Rattle.volume.specs.declared.plan.Action.{Action}
 use Rattle.volume.specs.declared.plan.Action.TheVariants.{Make, Status, Names, Space}
@@ -33,6 +34,24 @@ directory_named P I state entry (Read path offset count) plan = absurd plan
 directory_named P I state entry (Tell path) plan = cc
 directory_named P I state entry (Show path) plan = cc
 directory_named P I state entry Df plan = cc
+
+same_kind : (entry other : NewEntry) → Make entry ≡ Make other → entry.kind ≡ other.kind
+same_kind entry other is = let same : entry ≡ other = cc in ap (λ (e : NewEntry). e.kind) same
+
+-- the command of an entry's plan makes a node of its kind
+pub planned_making : (P : ℕ) (I : List ℕ) (state : State) (command : Command) (entry : NewEntry) → IsPlanOf P I state command (Make entry) → (path : Route) × (command ≡ making entry.kind path)
+planned_making P I state (Create path) entry (other, is, made) = (path, ap (λ (k : NodeKind). making k path) (sym (same_kind entry other is ∙ made.kind_is)))
+planned_making P I state (Mkdir path) entry (other, is, made) = (path, ap (λ (k : NodeKind). making k path) (sym (same_kind entry other is ∙ made.kind_is)))
+planned_making P I state (Link from to) entry plan = absurd plan
+planned_making P I state (Unlink path) entry plan = absurd plan
+planned_making P I state (Rmdir path) entry plan = absurd plan
+planned_making P I state (Rename from to) entry plan = absurd plan
+planned_making P I state (Write path offset bytes) entry plan = absurd plan
+planned_making P I state (Truncate path size) entry plan = absurd plan
+planned_making P I state (Read path offset count) entry plan = absurd plan
+planned_making P I state (Tell path) entry plan = cc
+planned_making P I state (Show path) entry plan = cc
+planned_making P I state Df entry plan = cc
 
 module _ (volume : VolumeView) (device : DeviceView) (state : State) (stands : StandsFor volume device state) (command : Command) where
   pub made_within : (action : Action) → IsPlanned volume.size device.words state command action → IsMadeIn (inodes_of_index volume.index) action

@@ -1,8 +1,9 @@
 -- What the index says of paths.
-use Rattle.std.proofs.Common.{◌≡◌, ℕ, ◌<◌, ◌≤◌, true, cond, List, [], ◌∷◌, ◌++◌, reverse, Contains, Some, None, Ok, Err, refl, ap, ◌∙◌}
+use Rattle.std.proofs.Common.{◌≡◌, ℕ, ◌<◌, ◌≤◌, Bool, true, false, nat_eq, cond, List, [], ◌∷◌, ◌++◌, reverse, Contains, Some, None, Ok, Err, refl, sym, ap, ◌∙◌, arith}
+use Rattle.std.proofs.lemmas.Bool.Decides.{nat_tests}
 use Rattle.pm_trait.specs.DeviceView.{DeviceView}
 use Rattle.layout.specs.Geometry.{inodes_of, slots_of}
-use Rattle.layout.specs.Fields.{slot_inode}
+use Rattle.layout.specs.Fields.{inode_kind, slot_inode}
 use Rattle.tree_model.specs.PathText.{Route}
 use Rattle.tree_model.specs.Tree.{IsTree, id_at, is_directory}
 use Rattle.tree_model.specs.Walk.{step_into, place_at}
@@ -11,13 +12,25 @@ use Rattle.tree_model.specs.declared.reply.Refusal.TheVariants.{NotFound, NotDir
 use Rattle.image_reading.specs.Reading.{Reached}
 use Rattle.image_counts.specs.Entries.{IsEntryOf}
 use Rattle.image_counts.proofs.Inodes.{inode_count_law}
+use Rattle.image_counts.proofs.Nodes.{size_law}
 use Rattle.image_counts.proofs.Paths.{entry_law}
 use Rattle.image_counts.proofs.Slots.{absence_law}
 use Rattle.image_counts.proofs.States.{state_law}
 use Rattle.volatile_index.specs.Entries.{IsAbsent}
-use Rattle.volatile_index.specs.Index.{entries_of}
+use Rattle.volatile_index.specs.Index.{inodes_of_index, entries_of}
 use Rattle.volume.specs.Volume.{VolumeView}
 use Rattle.volume.specs.Stands.{StandsFor, IsStanding}
+
+is_two : (n : ℕ) → nat_eq n 2 ≡ true → n ≡ 2
+is_two n e = grind (arith, nat_tests)
+
+two_is : (n : ℕ) → n ≡ 2 → nat_eq n 2 ≡ true
+two_is n e = grind (arith, nat_tests)
+
+same_test : (a b : Bool) → (a ≡ true → b ≡ true) → (b ≡ true → a ≡ true) → a ≡ b
+same_test true b to from = sym (to refl)
+same_test false true to from = from refl
+same_test false false to from = refl
 
 module _ (volume : VolumeView) (device : DeviceView) where
   pub stands_tree : (state : State) → StandsFor volume device state → IsTree state.tree
@@ -31,6 +44,17 @@ module _ (volume : VolumeView) (device : DeviceView) where
   pub in_table : (i : ℕ) → IsStanding volume device → Reached volume.size device.words i → (1 ≤ i) × (i ≤ inodes_of volume.size)
   in_table i (state, stands) reached =
       let counted = inode_count_law volume.size device.words state stands.tidy.sound stands.reads in (counted.least i reached, counted.most i reached)
+
+  -- and so it is in the index
+  pub in_index : (i : ℕ) → IsStanding volume device → Reached volume.size device.words i → (1 ≤ i) × (i ≤ inodes_of_index volume.index)
+  in_index i (state, stands) reached =
+      let within = in_table i (state, stands) reached in (within.0, omega (arith, within.1, stands.knows.nodes.each_inode))
+
+  -- the kind says whether it is a directory
+  pub directory_test : (state : State) (i kind : ℕ) → StandsFor volume device state → Reached volume.size device.words i → kind ≡ inode_kind device.words i → nat_eq kind 2 ≡ is_directory state.tree i
+  directory_test state i kind stands reached is =
+      let directories = (size_law volume.size device.words state stands.tidy.sound stands.reads).directories i in
+      same_test (nat_eq kind 2) (is_directory state.tree i) (λ two. directories.1 (reached, sym is ∙ is_two kind two)) (λ directory. two_is kind (is ∙ (directories.0 directory).1))
 
   -- ---- entries
 
