@@ -1,6 +1,6 @@
 -- An entry that is made leaves a volume that stands for what its command leaves.
 use Rattle.std.proofs.Common.{◌≡◌, ℕ, ◌+◌, List, Option, Some, None, refl, sym, ap, subst, ◌∙◌, arith}
-use Rattle.std.specs.Prelude.{Ok, Err}
+use Rattle.std.specs.Prelude.{Result, Ok, Err}
 use Rattle.pm_trait.specs.DeviceView.{DeviceView, MakesIntervals, IsSettledView}
 use Rattle.pm_trait.proofs.DeviceViewLaws.{intervals_as, intervals_failed}
 use Rattle.layout.specs.Name.{IsName, IsBytes}
@@ -8,6 +8,8 @@ use Rattle.tree_model.specs.PathText.{Route}
 use Rattle.tree_model.specs.Tree.{Tree, IsRoom}
 use Rattle.tree_model.specs.Step.{Done, step, least_free_id, with_new}
 use Rattle.tree_model.specs.Run.{State, Steps}
+use Rattle.tree_model.specs.declared.command.Command.{Command}
+use Rattle.tree_model.specs.declared.reply.Reply.{Reply}
 use Rattle.image_reading.specs.Reading.{Reads, HasRoom, ReadsAs}
 use Rattle.image_reading.specs.Tidy.{Tidy}
 use Rattle.image_reading.proofs.Tidied.{as_tidy}
@@ -19,9 +21,9 @@ use Rattle.volume.specs.Volume.{VolumeView}
 use Rattle.volume.specs.Entered.{HasEntered}
 use Rattle.volume.specs.Planned.{fences_for}
 use Rattle.volume.specs.Stands.{Knows, StandsFor}
-use Rattle.volume.specs.Carried.{IsPlanFor}
+use Rattle.volume.specs.Carried.{IsPlanFor, Follows}
 use Rattle.volume.specs.Prepared.{making}
-use Rattle.create_ops.specs.Making.{node_of, room_of, page_fences, IsMade, IsPlannedAt}
+use Rattle.create_ops.specs.Making.{node_of, room_of, page_fences, IsMade, IsPlannedAt, HasStored}
 use Rattle.create_ops.specs.Laws.{ImageLaws}
 use Rattle.create_ops.proofs.Created
 use Rattle.create_ops.proofs.Knowing
@@ -38,6 +40,14 @@ made_ok {E = E} {a = a} {b} {events} value new_page made = subst (λ (fences : �
 
 pub made_err : {T U E F : Type 0} {a b : DeviceView} {events : ℕ} {failed : F} (fault : E) (new_page : Option ℕ) → MakesIntervals {T = U} a b events (page_fences new_page + 2) (Err failed) → MakesIntervals {T = T} a b events (fences_for new_page) (Err fault)
 made_err {T = T} {a = a} {b} {events} fault new_page made = subst (λ (fences : ℕ). MakesIntervals {T = T} a b events fences (Err fault)) (fences_are new_page) (intervals_failed events (page_fences new_page + 2) (Err fault) refl (omega arith) (omega arith) made)
+
+-- by another name of the command
+pub follows_as : {E : Type 0} {old new : VolumeView} {before after : DeviceView} {state : State} {result : Result Reply E} (one other : Command) → other ≡ one → Follows old new before after state one result → Follows old new before after state other result
+follows_as {old = old} {new} {before} {after} {state} {result} one other is follows = subst (λ (c : Command). Follows old new before after state c result) (sym is) follows
+
+-- and of the number of pages
+pub stored_as : {T E : Type 0} {before after : DeviceView} {entry : NewEntry} {result : Result T E} (P Q : ℕ) → P ≡ Q → HasStored P before after entry result → HasStored Q before after entry result
+stored_as {before = before} {after} {entry} {result} P Q is stored = subst (λ (p : ℕ). HasStored p before after entry result) is stored
 
 -- the plan of a volume that stands is one at its words, by whatever names its number of pages
 pub planned_at : (volume : VolumeView) (device : DeviceView) (state : State) (path : Route) (entry : NewEntry) (P : ℕ) → P ≡ volume.size → IsPlanFor volume device state (making entry.kind path) (Make entry) → IsPlannedAt P device.words state path entry

@@ -38,9 +38,10 @@ pub on_ok : {T E F : Type 0} (result : Result T E) → F → OnOk result F
 on_ok (Ok done) holds = holds
 on_ok (Err fault) holds = tt
 
-pub on_err : {T E F : Type 0} (result : Result T E) → IsErr result → OnOk result F
-on_err (Ok done) failed = absurd failed
-on_err (Err fault) failed = tt
+pub on_err : {T E : Type 0} (F : Type 0) (result : Result T E) → IsErr result → OnOk result F
+unfolding IsErr
+on_err F (Ok done) failed = absurd failed
+on_err F (Err fault) failed = tt
 
 -- a mix as the laws of images say it
 pub is_mix : (a b image : List ℕ) → Mix a b image → IsMix a b image

@@ -104,7 +104,7 @@ returns-in_err-take_page-clause-stored g c =
     let W = (g.P.Pm.view c.args.pm.now).words in
     let Before : List ℕ → Type 0 = λ image. Reads P image state.tree in
     record {
-      made = on_err c.from_residual.result c.from_residual.ensures.0;
+      made = on_err _ c.from_residual.result c.from_residual.ensures.0;
       commit_word = hangs_quiet P (slot_word_of P c.args.entry.now.slot 0) state.tree c.image_laws.ensures.one_tree
           (quiet_weaker (SameMeaning P W) Before (λ image same. same.reads state.tree at.reads.tree) c.take_page.ensures.any_moment);
     }
@@ -120,7 +120,7 @@ returns-in_err-node-clause-stored g c =
     let Before : List ℕ → Type 0 = λ image. Reads P image state.tree in
     let write = c.write_node.ensures in
     record {
-      made = on_err c.from_residual-in_err-node.result c.from_residual-in_err-node.ensures.0;
+      made = on_err _ c.from_residual-in_err-node.result c.from_residual-in_err-node.ensures.0;
       commit_word = hangs_then
           (hangs_quiet P commit state.tree laws.one_tree (quiet_weaker (SameMeaning P W) Before (λ image same. same.reads state.tree at.reads.tree) c.take_page.ensures.any_moment))
           (hangs_quiet P commit state.tree laws.one_tree
