@@ -20,8 +20,8 @@ use Rattle.image_laws.specs.Quiet.{IsMix}
 use Rattle.inode_state.specs.Inode.{fields_at}
 use Rattle.inode_state.proofs.InodeLaws.{same_fields_at}
 use Rattle.layout.specs.declared.fields.InodeFields.{InodeFields}
-use Rattle.volume.specs.declared.plan.NodeKind.{NodeKind}
-use Rattle.volume.specs.declared.plan.NodeKind.TheVariants.{File as AFile, Directory as ADirectory}
+use Rattle.layout.specs.declared.kinds.NodeKind.{NodeKind}
+use Rattle.layout.specs.declared.kinds.NodeKind.TheVariants.{File as AFile, Directory as ADirectory}
 use Rattle.volume.specs.declared.plan.NewEntry.{NewEntry}
 use Rattle.volume.specs.Planned.{IsPlace}
 use Rattle.volume.specs.Stops.{MayReadAs}

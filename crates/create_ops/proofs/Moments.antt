@@ -39,8 +39,7 @@ on_ok (Ok done) holds = holds
 on_ok (Err fault) holds = tt
 
 pub on_err : {T E : Type 0} (F : Type 0) (result : Result T E) → IsErr result → OnOk result F
-unfolding IsErr
-on_err F (Ok done) failed = absurd failed
+on_err F (Ok done) failed = let none : ⊥ = cc failed in absurd none
 on_err F (Err fault) failed = tt
 
 -- a mix as the laws of images say it

@@ -28,8 +28,8 @@ use Rattle.dentry_state.specs.Dentry.{slot_fields_at}
 use Rattle.dentry_state.proofs.DentryLaws.{same_fields as same_slot, next_fields}
 use Rattle.page_state.specs.Page.{descriptor_of}
 use Rattle.page_state.proofs.PageLaws.{same_descriptor_fields}
-use Rattle.volume.specs.declared.plan.NodeKind.{NodeKind}
-use Rattle.volume.specs.declared.plan.NodeKind.TheVariants.{File as AFile, Directory as ADirectory}
+use Rattle.layout.specs.declared.kinds.NodeKind.{NodeKind}
+use Rattle.layout.specs.declared.kinds.NodeKind.TheVariants.{File as AFile, Directory as ADirectory}
 use Rattle.volume.specs.declared.plan.NewEntry.{NewEntry}
 use Rattle.volume.specs.declared.plan.Action.{Action}
 use Rattle.volume.specs.declared.plan.Action.TheVariants.{Make}

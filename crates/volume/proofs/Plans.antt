@@ -11,7 +11,7 @@ use Rattle.volume.specs.Volume.{VolumeView}
 use Rattle.volume.specs.Stands.{StandsFor}
 use Rattle.volume.specs.Planned.{IsPlanOf, IsPlanned}
 use Rattle.volume.specs.Prepared.{making, IsMadeIn}
-use Rattle.volume.specs.declared.plan.NodeKind.{NodeKind}
+use Rattle.layout.specs.declared.kinds.NodeKind.{NodeKind}
 use Rattle.volume.specs.declared.plan.NewEntry.{NewEntry}
 use Rattle.volume.specs.declared.plan.Action.{Action}
 use Rattle.volume.specs.declared.plan.Action.TheVariants.{Make, Status, Names, Space}

@@ -25,8 +25,8 @@ use Rattle.volume.specs.Volume.{VolumeView}
 use Rattle.volume.specs.Stands.{StandsFor}
 use Rattle.volume.specs.Planned.{IsVacantSlot, IsPlace, IsEntryFor, IsPlanned}
 use Rattle.volume.specs.Prepared.{making}
-use Rattle.volume.specs.declared.plan.NodeKind.{NodeKind}
-use Rattle.volume.specs.declared.plan.NodeKind.TheVariants.{File, Directory}
+use Rattle.layout.specs.declared.kinds.NodeKind.{NodeKind}
+use Rattle.layout.specs.declared.kinds.NodeKind.TheVariants.{File, Directory}
 use Rattle.volume.specs.declared.plan.NewEntry.{NewEntry}
 use Rattle.volume.specs.declared.plan.Action.TheVariants.{Make}
 use Rattle.volume.proofs.Walked.{stands_tree, below_there, below_absent}

@@ -11,8 +11,8 @@ use Rattle.tree_model.specs.declared.command.Command.TheVariants.{Create, Mkdir,
 use Rattle.image_counts.specs.Entries.{IsSlotIn, IsFreePage}
 use Rattle.volatile_index.specs.Index.{entries_of, places_of, pages_of, page_places_of}
 use Rattle.volume.specs.Volume.{VolumeView}
-use Rattle.volume.specs.declared.plan.NodeKind.{NodeKind}
-use Rattle.volume.specs.declared.plan.NodeKind.TheVariants.{File, Directory}
+use Rattle.layout.specs.declared.kinds.NodeKind.{NodeKind}
+use Rattle.layout.specs.declared.kinds.NodeKind.TheVariants.{File, Directory}
 use Rattle.volume.specs.declared.plan.NewEntry.{NewEntry}
 use Rattle.volume.specs.declared.plan.Action.{Action}
 use Rattle.volume.specs.declared.plan.Action.TheVariants.{Make, Status, Names, Space}

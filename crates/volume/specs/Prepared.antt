@@ -13,8 +13,8 @@ use Rattle.volume.specs.Volume.{VolumeView}
 use Rattle.volume.specs.Stands.{StandsFor}
 use Rattle.volume.specs.Planned.{IsPlanned}
 use Rattle.volume.specs.Carried.{HasReserved}
-use Rattle.volume.specs.declared.plan.NodeKind.{NodeKind}
-use Rattle.volume.specs.declared.plan.NodeKind.TheVariants.{File, Directory}
+use Rattle.layout.specs.declared.kinds.NodeKind.{NodeKind}
+use Rattle.layout.specs.declared.kinds.NodeKind.TheVariants.{File, Directory}
 use Rattle.volume.specs.declared.plan.Action.{Action}
 use Rattle.volume.specs.declared.plan.Action.TheVariants.{Make, Status, Names, Space}
 

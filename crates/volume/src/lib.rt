@@ -9,9 +9,9 @@ mod resolve;
 mod stat;
 mod volume;
 
-pub use plan::{Action, NewEntry, NodeKind, Plan};
+pub use plan::{Action, NewEntry, Plan};
 pub use prepare::{ENTRY_EVENTS, PAGE_EVENTS};
-pub use resolve::{ROOT, Walk};
+pub use resolve::Walk;
 pub use volume::Volume;
 
 #[cfg(test)]

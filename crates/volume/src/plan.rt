@@ -1,17 +1,8 @@
 // Plans of accepted commands. A plan can't be copied, and none is made but by `prepare`.
 ghost use Rattle.std.specs.Prelude.{◌≡◌};
 
-use layout::Name;
+use layout::{Name, NodeKind};
 use std::marker::Model;
-
-/// What a new entry names.
-#[derive(Clone, Copy, Debug, PartialEq, Eq)]
-pub enum NodeKind {
-    /// A file of no bytes.
-    File,
-    /// A directory of no names.
-    Directory,
-}
 
 /// An entry that is to be made, and the node that it names.
 #[derive(Drop)]
