@@ -1,10 +1,15 @@
 use Rattle.std.proofs.Common.{inl, inr, ℕ, ◌+◌, ◌-◌, ◌/◌, List, slice_index, ◌∙◌, ap, arith}
 use Rattle.layout.specs.Geometry.{first_data_word_of}
-use Rattle.pm_trait.proofs.DeviceLaws.{interval_keeps}
+use Rattle.pm_trait.proofs.DeviceLaws.{interval_keeps, interval_length}
 use Rattle.pm_trait.proofs.DeviceViewLaws.{stores_flushed, ok_ends, err_ends}
 use Rattle.format_ops.specs.Tables.{tables_events}
 use Rattle.format_ops.proofs.Steps.{flushes_stores, fenced_as}
 use Rattle.format_ops.proofs.tables.write_tables.Goals as goal
+
+pub flush_span-span-requires-clause-in_range : goal.flush_span-span-requires-clause-in_range
+flush_span-span-requires-clause-in_range g c =
+    let long = interval_length c.store_tables.ensures.device.stores in
+    omega (arith, long, c.requires.long, c.first_data_word.ensures.in_device)
 
 pub returns-in-Ok-clause-device : goal.returns-in-Ok-clause-device
 returns-in-Ok-clause-device g c =
