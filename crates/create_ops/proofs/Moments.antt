@@ -8,7 +8,7 @@ use Rattle.pm_trait.proofs.DeviceLaws.{fenced_leaves, fenced_stays, leaves_next,
 use Rattle.layout.specs.Fields.{word}
 use Rattle.tree_model.specs.Tree.{Tree}
 use Rattle.image_reading.specs.Reading.{Reads}
-use Rattle.image_reading.specs.Laws.{OneTree}
+use Rattle.image_reading.proofs.Readings.{one_tree}
 use Rattle.image_laws.specs.Quiet.{IsMix}
 
 -- nothing is acknowledged, and what is left has Q
@@ -52,8 +52,8 @@ unfolding word
 mix_of_new a b long = record { size = long; words = λ x. inr refl }
 
 -- Words that read as another tree don't stay in an interval that begins with words of this one.
-pub reads_stay : {T E : Type 0} {a b : List ℕ} {ta tb : Option Trail} {result : Result T E} (P : ℕ) (before after : Tree) → OneTree → IsFenced a ta b tb result → Reads P a before → before ≢ after → StaysOnce ta tb (λ image. Reads P image after)
-reads_stay {a = a} P before after one fenced reads differ = fenced_stays (λ image. Reads P image after) fenced (λ has image mix. absurd (differ (one P a before after reads has)))
+pub reads_stay : {T E : Type 0} {a b : List ℕ} {ta tb : Option Trail} {result : Result T E} (P : ℕ) (before after : Tree) → IsFenced a ta b tb result → Reads P a before → before ≢ after → StaysOnce ta tb (λ image. Reads P image after)
+reads_stay {a = a} P before after fenced reads differ = fenced_stays (λ image. Reads P image after) fenced (λ has image mix. absurd (differ (one_tree P a before after reads has)))
 
-pub reads_stay_here : {now : List ℕ} {trail : Option Trail} (P : ℕ) (before after : Tree) → OneTree → IsSettledAt now trail → Reads P now before → before ≢ after → StaysOnce trail trail (λ image. Reads P image after)
-reads_stay_here {now} {trail} P before after one settled reads differ = interval_stays (λ image. Reads P image after) settled (interval_empty now trail) (λ has image mix. absurd (differ (one P now before after reads has)))
+pub reads_stay_here : {now : List ℕ} {trail : Option Trail} (P : ℕ) (before after : Tree) → IsSettledAt now trail → Reads P now before → before ≢ after → StaysOnce trail trail (λ image. Reads P image after)
+reads_stay_here {now} {trail} P before after settled reads differ = interval_stays (λ image. Reads P image after) settled (interval_empty now trail) (λ has image mix. absurd (differ (one_tree P now before after reads has)))
