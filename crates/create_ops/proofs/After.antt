@@ -43,7 +43,7 @@ entry_words P I e bytes t is = record {
   name = is.name;
 }
 
-entry_by_words : (P : ℕ) (I : List ℕ) (state : State) Tidy P I → ReadsAs P I state → (e : ℕ) (bytes : List ℕ) (t : ℕ) → HasEntryWords P I e bytes t → IsEntryOf P I e bytes t
+entry_by_words : (P : ℕ) (I : List ℕ) (state : State) → Tidy P I → ReadsAs P I state → (e : ℕ) (bytes : List ℕ) (t : ℕ) → HasEntryWords P I e bytes t → IsEntryOf P I e bytes t
 entry_by_words P I state tidy reads e bytes t has = record {
   slot = ((room_law P I state (tidied tidy) reads e has.reached has.directory).live t (record { in_range = has.in_range; owner = has.owner })).1 has.number;
   owner = has.owner;

@@ -1,5 +1,5 @@
 -- What a plan says of its entry.
-use Rattle.std.proofs.Common.{◌≡◌, ℕ, List, Some, sym, ap, ◌∙◌, arith}
+use Rattle.std.proofs.Common.{◌≡◌, ℕ, ◌≤◌, List, Option, Some, None, sym, ap, ◌∙◌, arith}
 use Rattle.pm_trait.specs.DeviceView.{DeviceView}
 use Rattle.tree_model.specs.PathText.{Route}
 use Rattle.tree_model.specs.Tree.{parent, id_at}
@@ -9,7 +9,7 @@ use Rattle.tree_model.specs.declared.command.Command.TheVariants.{Create, Mkdir,
 use Rattle.volatile_index.specs.Index.{inodes_of_index}
 use Rattle.volume.specs.Volume.{VolumeView}
 use Rattle.volume.specs.Stands.{StandsFor}
-use Rattle.volume.specs.Planned.{IsPlanOf, IsPlanned}
+use Rattle.volume.specs.Planned.{IsPlanOf, IsPlanned, fences_for, fences_of_plan}
 use Rattle.volume.specs.Prepared.{making, IsMadeIn}
 use Rattle.layout.specs.declared.kinds.NodeKind.{NodeKind}
 use Rattle.volume.specs.declared.plan.NewEntry.{NewEntry}
@@ -52,6 +52,17 @@ planned_making P I state (Read path offset count) entry plan = absurd plan
 planned_making P I state (Tell path) entry plan = cc
 planned_making P I state (Show path) entry plan = cc
 planned_making P I state Df entry plan = cc
+
+-- no plan makes more fences than an entry in a new page
+pub fences_of_plan-le : (action : Action) → fences_of_plan action ≤ 4
+fences_of_plan-le (Make entry) = few entry.new_page
+  where
+    few : (new_page : Option ℕ) → fences_for new_page ≤ 4
+    few None = omega arith
+    few (Some page) = omega arith
+fences_of_plan-le (Status inode) = omega arith
+fences_of_plan-le (Names inode) = omega arith
+fences_of_plan-le Space = omega arith
 
 module _ (volume : VolumeView) (device : DeviceView) (state : State) (stands : StandsFor volume device state) (command : Command) where
   pub made_within : (action : Action) → IsPlanned volume.size device.words state command action → IsMadeIn (inodes_of_index volume.index) action
