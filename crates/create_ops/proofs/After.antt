@@ -17,8 +17,9 @@ use Rattle.image_counts.specs.Entries.{IsEntryOf}
 use Rattle.image_laws.specs.Create.{MakesNode, committed}
 use Rattle.volume.specs.declared.plan.NewEntry.{NewEntry}
 use Rattle.volume.specs.Planned.{IsPlace, IsEntryFor}
+use Rattle.image_counts.proofs.Inodes.{free_inode_law}
+use Rattle.image_counts.proofs.Tidied.{page_count_law, room_law}
 use Rattle.create_ops.specs.Making.{node_of, IsOpened, IsPlannedAt}
-use Rattle.create_ops.specs.Laws.{ImageLaws}
 use Rattle.create_ops.proofs.Opened
 use Rattle.create_ops.proofs.Placed
 use Rattle.create_ops.proofs.Plans
@@ -42,9 +43,9 @@ entry_words P I e bytes t is = record {
   name = is.name;
 }
 
-entry_by_words : (P : ℕ) (I : List ℕ) (state : State) (laws : ImageLaws) → Tidy P I → ReadsAs P I state → (e : ℕ) (bytes : List ℕ) (t : ℕ) → HasEntryWords P I e bytes t → IsEntryOf P I e bytes t
-entry_by_words P I state laws tidy reads e bytes t has = record {
-  slot = ((laws.rooms P I state (tidied tidy) reads e has.reached has.directory).live t (record { in_range = has.in_range; owner = has.owner })).1 has.number;
+entry_by_words : (P : ℕ) (I : List ℕ) (state : State) → Tidy P I → ReadsAs P I state → (e : ℕ) (bytes : List ℕ) (t : ℕ) → HasEntryWords P I e bytes t → IsEntryOf P I e bytes t
+entry_by_words P I state tidy reads e bytes t has = record {
+  slot = ((room_law P I state (tidied tidy) reads e has.reached has.directory).live t (record { in_range = has.in_range; owner = has.owner })).1 has.number;
   owner = has.owner;
   name = has.name;
 }
@@ -55,21 +56,21 @@ not_none j e = cc
 pub one_page : (x y : ℕ) → ◌≡◌ {A = Option ℕ} (Some x) (Some y) → x ≡ y
 one_page x y e = cc
 
-module _ (laws : ImageLaws) (P : ℕ) (W : List ℕ) (state : State) (path : Route) (entry : NewEntry) (at : IsPlannedAt P W state path entry) where
+module _ (P : ℕ) (W : List ℕ) (state : State) (path : Route) (entry : NewEntry) (at : IsPlannedAt P W state path entry) where
   pub plan : IsEntryFor P W state path entry.kind entry
-  plan = Plans.for_entry laws P W state path entry at
+  plan = Plans.for_entry P W state path entry at
 
   d_least : 1 ≤ entry.directory
-  d_least = Plans.from_one laws P W state path entry at
+  d_least = Plans.from_one P W state path entry at
 
   d_most : entry.directory ≤ inodes_of P
-  d_most = Plans.within laws P W state path entry at
+  d_most = Plans.within P W state path entry at
 
   pub i_least : 1 ≤ entry.inode
-  i_least = let two = Plans.from_two laws P W state path entry at in omega (arith, two)
+  i_least = let two = Plans.from_two P W state path entry at in omega (arith, two)
 
   pub kind_free : inode_kind W entry.inode ≡ 0
-  kind_free = ap (λ (f : InodeFields). f.kind) (Plans.inode_free laws P W state path entry at)
+  kind_free = ap (λ (f : InodeFields). f.kind) (Plans.inode_free P W state path entry at)
 
   -- a new page is nobody's
   unowned_by : (new_page : Option ℕ) → IsPlace P W entry.directory entry.slot new_page → (j : ℕ) → new_page ≡ Some j → page_owner P W j ≡ 0
@@ -94,8 +95,8 @@ module _ (laws : ImageLaws) (P : ℕ) (W : List ℕ) (state : State) (path : Rou
   pub no_pages : (j : ℕ) → j < data_pages_of P → page_owner P W j ≢ entry.inode
   no_pages j low is =
       let two = i_least in
-      let kept = ((laws.pages P W state (tidied at.tidy) at.reads).kept j low).1 (λ none. omega (arith, two, sym is ∙ none)) in
-      Plans.unreached laws P W state path entry at (subst (λ (x : ℕ). Reached P W x) is (elim kept [ inl file ↦ file.owner | inr room ↦ room.reached ]))
+      let kept = ((page_count_law P W state (tidied at.tidy) at.reads).kept j low).1 (λ none. omega (arith, two, sym is ∙ none)) in
+      Plans.unreached P W state path entry at (subst (λ (x : ℕ). Reached P W x) is (elim kept [ inl file ↦ file.owner | inr room ↦ room.reached ]))
 
   -- the slot is vacant, or in the new page
   slot_by : (new_page : Option ℕ) → IsPlace P W entry.directory entry.slot new_page → ((slot_inode P W entry.slot ≡ 0) × (page_owner P W (page_of_slot entry.slot) ≡ entry.directory) × ((j : ℕ) → new_page ≢ Some j)) ⊎ (new_page ≡ Some (page_of_slot entry.slot))
@@ -115,22 +116,22 @@ module _ (laws : ImageLaws) (P : ℕ) (W : List ℕ) (state : State) (path : Rou
 
   module _ (B I J : List ℕ) (opened : IsOpened P W B entry.directory entry.new_page) (made : MakesNode P B I (node_of entry.kind) entry.directory entry.slot entry.inode (words_of_name entry.name)) (commit : J ≡ committed P I entry.slot entry.inode) where
     B_whole : length B ≡ 512 * P
-    B_whole = Opened.opened_long P W B entry.directory (Plans.size laws P W state path entry at) (Plans.whole laws P W state path entry at) entry.new_page (Plans.takes laws P W state path entry at) opened ∙ Plans.whole laws P W state path entry at
+    B_whole = Opened.opened_long P W B entry.directory (Plans.size P W state path entry at) (Plans.whole P W state path entry at) entry.new_page (Plans.takes P W state path entry at) opened ∙ Plans.whole P W state path entry at
 
     pub after_kind : (x : ℕ) → 1 ≤ x → x ≤ inodes_of P → x ≢ entry.inode → inode_kind J x ≡ inode_kind W x
     unfolding inode_kind
     after_kind x some most other =
-        Placed.placed_kind P B I J entry.kind entry.directory entry.slot entry.inode (words_of_name entry.name) made commit B_whole (Plans.slot_within laws P W state path entry at) i_least plan.inode_within d_least d_most x some most other
-        ∙ Opened.opened_inode P W B entry.directory (Plans.size laws P W state path entry at) (Plans.whole laws P W state path entry at) entry.new_page (Plans.takes laws P W state path entry at) opened x 0 some most (omega arith)
+        Placed.placed_kind P B I J entry.kind entry.directory entry.slot entry.inode (words_of_name entry.name) made commit B_whole (Plans.slot_within P W state path entry at) i_least plan.inode_within d_least d_most x some most other
+        ∙ Opened.opened_inode P W B entry.directory (Plans.size P W state path entry at) (Plans.whole P W state path entry at) entry.new_page (Plans.takes P W state path entry at) opened x 0 some most (omega arith)
 
     pub after_kind_here : inode_kind J entry.inode ≢ 0
-    after_kind_here = Placed.placed_kind_here P B I J entry.kind entry.directory entry.slot entry.inode (words_of_name entry.name) made commit B_whole (Plans.slot_within laws P W state path entry at) i_least plan.inode_within d_least d_most
+    after_kind_here = Placed.placed_kind_here P B I J entry.kind entry.directory entry.slot entry.inode (words_of_name entry.name) made commit B_whole (Plans.slot_within P W state path entry at) i_least plan.inode_within d_least d_most
 
     descriptor_same : (j f : ℕ) → j < data_pages_of P → f < 3 → word J (descriptor_word_of P j f) ≡ word B (descriptor_word_of P j f)
-    descriptor_same = Placed.placed_descriptor P B I J entry.kind entry.directory entry.slot entry.inode (words_of_name entry.name) made commit B_whole (Plans.slot_within laws P W state path entry at) i_least plan.inode_within d_least d_most
+    descriptor_same = Placed.placed_descriptor P B I J entry.kind entry.directory entry.slot entry.inode (words_of_name entry.name) made commit B_whole (Plans.slot_within P W state path entry at) i_least plan.inode_within d_least d_most
 
     descriptor_old : (j f : ℕ) → j < data_pages_of P → f < 3 → entry.new_page ≢ Some j → word B (descriptor_word_of P j f) ≡ word W (descriptor_word_of P j f)
-    descriptor_old = Opened.opened_descriptor P W B entry.directory (Plans.size laws P W state path entry at) (Plans.whole laws P W state path entry at) entry.new_page (Plans.takes laws P W state path entry at) opened
+    descriptor_old = Opened.opened_descriptor P W B entry.directory (Plans.size P W state path entry at) (Plans.whole P W state path entry at) entry.new_page (Plans.takes P W state path entry at) opened
 
     pub after_owner : (j : ℕ) → j < data_pages_of P → entry.new_page ≢ Some j → page_owner P J j ≡ page_owner P W j
     unfolding page_owner
@@ -144,14 +145,14 @@ module _ (laws : ImageLaws) (P : ℕ) (W : List ℕ) (state : State) (path : Rou
     unfolding page_owner
     after_new_owner j new =
         descriptor_same j 0 (new_in_range j new) (omega arith)
-        ∙ Opened.opened_owner P W B entry.directory (Plans.size laws P W state path entry at) (Plans.whole laws P W state path entry at) entry.new_page (Plans.takes laws P W state path entry at) opened j new
+        ∙ Opened.opened_owner P W B entry.directory (Plans.size P W state path entry at) (Plans.whole P W state path entry at) entry.new_page (Plans.takes P W state path entry at) opened j new
 
     slot_same : (t f : ℕ) → f < 16 → t ≢ entry.slot → word J (slot_word_of P t f) ≡ word B (slot_word_of P t f)
-    slot_same = Placed.placed_slot P B I J entry.kind entry.directory entry.slot entry.inode (words_of_name entry.name) made commit B_whole (Plans.slot_within laws P W state path entry at) i_least plan.inode_within d_least d_most
+    slot_same = Placed.placed_slot P B I J entry.kind entry.directory entry.slot entry.inode (words_of_name entry.name) made commit B_whole (Plans.slot_within P W state path entry at) i_least plan.inode_within d_least d_most
 
     slot_old : (t f : ℕ) → f < 16 → t ≢ entry.slot → entry.new_page ≢ Some (page_of_slot t) → word J (slot_word_of P t f) ≡ word W (slot_word_of P t f)
     slot_old t f lt other old =
-        slot_same t f lt other ∙ Opened.opened_slot P W B entry.directory (Plans.size laws P W state path entry at) (Plans.whole laws P W state path entry at) entry.new_page (Plans.takes laws P W state path entry at) opened t f lt old
+        slot_same t f lt other ∙ Opened.opened_slot P W B entry.directory (Plans.size P W state path entry at) (Plans.whole P W state path entry at) entry.new_page (Plans.takes P W state path entry at) opened t f lt old
 
     pub after_number : (t : ℕ) → t ≢ entry.slot → entry.new_page ≢ Some (page_of_slot t) → slot_inode P J t ≡ slot_inode P W t
     unfolding slot_inode
@@ -166,21 +167,21 @@ module _ (laws : ImageLaws) (P : ℕ) (W : List ℕ) (state : State) (path : Rou
     pub after_new_number : (t : ℕ) → t ≢ entry.slot → entry.new_page ≡ Some (page_of_slot t) → slot_inode P J t ≡ 0
     unfolding slot_inode
     after_new_number t other new =
-        slot_same t 0 (omega arith) other ∙ Opened.opened_zero P W B entry.directory (Plans.size laws P W state path entry at) (Plans.whole laws P W state path entry at) entry.new_page (Plans.takes laws P W state path entry at) opened t 0 (omega arith) new
+        slot_same t 0 (omega arith) other ∙ Opened.opened_zero P W B entry.directory (Plans.size P W state path entry at) (Plans.whole P W state path entry at) entry.new_page (Plans.takes P W state path entry at) opened t 0 (omega arith) new
 
     pub number_here : slot_inode P J entry.slot ≡ entry.inode
-    number_here = Placed.placed_number P B I J entry.kind entry.directory entry.slot entry.inode (words_of_name entry.name) made commit B_whole (Plans.slot_within laws P W state path entry at) i_least plan.inode_within d_least d_most
+    number_here = Placed.placed_number P B I J entry.kind entry.directory entry.slot entry.inode (words_of_name entry.name) made commit B_whole (Plans.slot_within P W state path entry at) i_least plan.inode_within d_least d_most
 
     pub name_here : IsName entry.name → IsBytes entry.name → slot_name P J entry.slot ≡ entry.name
     unfolding slot_name
     name_here is_name of_bytes =
-        ap name_in_words (Placed.placed_name P B I J entry.kind entry.directory entry.slot entry.inode (words_of_name entry.name) made commit B_whole (Plans.slot_within laws P W state path entry at) i_least plan.inode_within d_least d_most)
+        ap name_in_words (Placed.placed_name P B I J entry.kind entry.directory entry.slot entry.inode (words_of_name entry.name) made commit B_whole (Plans.slot_within P W state path entry at) i_least plan.inode_within d_least d_most)
         ∙ name_in_words-words_of_name entry.name is_name of_bytes
 
     pub owner_here : slot_owner P J entry.slot ≡ entry.directory
     unfolding slot_owner
     owner_here = elim (slot_by entry.new_page plan.place) [
-      | inl (none, here, old) ↦ after_owner (page_of_slot entry.slot) (page_of_slot_below P entry.slot (Plans.slot_within laws P W state path entry at)) (old (page_of_slot entry.slot)) ∙ here
+      | inl (none, here, old) ↦ after_owner (page_of_slot entry.slot) (page_of_slot_below P entry.slot (Plans.slot_within P W state path entry at)) (old (page_of_slot entry.slot)) ∙ here
       | inr new ↦ after_new_owner (page_of_slot entry.slot) new
     ]
 
@@ -189,21 +190,21 @@ module _ (laws : ImageLaws) (P : ℕ) (W : List ℕ) (state : State) (path : Rou
     module _ (after : State) (tidy : Tidy P J) (reads : ReadsAs P J after) where
       reached_after : (x : ℕ) → 1 ≤ x → x ≤ inodes_of P → Reached P W x → Reached P J x
       reached_after x some most reached =
-          let other : x ≢ entry.inode = λ same. Plans.unreached laws P W state path entry at (subst (λ (y : ℕ). Reached P W y) same reached) in
-          ((laws.free_inodes P J after (tidied tidy) reads).used x some most).1 (λ none. ((laws.free_inodes P W state (tidied at.tidy) at.reads).used x some most).0 reached (sym (after_kind x some most other) ∙ none))
+          let other : x ≢ entry.inode = λ same. Plans.unreached P W state path entry at (subst (λ (y : ℕ). Reached P W y) same reached) in
+          ((free_inode_law P J after (tidied tidy) reads).used x some most).1 (λ none. ((free_inode_law P W state (tidied at.tidy) at.reads).used x some most).0 reached (sym (after_kind x some most other) ∙ none))
 
       pub reached_before : (x : ℕ) → 1 ≤ x → x ≤ inodes_of P → x ≢ entry.inode → Reached P J x → Reached P W x
       reached_before x some most other reached =
-          ((laws.free_inodes P W state (tidied at.tidy) at.reads).used x some most).1 (λ none. ((laws.free_inodes P J after (tidied tidy) reads).used x some most).0 reached (after_kind x some most other ∙ none))
+          ((free_inode_law P W state (tidied at.tidy) at.reads).used x some most).1 (λ none. ((free_inode_law P J after (tidied tidy) reads).used x some most).0 reached (after_kind x some most other ∙ none))
 
       pub entry_after : (e : ℕ) (bytes : List ℕ) (t : ℕ) → 1 ≤ e → e ≤ inodes_of P → IsEntryOf P W e bytes t → IsEntryOf P J e bytes t
       unfolding slot_owner
       entry_after e bytes t some most is =
           let has = entry_words P W e bytes t is in
-          let other : e ≢ entry.inode = λ same. Plans.unreached laws P W state path entry at (subst (λ (y : ℕ). Reached P W y) same has.reached) in
+          let other : e ≢ entry.inode = λ same. Plans.unreached P W state path entry at (subst (λ (y : ℕ). Reached P W y) same has.reached) in
           let old = owned_old (page_of_slot t) e has.owner some in
           let apart = free_before t e has.owner some has.number in
-          entry_by_words P J after laws tidy reads e bytes t (record {
+          entry_by_words P J after tidy reads e bytes t (record {
             reached = reached_after e some most has.reached;
             directory = after_kind e some most other ∙ has.directory;
             in_range = has.in_range;
@@ -222,7 +223,7 @@ module _ (laws : ImageLaws) (P : ℕ) (W : List ℕ) (state : State) (path : Rou
                 let low = page_of_slot_below P t has.in_range in
                 let owner : page_owner P W (page_of_slot t) ≡ e = sym (after_owner (page_of_slot t) low old) ∙ has.owner in
                 let other : e ≢ entry.inode = λ same. no_pages (page_of_slot t) low (owner ∙ same) in
-                entry_by_words P W state laws at.tidy at.reads e bytes t (record {
+                entry_by_words P W state at.tidy at.reads e bytes t (record {
                   reached = reached_before e some most other has.reached;
                   directory = sym (after_kind e some most other) ∙ has.directory;
                   in_range = has.in_range;
@@ -233,10 +234,10 @@ module _ (laws : ImageLaws) (P : ℕ) (W : List ℕ) (state : State) (path : Rou
           ]
 
       pub entry_here : IsName entry.name → IsBytes entry.name → IsEntryOf P J entry.directory entry.name entry.slot
-      entry_here is_name of_bytes = entry_by_words P J after laws tidy reads entry.directory entry.name entry.slot (record {
-        reached = reached_after entry.directory d_least d_most (Plans.holds laws P W state path entry at).0;
-        directory = after_kind entry.directory d_least d_most (Plans.other laws P W state path entry at) ∙ (Plans.holds laws P W state path entry at).1;
-        in_range = Plans.slot_within laws P W state path entry at;
+      entry_here is_name of_bytes = entry_by_words P J after tidy reads entry.directory entry.name entry.slot (record {
+        reached = reached_after entry.directory d_least d_most (Plans.holds P W state path entry at).0;
+        directory = after_kind entry.directory d_least d_most (Plans.other P W state path entry at) ∙ (Plans.holds P W state path entry at).1;
+        in_range = Plans.slot_within P W state path entry at;
         owner = owner_here;
         number = λ none. let two = i_least in omega (arith, two, sym number_here ∙ none);
         name = name_here is_name of_bytes;

@@ -1,4 +1,4 @@
--- What a stop leaves while an entry is made, from the laws of images.
+-- What a crash leaves while an entry is made, from the laws of images.
 use Rattle.std.proofs.Common.{◌≡◌, ◌≢◌, ◌⊎◌, inl, inr, ℕ, ◌+◌, ◌*◌, ◌<◌, ◌≤◌, List, length, reverse, slice_index, set, Option, Some, None, refl, sym, ap, subst, ◌∙◌, arith}
 use Rattle.pm_trait.specs.Device.{Mix}
 use Rattle.layout.specs.Geometry.{IsVolumeSize, inodes_of, page_of_slot, slot_word_of}
@@ -20,14 +20,15 @@ use Rattle.image_laws.specs.Quiet.{IsMix}
 use Rattle.inode_state.specs.Inode.{fields_at}
 use Rattle.inode_state.proofs.InodeLaws.{same_fields_at}
 use Rattle.layout.specs.declared.fields.InodeFields.{InodeFields}
-use Rattle.volume.specs.declared.plan.NodeKind.{NodeKind}
-use Rattle.volume.specs.declared.plan.NodeKind.TheVariants.{File as AFile, Directory as ADirectory}
+use Rattle.layout.specs.declared.kinds.NodeKind.{NodeKind}
+use Rattle.layout.specs.declared.kinds.NodeKind.TheVariants.{File as AFile, Directory as ADirectory}
 use Rattle.volume.specs.declared.plan.NewEntry.{NewEntry}
 use Rattle.volume.specs.Planned.{IsPlace}
 use Rattle.volume.specs.Stops.{MayReadAs}
 use Rattle.volume.specs.Prepared.{making}
+use Rattle.image_laws.proofs.Creates.{create_law}
+use Rattle.image_laws.proofs.PageCreates.{new_page_law}
 use Rattle.create_ops.specs.Making.{node_of, room_of, MayTake, IsParent, IsReady, IsOpened, IsPlannedAt}
-use Rattle.create_ops.specs.Laws.{ImageLaws}
 use Rattle.create_ops.proofs.Moments.{is_mix}
 use Rattle.create_ops.proofs.Plans
 use Rattle.create_ops.proofs.Opened
@@ -52,10 +53,10 @@ answer_by : (P : ℕ) (state : State) (path : Route) (kind : NodeKind) → refus
 answer_by P state path AFile accepted = ap (λ (o : Option Refusal). (outcome_of o (untaken P) (least_free_id state.tree) state.tree state.room (making AFile path)).answer) accepted
 answer_by P state path ADirectory accepted = ap (λ (o : Option Refusal). (outcome_of o (untaken P) (least_free_id state.tree) state.tree state.room (making ADirectory path)).answer) accepted
 
-module _ (laws : ImageLaws) (P : ℕ) (W : List ℕ) (state : State) (path : Route) (entry : NewEntry) (at : IsPlannedAt P W state path entry) where
+module _ (P : ℕ) (W : List ℕ) (state : State) (path : Route) (entry : NewEntry) (at : IsPlannedAt P W state path entry) where
   pub tree_is : (step P state.tree state.room (making entry.kind path)).tree ≡ with_new state.tree path entry.inode (node_of entry.kind)
   tree_is =
-      let for_entry = Plans.for_entry laws P W state path entry at in
+      let for_entry = Plans.for_entry P W state path entry at in
       tree_by P state path entry.kind at.planned.accepted ∙ ap (λ (i : ℕ). with_new state.tree path i (node_of entry.kind)) (sym for_entry.inode_is)
 
   pub answer_is : (step P state.tree state.room (making entry.kind path)).answer ≡ Done
@@ -64,7 +65,7 @@ module _ (laws : ImageLaws) (P : ℕ) (W : List ℕ) (state : State) (path : Rou
   -- the path is new in it
   pub differ : state.tree ≢ (step P state.tree state.room (making entry.kind path)).tree
   differ same =
-      let may = Plans.may laws P W state path entry at in
+      let may = Plans.may P W state path entry at in
       let there = ap (λ (tree : Tree). id_at tree path) (same ∙ tree_is) ∙ id_at-with_new_here state.tree path entry.inode (node_of entry.kind) in
       let clash : ◌≡◌ {A = Option ℕ} None (Some entry.inode) = sym may.absent ∙ there in
       cc
@@ -75,13 +76,13 @@ module _ (laws : ImageLaws) (P : ℕ) (W : List ℕ) (state : State) (path : Rou
 
   module _ (B : List ℕ) (opened : IsOpened P W B entry.directory entry.new_page) where
     may_take : MayTake P W entry.new_page
-    may_take = Plans.takes laws P W state path entry at
+    may_take = Plans.takes P W state path entry at
 
     size : IsVolumeSize P
-    size = Plans.size laws P W state path entry at
+    size = Plans.size P W state path entry at
 
     whole : length W ≡ 512 * P
-    whole = Plans.whole laws P W state path entry at
+    whole = Plans.whole P W state path entry at
 
     inode_words : (x : ℕ) → 1 ≤ x → x ≤ inodes_of P → fields_at B x ≡ fields_at W x
     unfolding word
@@ -93,7 +94,7 @@ module _ (laws : ImageLaws) (P : ℕ) (W : List ℕ) (state : State) (path : Rou
 
     parent_ready : IsParent P B entry.directory
     parent_ready =
-        let parent = Plans.parent_ready laws P W state path entry at in
+        let parent = Plans.parent_ready P W state path entry at in
         let same = inode_words entry.directory parent.least parent.most in
         let links = ap (λ (f : InodeFields). f.links) same in
         let room = parent.countable in
@@ -107,7 +108,7 @@ module _ (laws : ImageLaws) (P : ℕ) (W : List ℕ) (state : State) (path : Rou
     slot_zero : (new_page : Option ℕ) → entry.new_page ≡ new_page → IsPlace P W entry.directory entry.slot new_page → (f : ℕ) → f < 16 → word B (slot_word_of P entry.slot f) ≡ 0
     slot_zero None is place f lt =
         Opened.opened_slot P W B entry.directory size whole entry.new_page may_take opened entry.slot f lt (λ e. let clash : ◌≡◌ {A = Option ℕ} None (Some (page_of_slot entry.slot)) = sym is ∙ e in cc)
-        ∙ Plans.vacant_zero laws P W state path entry at place.vacant f lt
+        ∙ Plans.vacant_zero P W state path entry at place.vacant f lt
     slot_zero (Some page) is place f lt =
         Opened.opened_zero P W B entry.directory size whole entry.new_page may_take opened entry.slot f lt (is ∙ ap (λ (j : ℕ). Some j) (sym (slot_page page entry.slot place.slot_is)))
       where
@@ -116,17 +117,17 @@ module _ (laws : ImageLaws) (P : ℕ) (W : List ℕ) (state : State) (path : Rou
 
     pub ready : IsReady P B entry
     ready =
-        let for_entry = Plans.for_entry laws P W state path entry at in
-        let two = Plans.from_two laws P W state path entry at in
+        let for_entry = Plans.for_entry P W state path entry at in
+        let two = Plans.from_two P W state path entry at in
         record {
           whole = Opened.opened_long P W B entry.directory size whole entry.new_page may_take opened ∙ whole;
           least = omega (arith, two);
           most = for_entry.inode_within;
-          inode = inode_words entry.inode (omega (arith, two)) for_entry.inode_within ∙ Plans.inode_free laws P W state path entry at;
-          slot_in_range = Plans.slot_within laws P W state path entry at;
+          inode = inode_words entry.inode (omega (arith, two)) for_entry.inode_within ∙ Plans.inode_free P W state path entry at;
+          slot_in_range = Plans.slot_within P W state path entry at;
           slot = Plans.zero_slot P B entry.slot (slot_zero entry.new_page refl for_entry.place);
           parent = parent_ready;
-          other = Plans.other laws P W state path entry at;
+          other = Plans.other P W state path entry at;
         }
 
     module _ (is_name : IsName entry.name) (of_bytes : IsBytes entry.name) (I : List ℕ) (made : MakesNode P B I (node_of entry.kind) entry.directory entry.slot entry.inode (words_of_name entry.name)) where
@@ -137,21 +138,21 @@ module _ (laws : ImageLaws) (P : ℕ) (W : List ℕ) (state : State) (path : Rou
           let made_here : MakesNode P W I node entry.directory entry.slot entry.inode (words_of_name entry.name)
           = subst (λ (l : List ℕ). MakesNode P l I node entry.directory entry.slot entry.inode (words_of_name entry.name)) is made in
           subst (λ (l : List ℕ). Commits P W l I (committed P I entry.slot entry.inode) (λ (T : Tree). with_new T path entry.inode node) (room_of entry None)) (sym is)
-          (laws.create P W I (reverse (parent path)) path node entry.directory entry.slot entry.inode (words_of_name entry.name)
-          (Plans.can laws P W state path entry at is_name of_bytes) (Plans.vacant laws P W state path entry at place.vacant) (empty_node entry.kind) made_here
-          (Plans.path_reversed laws P W state path entry at is_name of_bytes))
+          (create_law P W I (reverse (parent path)) path node entry.directory entry.slot entry.inode (words_of_name entry.name)
+          (Plans.can P W state path entry at is_name of_bytes) (Plans.vacant P W state path entry at place.vacant) (empty_node entry.kind) made_here
+          (Plans.path_reversed P W state path entry at is_name of_bytes))
       created_by (Some page) place (A, page_made, is) =
           let node = node_of entry.kind in
           let made_here : MakesNode P (owned P A page entry.directory) I node entry.directory entry.slot entry.inode (words_of_name entry.name)
           = subst (λ (l : List ℕ). MakesNode P l I node entry.directory entry.slot entry.inode (words_of_name entry.name)) is made in
           let plain : entry.slot ≡ 32 * page + 0 = omega (arith, place.slot_is) in
           subst (λ (l : List ℕ). Commits P W l I (committed P I entry.slot entry.inode) (λ (T : Tree). with_new T path entry.inode node) (room_of entry (Some page))) (sym is)
-          ((laws.new_page P W A I (reverse (parent path)) path node entry.directory page entry.slot entry.inode (words_of_name entry.name)
-          (Plans.can laws P W state path entry at is_name of_bytes) place.page_is.free (ap (λ (s : ℕ). page_of_slot s) plain ∙ page_of_entry page 0 (omega arith)) (empty_node entry.kind) page_made made_here
-          (Plans.path_reversed laws P W state path entry at is_name of_bytes)).1)
+          ((new_page_law P W A I (reverse (parent path)) path node entry.directory page entry.slot entry.inode (words_of_name entry.name)
+          (Plans.can P W state path entry at is_name of_bytes) place.page_is.free (ap (λ (s : ℕ). page_of_slot s) plain ∙ page_of_entry page 0 (omega arith)) (empty_node entry.kind) page_made made_here
+          (Plans.path_reversed P W state path entry at is_name of_bytes)).1)
 
       pub created : Commits P W B I (committed P I entry.slot entry.inode) (λ (T : Tree). with_new T path entry.inode (node_of entry.kind)) (room_of entry entry.new_page)
-      created = created_by entry.new_page (Plans.for_entry laws P W state path entry at).place opened
+      created = created_by entry.new_page (Plans.for_entry P W state path entry at).place opened
 
       pub writing : (image : List ℕ) → Mix B I image → MayReadAs P state (Some (making entry.kind path)) image
       writing image mix = may_same image (created.before image (is_mix B I image mix))

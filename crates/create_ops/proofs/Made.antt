@@ -1,6 +1,6 @@
 -- An entry that is made leaves a volume that stands for what its command leaves.
 use Rattle.std.proofs.Common.{◌≡◌, ℕ, ◌+◌, List, Option, Some, None, refl, sym, ap, subst, ◌∙◌, arith}
-use Rattle.std.specs.Prelude.{Ok, Err}
+use Rattle.std.specs.Prelude.{Result, Ok, Err}
 use Rattle.pm_trait.specs.DeviceView.{DeviceView, MakesIntervals, IsSettledView}
 use Rattle.pm_trait.proofs.DeviceViewLaws.{intervals_as, intervals_failed}
 use Rattle.layout.specs.Name.{IsName, IsBytes}
@@ -8,6 +8,8 @@ use Rattle.tree_model.specs.PathText.{Route}
 use Rattle.tree_model.specs.Tree.{Tree, IsRoom}
 use Rattle.tree_model.specs.Step.{Done, step, least_free_id, with_new}
 use Rattle.tree_model.specs.Run.{State, Steps}
+use Rattle.tree_model.specs.declared.command.Command.{Command}
+use Rattle.tree_model.specs.declared.reply.Reply.{Reply}
 use Rattle.image_reading.specs.Reading.{Reads, HasRoom, ReadsAs}
 use Rattle.image_reading.specs.Tidy.{Tidy}
 use Rattle.image_reading.proofs.Tidied.{as_tidy}
@@ -19,9 +21,10 @@ use Rattle.volume.specs.Volume.{VolumeView}
 use Rattle.volume.specs.Entered.{HasEntered}
 use Rattle.volume.specs.Planned.{fences_for}
 use Rattle.volume.specs.Stands.{Knows, StandsFor}
+use Rattle.volume.specs.Carried.{IsPlanFor, Follows}
 use Rattle.volume.specs.Prepared.{making}
-use Rattle.create_ops.specs.Making.{node_of, room_of, page_fences, IsMade, IsPlannedAt, IsPlanFor}
-use Rattle.create_ops.specs.Laws.{ImageLaws}
+use Rattle.image_counts.proofs.States.{state_law}
+use Rattle.create_ops.specs.Making.{node_of, room_of, page_fences, IsMade, IsPlannedAt, HasStored}
 use Rattle.create_ops.proofs.Created
 use Rattle.create_ops.proofs.Knowing
 use Rattle.create_ops.proofs.Plans
@@ -38,14 +41,22 @@ made_ok {E = E} {a = a} {b} {events} value new_page made = subst (λ (fences : �
 pub made_err : {T U E F : Type 0} {a b : DeviceView} {events : ℕ} {failed : F} (fault : E) (new_page : Option ℕ) → MakesIntervals {T = U} a b events (page_fences new_page + 2) (Err failed) → MakesIntervals {T = T} a b events (fences_for new_page) (Err fault)
 made_err {T = T} {a = a} {b} {events} fault new_page made = subst (λ (fences : ℕ). MakesIntervals {T = T} a b events fences (Err fault)) (fences_are new_page) (intervals_failed events (page_fences new_page + 2) (Err fault) refl (omega arith) (omega arith) made)
 
+-- by another name of the command
+pub follows_as : {E : Type 0} {old new : VolumeView} {before after : DeviceView} {state : State} {result : Result Reply E} (one other : Command) → other ≡ one → Follows old new before after state one result → Follows old new before after state other result
+follows_as {old = old} {new} {before} {after} {state} {result} one other is follows = subst (λ (c : Command). Follows old new before after state c result) (sym is) follows
+
+-- and of the number of pages
+pub stored_as : {T E : Type 0} {before after : DeviceView} {entry : NewEntry} {result : Result T E} (P Q : ℕ) → P ≡ Q → HasStored P before after entry result → HasStored Q before after entry result
+stored_as {before = before} {after} {entry} {result} P Q is stored = subst (λ (p : ℕ). HasStored p before after entry result) is stored
+
 -- the plan of a volume that stands is one at its words, by whatever names its number of pages
 pub planned_at : (volume : VolumeView) (device : DeviceView) (state : State) (path : Route) (entry : NewEntry) (P : ℕ) → P ≡ volume.size → IsPlanFor volume device state (making entry.kind path) (Make entry) → IsPlannedAt P device.words state path entry
 planned_at volume device state path entry P is plan =
     subst (λ (p : ℕ). IsPlannedAt p device.words state path entry) (sym is) (record { tidy = plan.stands.tidy; reads = plan.stands.reads; planned = plan.planned })
 
-module _ (laws : ImageLaws) (P : ℕ) (W : List ℕ) (state : State) (path : Route) (entry : NewEntry) (at : IsPlannedAt P W state path entry) (after : DeviceView) (made : IsMade P W after.words entry) (is_name : IsName entry.name) (of_bytes : IsBytes entry.name) where
+module _ (P : ℕ) (W : List ℕ) (state : State) (path : Route) (entry : NewEntry) (at : IsPlannedAt P W state path entry) (after : DeviceView) (made : IsMade P W after.words entry) (is_name : IsName entry.name) (of_bytes : IsBytes entry.name) where
   created : Commits P W made.opened made.placed.written (committed P made.placed.written entry.slot entry.inode) (λ (T : Tree). with_new T path entry.inode (node_of entry.kind)) (room_of entry entry.new_page)
-  created = Created.created laws P W state path entry at made.opened made.page is_name of_bytes made.placed.written made.placed.node
+  created = Created.created P W state path entry at made.opened made.page is_name of_bytes made.placed.written made.placed.node
 
   back : committed P made.placed.written entry.slot entry.inode ≡ after.words
   back = sym made.placed.commit
@@ -56,20 +67,20 @@ module _ (laws : ImageLaws) (P : ℕ) (W : List ℕ) (state : State) (path : Rou
   reads_after : ReadsAs P after.words (record { tree = (step P state.tree state.room (making entry.kind path)).tree; room = room_of entry entry.new_page state.room })
   reads_after = record {
     tree = subst (λ (l : List ℕ). Reads P l (step P state.tree state.room (making entry.kind path)).tree) back
-        (Created.new_reads laws P W state path entry at made.opened made.page is_name of_bytes made.placed.written made.placed.node);
+        (Created.new_reads P W state path entry at made.opened made.page is_name of_bytes made.placed.written made.placed.node);
     room = subst (λ (l : List ℕ). HasRoom P l (room_of entry entry.new_page state.room)) back (created.room state.room at.reads.room);
   }
 
   fits : IsRoom (with_new state.tree path (least_free_id state.tree) (node_of entry.kind)) (room_of entry entry.new_page state.room)
   fits = subst (λ (tree : Tree). IsRoom tree (room_of entry entry.new_page state.room))
-      (Created.tree_is laws P W state path entry at ∙ ap (λ (i : ℕ). with_new state.tree path i (node_of entry.kind)) (Plans.for_entry laws P W state path entry at).inode_is)
-      (laws.states P after.words (record { tree = (step P state.tree state.room (making entry.kind path)).tree; room = room_of entry entry.new_page state.room }) tidy_after.sound reads_after).room
+      (Created.tree_is P W state path entry at ∙ ap (λ (i : ℕ). with_new state.tree path i (node_of entry.kind)) (Plans.for_entry P W state path entry at).inode_is)
+      (state_law P after.words (record { tree = (step P state.tree state.room (making entry.kind path)).tree; room = room_of entry entry.new_page state.room }) tidy_after.sound reads_after).room
 
   steps : Steps P state (making entry.kind path) Done (record { tree = (step P state.tree state.room (making entry.kind path)).tree; room = room_of entry entry.new_page state.room })
   steps = record {
-    answered = sym (Created.answer_is laws P W state path entry at);
+    answered = sym (Created.answer_is P W state path entry at);
     tree = refl;
-    room = Rooms.room_follows laws P W state path entry at fits;
+    room = Rooms.room_follows P W state path entry at fits;
   }
 
   pub stands_after : (volume new : VolumeView) → P ≡ volume.size → Knows volume W → HasEntered volume new entry → IsSettledView after
@@ -80,7 +91,7 @@ module _ (laws : ImageLaws) (P : ℕ) (W : List ℕ) (state : State) (path : Rou
       settled = settled;
       tidy = subst (λ (p : ℕ). Tidy p after.words) (size ∙ sym entered.same_size) tidy_after;
       reads = subst (λ (p : ℕ). ReadsAs p after.words (record { tree = (step P state.tree state.room (making entry.kind path)).tree; room = room_of entry entry.new_page state.room })) (size ∙ sym entered.same_size) reads_after;
-      knows = Knowing.knows_after laws P W state path entry at volume (sym size) knows made.opened made.placed.written after.words made.page made.placed.node made.placed.commit
+      knows = Knowing.knows_after P W state path entry at volume (sym size) knows made.opened made.placed.written after.words made.page made.placed.node made.placed.commit
           (record { tree = (step P state.tree state.room (making entry.kind path)).tree; room = room_of entry entry.new_page state.room }) tidy_after reads_after is_name of_bytes new entered;
     },
     subst (λ (p : ℕ). Steps p state (making entry.kind path) Done (record { tree = (step P state.tree state.room (making entry.kind path)).tree; room = room_of entry entry.new_page state.room })) size steps,

@@ -1,6 +1,6 @@
 -- What is left at each moment of a call that acknowledges nothing.
 use Rattle.std.proofs.Common.{◌≡◌, ◌≢◌, inr, ℕ, List, length, refl, arith}
-use Rattle.std.specs.Prelude.{Option, Result, Ok, Err, OnOk}
+use Rattle.std.specs.Prelude.{Option, Result, Ok, Err, OnOk, IsErr}
 use Rattle.pm_trait.specs.Trail.{Trail}
 use Rattle.pm_trait.specs.Device.{LeavesOnly, StaysOnce, Mix, IsFenced, IsSettledAt, acks_from, moment_of}
 use Rattle.pm_trait.proofs.ContinuesLaws.{acks_from-then, continues_then}
@@ -8,7 +8,7 @@ use Rattle.pm_trait.proofs.DeviceLaws.{fenced_leaves, fenced_stays, leaves_next,
 use Rattle.layout.specs.Fields.{word}
 use Rattle.tree_model.specs.Tree.{Tree}
 use Rattle.image_reading.specs.Reading.{Reads}
-use Rattle.image_reading.specs.Laws.{OneTree}
+use Rattle.image_reading.proofs.Readings.{one_tree}
 use Rattle.image_laws.specs.Quiet.{IsMix}
 
 -- nothing is acknowledged, and what is left has Q
@@ -38,6 +38,10 @@ pub on_ok : {T E F : Type 0} (result : Result T E) → F → OnOk result F
 on_ok (Ok done) holds = holds
 on_ok (Err fault) holds = tt
 
+pub on_err : {T E : Type 0} (F : Type 0) (result : Result T E) → IsErr result → OnOk result F
+on_err F (Ok done) failed = let none : ⊥ = cc failed in absurd none
+on_err F (Err fault) failed = tt
+
 -- a mix as the laws of images say it
 pub is_mix : (a b image : List ℕ) → Mix a b image → IsMix a b image
 unfolding word
@@ -48,8 +52,8 @@ unfolding word
 mix_of_new a b long = record { size = long; words = λ x. inr refl }
 
 -- Words that read as another tree don't stay in an interval that begins with words of this one.
-pub reads_stay : {T E : Type 0} {a b : List ℕ} {ta tb : Option Trail} {result : Result T E} (P : ℕ) (before after : Tree) → OneTree → IsFenced a ta b tb result → Reads P a before → before ≢ after → StaysOnce ta tb (λ image. Reads P image after)
-reads_stay {a = a} P before after one fenced reads differ = fenced_stays (λ image. Reads P image after) fenced (λ has image mix. absurd (differ (one P a before after reads has)))
+pub reads_stay : {T E : Type 0} {a b : List ℕ} {ta tb : Option Trail} {result : Result T E} (P : ℕ) (before after : Tree) → IsFenced a ta b tb result → Reads P a before → before ≢ after → StaysOnce ta tb (λ image. Reads P image after)
+reads_stay {a = a} P before after fenced reads differ = fenced_stays (λ image. Reads P image after) fenced (λ has image mix. absurd (differ (one_tree P a before after reads has)))
 
-pub reads_stay_here : {now : List ℕ} {trail : Option Trail} (P : ℕ) (before after : Tree) → OneTree → IsSettledAt now trail → Reads P now before → before ≢ after → StaysOnce trail trail (λ image. Reads P image after)
-reads_stay_here {now} {trail} P before after one settled reads differ = interval_stays (λ image. Reads P image after) settled (interval_empty now trail) (λ has image mix. absurd (differ (one P now before after reads has)))
+pub reads_stay_here : {now : List ℕ} {trail : Option Trail} (P : ℕ) (before after : Tree) → IsSettledAt now trail → Reads P now before → before ≢ after → StaysOnce trail trail (λ image. Reads P image after)
+reads_stay_here {now} {trail} P before after settled reads differ = interval_stays (λ image. Reads P image after) settled (interval_empty now trail) (λ has image mix. absurd (differ (one_tree P now before after reads has)))

@@ -20,8 +20,8 @@ use Rattle.inode_state.proofs.InodeLaws.{same_fields_at, inode_is_local, inode_w
 use Rattle.dentry_state.specs.States.{free_fields as free_slot, named_fields}
 use Rattle.dentry_state.specs.Dentry.{DentryView, IsSlotWord, IsNameWord, slot_fields_at}
 use Rattle.dentry_state.proofs.DentryLaws.{same_fields_at as same_slot_at, dentry_is_local, name_word_is_slot_word, slot_word_is_no_inode_word, slot_word_in_volume}
-use Rattle.volume.specs.declared.plan.NodeKind.{NodeKind}
-use Rattle.volume.specs.declared.plan.NodeKind.TheVariants.{File as AFile, Directory as ADirectory}
+use Rattle.layout.specs.declared.kinds.NodeKind.{NodeKind}
+use Rattle.layout.specs.declared.kinds.NodeKind.TheVariants.{File as AFile, Directory as ADirectory}
 use Rattle.volume.specs.declared.plan.NewEntry.{NewEntry}
 use Rattle.image_laws.specs.Create.{IsAmong, IsMadeWord, MakesNode, node_words, parent_links}
 use Rattle.create_ops.specs.Making.{node_of, fields_of, IsParentWord, IsParent, IsReady}

@@ -9,11 +9,11 @@ use Rattle.image_counts.specs.Entries.{IsFreePage}
 use Rattle.image_laws.specs.Create.{MakesPage, IsPageQuiet, owned}
 use Rattle.image_laws.specs.Frame.{SameMeaning}
 use Rattle.image_laws.specs.Quiet.{IsMix}
+use Rattle.image_laws.proofs.PageQuiet.{page_quiet_law}
 use Rattle.create_ops.specs.Making.{MayTake, IsHolder, IsOpened}
-use Rattle.create_ops.specs.Laws.{ImageLaws}
 use Rattle.create_ops.proofs.Moments.{is_mix, mix_of_new}
 
-module _ (laws : ImageLaws) (P : ℕ) (W : List ℕ) (d page : ℕ) (holder : IsHolder P W d) (may : MayTake P W (Some page)) (list : List ℕ) (is : list ≡ page ∷ []) (A : List ℕ) (filled : MakesPage P W A (slice_index list 0)) where
+module _ (P : ℕ) (W : List ℕ) (d page : ℕ) (holder : IsHolder P W d) (may : MayTake P W (Some page)) (list : List ℕ) (is : list ≡ page ∷ []) (A : List ℕ) (filled : MakesPage P W A (slice_index list 0)) where
   page_is : slice_index list 0 ≡ page
   page_is = ap (λ (l : List ℕ). slice_index l 0) is
 
@@ -24,7 +24,7 @@ module _ (laws : ImageLaws) (P : ℕ) (W : List ℕ) (d page : ℕ) (holder : Is
   free = (may.0, ap (λ (f : DescriptorFields). f.owner) may.1)
 
   quiet : IsPageQuiet P W A (owned P A page d)
-  quiet = laws.page_quiet P W A holder.path d page holder.sound holder.named holder.is_directory free made.empty
+  quiet = page_quiet_law P W A holder.path d page holder.sound holder.named holder.is_directory free made.empty
 
   pub filling : (image : List ℕ) → Mix W A image → SameMeaning P W image
   filling image mix = quiet.making image (is_mix W A image mix)

@@ -7,8 +7,8 @@ use Rattle.layout.proofs.FieldLaws.{same_words_from}
 use Rattle.tree_model.specs.Tree.{Node, Directory, File}
 use Rattle.dentry_state.proofs.DentryLaws.{next_fields}
 use Rattle.image_laws.specs.Create.{IsMadeWord, MakesNode, committed, node_words}
-use Rattle.volume.specs.declared.plan.NodeKind.{NodeKind}
-use Rattle.volume.specs.declared.plan.NodeKind.TheVariants.{File as AFile, Directory as ADirectory}
+use Rattle.layout.specs.declared.kinds.NodeKind.{NodeKind}
+use Rattle.layout.specs.declared.kinds.NodeKind.TheVariants.{File as AFile, Directory as ADirectory}
 use Rattle.create_ops.specs.Making.{node_of}
 
 not_made : (P : ℕ) (node : Node) (d s i a : ℕ) → ((f : ℕ) → f < 4 → a ≢ inode_word_of i f) → ((k : ℕ) → k < 14 → a ≢ slot_word_of P s (2 + k)) → a ≢ inode_word_of d 1 → IsMadeWord P node d s i a → ⊥

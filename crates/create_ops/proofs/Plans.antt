@@ -28,15 +28,20 @@ use Rattle.dentry_state.specs.Dentry.{slot_fields_at}
 use Rattle.dentry_state.proofs.DentryLaws.{same_fields as same_slot, next_fields}
 use Rattle.page_state.specs.Page.{descriptor_of}
 use Rattle.page_state.proofs.PageLaws.{same_descriptor_fields}
-use Rattle.volume.specs.declared.plan.NodeKind.{NodeKind}
-use Rattle.volume.specs.declared.plan.NodeKind.TheVariants.{File as AFile, Directory as ADirectory}
+use Rattle.layout.specs.declared.kinds.NodeKind.{NodeKind}
+use Rattle.layout.specs.declared.kinds.NodeKind.TheVariants.{File as AFile, Directory as ADirectory}
 use Rattle.volume.specs.declared.plan.NewEntry.{NewEntry}
 use Rattle.volume.specs.declared.plan.Action.{Action}
 use Rattle.volume.specs.declared.plan.Action.TheVariants.{Make}
 use Rattle.volume.specs.Planned.{IsVacantSlot, IsPlace, IsEntryFor, IsPlanned, IsPlanOf}
 use Rattle.volume.specs.Prepared.{making}
+use Rattle.image_counts.proofs.Inodes.{inode_count_law}
+use Rattle.image_counts.proofs.Links.{link_law, link_word_law}
+use Rattle.image_counts.proofs.Nodes.{size_law}
+use Rattle.image_counts.proofs.Slots.{absence_law}
+use Rattle.image_counts.proofs.States.{state_law}
+use Rattle.image_counts.proofs.Tidied.{page_count_law, room_law}
 use Rattle.create_ops.specs.Making.{MayTake, IsHolder, IsParent, IsPlannedAt}
-use Rattle.create_ops.specs.Laws.{ImageLaws}
 use Rattle.create_ops.proofs.Counts.{none_of, count_below}
 
 some_one : (x y : ℕ) → ◌≡◌ {A = Option ℕ} (Some x) (Some y) → x ≡ y
@@ -84,12 +89,12 @@ zero_descriptor : (P : ℕ) (I : List ℕ) (j : ℕ) → ((f : ℕ) → f < 3 �
 unfolding page_owner page_kind page_offset
 zero_descriptor P I j each = same_descriptor_fields (descriptor_of P I j) (record { owner = 0; kind = 0; offset = 0 }) (each 0 (omega arith)) (each 1 (omega arith)) (each 2 (omega arith))
 
-module _ (laws : ImageLaws) (P : ℕ) (W : List ℕ) (state : State) (path : Route) (entry : NewEntry) (at : IsPlannedAt P W state path entry) where
+module _ (P : ℕ) (W : List ℕ) (state : State) (path : Route) (entry : NewEntry) (at : IsPlannedAt P W state path entry) where
   pub sound : Sound P W
   sound = at.tidy.sound
 
   pub volume_state : IsVolumeState P state
-  volume_state = laws.states P W state sound at.reads
+  volume_state = state_law P W state sound at.reads
 
   pub size : IsVolumeSize P
   size = (sound Rule.head 0).size refl
@@ -112,7 +117,7 @@ module _ (laws : ImageLaws) (P : ℕ) (W : List ℕ) (state : State) (path : Rou
   is_holder = subst (λ (d : ℕ). is_directory state.tree d ≡ true) holder_is may.holds
 
   pub holds : Reached P W entry.directory × IsDirectory W entry.directory
-  holds = ((laws.sizes P W state sound at.reads).directories entry.directory).0 is_holder
+  holds = ((size_law P W state sound at.reads).directories entry.directory).0 is_holder
 
   pub named : Names P W (reverse (parent path)) entry.directory
   named = (at.reads.tree.names (parent path) entry.directory).0 for_entry.directory_is
@@ -121,7 +126,7 @@ module _ (laws : ImageLaws) (P : ℕ) (W : List ℕ) (state : State) (path : Rou
   holder = record { sound = sound; path = reverse (parent path); named = named; is_directory = holds.1 }
 
   inodes : HasInodes P W state.tree
-  inodes = laws.inodes P W state sound at.reads
+  inodes = inode_count_law P W state sound at.reads
 
   pub from_one : 1 ≤ entry.directory
   from_one = inodes.least entry.directory holds.0
@@ -131,8 +136,8 @@ module _ (laws : ImageLaws) (P : ℕ) (W : List ℕ) (state : State) (path : Rou
 
   few_links : inode_links W entry.directory < 2 ^ 64 - 1
   few_links =
-      let counted = ((laws.links P W state sound at.reads).counted entry.directory holds.0).directory holds.1 in
-      let word_is = laws.link_words P W state (tidied at.tidy) at.reads entry.directory holds.0 in
+      let counted = ((link_law P W state sound at.reads).counted entry.directory holds.0).directory holds.1 in
+      let word_is = link_word_law P W state (tidied at.tidy) at.reads entry.directory holds.0 in
       let most = count_below (IsChildOf P W entry.directory) (slots_of P) counted.0 (λ s child. child.slot.live.held.in_range) counted.1 in
       let few = data_pages_below P size in
       omega (arith, counted.2, word_is, most, slots_in_pages P, few, size.1)
@@ -172,7 +177,7 @@ module _ (laws : ImageLaws) (P : ℕ) (W : List ℕ) (state : State) (path : Rou
     pub absent : (t : ℕ) → ¬ IsEntryOf P W entry.directory (last_name path) t
     absent =
         let whole_path = path_is path may.below in
-        ((laws.absences P W state sound at.reads).absent (parent path) entry.directory (last_name path) for_entry.directory_is).0
+        ((absence_law P W state sound at.reads).absent (parent path) entry.directory (last_name path) for_entry.directory_is).0
         (ap (λ (p : Route). id_at state.tree p) (sym whole_path) ∙ may.absent)
 
     pub can : CanMake P W (reverse (parent path)) entry.directory entry.inode (words_of_name entry.name)
@@ -196,7 +201,7 @@ module _ (laws : ImageLaws) (P : ℕ) (W : List ℕ) (state : State) (path : Rou
   -- ---- the place
 
   pub room_words : HasRoomWords P W state entry.directory
-  room_words = laws.rooms P W state (tidied at.tidy) at.reads entry.directory holds.0 holds.1
+  room_words = room_law P W state (tidied at.tidy) at.reads entry.directory holds.0 holds.1
 
   pub vacant : IsVacantSlot P W entry.directory entry.slot → IsVacant P W entry.directory entry.slot
   unfolding slot_owner
@@ -222,7 +227,7 @@ module _ (laws : ImageLaws) (P : ℕ) (W : List ℕ) (state : State) (path : Rou
     zero_descriptor P W page (λ f lt. elim (cases_eq (word W (descriptor_word_of P page f)) 0) [
       | inl is ↦ is
       | inr ne ↦ absurd (none_of (IsLitterPage P W) page at.tidy.repaired.of_pages
-          (record { in_range = free.0; free = λ kept. ((laws.pages P W state (tidied at.tidy) at.reads).kept page free.0).0 kept free.1; nonzero = (f, lt, ne) }))
+          (record { in_range = free.0; free = λ kept. ((page_count_law P W state (tidied at.tidy) at.reads).kept page free.0).0 kept free.1; nonzero = (f, lt, ne) }))
     ]),
   )
 

@@ -9,13 +9,13 @@ use Rattle.tree_model.specs.Run.{State}
 use Rattle.tree_model.specs.declared.command.Command.{Command}
 use Rattle.tree_model.specs.declared.reply.Refusal.{Refusal}
 use Rattle.image_laws.specs.CreateStep.{making as making_node, HasRoomAfter}
-use Rattle.volume.specs.declared.plan.NodeKind.{NodeKind}
-use Rattle.volume.specs.declared.plan.NodeKind.TheVariants.{File as AFile, Directory as ADirectory}
+use Rattle.layout.specs.declared.kinds.NodeKind.{NodeKind}
+use Rattle.layout.specs.declared.kinds.NodeKind.TheVariants.{File as AFile, Directory as ADirectory}
 use Rattle.volume.specs.declared.plan.NewEntry.{NewEntry}
 use Rattle.volume.specs.Planned.{IsPlace, fences_for}
 use Rattle.volume.specs.Prepared.{making}
+use Rattle.image_laws.proofs.RoomAfter.{room_after_law}
 use Rattle.create_ops.specs.Making.{node_of, room_of, IsPlannedAt}
-use Rattle.create_ops.specs.Laws.{ImageLaws}
 use Rattle.create_ops.proofs.Plans
 
 -- a row for each kind
@@ -38,14 +38,14 @@ is_same n m e = grind (arith, nat_tests)
 not_equal : (n m : ℕ) → (n ≡ m → ⊥) → n == m ≡ false
 not_equal n m e = let apart : n ≢ m = e in grind (arith, nat_tests)
 
-module _ (laws : ImageLaws) (P : ℕ) (W : List ℕ) (state : State) (path : Route) (entry : NewEntry) (at : IsPlannedAt P W state path entry) where
+module _ (P : ℕ) (W : List ℕ) (state : State) (path : Route) (entry : NewEntry) (at : IsPlannedAt P W state path entry) where
   -- the directory is full where the name needs a new page, and only there
   full_by : (new_page : Option ℕ) → IsPlace P W entry.directory entry.slot new_page → is_full state.tree state.room entry.directory ≡ is_some new_page
   full_by None place =
-      let rooms = Plans.room_words laws P W state path entry at in
+      let rooms = Plans.room_words P W state path entry at in
       not_equal (name_count state.tree entry.directory) (32 * pages_in state.room entry.directory) (λ full. rooms.full.0 full entry.slot place.vacant.page place.vacant.vacant)
   full_by (Some page) place =
-      let rooms = Plans.room_words laws P W state path entry at in
+      let rooms = Plans.room_words P W state path entry at in
       is_same (name_count state.tree entry.directory) (32 * pages_in state.room entry.directory) (rooms.full.1 (λ s is none. place.full s (record { page = is; vacant = none })))
 
   fences_by : (new_page : Option ℕ) → IsPlace P W entry.directory entry.slot new_page → fences_for new_page ≡ 2 + 2 * page_for_name state.tree state.room (Some entry.directory)
@@ -55,17 +55,17 @@ module _ (laws : ImageLaws) (P : ℕ) (W : List ℕ) (state : State) (path : Rou
   -- two fences, and two more for a page that the command needs
   pub fences_needed : fences_for entry.new_page ≡ 2 + 2 * need state.tree state.room (making entry.kind path)
   fences_needed =
-      let for_entry = Plans.for_entry laws P W state path entry at in
+      let for_entry = Plans.for_entry P W state path entry at in
       fences_by entry.new_page for_entry.place
       ∙ ap (λ (pages : ℕ). 2 + 2 * pages) (sym (need_is entry.kind state.tree state.room path entry.directory for_entry.directory_is))
 
   after_command : HasRoomAfter state.tree state.room (node_of entry.kind) path entry.directory entry.inode
-  after_command = laws.room_after state.tree state.room (node_of entry.kind) path entry.directory entry.inode (record {
-    formed = (Plans.volume_state laws P W state path entry at).tree;
-    fits = (Plans.volume_state laws P W state path entry at).room;
-    above = (Plans.for_entry laws P W state path entry at).directory_is;
-    directory = Plans.is_holder laws P W state path entry at;
-    absent = Plans.not_there laws P W state path entry at;
+  after_command = room_after_law state.tree state.room (node_of entry.kind) path entry.directory entry.inode (record {
+    formed = (Plans.volume_state P W state path entry at).tree;
+    fits = (Plans.volume_state P W state path entry at).room;
+    above = (Plans.for_entry P W state path entry at).directory_is;
+    directory = Plans.is_holder P W state path entry at;
+    absent = Plans.not_there P W state path entry at;
   })
 
   room_by : (new_page : Option ℕ) → IsPlace P W entry.directory entry.slot new_page → room_after entry.inode state.tree state.room (making_node (node_of entry.kind) path) false ≡ room_of entry new_page state.room
@@ -74,7 +74,7 @@ module _ (laws : ImageLaws) (P : ℕ) (W : List ℕ) (state : State) (path : Rou
 
   pub room_is : room_of entry entry.new_page state.room ≡ room_after (least_free_id state.tree) state.tree state.room (making entry.kind path) false
   room_is =
-      let for_entry = Plans.for_entry laws P W state path entry at in
+      let for_entry = Plans.for_entry P W state path entry at in
       sym (room_by entry.new_page for_entry.place) ∙ ap (λ (c : Command). room_after entry.inode state.tree state.room c false) (command_is entry.kind path)
       ∙ ap (λ (i : ℕ). room_after i state.tree state.room (making entry.kind path) false) for_entry.inode_is
 

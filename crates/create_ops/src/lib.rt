@@ -2,7 +2,6 @@
 #![tactic(auto)]
 
 mod calls;
-mod laws;
 mod make;
 mod node;
 mod page;

@@ -1,12 +1,8 @@
--- Which devices can be formatted, and what a stop in it leaves.
-use Rattle.std.specs.Prelude.{◌≡◌, ◌≢◌, ◌⊎◌, ℕ, ◌*◌, ◌≤◌, List, length, slice_index}
-use Rattle.layout.specs.Geometry.{IsVolumeSize, first_data_word_of}
+-- What a crash in a format leaves.
+use Rattle.std.specs.Prelude.{◌≡◌, ◌≢◌, ◌⊎◌, ℕ, ◌≤◌, List, length, slice_index}
+use Rattle.layout.specs.Geometry.{first_data_word_of}
 use Rattle.layout.specs.Superblock.{magic}
 use Rattle.layout.specs.Format.{IsFormattedFrom}
-
--- a volume has so many words
-abbrev pub IsVolumeLength : ℕ → Type 0
-IsVolumeLength words = (pages : ℕ) × IsVolumeSize pages × (words ≡ 512 * pages)
 
 -- no volume, since the first word isn't the magic, over the old data pages
 pub record IsHidden (pages : ℕ) (old image : List ℕ) : Type 0 where

@@ -8,8 +8,8 @@ use layout::Geometry;
 pub fn geometry_of(words: &[u64]) -> Option<Geometry>
     ensures { MatchOption result ((P : ℕ) → ¬ KeepsRule1 P words.now) (λ geometry. KeepsRule1 geometry.pages words.now) }
 {
-    let geometry = Geometry::of(words.len() as u64 / 512)?;
-    if words.len() as u64 == 512 * geometry.pages && words.starts_with(geometry.head().as_slice()) {
+    let geometry = Geometry::of_words(words.len() as u64)?;
+    if words.starts_with(geometry.head().as_slice()) {
         Some(geometry)
     } else {
         None

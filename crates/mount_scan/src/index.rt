@@ -8,9 +8,7 @@ ghost use Rattle.volatile_index.specs.Index.{inodes_of_index, entries_of, pages_
 ghost use Rattle.volume.specs.Stands.{KnowsNodes};
 ghost use Rattle.mount_scan.specs.Building.{HasPlaces, HasPlacesOf, Holds};
 
-use crate::kinds::{FILE, PAGE_BYTES, PAGE_SLOTS};
-use crate::slots::slot_in;
-use layout::{Geometry, name_of_words};
+use layout::{FILE, Geometry, PAGE_BYTES, PAGE_SLOTS, name_of_words};
 use pm_trait::NoMemory;
 use std::alloc::Global;
 use volatile_index::Index;
@@ -111,7 +109,7 @@ fn add_entries(
             geometry,
             words,
             directory,
-            slot_in(geometry, page, place),
+            geometry.slot_in(page, place),
         )?;
     }
     Ok(())

@@ -5,9 +5,7 @@ mod build;
 mod error;
 mod head;
 mod index;
-mod kinds;
 mod mounting;
-mod slots;
 
 pub use error::MountError;
 pub use mounting::mount;

@@ -1,9 +1,10 @@
 // What a mounted volume answers, and the plans that it makes, with ample memory.
 use crate::mount;
 use crate::tests::{FILE, device};
+use layout::{NodeKind, ROOT};
 use std::test::Fail;
 use tree_model::{Command, Free, Path, Refusal};
-use volume::{Action, NodeKind, ROOT};
+use volume::Action;
 
 #[test]
 fn a_file_is_planned(rt: HostRuntime) -> Result<(), Fail> {
@@ -17,7 +18,7 @@ fn a_file_is_planned(rt: HostRuntime) -> Result<(), Fail> {
         pages_all: 13,
     };
     assert_eq!(rt; volume.free(&pm), free);
-    assert_eq!(rt; volume.count(ROOT, &pm), 0);
+    assert_eq!(rt; volume.count(ROOT), 0);
 
     let root = Command::Create {
         path: Path::parse(b"/").ok().ok_or("no path")?,
@@ -28,7 +29,7 @@ fn a_file_is_planned(rt: HostRuntime) -> Result<(), Fail> {
         path: Path::parse(b"/a").ok().ok_or("no path")?,
     };
     let plan = volume.prepare(&file, &mut pm).ok().ok_or("refused")?;
-    let Action::Make(entry) = plan.into_action() else {
+    let Action::Make(entry) = plan.action() else {
         return Err("another plan".into());
     };
     assert_eq!(rt; entry.kind, NodeKind::File);
@@ -43,8 +44,8 @@ fn a_directory_is_planned_beside_a_file(rt: HostRuntime) -> Result<(), Fail> {
     let alloc = rt.alloc();
     let mut pm = device(alloc, &FILE)?;
     let mut volume = mount(alloc, &mut pm)?;
-    assert_eq!(rt; volume.count(ROOT, &pm), 1);
-    let first = volume.nth(ROOT, 0, &pm);
+    assert_eq!(rt; volume.count(ROOT), 1);
+    let first = volume.nth(ROOT, 0);
     assert_eq!(rt; first.name.as_slice(), b"a".as_slice());
     assert_eq!(rt; first.slot, 0);
 
@@ -60,7 +61,7 @@ fn a_directory_is_planned_beside_a_file(rt: HostRuntime) -> Result<(), Fail> {
         path: Path::parse(b"/d").ok().ok_or("no path")?,
     };
     let plan = volume.prepare(&directory, &mut pm).ok().ok_or("refused")?;
-    let Action::Make(entry) = plan.into_action() else {
+    let Action::Make(entry) = plan.action() else {
         return Err("another plan".into());
     };
     assert_eq!(rt; entry.kind, NodeKind::Directory);

@@ -13,8 +13,9 @@ use Rattle.image_reading.specs.Soundness.{root}
 use Rattle.image_reading.proofs.Counts.{count_none}
 use Rattle.image_reading.proofs.Tidied.{tidied}
 use Rattle.image_counts.specs.Entries.{IsFreePage, IsFreeInode}
-use Rattle.image_counts.specs.Laws.{FreeInodeLaw, PageCountLaw}
 use Rattle.image_counts.proofs.Counting.{count_alike}
+use Rattle.image_counts.proofs.Inodes.{free_inode_law}
+use Rattle.image_counts.proofs.Tidied.{page_count_law}
 use Rattle.allocators.specs.Numbers.{IsFree, IsLowest, free_in}
 use Rattle.volume.specs.Volume.{VolumeView}
 use Rattle.volume.specs.Stands.{StandsFor}
@@ -131,24 +132,24 @@ module _ (volume : VolumeView) (device : DeviceView) (state : State) (stands : S
       (λ i unused. (i - 1, omega (arith, unused.0), inode_free i unused))
       (count_more (IsFree volume.inodes) (free_in volume.inodes) (count_free volume.inodes))
 
-  pub free_inodes_are : FreeInodeLaw → free_inodes (untaken volume.size) state.tree ≡ free_in volume.inodes
-  free_inodes_are law = (law volume.size device.words state (tidied stands.tidy) stands.reads).free (free_in volume.inodes) inodes_counted
+  pub free_inodes_are : free_inodes (untaken volume.size) state.tree ≡ free_in volume.inodes
+  free_inodes_are = (free_inode_law volume.size device.words state (tidied stands.tidy) stands.reads).free (free_in volume.inodes) inodes_counted
 
-  pub free_pages_are : PageCountLaw → free_pages (untaken volume.size) state.tree state.room ≡ free_in volume.data_pages
-  free_pages_are law =
-      (law volume.size device.words state (tidied stands.tidy) stands.reads).free (free_in volume.data_pages)
+  pub free_pages_are : free_pages (untaken volume.size) state.tree state.room ≡ free_in volume.data_pages
+  free_pages_are =
+      (page_count_law volume.size device.words state (tidied stands.tidy) stands.reads).free (free_in volume.data_pages)
       (count_alike (IsFree volume.data_pages) (IsFreePage volume.size device.words) (free_in volume.data_pages) (free_page volume device (state, stands)) (page_free volume device (state, stands)) (count_free volume.data_pages))
 
   -- the root's inode isn't free
   pub root_taken : IsFree volume.inodes 0 → ⊥
   root_taken free = not_both (inode_kind device.words 1) ((stands.tidy.sound root 1).directory refl) (free_inode 0 free).2
 
-  pub least_inode : (k : ℕ) → FreeInodeLaw → IsLowest volume.inodes k → (k + 1 ≡ least_free_id state.tree) × (k + 1 ≤ inodes_of volume.size)
-  least_inode zero law lowest = absurd (root_taken lowest.free)
-  least_inode (suc k) law lowest =
+  pub least_inode : (k : ℕ) → IsLowest volume.inodes k → (k + 1 ≡ least_free_id state.tree) × (k + 1 ≤ inodes_of volume.size)
+  least_inode zero lowest = absurd (root_taken lowest.free)
+  least_inode (suc k) lowest =
       let unused = free_inode (suc k) lowest.free in
       let used : (j : ℕ) → 2 ≤ j → j < suc (suc k) → inode_kind device.words j ≢ 0 = λ j low high none.
       let most : j ≤ inodes_of volume.size = omega (arith, unused.1, high) in
       let least = lowest.least (j - 1) (inode_free j (omega (arith, low), most, none)) in omega (arith, least, low, high) in
-      let is = (law volume.size device.words state (tidied stands.tidy) stands.reads).least (suc (suc k)) (omega arith) unused used in
+      let is = (free_inode_law volume.size device.words state (tidied stands.tidy) stands.reads).least (suc (suc k)) (omega arith) unused used in
       (omega (arith, is), omega (arith, unused.1))

@@ -14,8 +14,9 @@ use Rattle.tree_model.specs.Tree.{Tree, IsTree, route_cmp, is_root, parent, last
 use Rattle.tree_model.proofs.TreeLaws.{parent-below, not_root-below, is_in-at}
 use Rattle.tree_model.specs.Step.{names_in}
 use Rattle.tree_model.specs.Run.{State}
-use Rattle.image_counts.specs.Laws.{EntryLaw, SizeLaw, InodeCountLaw, StateLaw}
 use Rattle.image_counts.proofs.Counting.{Among}
+use Rattle.image_counts.proofs.Nodes.{size_law}
+use Rattle.image_counts.proofs.Paths.{entry_law}
 use Rattle.image_counts.proofs.Slots.{all_names, some_names}
 use Rattle.volatile_index.specs.Entries.{name_cmp, IsSorted}
 use Rattle.volatile_index.proofs.EntryLaws.{differs, turned, sorted_tail}
@@ -163,12 +164,12 @@ directory_path T tree d directory = tree.named d (there (Rattle.tree_model.specs
     there (Some node) e = refl
 
 module _ (volume : VolumeView) (device : DeviceView) (state : State) (stands : StandsFor volume device state)
-    (entry_law : EntryLaw) (size_law : SizeLaw) (inode_law : InodeCountLaw) (state_law : StateLaw) (d : ℕ) (directory : is_directory state.tree d ≡ true) (sorted : IsSorted (entries_of volume.index d)) where
+    (d : ℕ) (directory : is_directory state.tree d ≡ true) (sorted : IsSorted (entries_of volume.index d)) where
   tree : IsTree state.tree
-  tree = stands_tree volume device state state_law stands
+  tree = stands_tree volume device state stands
 
   within : (1 ≤ d) × (d ≤ inodes_of volume.size)
-  within = in_table volume device d inode_law (state, stands) (((size_law volume.size device.words state stands.tidy.sound stands.reads).directories d).0 directory).0
+  within = in_table volume device d (state, stands) (((size_law volume.size device.words state stands.tidy.sound stands.reads).directories d).0 directory).0
 
   -- each entry of the tree in the directory stands below its path
   inside : (front : Route) → id_at state.tree front ≡ Some d → (e : Route × ℕ) → Among e (entries_in state.tree d) → e.0 ≡ front ++ last_name e.0 ∷ []

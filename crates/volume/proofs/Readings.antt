@@ -9,7 +9,6 @@ use Rattle.tree_model.specs.Step.{first, at, fault_of, id_of, refusal_of}
 use Rattle.tree_model.specs.Run.{State}
 use Rattle.tree_model.specs.declared.command.Command.TheVariants.{Stat as Tell, List as Show}
 use Rattle.tree_model.specs.declared.reply.Refusal.TheVariants.{NotDir}
-use Rattle.image_counts.specs.Laws.{StateLaw}
 use Rattle.volume.specs.Volume.{VolumeView}
 use Rattle.volume.specs.Stands.{StandsFor}
 use Rattle.volume.specs.Planned.{IsPlanned}
@@ -26,10 +25,10 @@ a_file None there e = cc
 a_file (Some Directory) there e = cc
 a_file (Some (File bytes)) there e = refl
 
-module _ (volume : VolumeView) (device : DeviceView) (state : State) (stands : StandsFor volume device state) (law : StateLaw)
+module _ (volume : VolumeView) (device : DeviceView) (state : State) (stands : StandsFor volume device state)
     (path : Route) (inode : ℕ) (walked : walk state.tree path ≡ Ok (record { path = path; id = inode })) where
   named : id_at state.tree path ≡ Some inode
-  named = id_at-from_walk state.tree path (record { path = path; id = inode }) (stands_tree volume device state law stands) walked
+  named = id_at-from_walk state.tree path (record { path = path; id = inode }) (stands_tree volume device state stands) walked
 
   pub its_id : id_of state.tree path ≡ inode
   its_id = ap (λ o. unwrap_or o root_id) named
@@ -44,6 +43,6 @@ module _ (volume : VolumeView) (device : DeviceView) (state : State) (stands : S
 
   pub listed_file : is_directory state.tree inode ≡ false → refusal_of volume.size state.tree state.room (Show path) ≡ Some NotDir
   listed_file other =
-      let there = (stands_tree volume device state law stands).present path inode named in
+      let there = (stands_tree volume device state stands).present path inode named in
       let test = ap (is_file state.tree) its_id ∙ a_file (node_at state.tree inode) there other in
       λ i. first (fault_of (walked i) ∷ at NotDir (test i) ∷ [])

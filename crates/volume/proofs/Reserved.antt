@@ -5,6 +5,7 @@ use Rattle.pm_trait.specs.Trail.{Trail}
 use Rattle.pm_trait.specs.Device.{IsSettledAt}
 use Rattle.pm_trait.specs.DeviceView.{DeviceView}
 use Rattle.tree_model.specs.Run.{State}
+use Rattle.tree_model.specs.declared.command.Command.{Command}
 use Rattle.image_reading.specs.Counts.{IsDistinct}
 use Rattle.image_reading.specs.Reading.{ReadsAs}
 use Rattle.image_reading.specs.Tidy.{Tidy}
@@ -13,7 +14,10 @@ use Rattle.volatile_index.specs.Index.{NodeView}
 use Rattle.volatile_index.specs.declared.entry.Entry.{Entry}
 use Rattle.volume.specs.Volume.{VolumeView}
 use Rattle.volume.specs.Stands.{KnowsNodes, Knows, StandsFor}
-use Rattle.volume.specs.Prepared.{HasSameContents, IsSameButPlaces}
+use Rattle.volume.specs.Planned.{IsPlanned}
+use Rattle.volume.specs.Carried.{IsPlanFor}
+use Rattle.volume.specs.Prepared.{HasSameContents, IsSameButPlaces, IsSameButRoom}
+use Rattle.volume.specs.declared.plan.Action.{Action}
 
 -- a volume with another index that holds the same
 abbrev with_index : VolumeView → List NodeView → VolumeView
@@ -38,19 +42,27 @@ knows_still old index I same knows = record {
   data_pages = knows.data_pages;
 }
 
--- it stands for the same tree and room
-pub stands_still : (old new : VolumeView) (before after : DeviceView) (state : State) → IsSameButPlaces old new → after.words ≡ before.words → after.trail ≡ before.trail → StandsFor old before state → StandsFor new after state
-stands_still old new before after state same words told stands =
-    let view : with_index old new.index ≡ new = λ i. record {
-      size = sym same.same_size i;
-      index = new.index;
-      inodes = sym same.inodes i;
-      data_pages = sym same.data_pages i;
-      stopped = sym same.same_state i;
-    } in
-    subst (λ (volume : VolumeView). StandsFor volume after state) view (record {
-      settled = subst (λ (t : Option Trail). IsSettledAt after.words t) (sym told) (subst (λ (now : List ℕ). IsSettledAt now before.trail) (sym words) stands.settled);
-      tidy = subst (Tidy old.size) (sym words) stands.tidy;
-      reads = subst (λ (now : List ℕ). ReadsAs old.size now state) (sym words) stands.reads;
-      knows = subst (Knows (with_index old new.index)) (sym words) (knows_still old new.index before.words same.index stands.knows);
-    })
+module _ (old new : VolumeView) (before after : DeviceView) (state : State) (same : IsSameButPlaces old new) (room : IsSameButRoom before after) (stands : StandsFor old before state) where
+  -- it stands for the same tree and room
+  pub stands_still : StandsFor new after state
+  stands_still =
+      let view : with_index old new.index ≡ new = λ i. record {
+        size = sym same.same_size i;
+        index = new.index;
+        inodes = sym same.inodes i;
+        data_pages = sym same.data_pages i;
+        stopped = sym same.same_state i;
+      } in
+      subst (λ (volume : VolumeView). StandsFor volume after state) view (record {
+        settled = subst (λ (t : Option Trail). IsSettledAt after.words t) (sym room.trail) (subst (λ (now : List ℕ). IsSettledAt now before.trail) (sym room.words) stands.settled);
+        tidy = subst (Tidy old.size) (sym room.words) stands.tidy;
+        reads = subst (λ (now : List ℕ). ReadsAs old.size now state) (sym room.words) stands.reads;
+        knows = subst (Knows (with_index old new.index)) (sym room.words) (knows_still old new.index before.words same.index stands.knows);
+      })
+
+  -- and a plan is one of it
+  pub plan_still : (command : Command) (action : Action) → IsPlanned old.size before.words state command action → IsPlanFor new after state command action
+  plan_still command action planned = record {
+    stands = stands_still;
+    planned = subst (λ (P : ℕ). IsPlanned P after.words state command action) (sym same.same_size) (subst (λ (now : List ℕ). IsPlanned old.size now state command action) (sym room.words) planned);
+  }

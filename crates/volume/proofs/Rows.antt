@@ -15,7 +15,8 @@ use Rattle.tree_model.specs.declared.reply.Refusal.TheVariants.{Root, Exists, No
 use Rattle.image_reading.specs.Reading.{IsDirectory, Reached}
 use Rattle.image_reading.proofs.Tidied.{tidied}
 use Rattle.image_counts.specs.Entries.{IsFreePage}
-use Rattle.image_counts.specs.Laws.{EntryLaw, AbsenceLaw, SizeLaw, InodeCountLaw, FreeInodeLaw, RoomLaw, PageCountLaw, StateLaw}
+use Rattle.image_counts.proofs.Nodes.{size_law}
+use Rattle.image_counts.proofs.Tidied.{room_law}
 use Rattle.allocators.specs.Numbers.{IsFree, IsLowest, free_in}
 use Rattle.allocators.proofs.NumbersLaws.{none_is_free, some_is_free}
 use Rattle.volatile_index.specs.Entries.{IsAbsent, IsPresent}
@@ -24,8 +25,8 @@ use Rattle.volume.specs.Volume.{VolumeView}
 use Rattle.volume.specs.Stands.{StandsFor}
 use Rattle.volume.specs.Planned.{IsVacantSlot, IsPlace, IsEntryFor, IsPlanned}
 use Rattle.volume.specs.Prepared.{making}
-use Rattle.volume.specs.declared.plan.NodeKind.{NodeKind}
-use Rattle.volume.specs.declared.plan.NodeKind.TheVariants.{File, Directory}
+use Rattle.layout.specs.declared.kinds.NodeKind.{NodeKind}
+use Rattle.layout.specs.declared.kinds.NodeKind.TheVariants.{File, Directory}
 use Rattle.volume.specs.declared.plan.NewEntry.{NewEntry}
 use Rattle.volume.specs.declared.plan.Action.TheVariants.{Make}
 use Rattle.volume.proofs.Walked.{stands_tree, below_there, below_absent}
@@ -83,22 +84,21 @@ module _ (volume : VolumeView) (device : DeviceView) (state : State) (stands : S
       (nat_lt (free_pages (untaken volume.size) state.tree state.room) (page_for_name state.tree state.room (Some (id_of state.tree (parent path))))))
 
   -- the directory that would hold the last name
-  module _ (d : ℕ) (name : List ℕ) (walked : walk_to_parent state.tree path ≡ Ok (record { path = parent path; id = d })) (below : is_root path ≡ false) (named : name ≡ last_name path)
-      (entries : EntryLaw) (absences : AbsenceLaw) (sizes : SizeLaw) (inodes : InodeCountLaw) (free_inode_law : FreeInodeLaw) (rooms : RoomLaw) (pages : PageCountLaw) (states : StateLaw) where
+  module _ (d : ℕ) (name : List ℕ) (walked : walk_to_parent state.tree path ≡ Ok (record { path = parent path; id = d })) (below : is_root path ≡ false) (named : name ≡ last_name path) where
     path_is : path ≡ parent path ++ name ∷ []
     path_is = whole_path path below ∙ ap (λ last. parent path ++ last ∷ []) (sym named)
 
     held : (id_at state.tree (parent path) ≡ Some d) × (is_directory state.tree d ≡ true)
-    held = holder-from_walk state.tree path (record { path = parent path; id = d }) (stands_tree volume device state states stands) walked
+    held = holder-from_walk state.tree path (record { path = parent path; id = d }) (stands_tree volume device state stands) walked
 
     is_here : Reached volume.size device.words d × IsDirectory device.words d
-    is_here = ((sizes volume.size device.words state stands.tidy.sound stands.reads).directories d).0 held.1
+    is_here = ((size_law volume.size device.words state stands.tidy.sound stands.reads).directories d).0 held.1
 
     present : IsPresent (entries_of volume.index d) name → is_there state.tree path ≡ true
-    present (slot, there) = ap is_some (ap (id_at state.tree) path_is ∙ below_there volume device state (parent path) d slot name inodes entries stands held.0 there)
+    present (slot, there) = ap is_some (ap (id_at state.tree) path_is ∙ below_there volume device state (parent path) d slot name stands held.0 there)
 
     absent : IsAbsent (entries_of volume.index d) name → is_there state.tree path ≡ false
-    absent none = ap is_some (ap (id_at state.tree) path_is ∙ below_absent volume device state (parent path) d name inodes absences stands held.0 none)
+    absent none = ap is_some (ap (id_at state.tree) path_is ∙ below_absent volume device state (parent path) d name stands held.0 none)
 
     page_test : ℕ → Bool
     page_test n = nat_lt (free_pages (untaken volume.size) state.tree state.room) n
@@ -111,23 +111,23 @@ module _ (volume : VolumeView) (device : DeviceView) (state : State) (stands : S
     pub new_no_inode : IsAbsent (entries_of volume.index d) name → ((k : ℕ) → ¬ IsFree volume.inodes k) → refusal_of volume.size state.tree state.room (making kind path) ≡ Some NoInodes
     new_no_inode none used =
         let missing = absent none in
-        let lacks = is_none (free_inodes (untaken volume.size) state.tree) (free_inodes_are volume device state stands free_inode_law ∙ no_free volume.inodes used) in
+        let lacks = is_none (free_inodes (untaken volume.size) state.tree) (free_inodes_are volume device state stands ∙ no_free volume.inodes used) in
         refusal_is kind
         ∙ (λ i. row (fault_of (walked i)) (below i) (missing i) (lacks i)
         (nat_lt (free_pages (untaken volume.size) state.tree state.room) (page_for_name state.tree state.room (Some (id_of state.tree (parent path))))))
 
     some_inode : (k : ℕ) → IsFree volume.inodes k → lacks_inodes (untaken volume.size) state.tree ≡ false
     some_inode k free = is_not_none (free_inodes (untaken volume.size) state.tree)
-        (λ none. none_is_free volume.inodes (sym (free_inodes_are volume device state stands free_inode_law) ∙ none) k free)
+        (λ none. none_is_free volume.inodes (sym (free_inodes_are volume device state stands) ∙ none) k free)
 
     -- whether the directory is full
     full : ((slot : ℕ) → ¬ IsVacantSlot volume.size device.words d slot) → is_full state.tree state.room d ≡ true
     full none = eq-eqb (name_count state.tree d) (32 * pages_in state.room d)
-        ((rooms volume.size device.words state (tidied stands.tidy) stands.reads d is_here.0 is_here.1).full.1 (λ slot inside vacant. none slot (record { page = inside; vacant = vacant })))
+        ((room_law volume.size device.words state (tidied stands.tidy) stands.reads d is_here.0 is_here.1).full.1 (λ slot inside vacant. none slot (record { page = inside; vacant = vacant })))
 
     not_full : (slot : ℕ) → IsVacantSlot volume.size device.words d slot → is_full state.tree state.room d ≡ false
     not_full slot vacant = false_from_ne_true (is_full state.tree state.room d) (λ is.
-        (rooms volume.size device.words state (tidied stands.tidy) stands.reads d is_here.0 is_here.1).full.0 (eqb-true (name_count state.tree d) (32 * pages_in state.room d) is) slot vacant.page vacant.vacant)
+        (room_law volume.size device.words state (tidied stands.tidy) stands.reads d is_here.0 is_here.1).full.0 (eqb-true (name_count state.tree d) (32 * pages_in state.room d) is) slot vacant.page vacant.vacant)
 
     needed : (b : Bool) → is_full state.tree state.room d ≡ b → page_for_name state.tree state.room (Some (id_of state.tree (parent path))) ≡ cond b 1 0
     needed b is = ap (λ o. page_for_name state.tree state.room (Some (unwrap_or o root_id))) held.0 ∙ ap (λ t. cond t 1 0) is
@@ -138,7 +138,7 @@ module _ (volume : VolumeView) (device : DeviceView) (state : State) (stands : S
         let missing = absent none in
         let inode = some_inode k free in
         let need = needed true (full all_named) in
-        let no_page = free_pages_are volume device state stands pages ∙ no_free volume.data_pages (λ page unowned. all_owned page (Rattle.volume.proofs.Places.free_page volume device (state, stands) page unowned)) in
+        let no_page = free_pages_are volume device state stands ∙ no_free volume.data_pages (λ page unowned. all_owned page (Rattle.volume.proofs.Places.free_page volume device (state, stands) page unowned)) in
         let lacks = ap (nat_lt (free_pages (untaken volume.size) state.tree state.room)) need ∙ none_left (free_pages (untaken volume.size) state.tree state.room) no_page in
         refusal_is kind ∙ (λ i. row (fault_of (walked i)) (below i) (missing i) (inode i) (lacks i))
 
@@ -148,7 +148,7 @@ module _ (volume : VolumeView) (device : DeviceView) (state : State) (stands : S
         ap (nat_lt (free_pages (untaken volume.size) state.tree state.room)) (needed false (not_full slot place.vacant)) ∙ none_less (free_pages (untaken volume.size) state.tree state.room)
     has_pages slot (Some page) place =
         let some : free_pages (untaken volume.size) state.tree state.room ≢ 0 = λ none.
-        none_is_free volume.data_pages (sym (free_pages_are volume device state stands pages) ∙ none) page (page_free volume device (state, stands) page place.page_is.free) in
+        none_is_free volume.data_pages (sym (free_pages_are volume device state stands) ∙ none) page (page_free volume device (state, stands) page place.page_is.free) in
         ap (nat_lt (free_pages (untaken volume.size) state.tree state.room)) (needed true (full place.full)) ∙ some_left (free_pages (untaken volume.size) state.tree state.room) some
 
     pub new_accepted : (k slot : ℕ) (new_page : Option ℕ) → IsAbsent (entries_of volume.index d) name → IsFree volume.inodes k → IsPlace volume.size device.words d slot new_page
@@ -169,7 +169,7 @@ module _ (volume : VolumeView) (device : DeviceView) (state : State) (stands : S
 
         entry_is : (node : NodeKind) → IsEntryFor volume.size device.words state path node (entry node)
         entry_is node =
-            let least = least_inode volume device state stands k free_inode_law lowest in
+            let least = least_inode volume device state stands k lowest in
             record { kind_is = refl; directory_is = held.0; name_is = named; inode_is = least.0; inode_within = least.1; place = place }
 
         planned : (node : NodeKind) → kind ≡ node → refusal_of volume.size state.tree state.room (making node path) ≡ None → IsPlanned volume.size device.words state (making node path) (Make (entry node))

@@ -1,8 +1,8 @@
 -- How far a walk has come.
 use Rattle.std.proofs.Common.{◌≡◌, ℕ, Bool, true, false, cond, List, [], ◌∷◌, ◌++◌, Option, Some, None, Result, Ok, Err, refl, sym, ap, ◌∙◌, append_assoc, append-nil}
 use Rattle.tree_model.specs.PathText.{Route}
-use Rattle.tree_model.specs.Tree.{Tree, IsTree, root_id, id_at, is_directory, parent}
-use Rattle.tree_model.specs.Walk.{Place, place_at, walk, walk_on, walk_to_parent, step_into, only_directory}
+use Rattle.tree_model.specs.Tree.{Tree, Node, IsTree, is_directory_node, root_id, id_at, is_directory, parent}
+use Rattle.tree_model.specs.Walk.{Place, root_place, place_at, walk, walk_on, walk_to_parent, step_into, only_directory}
 use Rattle.tree_model.specs.declared.reply.Refusal.{Refusal}
 use Rattle.tree_model.specs.declared.reply.Refusal.TheVariants.{NotDir}
 
@@ -59,3 +59,7 @@ pub parent_no_directory : (T : Tree) (path : Route) (here : ℕ) → walk T (par
     → walk_to_parent T path ≡ Err NotDir
 parent_no_directory T path here e file =
     ap (only_directory T) e ∙ ap (λ b. cond b (Ok (record { path = parent path; id = here })) (Err NotDir)) file
+
+-- the root has no parent but itself
+pub root_holds : (T : Tree) → IsTree T → walk_to_parent T [] ≡ Ok root_place
+root_holds T tree = ap (λ (o : Option Node). cond (is_directory_node o) (Ok root_place) (Err NotDir)) tree.root_directory

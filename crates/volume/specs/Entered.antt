@@ -31,6 +31,18 @@ pub record MayEnter (volume : VolumeView) (entry : NewEntry) : Type 0 where
   pub inode : IsFree volume.inodes (entry.inode - 1)
   pub page : IsFreePlace volume.data_pages entry.new_page
 
+-- The directory has its new page, in the places that were there, and the page is taken.
+pub record HasTakenPage (old new : VolumeView) (directory : ℕ) (new_page : Option ℕ) : Type 0 where
+  pub same_size : new.size ≡ old.size
+  pub same_state : new.stopped ≡ old.stopped
+  pub entries : entries_of new.index directory ≡ entries_of old.index directory
+  pub places : places_of new.index directory ≡ places_of old.index directory
+  pub pages : pages_of new.index directory ≡ pages_of old.index directory ++ new_pages new_page
+  pub page_places : page_places_of new.index directory ≡ page_places_of old.index directory
+  pub elsewhere : IsSameElsewhere directory old.index new.index
+  pub inodes : new.inodes ≡ old.inodes
+  pub data_pages : new.data_pages ≡ with_taken old.data_pages new_page
+
 -- The directory has the entry and its new page, in the places that were there, and the inode and the page are taken.
 pub record HasEntered (old new : VolumeView) (entry : NewEntry) : Type 0 where
   pub same_size : new.size ≡ old.size

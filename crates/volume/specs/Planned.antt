@@ -4,15 +4,15 @@ use Rattle.layout.specs.Geometry.{inodes_of}
 use Rattle.layout.specs.Fields.{slot_inode}
 use Rattle.tree_model.specs.PathText.{Route}
 use Rattle.tree_model.specs.Tree.{parent, last_name, id_at}
-use Rattle.tree_model.specs.Step.{least_free_id, id_of, refusal_of}
+use Rattle.tree_model.specs.Step.{least_free_id, id_of, resolved, refusal_of}
 use Rattle.tree_model.specs.Run.{State}
 use Rattle.tree_model.specs.declared.command.Command.{Command}
 use Rattle.tree_model.specs.declared.command.Command.TheVariants.{Create, Mkdir, Link, Unlink, Rmdir, Rename, Write, Truncate, Read, Stat as Tell, List as Show, Df}
 use Rattle.image_counts.specs.Entries.{IsSlotIn, IsFreePage}
 use Rattle.volatile_index.specs.Index.{entries_of, places_of, pages_of, page_places_of}
 use Rattle.volume.specs.Volume.{VolumeView}
-use Rattle.volume.specs.declared.plan.NodeKind.{NodeKind}
-use Rattle.volume.specs.declared.plan.NodeKind.TheVariants.{File, Directory}
+use Rattle.layout.specs.declared.kinds.NodeKind.{NodeKind}
+use Rattle.layout.specs.declared.kinds.NodeKind.TheVariants.{File, Directory}
 use Rattle.volume.specs.declared.plan.NewEntry.{NewEntry}
 use Rattle.volume.specs.declared.plan.Action.{Action}
 use Rattle.volume.specs.declared.plan.Action.TheVariants.{Make, Status, Names, Space}
@@ -56,7 +56,7 @@ pub record IsEntryFor (P : ℕ) (I : List ℕ) (state : State) (path : Route) (k
   pub inode_within : entry.inode ≤ inodes_of P
   pub place : IsPlace P I entry.directory entry.slot entry.new_page
 
--- what the plan of an accepted command does; no plan is one of a command that has not come
+-- What the plan of an accepted command does, at the paths that its walks reach. No plan is one of a command that isn't supported.
 abbrev pub IsPlanOf : ℕ → List ℕ → State → Command → Action → Type 0
 IsPlanOf P I state (Create path) plan = (entry : NewEntry) × (plan ≡ Make entry) × IsEntryFor P I state path File entry
 IsPlanOf P I state (Mkdir path) plan = (entry : NewEntry) × (plan ≡ Make entry) × IsEntryFor P I state path Directory entry
@@ -74,7 +74,7 @@ IsPlanOf P I state Df plan = plan ≡ Space
 -- the command is accepted, and this is its plan
 pub record IsPlanned (P : ℕ) (I : List ℕ) (state : State) (command : Command) (plan : Action) : Type 0 where
   pub accepted : refusal_of P state.tree state.room command ≡ None
-  pub plan_is : IsPlanOf P I state command plan
+  pub plan_is : IsPlanOf P I state (resolved state.tree command) plan
 
 -- ---- what a plan has reserved
 
@@ -93,10 +93,16 @@ events_of (Status inode) = 0
 events_of (Names inode) = 0
 events_of Space = 0
 
--- how many fences its call makes
+-- how many fences its call makes: two, and two more for a new page
 abbrev pub fences_for : Option ℕ → ℕ
 fences_for None = 2
 fences_for (Some page) = 4
+
+abbrev pub fences_of_plan : Action → ℕ
+fences_of_plan (Make entry) = fences_for entry.new_page
+fences_of_plan (Status inode) = 0
+fences_of_plan (Names inode) = 0
+fences_of_plan Space = 0
 
 -- one more page of an inode fits, where there is one
 abbrev pub HasPagePlace : VolumeView → ℕ → Option ℕ → Type 0

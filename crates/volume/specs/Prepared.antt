@@ -1,33 +1,22 @@
 -- What preparing a command answers and leaves.
-use Rattle.std.specs.Prelude.{◌≡◌, ◌⊎◌, ℕ, ◌≤◌, List, IsTrue, Some}
+use Rattle.std.specs.Prelude.{◌≡◌, ◌≢◌, ◌⊎◌, ℕ, ◌≤◌, false, List, IsTrue, Some, Result, Ok, Err, OnOk, IfOk, IfErr}
+use Rattle.pm_trait.specs.DeviceView.{DeviceView}
 use Rattle.tree_model.specs.PathText.{Route}
 use Rattle.tree_model.specs.Step.{refusal_of}
-use Rattle.tree_model.specs.Run.{State, may_fail}
+use Rattle.tree_model.specs.Run.{State, is_changing, may_fail}
 use Rattle.tree_model.specs.declared.command.Command.{Command}
-use Rattle.tree_model.specs.declared.command.Command.TheVariants.{Create, Mkdir, Link, Unlink, Rmdir, Rename, Write, Truncate, Read, Stat as Tell, List as Show, Df}
+use Rattle.tree_model.specs.declared.command.Command.TheVariants.{Create, Mkdir}
 use Rattle.tree_model.specs.declared.reply.Refusal.{Refusal}
 use Rattle.tree_model.specs.declared.reply.Refusal.TheVariants.{NoMemory}
 use Rattle.volatile_index.specs.Index.{NodeView, inodes_of_index, entries_of, places_of, pages_of, page_places_of}
 use Rattle.volume.specs.Volume.{VolumeView}
-use Rattle.volume.specs.declared.plan.NodeKind.{NodeKind}
-use Rattle.volume.specs.declared.plan.NodeKind.TheVariants.{File, Directory}
+use Rattle.volume.specs.Stands.{StandsFor}
+use Rattle.volume.specs.Planned.{IsPlanned}
+use Rattle.volume.specs.Carried.{HasReserved}
+use Rattle.layout.specs.declared.kinds.NodeKind.{NodeKind}
+use Rattle.layout.specs.declared.kinds.NodeKind.TheVariants.{File, Directory}
 use Rattle.volume.specs.declared.plan.Action.{Action}
 use Rattle.volume.specs.declared.plan.Action.TheVariants.{Make, Status, Names, Space}
-
--- the commands that there are so far
-abbrev pub HasCome : Command → Type 0
-HasCome (Create path) = Unit {0}
-HasCome (Mkdir path) = Unit {0}
-HasCome (Link from to) = ⊥
-HasCome (Unlink path) = ⊥
-HasCome (Rmdir path) = ⊥
-HasCome (Rename from to) = ⊥
-HasCome (Write path offset bytes) = ⊥
-HasCome (Truncate path size) = ⊥
-HasCome (Read path offset count) = ⊥
-HasCome (Tell path) = Unit {0}
-HasCome (Show path) = Unit {0}
-HasCome Df = Unit {0}
 
 -- the command that makes a node of this kind
 abbrev pub making : NodeKind → Route → Command
@@ -37,6 +26,13 @@ making Directory path = Mkdir path
 -- the tree and the room refuse the command, or they don't and memory is short for a change
 abbrev pub IsRefusal : ℕ → State → Command → Refusal → Type 0
 IsRefusal P state command refusal = (refusal_of P state.tree state.room command ≡ Some refusal) ⊎ ((refusal ≡ NoMemory) × IsTrue (may_fail P state command))
+
+-- The command's plan, or the first refusal of its row.
+abbrev pub IsPlanOrRefusal : VolumeView → DeviceView → Command → Result Action Refusal → Type 0
+IsPlanOrRefusal volume device command (Ok action) = (state : State) → StandsFor volume device state → IsPlanned volume.size device.words state command action
+IsPlanOrRefusal volume device command (Err refusal) = (state : State) → StandsFor volume device state → refusal_of volume.size state.tree state.room command ≡ Some refusal
+
+-- ---- what is reserved
 
 -- what is done makes an entry, for which memory is needed
 abbrev pub IsMaking : Action → Type 0
@@ -67,3 +63,28 @@ pub record IsSameButPlaces (old new : VolumeView) : Type 0 where
   pub index : HasSameContents old.index new.index
   pub inodes : new.inodes ≡ old.inodes
   pub data_pages : new.data_pages ≡ old.data_pages
+
+-- all is as before but for room, and for reserves that were refused
+pub record IsSameButRoom (before after : DeviceView) : Type 0 where
+  pub words : after.words ≡ before.words
+  pub trail : after.trail ≡ before.trail
+  pub room : before.spare ≤ after.spare
+  pub faults : after.faults ≡ before.faults
+  pub refused : before.refused ≤ after.refused
+  pub fences : after.fences ≡ before.fences
+  pub acks : after.acks ≡ before.acks
+
+-- What the action adds has its room, or memory was short. One that makes nothing takes nothing.
+pub record TakesRoom {E : Type 0} (old new : VolumeView) (before after : DeviceView) (action : Action) (result : Result (Unit {0}) E) : Type 0 where
+  pub view : IsSameButPlaces old new
+  pub device : IsSameButRoom before after
+  pub accepted : OnOk result (HasReserved new after action × (after.refused ≡ before.refused))
+  pub reading : ¬ IsMaking action → (new ≡ old) × (after ≡ before)
+
+-- A plan has its room. A refusal takes no memory unless memory is what was short, nor does a command that reads.
+pub record Prepares (old new : VolumeView) (before after : DeviceView) (command : Command) (result : Result Action Refusal) : Type 0 where
+  pub view : IsSameButPlaces old new
+  pub device : IsSameButRoom before after
+  pub accepted : IfOk result (λ plan. HasReserved new after plan × (after.refused ≡ before.refused))
+  pub refused : IfErr result (λ refusal. refusal ≢ NoMemory → (new ≡ old) × (after ≡ before))
+  pub reading : is_changing command ≡ false → (new ≡ old) × (after ≡ before)

@@ -1,7 +1,6 @@
 //! A mounted volume: what it stands for, and the plans of commands on it.
 #![tactic(auto)]
 
-mod image_laws;
 mod names;
 mod place;
 mod plan;
@@ -10,9 +9,9 @@ mod resolve;
 mod stat;
 mod volume;
 
-pub use plan::{Action, NewEntry, NodeKind, Plan};
+pub use plan::{Action, NewEntry, Plan};
 pub use prepare::{ENTRY_EVENTS, PAGE_EVENTS};
-pub use resolve::{ROOT, Walk};
+pub use resolve::Walk;
 pub use volume::Volume;
 
 #[cfg(test)]

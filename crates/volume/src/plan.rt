@@ -1,17 +1,8 @@
 // Plans of accepted commands. A plan can't be copied, and none is made but by `prepare`.
 ghost use Rattle.std.specs.Prelude.{◌≡◌};
 
-use layout::Name;
+use layout::{Name, NodeKind};
 use std::marker::Model;
-
-/// What a new entry names.
-#[derive(Clone, Copy, Debug, PartialEq, Eq)]
-pub enum NodeKind {
-    /// A file of no bytes.
-    File,
-    /// A directory of no names.
-    Directory,
-}
 
 /// An entry that is to be made, and the node that it names.
 #[derive(Drop)]
@@ -59,6 +50,9 @@ impl Model for Plan {
 }
 
 impl Plan {
+    ghost use Rattle.volume.specs.Prepared.{IsMaking};
+    ghost use Rattle.volume.specs.declared.plan.Action.TheVariants.{Make};
+
     // The plan of an action.
     pub(crate) fn of(action: Action) -> Plan
         ensures { result ≡ action }
@@ -66,10 +60,21 @@ impl Plan {
         Plan { action }
     }
 
-    /// What the command does. The plan is spent.
-    pub fn into_action(self) -> Action
-        ensures { result ≡ self }
+    /// What the command does.
+    pub fn action(&self) -> &Action
+        ensures { result.now ≡ self.now }
     {
-        self.action
+        &self.action
+    }
+
+    /// The entry that the command makes. The plan is spent.
+    pub fn into_entry(self) -> NewEntry
+        requires { IsMaking self }
+        ensures { self ≡ Make result }
+    {
+        match self.action {
+            Action::Make(entry) => entry,
+            Action::Status(_) | Action::Names(_) | Action::Space => unreachable!(),
+        }
     }
 }

@@ -1,7 +1,7 @@
 // Calls on a volume made by hand. Those that read a device are called where a volume is mounted.
-use crate::{NewEntry, NodeKind, Volume, Walk};
+use crate::{NewEntry, Volume, Walk};
 use allocators::Numbers;
-use layout::{Geometry, Name};
+use layout::{Geometry, Name, NodeKind};
 use std::test::Fail;
 use tree_model::Refusal;
 use volatile_index::Index;

@@ -1,7 +1,8 @@
-ghost use Rattle.std.specs.Prelude.{◌≡◌, ◌++◌, ◌<◌, ◌≤◌, false, length, true};
-ghost use Rattle.volatile_index.specs.Index.{inodes_of_index, entries_of, places_of, pages_of, page_places_of, IsSameElsewhere};
-ghost use Rattle.volume.specs.Planned.{HasPagePlace};
-ghost use Rattle.volume.specs.Entered.{new_pages, with_taken, IsFreePlace, MayEnter, HasEntered};
+ghost use Rattle.std.specs.Prelude.{◌≡◌, ◌≤◌, false, true};
+ghost use Rattle.volatile_index.specs.Index.{inodes_of_index};
+ghost use Rattle.volume.specs.Planned.{HasPagePlace, IsReserved};
+ghost use Rattle.volume.specs.Entered.{IsFreePlace, MayEnter, HasTakenPage, HasEntered};
+ghost use Rattle.volume.specs.declared.plan.Action.TheVariants.{Make};
 
 use crate::plan::NewEntry;
 use allocators::Numbers;
@@ -37,11 +38,7 @@ impl Volume {
         inodes: Numbers,
         data_pages: Numbers,
     ) -> Volume
-        ensures size { result.size ≡ geometry.pages }
-        ensures index { result.index ≡ index }
-        ensures inodes { result.inodes ≡ inodes }
-        ensures data_pages { result.data_pages ≡ data_pages }
-        ensures going { result.stopped ≡ false }
+        ensures { result ≡ record { size = geometry.pages; index = index; inodes = inodes; data_pages = data_pages; stopped = false } }
     {
         Volume {
             geometry,
@@ -61,11 +58,7 @@ impl Volume {
 
     /// Ends all work on the volume, after a failed fence.
     pub fn stop(&mut self)
-        ensures stopped { self.new.stopped ≡ true }
-        ensures size { self.new.size ≡ self.old.size }
-        ensures index { self.new.index ≡ self.old.index }
-        ensures inodes { self.new.inodes ≡ self.old.inodes }
-        ensures data_pages { self.new.data_pages ≡ self.old.data_pages }
+        ensures { self.new ≡ record self.old { stopped = true } }
     {
         self.stopped = true;
     }
@@ -80,8 +73,7 @@ impl Volume {
     /// Takes in an entry that was made on the device. It takes no memory: `prepare` has reserved its places.
     pub fn enter(&mut self, entry: NewEntry)
         requires may_enter { MayEnter self.old entry }
-        requires place { length (entries_of self.old.index entry.directory) < places_of self.old.index entry.directory }
-        requires page_place { HasPagePlace self.old entry.directory entry.new_page }
+        requires reserved { IsReserved self.old (Make entry) }
         ensures { HasEntered self.old self.new entry }
     {
         self.take_page(entry.directory, entry.new_page);
@@ -95,15 +87,7 @@ impl Volume {
         requires most { directory ≤ inodes_of_index self.old.index }
         requires free { IsFreePlace self.old.data_pages new_page }
         requires place { HasPagePlace self.old directory new_page }
-        ensures pages { pages_of self.new.index directory ≡ pages_of self.old.index directory ++ new_pages new_page }
-        ensures data_pages { self.new.data_pages ≡ with_taken self.old.data_pages new_page }
-        ensures entries { entries_of self.new.index directory ≡ entries_of self.old.index directory }
-        ensures places { places_of self.new.index directory ≡ places_of self.old.index directory }
-        ensures page_places { page_places_of self.new.index directory ≡ page_places_of self.old.index directory }
-        ensures elsewhere { IsSameElsewhere directory self.old.index self.new.index }
-        ensures inodes { self.new.inodes ≡ self.old.inodes }
-        ensures size { self.new.size ≡ self.old.size }
-        ensures stopped { self.new.stopped ≡ self.old.stopped }
+        ensures { HasTakenPage self.old self.new directory new_page }
     {
         if let Some(page) = new_page {
             self.data_pages.take(page);

@@ -13,11 +13,11 @@ returns-in_err-filled-clause-any_moment g c =
     let W = (g.P.Pm.view c.args.pm.now).words in
     let fill = c.fill_page.ensures in
     quiet_fenced (SameMeaning P W) fill.device.fenced
-    (filling c.image_laws.ensures P W c.args.directory c.args.page c.requires.holder c.requires.page c.as_slice.result.now c.as_slice.ensures (g.P.Pm.view c.fill_page.new.pm).words fill.made)
+    (filling P W c.args.directory c.args.page c.requires.holder c.requires.page c.as_slice.result.now c.as_slice.ensures (g.P.Pm.view c.fill_page.new.pm).words fill.made)
 
 pub returns-in_err-filled-clause-stays : goal.returns-in_err-filled-clause-stays
 returns-in_err-filled-clause-stays g c = λ before after reads differ.
-    reads_stay c.args.geometry.now.pages before after c.image_laws.ensures.one_tree c.fill_page.ensures.device.fenced reads differ
+    reads_stay c.args.geometry.now.pages before after c.fill_page.ensures.device.fenced reads differ
 
 pub returns-clause-opened : goal.returns-clause-opened
 returns-clause-opened g c =
@@ -26,7 +26,7 @@ returns-clause-opened g c =
     let fill = c.fill_page.ensures in
     let filled = c.in_ok-filled in
     on_ok c.claim_page.result
-    (opened c.image_laws.ensures P W c.args.directory c.args.page c.requires.holder c.requires.page c.as_slice.result.now c.as_slice.ensures (g.P.Pm.view c.fill_page.new.pm).words fill.made
+    (opened P W c.args.directory c.args.page c.requires.holder c.requires.page c.as_slice.result.now c.as_slice.ensures (g.P.Pm.view c.fill_page.new.pm).words fill.made
     filled.filled.volume_pages filled.filled.pages (g.P.Pm.view c.claim_page.new.pm).words (ap (λ (view : PageView). view.volume_pages) filled.ensures.object) (ap (λ (view : PageView). view.pages) filled.ensures.object) c.claim_page.ensures.owned)
 
 pub returns-clause-any_moment : goal.returns-clause-any_moment
@@ -38,8 +38,8 @@ returns-clause-any_moment g c =
     let claim = c.claim_page.ensures in
     let filled = c.in_ok-filled in
     quiet_then (SameMeaning P W) fill.device.fenced.no_ack
-    (quiet_fenced (SameMeaning P W) fill.device.fenced (filling c.image_laws.ensures P W c.args.directory c.args.page c.requires.holder c.requires.page c.as_slice.result.now c.as_slice.ensures A fill.made))
-    (quiet_fenced (SameMeaning P W) claim.device.fenced (claiming c.image_laws.ensures P W c.args.directory c.args.page c.requires.holder c.requires.page c.as_slice.result.now c.as_slice.ensures A fill.made
+    (quiet_fenced (SameMeaning P W) fill.device.fenced (filling P W c.args.directory c.args.page c.requires.holder c.requires.page c.as_slice.result.now c.as_slice.ensures A fill.made))
+    (quiet_fenced (SameMeaning P W) claim.device.fenced (claiming P W c.args.directory c.args.page c.requires.holder c.requires.page c.as_slice.result.now c.as_slice.ensures A fill.made
     filled.filled.volume_pages filled.filled.pages (g.P.Pm.view c.claim_page.new.pm).words (ap (λ (view : PageView). view.volume_pages) filled.ensures.object) (ap (λ (view : PageView). view.pages) filled.ensures.object) claim.owned))
 
 pub returns-clause-stays : goal.returns-clause-stays
@@ -47,10 +47,9 @@ returns-clause-stays g c = λ before after reads differ.
     let P = c.args.geometry.now.pages in
     let W = (g.P.Pm.view c.args.pm.now).words in
     let fill = c.fill_page.ensures in
-    let one = c.image_laws.ensures.one_tree in
-    stays_then (reads_stay P before after one fill.device.fenced reads differ)
-    (reads_stay P before after one c.claim_page.ensures.device.fenced
-    (still_reads c.image_laws.ensures P W c.args.directory c.args.page c.requires.holder c.requires.page c.as_slice.result.now c.as_slice.ensures (g.P.Pm.view c.fill_page.new.pm).words fill.made before reads) differ)
+    stays_then (reads_stay P before after fill.device.fenced reads differ)
+    (reads_stay P before after c.claim_page.ensures.device.fenced
+    (still_reads P W c.args.directory c.args.page c.requires.holder c.requires.page c.as_slice.result.now c.as_slice.ensures (g.P.Pm.view c.fill_page.new.pm).words fill.made before reads) differ)
 
 pub returns-in_err-filled-clause-device : goal.returns-in_err-filled-clause-device
 returns-in_err-filled-clause-device g c = intervals_failed 583 2 c.from_residual.result c.from_residual.ensures.0 (omega arith) (omega arith) (intervals_one c.in_err-filled.ensures.device)

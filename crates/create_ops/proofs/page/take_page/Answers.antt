@@ -5,6 +5,7 @@ use Rattle.pm_trait.specs.DeviceView.{MakesIntervals}
 use Rattle.pm_trait.proofs.DeviceViewLaws.{intervals_none, intervals_within}
 use Rattle.pm_trait.proofs.DeviceLaws.{leaves_here}
 use Rattle.image_laws.specs.Frame.{SameMeaning}
+use Rattle.image_laws.proofs.Meaning.{meanings_chain}
 use Rattle.create_ops.specs.Making.{MayTake, IsOpened, page_fences}
 use Rattle.create_ops.proofs.Moments.{Quietly, reads_stay_here}
 use Rattle.create_ops.proofs.page.take_page.Goals as goal
@@ -18,11 +19,11 @@ pub returns-in-None-clause-any_moment : goal.returns-in-None-clause-any_moment
 returns-in-None-clause-any_moment g c =
     let P = c.args.geometry.now.pages in
     let W = (g.P.Pm.view c.args.pm.now).words in
-    leaves_here (Quietly (SameMeaning P W)) c.requires.settled (refl, c.image_laws.ensures.meanings.itself P W c.requires.holder.sound)
+    leaves_here (Quietly (SameMeaning P W)) c.requires.settled (refl, meanings_chain.itself P W c.requires.holder.sound)
 
 pub returns-in-None-clause-stays : goal.returns-in-None-clause-stays
 returns-in-None-clause-stays g c = λ before after reads differ.
-    reads_stay_here c.args.geometry.now.pages before after c.image_laws.ensures.one_tree c.requires.settled reads differ
+    reads_stay_here c.args.geometry.now.pages before after c.requires.settled reads differ
 
 pub open_page-requires-clause-page : goal.open_page-requires-clause-page
 open_page-requires-clause-page g c = subst (MayTake c.args.geometry.now.pages (g.P.Pm.view c.args.pm.now).words) c.in-Some.is c.requires.page

@@ -22,6 +22,6 @@ pub returns-clause-fresh : goal.returns-clause-fresh
 returns-clause-fresh g c =
     let geometry = c.in-Some.geometry in
     let old = (g.P.Pm.view c.args.pm.now).words in
-    let is : geometry.pages ≡ length old / 512 = omega (arith, c.in-Some.ensures.pages, ap length c.image.ensures) in
+    let is : geometry.pages ≡ length old / 512 = omega (arith, c.in-Some.ensures.whole, ap length c.image.ensures) in
     subst (λ (pages : ℕ). IsFresh pages (g.P.Pm.view c.make_volume.new.pm).words) is
     (c.format_law.ensures geometry.pages (g.P.Pm.view c.reserve.new.self).words (g.P.Pm.view c.make_volume.new.pm).words geometry.volume_size c.in_ok-make_volume.ensures.formatted)

@@ -1,6 +1,6 @@
-use Rattle.std.proofs.Common.{◌≡◌, ◌⊎◌, inl, inr, ℕ, ◌+◌, ◌<◌, ◌≤◌, List, length, get_or, slice_set, ◌∙◌, ap, sym, subst, arith, get_or-set_same, get_or-set_other, length-set}
+use Rattle.std.proofs.Common.{◌≡◌, ◌⊎◌, inl, inr, ℕ, ◌+◌, ◌-◌, ◌<◌, ◌≤◌, List, length, get_or, slice_set, refl, ◌∙◌, ap, sym, subst, arith, get_or-set_same, get_or-set_other, length-set}
 use Rattle.std.proofs.lemmas.Bool.{cases_eq}
-use Rattle.pm_trait.proofs.DeviceLaws.{interval_weaker, then_store}
+use Rattle.pm_trait.proofs.DeviceViewLaws.{stores_nothing, store_stores, stores_then, stores_weaker}
 use Rattle.format_ops.specs.Tables.{IsWithin, IsTableValue, HasTableValues}
 use Rattle.format_ops.proofs.tables.store_tables.Goals as goal
 
@@ -26,12 +26,15 @@ loop-word-preserved g c =
     let before = (g.P.Pm.view c.loop-word.pm).words in
     let inside : word < length before = omega (arith, so_far.long) in
     record {
-      stores = interval_weaker (λ other either. wider word other (omega arith) either) (then_store word c.table_word.result so_far.stores (λ within. omega (arith, within.high)) c.store.ensures.words c.store.ensures.trail);
       written = written_more c.args.geometry.now.pages word c.table_word.result before (g.P.Pm.view c.store.new.self).words inside c.store.ensures.words c.table_word.ensures so_far.written;
       long = same_length word c.table_word.result before (g.P.Pm.view c.store.new.self).words c.store.ensures.words ∙ so_far.long;
-      room = omega arith;
-      faults = c.store.ensures.faults ∙ so_far.faults;
-      refused = c.store.ensures.refused ∙ so_far.refused;
-      fences = c.store.ensures.fences ∙ so_far.fences;
-      acks = c.store.ensures.acks ∙ so_far.acks;
+      device = stores_weaker (word + 1 - 1) (λ other either. wider word other (omega arith) either) (omega arith)
+          (stores_then so_far.device (store_stores c.store.ensures) (λ other within is. omega (arith, within.high, is)));
     }
+
+pub loop-word-init : goal.loop-word-init
+loop-word-init g c = record {
+  written = record { each = λ word low high. absurd (omega (arith, low, high)) };
+  long = refl;
+  device = stores_weaker (1 - 1) (λ word none. absurd none) (omega arith) (stores_nothing (g.P.Pm.view c.args.pm.now));
+}
