@@ -2,6 +2,7 @@
 ghost use Rattle.std.specs.Prelude.{◌≡◌};
 ghost use Rattle.pm_file.specs.declared.fault.FileFault.TheVariants.{NoMemory, Failed};
 
+use pm_trait::NoMemory as OutOfMemory;
 use std::alloc::AllocError;
 use std::io;
 use thiserror::Error;
@@ -30,5 +31,13 @@ impl From<io::Error> for FileFault {
 
     fn from(_error: io::Error) -> FileFault {
         FileFault::Failed
+    }
+}
+
+impl From<OutOfMemory> for FileFault {
+    ghost from_gives = { λ _ fault. fault ≡ NoMemory };
+
+    fn from(_error: OutOfMemory) -> FileFault {
+        FileFault::NoMemory
     }
 }

@@ -2,29 +2,23 @@
 ghost use Rattle.std.specs.Prelude.{◌≡◌, ◌+◌, ◌*◌, ◌^◌, ◌<◌, ℕ, List, Option, None, length, IfOk, OnOk};
 ghost use Rattle.pm_file.specs.Given.{HasLine, ReadsFrom};
 
-use byteorder::{ByteOrder, LittleEndian};
+use crate::bytes::{bytes_of_line, place_of_line, place_of_page, words_of_page};
+use crate::lock::Locked;
+use crate::sizes::{BYTES_OF_A_PAGE, WORDS_OF_A_PAGE};
 use std::fs::OpenFile;
 use std::io;
 use std::io::{Read, Seek, SeekFrom, Write};
-
-pub const WORDS_OF_A_PAGE: usize = 512;
-
-pub const WORDS_OF_A_LINE: usize = 8;
-
-const BYTES_OF_A_PAGE: usize = 4096;
-
-const BYTES_OF_A_LINE: usize = 64;
 
 /// A medium of words, which is read by pages and written by lines.
 pub trait Medium {
     /// The words as a read finds them, where it tells them.
     ghost held: { Self → Option (List ℕ) };
 
-    /// The words that no stop takes from it, where it tells them.
+    /// The words that no crash takes from it, where it tells them.
     ghost safe: { Self → Option (List ℕ) };
 
     /// Reads one page.
-    fn read_page(&mut self, page: u64) -> io::Result<[u64; 512]>
+    fn read_page(&mut self, page: u64) -> io::Result<[u64; WORDS_OF_A_PAGE]>
         requires { 4096 * page < 2 ^ 63 }
         ensures ok { IfOk result (λ words. ReadsFrom (held self.old) (512 * page) 512 words) }
         ensures held { held self.new ≡ held self.old }
@@ -43,28 +37,24 @@ pub trait Medium {
 }
 
 /// A file, which tells none of its words. They are little-endian.
-impl<F: Read + Write + Seek + OpenFile> Medium for F {
+impl<F: Read + Write + Seek + OpenFile> Medium for Locked<F> {
     ghost held = { λ _. None };
 
     ghost safe = { λ _. None };
 
-    fn read_page(&mut self, page: u64) -> io::Result<[u64; 512]> {
+    fn read_page(&mut self, page: u64) -> io::Result<[u64; WORDS_OF_A_PAGE]> {
         let mut bytes = [0u8; BYTES_OF_A_PAGE];
-        self.seek(SeekFrom::Start(BYTES_OF_A_PAGE as u64 * page))?;
-        self.read_exact(&mut bytes)?;
-        let mut words = [0u64; WORDS_OF_A_PAGE];
-        LittleEndian::read_u64_into(&bytes, &mut words);
-        Ok(words)
+        self.file.seek(SeekFrom::Start(place_of_page(page)))?;
+        self.file.read_exact(&mut bytes)?;
+        Ok(words_of_page(&bytes))
     }
 
     fn write_line(&mut self, line: u64, words: &[u64]) -> io::Result<()> {
-        let mut bytes = [0u8; BYTES_OF_A_LINE];
-        LittleEndian::write_u64_into(words, &mut bytes);
-        self.seek(SeekFrom::Start(BYTES_OF_A_LINE as u64 * line))?;
-        self.write_all(&bytes)
+        self.file.seek(SeekFrom::Start(place_of_line(line)))?;
+        self.file.write_all(&bytes_of_line(words))
     }
 
     fn sync(&mut self) -> io::Result<()> {
-        self.sync_data()
+        self.file.sync_data()
     }
 }

@@ -4,11 +4,10 @@ ghost use Rattle.std.specs.Vec.{vec_capacity};
 ghost use Rattle.pm_file.specs.Given.{is_listed, HasLines, ReadsFrom};
 
 use crate::FileFault;
-use crate::medium::{Medium, WORDS_OF_A_LINE, WORDS_OF_A_PAGE};
+use crate::medium::Medium;
+use crate::sizes::{LINES_OF_A_PAGE, WORDS_OF_A_LINE, WORDS_OF_A_PAGE};
 use std::alloc::{AllocError, Global};
 use std::io;
-
-const LINES_OF_A_PAGE: usize = 64;
 
 /// What a file's words take of memory.
 #[derive(Drop)]
@@ -177,3 +176,6 @@ impl<F: Medium + Drop> Mirror<F> {
         }
     }
 }
+
+#[cfg(test)]
+mod tests;

@@ -1,6 +1,13 @@
 // Over files of the system: what a fence gives the file, and which files give which device.
+mod scanty;
+
+ghost use Rattle.std.specs.Prelude.{◌≤◌};
+
 use crate::{FileFault, FilePm};
 use pm_trait::Pm;
+use scanty::Scanty;
+use std::fs::File;
+use std::io::{Read, Seek, SeekFrom};
 use std::path::PathBuf;
 use std::test::Fail;
 use std::{env, fs, process};
@@ -14,31 +21,35 @@ fn fresh_path(rt: &HostRuntime, name: &str) -> Result<PathBuf, Fail> {
     Ok(path)
 }
 
+/// Whether the file has just these words, each as eight bytes, the lowest first.
+fn has_words(rt: &HostRuntime, path: &str, words: &[u64]) -> Result<bool, Fail> {
+    let bytes = fs::read(rt, path)?;
+    let mut is_same = bytes.len() % 8 == 0 && bytes.len() / 8 == words.len();
+    for (eight, word) in bytes.chunks(8).zip(words) {
+        is_same = is_same && eight == word.to_le_bytes().as_slice();
+    }
+    Ok(is_same)
+}
+
 #[test]
 fn a_fence_writes_the_flushed_lines(rt: HostRuntime) -> Result<(), Fail> {
     let path = fresh_path(&rt, "fence")?;
     let mut device = FilePm::make(&rt, rt.alloc(), path.as_str(), 16)?;
     device.store(9, 0x0807_0605_0403_0201);
+    device.store(15, 12);
     device.store(8191, 7);
-    device.store(16, 5);
     device.flush(1);
     device.flush(1023);
     device.flush(1);
     assert!(rt; device.fence().is_ok());
-    assert_eq!(rt; device.fences(), 1);
+    assert!(rt; has_words(&rt, path.as_str(), device.image())?);
     device.store(9, 11);
     device.flush(1);
+    device.store(16, 5);
     assert!(rt; device.fence().is_ok());
-
-    let bytes = fs::read(&rt, path.as_path())?;
-    assert_eq!(rt; bytes.len(), 65536);
-    assert_eq!(rt; &bytes[72..80], [11, 0, 0, 0, 0, 0, 0, 0].as_slice());
-    let again = FilePm::from_path(&rt, rt.alloc(), path.as_str())?;
-    let words = again.image();
-    assert_eq!(rt; words.len(), 8192);
-    assert_eq!(rt; words[9], 11);
-    assert_eq!(rt; words[8191], 7);
-    assert_eq!(rt; words[16], 0, "what was never flushed isn't written");
+    assert_eq!(rt; device.fences(), 2);
+    device.store(16, 0);
+    assert!(rt; has_words(&rt, path.as_str(), device.image())?);
     Ok(fs::remove_file(&rt, path.as_path())?)
 }
 
@@ -56,15 +67,14 @@ fn a_file_keeps_what_it_held(rt: HostRuntime) -> Result<(), Fail> {
         assert_eq!(rt; fs::read(&rt, path.as_path())?.len(), length);
     }
 
-    let device = FilePm::make(&rt, rt.alloc(), path.as_str(), 17)?;
-    let words = device.image();
-    assert_eq!(rt; words.len(), 8704);
-    assert_eq!(rt; words[8191], 0x0303_0303_0303_0303);
-    assert_eq!(rt; words[8192], 0x0303_0303_0303_0303);
-    assert_eq!(rt; words[8193], 0);
+    let longer = FilePm::make(&rt, rt.alloc(), path.as_str(), 17)?;
+    assert_eq!(rt; longer.image().len(), 8704);
+    assert_eq!(rt; longer.image()[8192], 0x0303_0303_0303_0303);
+    assert!(rt; has_words(&rt, path.as_str(), longer.image())?);
+    drop(longer);
     let shorter = FilePm::make(&rt, rt.alloc(), path.as_str(), 16)?;
     assert_eq!(rt; shorter.image().len(), 8192);
-    assert_eq!(rt; fs::read(&rt, path.as_path())?.len(), 65536);
+    assert!(rt; has_words(&rt, path.as_str(), shorter.image())?);
     Ok(fs::remove_file(&rt, path.as_path())?)
 }
 
@@ -77,4 +87,105 @@ fn a_device_without_a_file(rt: HostRuntime) {
     assert_eq!(rt; device.fences(), 1);
     device.ack();
     assert_eq!(rt; device.acks(), 1);
+}
+
+#[test]
+fn a_file_serves_one_device_at_a_time(rt: HostRuntime) -> Result<(), Fail> {
+    let path = fresh_path(&rt, "lock")?;
+    let device = FilePm::make(&rt, rt.alloc(), path.as_str(), 16)?;
+    let made = FilePm::make(&rt, rt.alloc(), path.as_str(), 17);
+    assert!(rt; matches!(made, Err(FileFault::Failed)));
+    let opened = FilePm::from_path(&rt, rt.alloc(), path.as_str());
+    assert!(rt; matches!(opened, Err(FileFault::Failed)));
+    assert!(rt; has_words(&rt, path.as_str(), device.image())?);
+    drop(device);
+    let opened = FilePm::from_path(&rt, rt.alloc(), path.as_str())?;
+    assert_eq!(rt; opened.image().len(), 8192);
+    Ok(fs::remove_file(&rt, path.as_path())?)
+}
+
+/// The eight bytes of a word in a file.
+fn word_in(rt: &HostRuntime, path: &str, word: u64) -> Result<u64, Fail>
+    requires { word ≤ 33554432 }
+{
+    let mut file = File::open(rt, path)?;
+    file.seek(SeekFrom::Start(8 * word))?;
+    let mut bytes = [0u8; 8];
+    file.read_exact(&mut bytes)?;
+    Ok(u64::from_le_bytes(bytes))
+}
+
+/// Whether a word of the first line and the last word of all reach their places in the file of so many pages.
+fn lines_reach_their_places(rt: &HostRuntime, name: &str, pages: u64) -> Result<bool, Fail>
+    requires least { 16 ≤ pages }
+    requires most { pages ≤ 65536 }
+{
+    let path = fresh_path(rt, name)?;
+    let last = 512 * pages - 1;
+    let mut device = FilePm::make(rt, rt.alloc(), path.as_str(), pages)?;
+    device.store(1, 2);
+    device.store(last, 3);
+    device.flush(0);
+    device.flush(last / 8);
+    let is_fenced = device.fence().is_ok();
+    drop(device);
+    let first_word = word_in(rt, path.as_str(), 1)?;
+    let last_word = word_in(rt, path.as_str(), last)?;
+    let length = fs::metadata(rt, path.as_path())?.len();
+    fs::remove_file(rt, path.as_path())?;
+    Ok(is_fenced && first_word == 2 && last_word == 3 && length == 4_096 * pages)
+}
+
+#[test]
+fn lines_of_the_smallest_and_the_largest_volume(rt: HostRuntime) -> Result<(), Fail> {
+    assert!(rt; lines_reach_their_places(&rt, "smallest", 16)?);
+    assert!(rt; lines_reach_their_places(&rt, "largest", 65_536)?);
+    Ok(())
+}
+
+#[test]
+fn a_file_that_gives_and_takes_few_bytes(rt: HostRuntime) -> Result<(), Fail> {
+    let path = fresh_path(&rt, "few")?;
+    let bytes = vec![in rt.alloc(); 3u8; 65_536]?;
+    fs::write(&rt, path.as_path(), bytes.as_slice())?;
+    let few = Scanty {
+        rt,
+        gives: 4_093,
+        takes: 5,
+    };
+    let mut device = FilePm::make(&few, rt.alloc(), path.as_str(), 16)?;
+    assert!(rt; has_words(&rt, path.as_str(), device.image())?);
+    device.store(8, 1);
+    device.store(15, 2);
+    device.flush(1);
+    assert!(rt; device.fence().is_ok());
+    assert!(rt; has_words(&rt, path.as_str(), device.image())?);
+    Ok(fs::remove_file(&rt, path.as_path())?)
+}
+
+#[test]
+fn a_file_that_gives_or_takes_nothing(rt: HostRuntime) -> Result<(), Fail> {
+    let path = fresh_path(&rt, "none")?;
+    let full = Scanty {
+        rt,
+        gives: 4_096,
+        takes: 0,
+    };
+    let mut device = FilePm::make(&full, rt.alloc(), path.as_str(), 16)?;
+    device.store(0, 1);
+    device.flush(0);
+    assert!(rt; device.fence().is_err());
+    assert!(rt; device.fence().is_err());
+    assert_eq!(rt; device.fences(), 0);
+    device.store(0, 0);
+    assert!(rt; has_words(&rt, path.as_str(), device.image())?);
+    drop(device);
+    let empty = Scanty {
+        rt,
+        gives: 0,
+        takes: 64,
+    };
+    let unread = FilePm::from_path(&empty, rt.alloc(), path.as_str());
+    assert!(rt; matches!(unread, Err(FileFault::Failed)));
+    Ok(fs::remove_file(&rt, path.as_path())?)
 }

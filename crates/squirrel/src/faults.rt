@@ -1,9 +1,19 @@
-// What the faults of a job are told as.
+// What the ends of a job are told as.
 ghost use Rattle.std.specs.Prelude.{◌≡◌};
+ghost use Rattle.std.specs.Process.{exit_status};
+ghost use Rattle.squirrel_cli.specs.Status.{number_of_status};
 ghost use Rattle.squirrel.specs.Faults.{fault_text};
 
 use pm_file::FileFault;
 use squirrel_cli::Status;
+use std::process::ExitCode;
+
+/// The program's exit status.
+pub fn exit_of(status: Status) -> ExitCode
+    ensures { exit_status result ≡ number_of_status status }
+{
+    ExitCode::from(status.number())
+}
 
 /// The line for standard error, without its newline. Empty where the output tells how the job ended.
 pub fn fault_line(status: Status) -> &'static str

@@ -5,9 +5,10 @@ mod device;
 mod faults;
 mod words;
 
-use device::device_for;
-use faults::{fault_line, status_of_file_fault};
+use device::{Images, device_for};
+use faults::{exit_of, fault_line, status_of_file_fault};
 use io_edge::{StdSink, StdSource};
+use pm_file::Lockable;
 use squirrel_cli::{Status, Words, squirrel};
 use std::alloc::Global;
 use std::io;
@@ -18,7 +19,7 @@ use words::words_of;
 fn main(rt: HostRuntime) -> ExitCode {
     let status = status_of_run(&rt);
     tell(&rt, status);
-    ExitCode::from(status.number())
+    exit_of(status)
 }
 
 // How the job ended that the command line asks for.
@@ -30,8 +31,11 @@ fn status_of_run(rt: &HostRuntime) -> Status {
 }
 
 // Does what the words ask for, on the file that they name.
-fn do_job<R: Files + Input + Print>(rt: &R, alloc: Global, words: &Words) -> Status {
-    match device_for(rt, alloc, words) {
+fn do_job<R: Files + Input + Print>(rt: &R, alloc: Global, words: &Words) -> Status
+where
+    R::File: Lockable,
+{
+    match device_for(&Images { rt, alloc }, alloc, words) {
         Ok(mut pm) => {
             let mut script = StdSource::new(rt.reader());
             let mut out = StdSink::new(io::writer(rt));

@@ -1,6 +1,7 @@
 // The words of the command line.
-ghost use Rattle.std.specs.Prelude.{◌≡◌, ◌⊎◌, map, IfOk, IfErr};
+ghost use Rattle.std.specs.Prelude.{◌≡◌, ◌≢◌, ◌⊎◌, map, IfOk, IfErr};
 ghost use Rattle.std.specs.String.{string_bytes};
+ghost use Rattle.std.specs.IoError.{error_kind};
 
 use pm_trait::NoMemory;
 use squirrel_cli::{Status, Words};
@@ -37,9 +38,10 @@ fn words_from(alloc: Global, arguments: &[String]) -> Result<Words, NoMemory>
     Ok(words)
 }
 
-// How a job ends whose words can't be had: there is no memory for them, or one isn't UTF-8.
+// How a job ends whose words can't be had: out of memory, or one isn't UTF-8.
 fn status_of_fault(fault: &Error) -> Status
-    ensures { (result ≡ Status.Usage) ⊎ (result ≡ Status.NoMemory) }
+    ensures no_memory { error_kind fault.now ≡ ErrorKind.OutOfMemory → result ≡ Status.NoMemory }
+    ensures usage { error_kind fault.now ≢ ErrorKind.OutOfMemory → result ≡ Status.Usage }
 {
     if fault.kind() == ErrorKind::OutOfMemory {
         Status::NoMemory

@@ -29,6 +29,7 @@ fn a_file_holds_the_words_of_the_jobs(rt: HostRuntime) -> Result<(), Fail> {
     let sink = sink_of(alloc, 4_096, 0)?;
     let left = do_job(alloc, "squirrel mkfs v 16", &mut made, source, sink)?;
     assert_eq!(rt; left.status, Status::Done);
+    drop(made);
 
     let mut opened = FilePm::from_path(&rt, alloc, path.as_str())?;
     let source = source_of(alloc, b"create /a\n", 4_096, 0)?;
@@ -36,6 +37,7 @@ fn a_file_holds_the_words_of_the_jobs(rt: HostRuntime) -> Result<(), Fail> {
     let left = do_job(alloc, "squirrel run v", &mut opened, source, sink)?;
     assert_eq!(rt; left.status, Status::Done);
     assert_eq!(rt; left.told.as_slice(), b"ok\n".as_slice());
+    drop(opened);
 
     let again = FilePm::from_path(&rt, alloc, path.as_str())?;
     let volume = small_volume(alloc)?;

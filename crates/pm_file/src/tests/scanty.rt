@@ -1,0 +1,124 @@
+// Files that give and take less than is asked of them.
+use crate::Lockable;
+use std::alloc::Allocator;
+use std::fs::{Metadata, OpenFile, OpenOptions};
+use std::io;
+use std::io::{Read, Seek, SeekFrom, Write};
+use std::rt::Files;
+
+/// Files of another file system of which a read gives at most so many bytes and a write takes at most so many.
+#[derive(Drop)]
+pub struct Scanty<R> {
+    pub rt: R,
+    pub gives: usize,
+    pub takes: usize,
+}
+
+#[derive(Drop)]
+pub struct ScantyFile<F> {
+    file: F,
+    gives: usize,
+    takes: usize,
+}
+
+impl<F: Read> Read for ScantyFile<F> {
+    fn read(&mut self, buf: &mut [u8]) -> io::Result<usize> {
+        let end = buf.len().min(self.gives);
+        self.file.read(&mut buf[..end])
+    }
+}
+
+impl<F: Write> Write for ScantyFile<F> {
+    fn write(&mut self, buf: &[u8]) -> io::Result<usize> {
+        let end = buf.len().min(self.takes);
+        self.file.write(&buf[..end])
+    }
+
+    fn flush(&mut self) -> io::Result<()> {
+        self.file.flush()
+    }
+}
+
+impl<F: Seek> Seek for ScantyFile<F> {
+    fn seek(&mut self, to: SeekFrom) -> io::Result<u64> {
+        self.file.seek(to)
+    }
+}
+
+impl<F: OpenFile> OpenFile for ScantyFile<F> {
+    fn metadata(&self) -> io::Result<Metadata> {
+        self.file.metadata()
+    }
+
+    fn set_len(&self, size: u64) -> io::Result<()> {
+        self.file.set_len(size)
+    }
+
+    fn sync_all(&self) -> io::Result<()> {
+        self.file.sync_all()
+    }
+
+    fn sync_data(&self) -> io::Result<()> {
+        self.file.sync_data()
+    }
+}
+
+impl<F: Lockable> Lockable for ScantyFile<F> {
+    ghost is_locked = { λ scanty. F.is_locked scanty.file };
+
+    fn lock(self) -> io::Result<ScantyFile<F>> {
+        let ScantyFile { file, gives, takes } = self;
+        let file = file.lock()?;
+        Ok(ScantyFile { file, gives, takes })
+    }
+}
+
+impl<R: Files> Files for Scanty<R> {
+    type File = ScantyFile<R::File>;
+
+    type Dir = R::Dir;
+
+    fn open_file(&self, how: &OpenOptions, path: &str) -> io::Result<ScantyFile<R::File>> {
+        Ok(ScantyFile {
+            file: self.rt.open_file(how, path)?,
+            gives: self.gives,
+            takes: self.takes,
+        })
+    }
+
+    fn open_dir(&self, path: &str) -> io::Result<R::Dir> {
+        self.rt.open_dir(path)
+    }
+
+    fn metadata(&self, path: &str) -> io::Result<Metadata> {
+        self.rt.metadata(path)
+    }
+
+    fn symlink_metadata(&self, path: &str) -> io::Result<Metadata> {
+        self.rt.symlink_metadata(path)
+    }
+
+    fn copy(&self, from: &str, to: &str) -> io::Result<u64> {
+        self.rt.copy(from, to)
+    }
+
+    fn rename(&self, from: &str, to: &str) -> io::Result<()> {
+        self.rt.rename(from, to)
+    }
+
+    fn remove_file(&self, path: &str) -> io::Result<()> {
+        self.rt.remove_file(path)
+    }
+
+    fn create_dir(&self, path: &str) -> io::Result<()> {
+        self.rt.create_dir(path)
+    }
+
+    fn remove_dir(&self, path: &str) -> io::Result<()> {
+        self.rt.remove_dir(path)
+    }
+
+    fn remove_dir_all<B: Allocator>(&self, alloc: B, path: &str) -> io::Result<()> {
+        self.rt.remove_dir_all(alloc, path)
+    }
+}
