@@ -106,7 +106,8 @@ fn is_tidy_owned(walked: &Walked<'_>, page: u64, owner: u64) -> bool
     requires in_range { page < data_pages_of walked.now.image.geometry.pages }
     requires owner { owner ≡ page_owner walked.now.image.geometry.pages walked.now.image.words.now page }
     requires owned { page_owner walked.now.image.geometry.pages walked.now.image.words.now page ≢ 0 }
-    requires reached { Reached walked.now.image.geometry.pages walked.now.image.words.now (page_owner walked.now.image.geometry.pages walked.now.image.words.now page) }
+    requires reached { Reached walked.now.image.geometry.pages walked.now.image.words.now
+        (page_owner walked.now.image.geometry.pages walked.now.image.words.now page) }
     ensures { IsTrue result ↔ IsTidyPage walked.now.image.geometry.pages walked.now.image.words.now page }
 {
     let inode = walked.image.geometry.inode_at(walked.image.words, owner);
@@ -160,7 +161,8 @@ fn has_zero_slots(walked: &Walked<'_>, page: u64) -> bool
 fn is_live_or_zero(walked: &Walked<'_>, slot: u64) -> bool
     requires walked { IsWalked walked.now }
     requires in_range { slot < slots_of walked.now.image.geometry.pages }
-    ensures { IsTrue result ↔ (¬ IsLive walked.now.image.geometry.pages walked.now.image.words.now slot → IsZeroSlot walked.now.image.geometry.pages walked.now.image.words.now slot) }
+    ensures { IsTrue result ↔ (¬ IsLive walked.now.image.geometry.pages walked.now.image.words.now slot
+        → IsZeroSlot walked.now.image.geometry.pages walked.now.image.words.now slot) }
 {
     if is_live(&walked.image, walked.reach.rename, slot) {
         return true;

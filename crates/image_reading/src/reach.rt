@@ -71,7 +71,8 @@ impl Reach {
         ensures pointer { self.new.rename ≡ self.old.rename }
         ensures extends { Extends self.old self.new }
         ensures size { vec_len self.new.reached ≡ vec_len self.old.reached }
-        ensures ordered { ((m : ℕ) → m < self.old.seen → IsFound self.old (slice_index self.old.order.items m)) → (m : ℕ) → m < self.new.seen → IsFound self.new (slice_index self.new.order.items m) }
+        ensures ordered { ((m : ℕ) → m < self.old.seen → IsFound self.old (slice_index self.old.order.items m))
+            → (m : ℕ) → m < self.new.seen → IsFound self.new (slice_index self.new.order.items m) }
     {
         let place = inode as usize;
         if self.reached[place] {

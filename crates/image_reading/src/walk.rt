@@ -15,8 +15,10 @@ use layout::{DIRECTORY, PAGE_SLOTS, ROOT};
 // Takes what a slot of a reached directory names.
 fn visit_slot(image: &Image<'_>, slot: u64, reach: &mut Reach)
     requires in_range { slot < slots_of image.now.geometry.pages }
-    requires owner { Reached image.now.geometry.pages image.now.words.now (slot_owner image.now.geometry.pages image.now.words.now slot) }
-    requires directory { IsDirectory image.now.words.now (slot_owner image.now.geometry.pages image.now.words.now slot) }
+    requires owner { Reached image.now.geometry.pages image.now.words.now
+        (slot_owner image.now.geometry.pages image.now.words.now slot) }
+    requires directory { IsDirectory image.now.words.now
+        (slot_owner image.now.geometry.pages image.now.words.now slot) }
     requires walk { IsWalk image.now.geometry.pages image.now.words.now reach.old }
     ensures walk { IsWalk image.now.geometry.pages image.now.words.now reach.new }
     ensures extends { Extends reach.old reach.new }
@@ -34,8 +36,10 @@ fn visit_slot(image: &Image<'_>, slot: u64, reach: &mut Reach)
 // Takes what the slots of a page of a reached directory name.
 fn visit_page(image: &Image<'_>, page: u64, reach: &mut Reach)
     requires in_range { page < image.now.geometry.data_pages }
-    requires owner { Reached image.now.geometry.pages image.now.words.now (page_owner image.now.geometry.pages image.now.words.now page) }
-    requires directory { IsDirectory image.now.words.now (page_owner image.now.geometry.pages image.now.words.now page) }
+    requires owner { Reached image.now.geometry.pages image.now.words.now
+        (page_owner image.now.geometry.pages image.now.words.now page) }
+    requires directory { IsDirectory image.now.words.now
+        (page_owner image.now.geometry.pages image.now.words.now page) }
     requires walk { IsWalk image.now.geometry.pages image.now.words.now reach.old }
     ensures walk { IsWalk image.now.geometry.pages image.now.words.now reach.new }
     ensures extends { Extends reach.old reach.new }

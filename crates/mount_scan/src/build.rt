@@ -35,7 +35,8 @@ pub(crate) fn volume_of_words(
 fn free_inodes(alloc: Global, geometry: &Geometry, words: &[u64]) -> Result<Numbers, NoMemory>
     requires { length words.now ≡ 512 * geometry.now.pages }
     ensures size { IfOk result (λ numbers. length numbers ≡ inodes_of geometry.now.pages) }
-    ensures free { IfOk result (λ numbers. (i : ℕ) → 1 ≤ i → i ≤ inodes_of geometry.now.pages → IsFree numbers (i - 1) ↔ (inode_kind words.now i ≡ 0)) }
+    ensures free { IfOk result (λ numbers. (i : ℕ) → 1 ≤ i → i ≤ inodes_of geometry.now.pages
+        → IsFree numbers (i - 1) ↔ (inode_kind words.now i ≡ 0)) }
 {
     let mut numbers = Numbers::new(alloc, geometry.inodes)?;
     for number in 0..geometry.inodes {
@@ -50,7 +51,8 @@ fn free_inodes(alloc: Global, geometry: &Geometry, words: &[u64]) -> Result<Numb
 fn free_pages(alloc: Global, geometry: &Geometry, words: &[u64]) -> Result<Numbers, NoMemory>
     requires { length words.now ≡ 512 * geometry.now.pages }
     ensures size { IfOk result (λ numbers. length numbers ≡ data_pages_of geometry.now.pages) }
-    ensures free { IfOk result (λ numbers. (j : ℕ) → j < data_pages_of geometry.now.pages → IsFree numbers j ↔ (page_owner geometry.now.pages words.now j ≡ 0)) }
+    ensures free { IfOk result (λ numbers. (j : ℕ) → j < data_pages_of geometry.now.pages → IsFree numbers j
+        ↔ (page_owner geometry.now.pages words.now j ≡ 0)) }
 {
     let mut numbers = Numbers::new(alloc, geometry.data_pages)?;
     for page in 0..geometry.data_pages {

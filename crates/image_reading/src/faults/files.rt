@@ -52,7 +52,8 @@ fn stamp_pages(walked: &Walked<'_>, inode: u64, stamps: &mut [u64])
     requires room { length stamps.old ≡ walked.now.image.geometry.data_pages }
     requires in_range { inode ≤ walked.now.image.geometry.inodes }
     requires fresh { (k : ℕ) → slice_index stamps.old k < inode }
-    ensures stamped { (k : ℕ) → k < walked.now.image.geometry.data_pages → (slice_index stamps.new k ≡ inode) ↔ ((j : ℕ) × IsPageOf walked.now.image.geometry.pages walked.now.image.words.now inode k j) }
+    ensures stamped { (k : ℕ) → k < walked.now.image.geometry.data_pages → (slice_index stamps.new k ≡ inode)
+        ↔ ((j : ℕ) × IsPageOf walked.now.image.geometry.pages walked.now.image.words.now inode k j) }
     ensures earlier { (k : ℕ) → slice_index stamps.new k < inode + 1 }
 {
     let mut link = walked.lists.first[inode as usize];
@@ -73,10 +74,14 @@ fn stamp_page(image: &Image<'_>, page: u64, limit: u64, inode: u64, stamps: &mut
     requires page_in_range { page < image.now.geometry.data_pages }
     requires owner { page_owner image.now.geometry.pages image.now.words.now page ≡ inode }
     requires room { limit ≤ length stamps.old }
-    ensures fresh { result ≡ true → (k : ℕ) → k < limit → IsPageOf image.now.geometry.pages image.now.words.now inode k page → slice_index stamps.old k ≡ inode → ⊥ }
-    ensures doubled { result ≡ false → (k : ℕ) × (k < limit) × IsPageOf image.now.geometry.pages image.now.words.now inode k page × (slice_index stamps.old k ≡ inode) }
-    ensures here { (k : ℕ) → k < limit → IsPageOf image.now.geometry.pages image.now.words.now inode k page → slice_index stamps.new k ≡ inode }
-    ensures only { (k : ℕ) → (slice_index stamps.new k ≡ slice_index stamps.old k) ⊎ ((slice_index stamps.new k ≡ inode) × IsPageOf image.now.geometry.pages image.now.words.now inode k page) }
+    ensures fresh { result ≡ true → (k : ℕ) → k < limit
+        → IsPageOf image.now.geometry.pages image.now.words.now inode k page → slice_index stamps.old k ≡ inode → ⊥ }
+    ensures doubled { result ≡ false → (k : ℕ) × (k < limit)
+        × IsPageOf image.now.geometry.pages image.now.words.now inode k page × (slice_index stamps.old k ≡ inode) }
+    ensures here { (k : ℕ) → k < limit → IsPageOf image.now.geometry.pages image.now.words.now inode k page
+        → slice_index stamps.new k ≡ inode }
+    ensures only { (k : ℕ) → (slice_index stamps.new k ≡ slice_index stamps.old k)
+        ⊎ ((slice_index stamps.new k ≡ inode) × IsPageOf image.now.geometry.pages image.now.words.now inode k page) }
 {
     let descriptor = image.geometry.descriptor_at(image.words, page);
     if descriptor.kind != BYTES || descriptor.offset >= limit {
@@ -131,7 +136,8 @@ fn doubled_page_of(walked: &Walked<'_>, inode: u64, stamps: &mut [u64]) -> Optio
     requires room { length stamps.old ≡ walked.now.image.geometry.data_pages }
     requires fresh { (k : ℕ) → slice_index stamps.old k < inode }
     requires complete { HasAllPages walked.now.image.geometry.pages walked.now.image.words.now inode }
-    ensures least { Finds (λ j. page_owner walked.now.image.geometry.pages walked.now.image.words.now j ≡ inode → HasOwnOffset walked.now.image.geometry.pages walked.now.image.words.now j) result }
+    ensures least { Finds (λ j. page_owner walked.now.image.geometry.pages walked.now.image.words.now j ≡ inode
+        → HasOwnOffset walked.now.image.geometry.pages walked.now.image.words.now j) result }
     ensures earlier { (k : ℕ) → slice_index stamps.new k < inode + 1 }
 {
     if !walked.reach.has(inode) {

@@ -29,7 +29,9 @@ pub fn own_names_broken_at(walked: &Walked<'_>) -> Option<u64>
 fn has_twin(walked: &Walked<'_>, slot: u64) -> bool
     requires walked { IsWalked walked.now }
     requires reached { IsReachedSlot walked.now.image.geometry.pages walked.now.image.words.now slot }
-    ensures { IsTrue result ↔ ((r : ℕ) × (slot_owner walked.now.image.geometry.pages walked.now.image.words.now r ≡ slot_owner walked.now.image.geometry.pages walked.now.image.words.now slot) × IsTwin walked.now.image.geometry.pages walked.now.image.words.now slot r) }
+    ensures { IsTrue result ↔ ((r : ℕ) × (slot_owner walked.now.image.geometry.pages walked.now.image.words.now r
+        ≡ slot_owner walked.now.image.geometry.pages walked.now.image.words.now slot)
+        × IsTwin walked.now.image.geometry.pages walked.now.image.words.now slot r) }
 {
     let owner = walked
         .image
@@ -51,7 +53,8 @@ fn page_has_twin(walked: &Walked<'_>, page: u64, slot: u64) -> bool
     requires walked { IsWalked walked.now }
     requires page_in_range { page < walked.now.image.geometry.data_pages }
     requires slot_in_range { slot < slots_of walked.now.image.geometry.pages }
-    ensures { IsTrue result ↔ ((r : ℕ) × (page_of_slot r ≡ page) × IsTwin walked.now.image.geometry.pages walked.now.image.words.now slot r) }
+    ensures { IsTrue result ↔ ((r : ℕ) × (page_of_slot r ≡ page)
+        × IsTwin walked.now.image.geometry.pages walked.now.image.words.now slot r) }
 {
     for entry in 0..PAGE_SLOTS {
         if is_twin(walked, PAGE_SLOTS * page + entry, slot) {
