@@ -6,6 +6,10 @@ use Rattle.std.specs.List.{list_any}
 abbrev pub is_listed : List ℕ → ℕ → Bool
 is_listed lines line = list_any (λ listed. listed == line) lines
 
+-- each line that was listed is listed still
+abbrev pub KeepsListed : List ℕ → List ℕ → Type 0
+KeepsListed old new = (line : ℕ) → is_listed old line ≡ true → is_listed new line ≡ true
+
 -- one line has these eight words, and all else is as it was
 pub record AddsLine (before after : List ℕ) (line : ℕ) (eight : List ℕ) : Type 0 where
   pub given : (k : ℕ) → k < 8 → slice_index after (8 * line + k) ≡ slice_index eight k

@@ -1,5 +1,5 @@
 -- Which lengths are those of a volume.
-use Rattle.std.specs.Prelude.{◌≡◌, ℕ, ◌*◌, ◌≤◌}
+use Rattle.std.specs.Prelude.{◌≡◌, ◌⊎◌, ℕ, ◌*◌, ◌≤◌, List, [], length}
 
 -- so many words are those of whole pages, from the smallest volume to the largest
 pub record IsVolumeLength (words : ℕ) : Type 0 where
@@ -14,3 +14,7 @@ pub record IsVolumeFile (bytes : ℕ) : Type 0 where
   pub least : 16 ≤ pages
   pub most : pages ≤ 65536
   pub whole : bytes ≡ 4096 * pages
+
+-- no words, or those of a volume
+abbrev pub IsNoneOrVolume : List ℕ → Type 0
+IsNoneOrVolume words = (words ≡ []) ⊎ IsVolumeLength (length words)

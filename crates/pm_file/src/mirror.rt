@@ -1,7 +1,7 @@
 // The words of a file in memory, and which of their lines the file has still to be given.
 ghost use Rattle.std.specs.Prelude.{◌≡◌, ◌+◌, ◌-◌, ◌*◌, ◌^◌, ◌<◌, ◌≤◌, ℕ, List, [], ◌∷◌, ◌++◌, ◌==◌, length, slice_index, slice_set, vec_len, replicate, count_by, IfOk, OnOk, OnErr, true};
 ghost use Rattle.std.specs.Vec.{vec_capacity};
-ghost use Rattle.pm_file.specs.Given.{is_listed, HasLines, ReadsFrom};
+ghost use Rattle.pm_file.specs.Given.{is_listed, KeepsListed, HasLines, ReadsFrom};
 
 use crate::FileFault;
 use crate::medium::Medium;
@@ -142,8 +142,7 @@ impl<F: Medium + Drop> Mirror<F> {
         ensures words { self.new.words.items ≡ self.old.words.items }
         ensures medium { self.new.medium ≡ self.old.medium }
         ensures noted { is_listed self.new.flushed.items line ≡ true }
-        ensures kept { (other : ℕ) → is_listed self.old.flushed.items other ≡ true
-            → is_listed self.new.flushed.items other ≡ true }
+        ensures kept { KeepsListed self.old.flushed.items self.new.flushed.items }
     {
         if self.rounds[line as usize] < self.round {
             self.rounds[line as usize] = self.round;
@@ -154,8 +153,8 @@ impl<F: Medium + Drop> Mirror<F> {
     /// Writes the flushed lines to the medium and waits until they are safe there.
     pub fn write_back(&mut self) -> io::Result<()>
         ensures words { self.new.words.items ≡ self.old.words.items }
-        ensures ok { OnOk result (HasLines (F.held self.old.medium)
-            (F.safe self.new.medium) self.old.words.items self.old.flushed.items) }
+        ensures ok { OnOk result
+            (HasLines (F.held self.old.medium) (F.safe self.new.medium) self.old.words.items self.old.flushed.items) }
         ensures forgotten { OnOk result (self.old.round < 2 ^ 64 - 1 → self.new.flushed.items ≡ []) }
         ensures err { OnErr result (self.new.flushed.items ≡ self.old.flushed.items) }
     {
