@@ -4,6 +4,7 @@ use Rattle.std.specs.Prelude.{Option, Some, None, Ok, Err}
 use Rattle.pm_trait.specs.declared.event.Event.TheVariants.{Ack}
 use Rattle.pm_trait.specs.Trail.{Trail}
 use Rattle.pm_trait.specs.Device.{with_event, acks_from, moment_of}
+use Rattle.pm_trait.specs.DeviceView.{DeviceView}
 use Rattle.pm_trait.proofs.ContinuesLaws.{acks_from-all, continues_by}
 use Rattle.pm_trait.proofs.DeviceLaws.{leaves_weaker, leaves_next}
 use Rattle.pm_trait.proofs.AckLaws.{leaves_ack, acks_none, acks_next, acks_ack, settled_ack}
@@ -13,7 +14,10 @@ use Rattle.tree_model.specs.Replies.{reply_of}
 use Rattle.tree_model.specs.declared.reply.Reply.{Reply}
 use Rattle.tree_model.specs.declared.reply.Reply.TheVariants as reply
 use Rattle.volume.specs.Volume.{VolumeView}
-use Rattle.volume.specs.Stands.{StandsFor}
+use Rattle.volume.specs.Stands.{StandsFor, Knows}
+use Rattle.image_reading.specs.Reading.{ReadsAs}
+use Rattle.image_reading.specs.Tidy.{Tidy}
+use Rattle.pm_trait.specs.DeviceView.{Acknowledges}
 use Rattle.volume.specs.Stops.{MayReadAs}
 use Rattle.engine.specs.Exec.{Executed, HasAnswered}
 use Rattle.engine.specs.Quiet.{MayStore}
@@ -29,8 +33,8 @@ ack_counts (Some trail) {new} appended told is =
     ap (λ (t : Option Trail). acks_from (Some trail) t (moment_of t)) appended ∙ acks_from-all trail (Ack ∷ [])
 
 -- what a volume stands for is what its words read as
-pub stands_at : {volume : VolumeView} {words : List ℕ} {trail : Option Trail} {state : State} → StandsFor volume words trail state → IsAt volume.size state words
-stands_at stands = record { tidy = stands.tidy; reads = stands.reads }
+pub stands_at : (volume : VolumeView) (device : DeviceView) {state : State} → StandsFor volume device state → IsAt volume.size state device.words
+stands_at volume device stands = record { tidy = stands.tidy; reads = stands.reads }
 
 -- the state that a line leaves is one that a stop in it may leave
 pub may_be_after : (P : ℕ) (old : State) (line : Line) (answer : Answer) (new : State) (words : List ℕ) → LineStep P old line answer new → IsAt P new words
@@ -50,54 +54,58 @@ may_more P state (Err fault) image may = may
 pub may_be_there : (P : ℕ) (state : State) (words : List ℕ) → IsAt P state words → MayReadAs P state None words
 may_be_there P state words is = record { sound = is.tidy.sound; tree = state.tree; reads = is.reads.tree; allowed = refl }
 
--- a volume stands for a state whatever was acknowledged
-pub stands_acked : {volume : VolumeView} {words after : List ℕ} {trail acked : Option Trail} {state : State} → after ≡ words → acked ≡ with_event trail Ack → StandsFor volume words trail state → StandsFor volume after acked state
-stands_acked {volume = volume} {words = words} {after = after} {acked = acked} {state = state} same appended stands =
-    let settled = settled_ack same appended stands.settled in
-    let there : StandsFor volume words acked state = record { settled = settled_ack refl appended stands.settled; tidy = stands.tidy; reads = stands.reads; knows = stands.knows } in
-    subst (λ (w : List ℕ). StandsFor volume w acked state) (sym same) there
+-- ---- what an acknowledgement leaves
 
--- and has what is written of an answer
-told_acked : (volume : VolumeView) {words after : List ℕ} (trail : Option Trail) {acked : Option Trail} → after ≡ words → acked ≡ with_event trail Ack → (answer : Answer) → IsTold volume words trail answer → IsTold volume after acked answer
-told_acked volume trail same appended Done told = told
-told_acked volume trail same appended (Count n) told = told
-told_acked volume trail same appended (Status s) told = told
-told_acked volume trail same appended (Bytes bytes) told = told
-told_acked volume trail same appended (Listed inode names) told = record {
-  state = told.state;
-  stands = stands_acked same appended told.stands;
-  going = told.going;
-  directory = told.directory;
-  names_are = told.names_are;
-}
-told_acked volume trail same appended (Space free) told = told
-told_acked volume trail same appended (Refused refusal) told = told
-told_acked volume trail same appended (Unread fault) told = told
-told_acked volume trail same appended Fault told = told
-told_acked volume trail same appended Stopped told = told
+module _ (volume : VolumeView) (device acked : DeviceView) (same : acked.words ≡ device.words) (appended : acked.trail ≡ with_event device.trail Ack) where
+  -- a volume stands for a state whatever was acknowledged
+  pub stands_acked : {state : State} → StandsFor volume device state → StandsFor volume acked state
+  stands_acked {state} stands = record {
+    settled = settled_ack same appended stands.settled;
+    tidy = subst (λ (w : List ℕ). Tidy volume.size w) (sym same) stands.tidy;
+    reads = subst (λ (w : List ℕ). ReadsAs volume.size w state) (sym same) stands.reads;
+    knows = subst (λ (w : List ℕ). Knows volume w) (sym same) stands.knows;
+  }
 
-module _ {P : ℕ} {old : State} {line : Line} {volume : VolumeView} {replied : Reply} {before after acked : Option Trail} {words words_after : List ℕ} {fences_before fences_after fences_acked : ℕ}
-    (size : volume.size ≡ P) (done : Executed P old line volume replied before words after fences_before fences_after) (still : replied ≢ reply.Done → after ≡ before)
-    (same : words_after ≡ words) (appended : acked ≡ with_event after Ack) (counted : fences_acked ≡ fences_after) where
-  is_there : IsAt P done.new words
-  is_there = subst (λ (p : ℕ). IsAt p done.new words) size (stands_at done.stands)
+  -- and has what is written of an answer
+  pub told_acked : (answer : Answer) → IsTold volume device answer → IsTold volume acked answer
+  told_acked Done told = told
+  told_acked (Count n) told = told
+  told_acked (Status s) told = told
+  told_acked (Bytes bytes) told = told
+  told_acked (Listed inode names) told = record {
+    state = told.state;
+    stands = stands_acked told.stands;
+    going = told.going;
+    directory = told.directory;
+    names_are = told.names_are;
+  }
+  told_acked (Space free) told = told
+  told_acked (Refused refusal) told = told
+  told_acked (Unread fault) told = told
+  told_acked Fault told = told
+  told_acked Stopped told = told
 
-  pub acknowledged : HasAnswered P old line volume replied before words_after acked fences_before fences_acked
+module _ {P : ℕ} {old : State} {line : Line} {volume : VolumeView} {replied : Reply} (before after acked : DeviceView)
+    (size : volume.size ≡ P) (done : Executed P old line volume replied before after) (still : replied ≢ reply.Done → after.trail ≡ before.trail) (acks : Acknowledges after acked) where
+  is_there : IsAt P done.new after.words
+  is_there = subst (λ (p : ℕ). IsAt p done.new after.words) size (stands_at volume after done.stands)
+
+  pub acknowledged : HasAnswered P old line volume replied before acked
   acknowledged = record {
     answer = done.answer;
     new = done.new;
-    replied = record { reply_is = done.replied.reply_is; told = told_acked volume after same appended done.answer done.replied.told };
+    replied = record { reply_is = done.replied.reply_is; told = told_acked volume after acked acks.words acks.trail done.answer done.replied.told };
     step = done.step;
-    stands = stands_acked same appended done.stands;
-    acks = acks_next done.no_ack (acks_none _ done.any_moment.continues done.no_ack) (acks_ack _ done.stands.settled appended (refl, is_there));
+    stands = stands_acked volume after acked acks.words acks.trail done.stands;
+    acks = acks_next done.no_ack (acks_none _ done.any_moment.continues done.no_ack) (acks_ack _ done.stands.settled acks.trail (refl, is_there));
     any_moment = leaves_next done.no_ack (leaves_weaker (λ k image may. inl may) done.any_moment)
-        (leaves_ack _ done.stands.settled appended
-        (inl (refl, may_be_after P old line done.answer done.new words done.step is_there))
-        (inr (refl, may_be_there P done.new words is_there)));
-    quiet = acts_answered done.answer done.any_moment.continues (continues_by Ack appended) done.no_ack
-        (λ may_not. still (λ is_done. may_not (may_store done.answer done.replied.reply_is is_done))) appended;
-    one_ack = λ told is_told. acked_then 0 1 done.any_moment.continues (leaves_ack (λ k image. Unit {0}) done.stands.settled appended tt tt).continues (λ t i. done.no_ack) (ack_counts after appended) told is_told;
-    fences = counted ∙ done.fences;
+        (leaves_ack _ done.stands.settled acks.trail
+        (inl (refl, may_be_after P old line done.answer done.new after.words done.step is_there))
+        (inr (refl, may_be_there P done.new after.words is_there)));
+    quiet = acts_answered done.answer done.any_moment.continues (continues_by Ack acks.trail) done.no_ack
+        (λ may_not. still (λ is_done. may_not (may_store done.answer done.replied.reply_is is_done))) acks.trail;
+    one_ack = λ told is_told. acked_then 0 1 done.any_moment.continues (leaves_ack (λ k image. Unit {0}) done.stands.settled acks.trail tt tt).continues (λ t i. done.no_ack) (ack_counts after.trail acks.trail) told is_told;
+    fences = acks.fences ∙ done.fences;
   }
     where
       may_store : (answer : Answer) → replied ≡ reply_of answer → replied ≡ reply.Done → MayStore (Some answer)

@@ -1,51 +1,42 @@
 -- What a line leaves by what was done for it: nothing, or an entry that was made.
-use Rattle.std.proofs.Common.{◌≡◌, ◌≢◌, inl, inr, ℕ, ◌+◌, ◌*◌, true, false, List, Option, Some, None, is_none, ◌&&◌, refl, sym, ap, subst, ◌∙◌, arith}
+use Rattle.std.proofs.Common.{◌≡◌, ◌≢◌, inl, inr, ℕ, ◌+◌, ◌*◌, ◌≤◌, true, false, List, Option, Some, None, is_none, ◌&&◌, refl, sym, ap, subst, ◌∙◌, arith}
 use Rattle.std.specs.Prelude.{IsTrue, Result, Ok, Err, OnOk, OnErr, IfOk}
 use Rattle.pm_trait.specs.Trail.{Trail}
-use Rattle.pm_trait.specs.DeviceView.{DeviceView}
-use Rattle.pm_trait.specs.Device.{LeavesOnly, StaysOnce, EndsInFault, acks_from, moment_of}
+use Rattle.pm_trait.specs.DeviceView.{DeviceView, MakesIntervals}
+use Rattle.pm_trait.specs.Device.{HasRisen, LeavesOnly, StaysOnce, EndsInFault, acks_from, moment_of}
 use Rattle.pm_trait.proofs.ContinuesLaws.{continues_here, acks_from-here}
 use Rattle.pm_trait.proofs.DeviceLaws.{leaves_here}
 use Rattle.pm_trait.specs.declared.event.PmFault.{PmFault}
+use Rattle.tree_model.specs.PathText.{Route}
 use Rattle.tree_model.specs.Capacity.{untaken}
-use Rattle.tree_model.specs.Step.{Answer, Done, Refused, need, least_free_id, refusal_of, outcome_of, step, RoomAfterWith}
-use Rattle.tree_model.specs.Run.{Line, State, Steps, LineStep, is_changing, may_fail}
+use Rattle.tree_model.specs.Step.{Answer, Done, Refused, Fault, need, least_free_id, refusal_of, outcome_of, step, RoomAfterWith}
+use Rattle.tree_model.specs.Run.{Line, State, Steps, LineStep, LineFails, is_changing, may_fail}
+use Rattle.tree_model.specs.Fences.{fences_of as fences_of_line}
+use Rattle.tree_model.proofs.FenceLaws.{no_fences-reading}
 use Rattle.tree_model.specs.Replies.{reply_of}
 use Rattle.tree_model.specs.declared.command.Command.{Command}
 use Rattle.tree_model.specs.declared.command.Command.TheVariants.{Create, Mkdir, Link, Unlink, Rmdir, Rename, Write, Truncate, Read, Stat as Tell, List as Show, Df}
 use Rattle.tree_model.specs.declared.reply.Refusal.{Refusal}
+use Rattle.tree_model.specs.declared.reply.Refusal.TheVariants.{NoMemory}
 use Rattle.tree_model.specs.declared.reply.Reply.{Reply}
+use Rattle.tree_model.specs.declared.reply.Reply.TheVariants as reply
 use Rattle.image_reading.specs.Reading.{Reads}
-use Rattle.image_counts.specs.Laws.{StateLaw}
-use Rattle.script.specs.Calls.{HasCome as HasComeInScripts}
 use Rattle.volume.specs.Volume.{VolumeView}
-use Rattle.volume.specs.Prepared.{HasCome, IsRefusal}
 use Rattle.volume.specs.Stands.{StandsFor}
-use Rattle.volume.specs.Planned.{IsPlanned}
-use Rattle.volume.specs.declared.plan.Action.{Action}
-use Rattle.create_ops.specs.Making.{IsPlanFor}
 use Rattle.volume.specs.Stops.{MayReadAs}
-use Rattle.engine.specs.Exec.{Executed, HasFailed}
+use Rattle.volume.specs.Carried.{Follows, Answers}
+use Rattle.volume.specs.Prepared.{IsRefusal, IsMaking, IsSameButPlaces, IsSameButRoom, Prepares, making}
+use Rattle.volume.specs.Planned.{IsPlanOf, fences_for, fences_of_plan}
+use Rattle.volume.specs.declared.plan.Action.{Action}
+use Rattle.volume.specs.declared.plan.Action.TheVariants.{Make, Status, Names, Space}
+use Rattle.layout.specs.declared.kinds.NodeKind.{NodeKind}
+use Rattle.layout.specs.declared.kinds.NodeKind.TheVariants.{File, Directory}
+use Rattle.engine.specs.Exec.{Executed, HasFailed, Does, LeavesVolume}
 use Rattle.engine.specs.Replies.{IsReplyOf}
-use Rattle.engine.specs.Run.{command_of, IsAt}
+use Rattle.engine.specs.Run.{command_of, tree_after_line, IsAt}
 use Rattle.engine.proofs.Acknowledged.{stands_at, may_be_there, may_more}
-use Rattle.engine.proofs.FenceCounts.{still_fences}
-use Rattle.engine.proofs.Told.{told_steps, told_not_done, room_is}
-
--- a command that comes in scripts is one that a volume can do
-pub come : (c : Command) → HasComeInScripts c → HasCome c
-come (Create path) has = tt
-come (Mkdir path) has = tt
-come (Link from to) has = has
-come (Unlink path) has = has
-come (Rmdir path) has = has
-come (Rename from to) has = has
-come (Write path offset bytes) has = has
-come (Truncate path size) has = has
-come (Read path offset count) has = has
-come (Tell path) has = tt
-come (Show path) has = tt
-come Df has = tt
+use Rattle.engine.proofs.Stays.{stays_here}
+use Rattle.engine.proofs.Told.{told_steps, state_is}
 
 -- ---- a refused command changes nothing
 
@@ -62,81 +53,315 @@ step_refused P state c refusal (inr (short, may)) = inr (record { accepted = may
 
 -- ---- nothing was done
 
-pub executed_still : {volume : VolumeView} {words : List ℕ} {before after : Option Trail} {state : State} (P : ℕ) (line : Line) (answer : Answer) (replied : Reply) (fences_before fences_after : ℕ) → volume.size ≡ P → after ≡ before
-    → StandsFor volume words after state → IsReplyOf volume words after answer replied → LineStep P state line answer state → answer ≢ Done → fences_after ≡ fences_before
-    → Executed P state line volume replied before words after fences_before fences_after
-executed_still {volume = volume} {words = words} {before = before} {after = after} {state = state} P line answer replied fences_before fences_after size told stands is_reply steps not same = record {
-  answer = answer;
-  new = state;
-  replied = is_reply;
-  step = steps;
-  stands = stands;
-  any_moment = subst (λ (t : Option Trail). LeavesOnly t after (λ acks image. (acks ≡ 0) × MayReadAs P state (command_of (Some line)) image)) told
-      (leaves_here _ stands.settled (refl, may_more P state line words (may_be_there P state words (subst (λ (p : ℕ). IsAt p state words) size (stands_at stands)))));
-  no_ack = subst (λ (t : Option Trail). acks_from t after (moment_of after) ≡ 0) told (acks_from-here (continues_here after));
-  fences = still_fences state line answer fences_before fences_after not same;
-}
+module _ (old new : VolumeView) (before after : DeviceView) (size : new.size ≡ old.size) (told : after.trail ≡ before.trail) (same : after.fences ≡ before.fences) where
+  pub does_still : (state : State) (line : Line) (answer : Answer) (replied : Reply) → StandsFor new after state → IsReplyOf new after answer replied
+      → LineStep old.size state line answer state → fences_of_line state line answer state ≡ 0 → Does old new before after state line (Ok replied)
+  does_still state line answer replied stands is_reply steps none = record {
+    executed = record {
+      answer = answer;
+      new = state;
+      replied = is_reply;
+      step = steps;
+      stands = stands;
+      any_moment = subst (λ (t : Option Trail). LeavesOnly t after.trail (λ acks image. (acks ≡ 0) × MayReadAs old.size state (command_of (Some line)) image)) told
+          (leaves_here _ stands.settled (refl, may_more old.size state line after.words (may_be_there old.size state after.words (subst (λ (p : ℕ). IsAt p state after.words) size (stands_at new after stands)))));
+      no_ack = subst (λ (t : Option Trail). acks_from t after.trail (moment_of after.trail) ≡ 0) told (acks_from-here (continues_here after.trail));
+      fences = omega (arith, none, same);
+    };
+    failed = tt;
+    stays = stays_here _ told;
+  }
 
--- a command that changes nothing was answered
-pub told_executed : (P : ℕ) (volume : VolumeView) (words : List ℕ) (before after : Option Trail) (state : State) (c : Command) (replied : Reply) (fences_before fences_after : ℕ) → volume.size ≡ P → after ≡ before
-    → StateLaw → StandsFor volume words after state → is_changing c ≡ false → refusal_of volume.size state.tree state.room c ≡ None
-    → IsReplyOf volume words after (step volume.size state.tree state.room c).answer replied → fences_after ≡ fences_before
-    → Executed P state (Ok c) volume replied before words after fences_before fences_after
-told_executed P volume words before after state c replied fences_before fences_after size told law stands reads accepted is_reply same =
-    executed_still P (Ok c) (step volume.size state.tree state.room c).answer replied fences_before fences_after size told stands is_reply
-    (inl (subst (λ (p : ℕ). Steps p state c (step volume.size state.tree state.room c).answer state) size (told_steps volume.size state c reads (room_is volume words after law stands) accepted)))
-    (told_not_done volume.size state c reads accepted) same
+  pub does_refused : (state : State) (c : Command) (refusal : Refusal) → StandsFor new after state → IsRefusal old.size state c refusal
+      → Does old new before after state (Ok c) (Ok (reply.Refused refusal))
+  does_refused state c refusal stands refused =
+      does_still state (Ok c) (Refused refusal) (reply.Refused refusal) stands (record { reply_is = refl; told = tt }) (step_refused old.size state c refusal refused) refl
+
+  -- a command that changes nothing was answered
+  pub does_told : (state : State) (c : Command) (replied : Reply) → StandsFor new after state → is_changing c ≡ false → refusal_of new.size state.tree state.room c ≡ None
+      → IsReplyOf new after (step new.size state.tree state.room c).answer replied → Does old new before after state (Ok c) (Ok replied)
+  does_told state c replied stands reads accepted is_reply =
+      does_still state (Ok c) (step new.size state.tree state.room c).answer replied stands is_reply
+      (inl (subst (λ (p : ℕ). Steps p state c (step new.size state.tree state.room c).answer state) size (told_steps new.size state c reads (state_is new after stands).room accepted)))
+      (no_fences-reading state c (step new.size state.tree state.room c).answer state reads)
 
 -- ---- an entry was made, or a fence failed
 
-pub planned_as : (volume : VolumeView) (device : DeviceView) (state : State) (c made : Command) (action : Action) → c ≡ made → StandsFor volume device state → IsPlanned volume.size device.words state c action
-    → IsPlanFor volume device state made action
-planned_as volume device state c made action is stands planned =
-    subst (λ (command : Command). IsPlanFor volume device state command action) is (record { stands = stands; planned = planned })
+accepted_change : (P : ℕ) (state : State) (c : Command) → is_changing c ≡ true → refusal_of P state.tree state.room c ≡ None → IsTrue (may_fail P state c)
+accepted_change P state c changes accepted = let none = ap is_none accepted in ap (λ b. b && is_none (refusal_of P state.tree state.room c)) changes ∙ none
 
-module _ (P : ℕ) (state : State) (c : Command) (mid : VolumeView) (before between after : Option Trail) (size : mid.size ≡ P) (told : between ≡ before) where
-  moments : LeavesOnly between after (λ acks image. (acks ≡ 0) × MayReadAs mid.size state (Some c) image) → LeavesOnly before after (λ acks image. (acks ≡ 0) × MayReadAs P state (Some c) image)
-  moments leaves =
-      subst (λ (t : Option Trail). LeavesOnly t after (λ acks image. (acks ≡ 0) × MayReadAs P state (Some c) image)) told
-      (subst (λ (p : ℕ). LeavesOnly between after (λ acks image. (acks ≡ 0) × MayReadAs p state (Some c) image)) size leaves)
+-- what is made by a command that makes a node changes the tree, and takes the fences of the plan
+making_changes : (kind : NodeKind) (path : Route) → is_changing (making kind path) ≡ true
+making_changes File path = refl
+making_changes Directory path = refl
 
-  none_acked : acks_from between after (moment_of after) ≡ 0 → acks_from before after (moment_of after) ≡ 0
-  none_acked none = subst (λ (t : Option Trail). acks_from t after (moment_of after) ≡ 0) told none
+making_fences : (kind : NodeKind) (path : Route) (old later : State) → fences_of_line old (Ok (making kind path)) Done later ≡ 2 + 2 * need old.tree old.room (making kind path)
+making_fences File path old later = refl
+making_fences Directory path old later = refl
 
-  pub executed_made : (volume : VolumeView) (words : List ℕ) (fences_before fences_between fences_after : ℕ) (result : Result Reply PmFault)
-      → OnOk result ((new : State) × StandsFor volume words after new × Steps mid.size state c Done new)
-      → LeavesOnly between after (λ acks image. (acks ≡ 0) × MayReadAs mid.size state (Some c) image)
-      → acks_from between after (moment_of after) ≡ 0 → IfOk result (λ replied. replied ≡ reply_of Done)
-      → fences_between ≡ fences_before → OnOk result (fences_after ≡ fences_between + 2 + 2 * need state.tree state.room c)
-      → IfOk result (λ replied. Executed P state (Ok c) volume replied before words after fences_before fences_after)
-  executed_made volume words fences_before fences_between fences_after (Ok replied) (new, stands, steps) leaves none is counted more = record {
-    answer = Done;
-    new = new;
-    replied = record { reply_is = is; told = tt };
-    step = inl (subst (λ (p : ℕ). Steps p state c Done new) size steps);
-    stands = stands;
-    any_moment = moments leaves;
-    no_ack = none_acked none;
-    fences = omega (arith, counted, more);
+module _ (old new : VolumeView) (before after : DeviceView) where
+  pub does_made : {events made : ℕ} (state : State) (c : Command) (kind : NodeKind) (path : Route) (result : Result Reply PmFault) → c ≡ making kind path → refusal_of old.size state.tree state.room c ≡ None
+      → Follows old new before after state c result → Answers old new result → MakesIntervals before after events made result
+      → Does old new before after state (Ok c) result
+  does_made state c kind path result is accepted follows answers device = record {
+    executed = executed result follows.made answers.reply follows.counted;
+    failed = failed result device.halts;
+    stays = follows.stays;
   }
-  executed_made volume words fences_before fences_between fences_after (Err fault) made leaves none is counted more = tt
+    where
+      changes : is_changing c ≡ true
+      changes = ap is_changing is ∙ making_changes kind path
 
-  accepted_change : is_changing c ≡ true → refusal_of P state.tree state.room c ≡ None → IsTrue (may_fail P state c)
-  accepted_change changes accepted = let none = ap is_none accepted in ap (λ b. b && is_none (refusal_of P state.tree state.room c)) changes ∙ none
+      fences : (later : State) → fences_of_line state (Ok c) Done later ≡ 2 + 2 * need state.tree state.room c
+      fences later = subst (λ (command : Command). fences_of_line state (Ok command) Done later ≡ 2 + 2 * need state.tree state.room command) (sym is) (making_fences kind path state later)
 
-  pub failed_making : (result : Result Reply PmFault) → is_changing c ≡ true → refusal_of mid.size state.tree state.room c ≡ None
-      → LeavesOnly between after (λ acks image. (acks ≡ 0) × MayReadAs mid.size state (Some c) image)
-      → acks_from between after (moment_of after) ≡ 0 → OnErr result (EndsInFault after)
-      → OnErr result (HasFailed P state (Ok c) before after)
-  failed_making (Ok replied) changes accepted leaves none last = tt
-  failed_making (Err fault) changes accepted leaves none last = record {
-    fails = record { accepted = accepted_change changes (ap (λ (p : ℕ). refusal_of p state.tree state.room c) (sym size) ∙ accepted); answered = refl };
-    any_moment = moments leaves;
-    no_ack = none_acked none;
-    last = last;
+      executed : (result : Result Reply PmFault) → OnOk result ((later : State) × StandsFor new after later × Steps old.size state c Done later)
+          → IfOk result (λ replied. replied ≡ reply_of Done) → OnOk result (after.fences ≡ before.fences + 2 + 2 * need state.tree state.room c)
+          → IfOk result (λ replied. Executed old.size state (Ok c) new replied before after)
+      executed (Ok replied) (later, stands, steps) is_done counted = record {
+        answer = Done;
+        new = later;
+        replied = record { reply_is = is_done; told = tt };
+        step = inl steps;
+        stands = stands;
+        any_moment = follows.any_moment;
+        no_ack = device.no_ack;
+        fences = let all = fences later in omega (arith, counted, all);
+      }
+      executed (Err fault) made is_done counted = tt
+
+      failed : (result : Result Reply PmFault) → OnErr result (EndsInFault after.trail) → OnErr result (HasFailed old.size state (Ok c) before after)
+      failed (Ok replied) last = tt
+      failed (Err fault) last = record {
+        fails = record { accepted = accepted_change old.size state c changes accepted; answered = refl };
+        any_moment = follows.any_moment;
+        no_ack = device.no_ack;
+        last = last;
+      }
+
+  -- a plan takes at most four fences
+  few_fences : (action : Action) → fences_of_plan action ≤ 4
+  few_fences (Make entry) = few entry.new_page
+    where
+      few : (page : Option ℕ) → fences_for page ≤ 4
+      few None = omega arith
+      few (Some page) = omega arith
+  few_fences (Status inode) = omega arith
+  few_fences (Names inode) = omega arith
+  few_fences Space = omega arith
+
+  pub leaves_made : {events : ℕ} (action : Action) (result : Result Reply PmFault) → Answers old new result → MakesIntervals before after events (fences_of_plan action) result
+      → LeavesVolume old new before after result
+  leaves_made action (Ok replied) answers device =
+      let few = few_fences action in
+      let most = device.most_fences in
+      record {
+        quiet = λ not. absurd (not answers.reply);
+        same = λ not not_memory. absurd (not answers.reply);
+        size = answers.size;
+        going = answers.going;
+        stopped = tt;
+        faults = device.faults;
+        no_fault = device.no_fault;
+        cause = tt;
+        refused = let same = device.refused in omega (arith, same);
+        not_refused = λ not. device.refused;
+        fault_not_refused = tt;
+        fences = omega (arith, few, most);
+        acks = device.acks;
+      }
+  leaves_made action (Err fault) answers device =
+      let few = few_fences action in
+      let most = device.most_fences in
+      record {
+        quiet = tt;
+        same = tt;
+        size = answers.size;
+        going = tt;
+        stopped = answers.stopped;
+        faults = device.faults;
+        no_fault = tt;
+        cause = device.cause;
+        refused = let same = device.refused in omega (arith, same);
+        not_refused = tt;
+        fault_not_refused = device.refused;
+        fences = omega (arith, few, most);
+        acks = device.acks;
+      }
+
+-- ---- after a preparation
+
+module _ (old mid new : VolumeView) (before between after : DeviceView) where
+  -- it stored nothing and made no fence, and the number of pages is the same
+  pub does_after : (state : State) (line : Line) (result : Result Reply PmFault) → IsSameButPlaces old mid → IsSameButRoom before between
+      → Does mid new between after state line result → Does old new before after state line result
+  does_after state line result view device does = record {
+    executed = executed result does.executed;
+    failed = failed result does.failed;
+    stays =
+        subst (λ (t : Option Trail). StaysOnce t after.trail (λ image. Reads old.size image (tree_after_line old.size state line))) device.trail
+        (subst (λ (p : ℕ). StaysOnce between.trail after.trail (λ image. Reads p image (tree_after_line p state line))) view.same_size does.stays);
   }
+    where
+      moments : LeavesOnly between.trail after.trail (λ acks image. (acks ≡ 0) × MayReadAs mid.size state (command_of (Some line)) image)
+          → LeavesOnly before.trail after.trail (λ acks image. (acks ≡ 0) × MayReadAs old.size state (command_of (Some line)) image)
+      moments leaves =
+          subst (λ (t : Option Trail). LeavesOnly t after.trail (λ acks image. (acks ≡ 0) × MayReadAs old.size state (command_of (Some line)) image)) device.trail
+          (subst (λ (p : ℕ). LeavesOnly between.trail after.trail (λ acks image. (acks ≡ 0) × MayReadAs p state (command_of (Some line)) image)) view.same_size leaves)
 
-  pub stays_making : StaysOnce between after (λ image. Reads mid.size image (step mid.size state.tree state.room c).tree) → StaysOnce before after (λ image. Reads P image (step P state.tree state.room c).tree)
-  stays_making stays =
-      subst (λ (t : Option Trail). StaysOnce t after (λ image. Reads P image (step P state.tree state.room c).tree)) told
-      (subst (λ (p : ℕ). StaysOnce between after (λ image. Reads p image (step p state.tree state.room c).tree)) size stays)
+      none_acked : acks_from between.trail after.trail (moment_of after.trail) ≡ 0 → acks_from before.trail after.trail (moment_of after.trail) ≡ 0
+      none_acked none = subst (λ (t : Option Trail). acks_from t after.trail (moment_of after.trail) ≡ 0) device.trail none
+
+      executed : (result : Result Reply PmFault) → IfOk result (λ replied. Executed mid.size state line new replied between after) → IfOk result (λ replied. Executed old.size state line new replied before after)
+      executed (Ok replied) done = record {
+        answer = done.answer;
+        new = done.new;
+        replied = done.replied;
+        step = subst (λ (p : ℕ). LineStep p state line done.answer done.new) view.same_size done.step;
+        stands = done.stands;
+        any_moment = moments done.any_moment;
+        no_ack = none_acked done.no_ack;
+        fences = let more = done.fences in let same = device.fences in omega (arith, more, same);
+      }
+      executed (Err fault) done = tt
+
+      failed : (result : Result Reply PmFault) → OnErr result (HasFailed mid.size state line between after) → OnErr result (HasFailed old.size state line before after)
+      failed (Ok replied) fails = tt
+      failed (Err fault) fails = record {
+        fails = subst (λ (p : ℕ). LineFails p state line Fault) view.same_size fails.fails;
+        any_moment = moments fails.any_moment;
+        no_ack = none_acked fails.no_ack;
+        last = fails.last;
+      }
+
+  pub leaves_after : (c : Command) (plan : Action) (result : Result Reply PmFault) → Prepares old mid before between c (Ok plan) → IfOk result (λ replied. replied ≢ reply.Done → is_changing c ≡ false)
+      → LeavesVolume mid new between after result → LeavesVolume old new before after result
+  leaves_after c plan (Ok replied) prepared reads leaves =
+      let same_faults = prepared.device.faults in
+      let same_refused = prepared.accepted.1 in
+      let same_fences = prepared.device.fences in
+      record {
+        quiet = λ not.
+            let left = leaves.quiet not in
+            let same = prepared.reading (reads not) in
+            record {
+              words = left.words ∙ prepared.device.words;
+              trail = left.trail ∙ prepared.device.trail;
+              kept = subst (λ (v : VolumeView). IsSameButPlaces v new) same.0 left.kept;
+            };
+        same = λ not not_memory.
+            let left = leaves.same not not_memory in
+            let same = prepared.reading (reads not) in
+            (left.0 ∙ same.0, left.1 ∙ ap (λ (d : DeviceView). d.spare) same.1);
+        size = leaves.size ∙ prepared.view.same_size;
+        going = leaves.going;
+        stopped = tt;
+        faults = let more = leaves.faults in omega (arith, more, same_faults);
+        no_fault = leaves.no_fault ∙ same_faults;
+        cause = tt;
+        refused = let more = leaves.refused in omega (arith, more, same_refused);
+        not_refused = λ not. leaves.not_refused not ∙ same_refused;
+        fault_not_refused = tt;
+        fences = let more = leaves.fences in omega (arith, more, same_fences);
+        acks = leaves.acks ∙ prepared.device.acks;
+      }
+  leaves_after c plan (Err fault) prepared reads leaves =
+      let same_faults = prepared.device.faults in
+      let same_refused = prepared.accepted.1 in
+      let same_fences = prepared.device.fences in
+      record {
+        quiet = tt;
+        same = tt;
+        size = leaves.size ∙ prepared.view.same_size;
+        going = tt;
+        stopped = leaves.stopped;
+        faults = let more = leaves.faults in omega (arith, more, same_faults);
+        no_fault = tt;
+        cause = subst (λ (n : ℕ). HasRisen n after.faults) same_faults leaves.cause;
+        refused = let more = leaves.refused in omega (arith, more, same_refused);
+        not_refused = tt;
+        fault_not_refused = leaves.fault_not_refused ∙ same_refused;
+        fences = let more = leaves.fences in omega (arith, more, same_fences);
+        acks = leaves.acks ∙ prepared.device.acks;
+      }
+
+-- a refusal takes no memory unless memory is what was short
+pub leaves_refused : (old mid : VolumeView) (before between : DeviceView) (c : Command) (refusal : Refusal) → old.stopped ≡ false → Prepares old mid before between c (Err refusal)
+    → LeavesVolume old mid before between (Ok (reply.Refused refusal))
+leaves_refused old mid before between c refusal goes prepared = record {
+  quiet = λ not. record { words = prepared.device.words; trail = prepared.device.trail; kept = prepared.view };
+  same = λ not not_memory.
+      let same = prepared.refused (λ is. not_memory (ap reply.Refused is)) in
+      (same.0, ap (λ (d : DeviceView). d.spare) same.1);
+  size = prepared.view.same_size;
+  going = prepared.view.same_state ∙ goes;
+  stopped = tt;
+  faults = let same = prepared.device.faults in omega (arith, same);
+  no_fault = prepared.device.faults;
+  cause = tt;
+  refused = prepared.device.refused;
+  not_refused = λ not_memory.
+      let same = prepared.refused (λ is. not_memory (ap reply.Refused is)) in ap (λ (d : DeviceView). d.refused) same.1;
+  fault_not_refused = tt;
+  fences = let same = prepared.device.fences in omega (arith, same);
+  acks = prepared.device.acks;
+}
+
+-- a plan that makes nothing is one of a command that reads
+pub telling_reads : (P : ℕ) (I : List ℕ) (state : State) (c : Command) (action : Action) → IsPlanOf P I state c action → ¬ IsMaking action → is_changing c ≡ false
+telling_reads P I state (Create path) action (entry, is, made) not = absurd (not (subst IsMaking (sym is) tt))
+telling_reads P I state (Mkdir path) action (entry, is, made) not = absurd (not (subst IsMaking (sym is) tt))
+telling_reads P I state (Link from to) action plan not = absurd plan
+telling_reads P I state (Unlink path) action plan not = absurd plan
+telling_reads P I state (Rmdir path) action plan not = absurd plan
+telling_reads P I state (Rename from to) action plan not = absurd plan
+telling_reads P I state (Write path offset bytes) action plan not = absurd plan
+telling_reads P I state (Truncate path size) action plan not = absurd plan
+telling_reads P I state (Read path offset count) action plan not = absurd plan
+telling_reads P I state (Tell path) action plan not = refl
+telling_reads P I state (Show path) action plan not = refl
+telling_reads P I state Df action plan not = refl
+
+-- ---- by the reply
+
+-- a plan that was carried out is answered Done
+pub made_reads : (X : Type 0) (result : Result Reply PmFault) → IfOk result (λ replied. replied ≡ reply_of Done) → IfOk result (λ replied. replied ≢ reply.Done → X)
+made_reads X (Ok replied) is = λ not. absurd (not is)
+made_reads X (Err fault) is = tt
+
+pub reads_by : {X Y : Type 0} (result : Result Reply PmFault) → (X → Y) → IfOk result (λ replied. replied ≢ reply.Done → X) → IfOk result (λ replied. replied ≢ reply.Done → Y)
+reads_by (Ok replied) by reads = λ not. by (reads not)
+reads_by (Err fault) by reads = tt
+
+same_places : (volume : VolumeView) → IsSameButPlaces volume volume
+same_places volume = record {
+  same_size = refl;
+  same_state = refl;
+  index = record {
+    each_inode = refl;
+    entries = λ i. refl;
+    pages = λ i. refl;
+    places = λ i. omega arith;
+    page_places = λ i. omega arith;
+  };
+  inodes = refl;
+  data_pages = refl;
+}
+
+-- nothing was done
+pub leaves_still : (volume : VolumeView) (device : DeviceView) (replied : Reply) → volume.stopped ≡ false → LeavesVolume volume volume device device (Ok replied)
+leaves_still volume device replied goes = record {
+  quiet = λ not. record { words = refl; trail = refl; kept = same_places volume };
+  same = λ not not_memory. (refl, refl);
+  size = refl;
+  going = goes;
+  stopped = tt;
+  faults = omega arith;
+  no_fault = refl;
+  cause = tt;
+  refused = omega arith;
+  not_refused = λ not. refl;
+  fault_not_refused = tt;
+  fences = omega arith;
+  acks = refl;
+}

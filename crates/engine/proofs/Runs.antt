@@ -1,8 +1,10 @@
 -- A run goes on by one more line.
-use Rattle.std.proofs.Common.{◌≡◌, ℕ, zero, suc, ◌<◌, List, [], ◌∷◌, ◌++◌, length, map, refl, ap, ◌∙◌, arith}
+use Rattle.std.proofs.Common.{◌≡◌, ℕ, zero, suc, ◌+◌, ◌<◌, List, [], ◌∷◌, ◌++◌, length, map, refl, ap, ◌∙◌, arith}
 use Rattle.std.specs.Prelude.{Some, slice_get}
 use Rattle.tree_model.specs.Step.{Answer, Stopped}
 use Rattle.tree_model.specs.Run.{Line, State, LineStep, LineFails}
+use Rattle.tree_model.specs.Fences.{fences_of, fences_of_run}
+use Rattle.tree_model.proofs.FenceLaws.{last_left, fences_of_run-more}
 use Rattle.engine.specs.Run.{Run, state_after, last_state}
 
 -- a run in which no line failed has as many states as answers, and as many answers as lines
@@ -73,3 +75,17 @@ get_last (y ∷ xs) x = grind (arith, get_last xs x)
 -- a state that was reached stays with its number
 pub state_stays : (start : State) (states : List State) (new : State) (k : ℕ) (state : State) → state_after start states k ≡ Some state → state_after start (states ++ new ∷ []) k ≡ Some state
 state_stays start states new k state is = get_front (start ∷ states) (new ∷ []) k state is
+
+-- ---- fences
+
+last_is : (start : State) (states : List State) → last_left start states ≡ last_state start states
+last_is start [] = refl
+last_is start (s ∷ states) = last_is s states
+
+-- a run goes on by a line
+pub fences_more : (start : State) (lines : List Line) (answers : List Answer) (states : List State) (line : Line) (answer : Answer) (new : State) (first now after : ℕ) → length lines ≡ length states → length states ≡ length answers
+    → now ≡ first + fences_of_run start lines answers states → after ≡ now + fences_of (last_state start states) line answer new → after ≡ first + fences_of_run start (lines ++ line ∷ []) (answers ++ answer ∷ []) (states ++ new ∷ [])
+fences_more start lines answers states line answer new first now after many same so_far one =
+    let more = fences_of_run-more start lines answers states line answer new many same in
+    let last = ap (λ (old : State). fences_of old line answer new) (last_is start states) in
+    omega (arith, so_far, one, more, last)

@@ -10,7 +10,7 @@ use Rattle.script.proofs.LineLaws.{lines_of-taken, complete_lines_of-front, comp
 use Rattle.script.specs.Reading.{IfTold, TakesLine, TakesLongLine, IsOver, BreaksOff, ReadFront}
 use Rattle.script.specs.declared.run_end.RunEnd.TheVariants.{Done, Faulted, ReadFault, WriteFault, Limit}
 use Rattle.engine.specs.Script.{ExecutesTold}
-use Rattle.engine.specs.Turns.{AreTaken, AreTakenTold}
+use Rattle.engine.specs.Turns.{Input, AreTaken, AreTakenTold, HasTaken}
 
 -- one line more
 taken_line : {lines : List Line} {seen seen_after : Bool} {script rest rest_after : List ℕ} (line : List ℕ) (read : ℕ) → AreTaken lines seen script rest → (seen_after ≡ false → seen ≡ false)
@@ -110,8 +110,11 @@ executes_limit lines seen (Some script) (Some rest) (Some left) read taken unsee
     let as_many : read ≡ 0 + length counted.front = counted.counted in
     (parts.0, parts.1, omega (arith, whole, read_of, as_many, all), parts.2)
 
-pub executes_write_fault : (lines : List Line) (seen : Bool) (script rest left : Option (List ℕ)) (read : ℕ) → AreTakenTold lines seen script rest → IfTold script left (ReadFront 0 read) → ExecutesTold WriteFault script left lines
-executes_write_fault lines seen None rest left read taken counted = tt
-executes_write_fault lines seen (Some script) None left read taken counted = absurd taken
-executes_write_fault lines seen (Some script) (Some rest) None read taken counted = absurd counted
-executes_write_fault lines seen (Some script) (Some rest) (Some left) read taken counted = (counted.front, counted.split, (calls_of rest, taken.all))
+pub executes_write_fault : (lines : List Line) (script : Option (List ℕ)) (input : Input) → HasTaken lines script input → ExecutesTold WriteFault script input.left lines
+executes_write_fault lines script input has_taken = cut script input.rest input.left has_taken.told has_taken.counted
+  where
+    cut : (script rest left : Option (List ℕ)) → AreTakenTold lines input.seen script rest → IfTold script left (ReadFront 0 input.read) → ExecutesTold WriteFault script left lines
+    cut None rest left taken counted = tt
+    cut (Some script) None left taken counted = absurd taken
+    cut (Some script) (Some rest) None taken counted = absurd counted
+    cut (Some script) (Some rest) (Some left) taken counted = (counted.front, counted.split, (calls_of rest, taken.all))

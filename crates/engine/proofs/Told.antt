@@ -1,7 +1,6 @@
 -- What is told of an accepted command that changes nothing.
-use Rattle.std.proofs.Common.{◌≡◌, ◌≢◌, ℕ, true, false, List, [], ◌∷◌, length, Option, Some, None, is_some, unwrap_or, refl, sym, ap, subst, ◌∙◌}
+use Rattle.std.proofs.Common.{◌≡◌, ◌≢◌, ℕ, ◌≤◌, true, false, List, [], ◌∷◌, length, Option, Some, None, is_some, unwrap_or, refl, sym, ap, subst, ◌∙◌}
 use Rattle.std.specs.Prelude.{IsTrue}
-use Rattle.pm_trait.specs.Trail.{Trail}
 use Rattle.pm_trait.specs.DeviceView.{DeviceView}
 use Rattle.tree_model.specs.PathText.{Route}
 use Rattle.tree_model.specs.Tree.{Tree, Room, Node, Directory, File, IsTree, IsRoom, root_id, node_at, id_at, is_directory, is_directory_node, is_file, is_file_node}
@@ -11,21 +10,23 @@ use Rattle.tree_model.proofs.WalkLaws.{id_at-from_walk}
 use Rattle.tree_model.proofs.Accepted.{first-none, at-none, fault_of-none}
 use Rattle.tree_model.proofs.RoomLaws.{room_after-same}
 use Rattle.tree_model.specs.Step.{Answer, Done, Status as StatusAnswer, Listed, Space as SpaceAnswer, at, fault_of, id_of, gaining, losing, names_in, status_of, space_of, answer_of, tree_after, least_free_id, refusal_of, outcome_of, step, RoomAfter}
-use Rattle.tree_model.specs.Run.{State, Steps, is_changing}
+use Rattle.tree_model.specs.Run.{State, IsVolumeState, Steps, is_changing}
 use Rattle.tree_model.specs.declared.command.Command.{Command}
 use Rattle.tree_model.specs.declared.command.Command.TheVariants.{Create, Mkdir, Link, Unlink, Rmdir, Rename, Write, Truncate, Read, Stat as Tell, List as Show, Df}
 use Rattle.tree_model.specs.declared.reply.Refusal.TheVariants.{NotDir}
 use Rattle.tree_model.specs.declared.reply.Reply.TheVariants as reply
 use Rattle.tree_model.specs.declared.reply.Stat.{Stat}
 use Rattle.tree_model.specs.declared.reply.Free.{Free}
-use Rattle.image_counts.specs.Laws.{StateLaw}
+use Rattle.image_reading.proofs.Tidied.{tidied}
+use Rattle.image_counts.proofs.States.{state_law}
+use Rattle.volatile_index.specs.Index.{inodes_of_index}
 use Rattle.volume.specs.Volume.{VolumeView}
 use Rattle.volume.specs.Stands.{StandsFor, HasNode}
 use Rattle.volume.specs.Planned.{IsPlanOf}
 use Rattle.volume.specs.declared.plan.NewEntry.{NewEntry}
 use Rattle.volume.specs.declared.plan.Action.{Action}
 use Rattle.volume.specs.declared.plan.Action.TheVariants.{Make, Status, Names, Space}
-use Rattle.create_ops.specs.Making.{IsPlanFor}
+use Rattle.volume.specs.Carried.{IsPlanFor}
 use Rattle.engine.specs.Replies.{IsReplyOf}
 
 -- ---- the step of an accepted command
@@ -63,24 +64,6 @@ told_steps P state (Tell path) reads fits e = stays_by P state (Tell path) fits 
 told_steps P state (Show path) reads fits e = stays_by P state (Show path) fits e refl refl refl
 told_steps P state Df reads fits e = stays_by P state Df fits e refl refl refl
 
--- it is not answered Done
-pub told_not_done : (P : ℕ) (state : State) (c : Command) → is_changing c ≡ false → refusal_of P state.tree state.room c ≡ None → (step P state.tree state.room c).answer ≢ Done
-told_not_done P state c reads e done = not_done c reads (sym (accepted_answer P state.tree state.room c e) ∙ done)
-  where
-    not_done : (c : Command) → is_changing c ≡ false → answer_of (untaken P) state.tree state.room c ≢ Done
-    not_done (Create path) reads is = absurd (cc reads)
-    not_done (Mkdir path) reads is = absurd (cc reads)
-    not_done (Link from to) reads is = absurd (cc reads)
-    not_done (Unlink path) reads is = absurd (cc reads)
-    not_done (Rmdir path) reads is = absurd (cc reads)
-    not_done (Rename from to) reads is = absurd (cc reads)
-    not_done (Write path offset bytes) reads is = absurd (cc reads)
-    not_done (Truncate path size) reads is = absurd (cc reads)
-    not_done (Read path offset count) reads is = cc is
-    not_done (Tell path) reads is = cc is
-    not_done (Show path) reads is = cc is
-    not_done Df reads is = cc is
-
 -- ---- the node of an accepted command
 
 module _ (P : ℕ) (T : Tree) (room : Room) (path : Route) (t : IsTree T) where
@@ -110,20 +93,6 @@ module _ (P : ℕ) (T : Tree) (room : Room) (path : Route) (t : IsTree T) where
 -- ---- the command of a plan that makes nothing
 
 module _ (P : ℕ) (I : List ℕ) (state : State) where
-  pub nothing_made : (c : Command) (entry : NewEntry) → is_changing c ≡ false → IsPlanOf P I state c (Make entry) → ⊥
-  nothing_made (Create path) entry reads plan = absurd (cc reads)
-  nothing_made (Mkdir path) entry reads plan = absurd (cc reads)
-  nothing_made (Link from to) entry reads plan = plan
-  nothing_made (Unlink path) entry reads plan = plan
-  nothing_made (Rmdir path) entry reads plan = plan
-  nothing_made (Rename from to) entry reads plan = plan
-  nothing_made (Write path offset bytes) entry reads plan = plan
-  nothing_made (Truncate path size) entry reads plan = plan
-  nothing_made (Read path offset count) entry reads plan = plan
-  nothing_made (Tell path) entry reads plan = cc plan
-  nothing_made (Show path) entry reads plan = cc plan
-  nothing_made Df entry reads plan = cc plan
-
   pub status_of_plan : (c : Command) (inode : ℕ) → is_changing c ≡ false → IsPlanOf P I state c (Status inode) → (path : Route) × (c ≡ Tell path) × (inode ≡ id_of state.tree path)
   status_of_plan (Create path) inode reads plan = absurd (cc reads)
   status_of_plan (Mkdir path) inode reads plan = absurd (cc reads)
@@ -168,45 +137,52 @@ module _ (P : ℕ) (I : List ℕ) (state : State) where
 
 -- ---- what a volume tells
 
-module _ (volume : VolumeView) (words : List ℕ) (trail : Option Trail) (law : StateLaw) where
-  pub tree_is : {state : State} → StandsFor volume words trail state → IsTree state.tree
-  tree_is {state} stands = (law volume.size words state stands.tidy.sound stands.reads).tree
+module _ (volume : VolumeView) (device : DeviceView) where
+  pub state_is : {state : State} → StandsFor volume device state → IsVolumeState volume.size state
+  state_is {state} stands = state_law volume.size device.words state (tidied stands.tidy).coherent stands.reads
 
-  pub room_is : {state : State} → StandsFor volume words trail state → IsRoom state.tree state.room
-  room_is {state} stands = (law volume.size words state stands.tidy.sound stands.reads).room
+  -- the inode of a directory is one of the volume's
+  pub directory_within : {state : State} (inode : ℕ) → StandsFor volume device state → is_directory state.tree inode ≡ true → (1 ≤ inode) × (inode ≤ inodes_of_index volume.index)
+  directory_within {state} inode stands directory =
+      let within = (state_is stands).fits.ids inode (is_there (node_at state.tree inode) directory) in
+      let as_many = stands.knows.nodes.each_inode in
+      (within.0, subst (λ (n : ℕ). inode ≤ n) (sym as_many) within.1)
+    where
+      is_there : (o : Option Node) → is_directory_node o ≡ true → IsTrue (is_some o)
+      is_there None directory = directory
+      is_there (Some node) directory = refl
 
-module _ (volume : VolumeView) (device : DeviceView) (law : StateLaw) where
   module _ (state : State) (c : Command) (action : Action) (reads : is_changing c ≡ false) (planned : IsPlanFor volume device state c action) where
     -- the node that is told of
     pub node_told : (inode : ℕ) → action ≡ Status inode → HasNode volume device inode
     node_told inode is =
         let (path, c_is, inode_is) = status_of_plan volume.size device.words state c inode reads (subst (IsPlanOf volume.size device.words state c) is planned.planned.plan_is) in
-        let there = status_there volume.size state.tree state.room path (tree_is volume device.words device.trail law planned.stands) (ap (refusal_of volume.size state.tree state.room) (sym c_is) ∙ planned.planned.accepted) in
+        let there = status_there volume.size state.tree state.room path (state_is planned.stands).tree (ap (refusal_of volume.size state.tree state.room) (sym c_is) ∙ planned.planned.accepted) in
         (state, planned.stands, subst (λ (id : ℕ). IsTrue (is_some (node_at state.tree id))) (sym inode_is) there)
 
     -- the directory that is listed
     pub directory_listed : (inode : ℕ) → action ≡ Names inode → is_directory state.tree inode ≡ true
     directory_listed inode is =
         let (path, c_is, inode_is) = names_of_plan volume.size device.words state c inode reads (subst (IsPlanOf volume.size device.words state c) is planned.planned.plan_is) in
-        let there = listed_there volume.size state.tree state.room path (tree_is volume device.words device.trail law planned.stands) (ap (refusal_of volume.size state.tree state.room) (sym c_is) ∙ planned.planned.accepted) in
+        let there = listed_there volume.size state.tree state.room path (state_is planned.stands).tree (ap (refusal_of volume.size state.tree state.room) (sym c_is) ∙ planned.planned.accepted) in
         ap (is_directory state.tree) inode_is ∙ there
 
     answered_by : (answer : Answer) → answer_of (untaken volume.size) state.tree state.room c ≡ answer → answer ≡ (step volume.size state.tree state.room c).answer
     answered_by answer is = sym (accepted_answer volume.size state.tree state.room c planned.planned.accepted ∙ is)
 
     pub status_replied : (inode : ℕ) (status : Stat) → action ≡ Status inode → status ≡ status_of state.tree inode
-        → IsReplyOf volume device.words device.trail (step volume.size state.tree state.room c).answer (reply.Status status)
+        → IsReplyOf volume device (step volume.size state.tree state.room c).answer (reply.Status status)
     status_replied inode status is told =
         let (path, c_is, inode_is) = status_of_plan volume.size device.words state c inode reads (subst (IsPlanOf volume.size device.words state c) is planned.planned.plan_is) in
-        subst (λ (answer : Answer). IsReplyOf volume device.words device.trail answer (reply.Status status))
+        subst (λ (answer : Answer). IsReplyOf volume device answer (reply.Status status))
         (answered_by (StatusAnswer status) (ap (answer_of (untaken volume.size) state.tree state.room) c_is ∙ ap (λ (id : ℕ). StatusAnswer (status_of state.tree id)) (sym inode_is) ∙ ap StatusAnswer (sym told)))
         (record { reply_is = refl; told = tt })
 
     pub names_replied : (inode count : ℕ) → action ≡ Names inode → volume.stopped ≡ false → count ≡ length (names_in state.tree inode)
-        → IsReplyOf volume device.words device.trail (step volume.size state.tree state.room c).answer (reply.Names inode count)
+        → IsReplyOf volume device (step volume.size state.tree state.room c).answer (reply.Names inode count)
     names_replied inode count is going counted =
         let (path, c_is, inode_is) = names_of_plan volume.size device.words state c inode reads (subst (IsPlanOf volume.size device.words state c) is planned.planned.plan_is) in
-        subst (λ (answer : Answer). IsReplyOf volume device.words device.trail answer (reply.Names inode count))
+        subst (λ (answer : Answer). IsReplyOf volume device answer (reply.Names inode count))
         (answered_by (Listed inode (names_in state.tree inode)) (ap (answer_of (untaken volume.size) state.tree state.room) c_is ∙ ap (λ (id : ℕ). Listed id (names_in state.tree id)) (sym inode_is)))
         (record {
           reply_is = ap (λ (n : ℕ). reply.Names inode n) counted;
@@ -214,9 +190,9 @@ module _ (volume : VolumeView) (device : DeviceView) (law : StateLaw) where
         })
 
     pub space_replied : (free : Free) → action ≡ Space → free ≡ space_of (untaken volume.size) state.tree state.room
-        → IsReplyOf volume device.words device.trail (step volume.size state.tree state.room c).answer (reply.Space free)
+        → IsReplyOf volume device (step volume.size state.tree state.room c).answer (reply.Space free)
     space_replied free is told =
         let c_is = space_of_plan volume.size device.words state c reads (subst (IsPlanOf volume.size device.words state c) is planned.planned.plan_is) in
-        subst (λ (answer : Answer). IsReplyOf volume device.words device.trail answer (reply.Space free))
+        subst (λ (answer : Answer). IsReplyOf volume device answer (reply.Space free))
         (answered_by (SpaceAnswer free) (ap (answer_of (untaken volume.size) state.tree state.room) c_is ∙ ap SpaceAnswer (sym told)))
         (record { reply_is = refl; told = tt })

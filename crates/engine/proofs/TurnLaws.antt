@@ -3,25 +3,28 @@ use Rattle.std.proofs.Common.{◌≡◌, ◌⊎◌, inl, inr, ℕ, zero, suc, �
 use Rattle.std.proofs.lemmas.List.{append-nil}
 use Rattle.std.specs.Prelude.{Option, Some, None, slice_get}
 use Rattle.pm_trait.specs.Trail.{Trail}
+use Rattle.pm_trait.specs.DeviceView.{DeviceView}
 use Rattle.pm_trait.specs.Device.{LeavesOnly, AcksSettled, EndsInFault}
 use Rattle.pm_trait.proofs.ContinuesLaws.{continues_here, acks_from-here}
 use Rattle.pm_trait.proofs.DeviceLaws.{leaves_weaker, leaves_here}
 use Rattle.pm_trait.proofs.AckLaws.{acks_here, acks_weaker, acks_none}
-use Rattle.io_edge.specs.Bytes.{with_bytes}
+use Rattle.io_edge.specs.Bytes.{Takes}
+use Rattle.io_edge.proofs.BytesLaws.{takes_none, takes_as, takes_then}
 use Rattle.tree_model.specs.Step.{Answer, Fault, Stopped}
 use Rattle.tree_model.specs.Run.{Line, State}
 use Rattle.tree_model.specs.declared.reply.Reply.{Reply}
 use Rattle.script.specs.Texts.{answer_text}
-use Rattle.volume.specs.Volume.{VolumeView}
-use Rattle.volume.specs.Stands.{StandsFor}
 use Rattle.volume.specs.Stops.{MayReadAs}
 use Rattle.engine.specs.Run.{state_after, last_state, command_of, IsAt, IsBetween, IsStateAfter}
 use Rattle.engine.specs.Quiet.{MayStore, ActsOnly}
 use Rattle.engine.specs.Script.{texts_of}
 use Rattle.engine.specs.Exec.{HasAnswered, HasFailed}
-use Rattle.engine.specs.Turns.{IsGoing, AreTakenTold, RanSoFar}
-use Rattle.engine.proofs.Acknowledged.{may_more}
-use Rattle.engine.proofs.FenceCounts.{fences_more}
+use Rattle.engine.specs.Session.{Mounted}
+use Rattle.volume.specs.Stands.{StandsFor}
+use Rattle.engine.specs.Turns.{Input, IsGoing, AreTakenTold, HasTaken, CountsFaults, MovesOn, RanSoFar}
+use Rattle.engine.proofs.Acknowledged.{may_more, may_be_there, stands_at}
+use Rattle.engine.proofs.Faults.{apart, counts_on}
+use Rattle.engine.proofs.Runs.{fences_more}
 use Rattle.engine.proofs.After.{Acked, leaves_after, acks_after, acked_then}
 use Rattle.engine.proofs.Quiet.{acts_weaker, acts_here, acts_after, acts_failed, may_store_more, may_store_now}
 use Rattle.engine.proofs.Runs.{answers_as_lines, run_step, run_fails, run_stopped, state_after_last, last_state-append, state_stays, get_last}
@@ -89,12 +92,11 @@ one_more xs x = length-append xs (x ∷ [])
 pub ack_more : (states : List State) (new : State) (first now after : ℕ) → now ≡ first + length states → after ≡ now + 1 → after ≡ first + length (states ++ new ∷ [])
 ack_more states new first now after before more = let all = one_more states new in omega (arith, before, more, all)
 
-pub texts_more : (taken : Option (List ℕ)) (answers : List Answer) (answer : Answer) (now later : Option (List ℕ)) → now ≡ with_bytes taken (texts_of answers) → later ≡ with_bytes now (answer_text answer)
-    → later ≡ with_bytes taken (texts_of (answers ++ answer ∷ []))
-texts_more None answers answer now later is more = more ∙ ap (λ (t : Option (List ℕ)). with_bytes t (answer_text answer)) is
-texts_more (Some taken) answers answer now later is more =
-    more ∙ ap (λ (t : Option (List ℕ)). with_bytes t (answer_text answer)) is
-    ∙ ap (λ (bytes : List ℕ). Some bytes) (append_assoc taken (texts_of answers) (answer_text answer) ∙ ap (λ (bytes : List ℕ). taken ++ bytes) (sym (texts_end answers)))
+pub texts_more : (taken : List ℕ → Type 0) (answers : List Answer) (answer : Answer) (now later : List ℕ → Type 0) → Takes taken (texts_of answers) now → Takes now (answer_text answer) later
+    → Takes taken (texts_of (answers ++ answer ∷ [])) later
+texts_more taken answers answer now later is more =
+    takes_as taken (texts_of answers ++ answer_text answer) (texts_of (answers ++ answer ∷ [])) later (sym (texts_end answers))
+    (takes_then taken now later (texts_of answers) (answer_text answer) is more)
   where
     texts_end : (answers : List Answer) → texts_of (answers ++ answer ∷ []) ≡ texts_of answers ++ answer_text answer
     texts_end [] = append-nil (answer_text answer)
@@ -102,150 +104,158 @@ texts_more (Some taken) answers answer now later is more =
 
 -- ---- one line, answered
 
-module _ {P : ℕ} {start : State} {first : Option Trail} {script taken : Option (List ℕ)} {volume : VolumeView} {words : List ℕ} {trail : Option Trail} {has_ended : Bool} {rest now : Option (List ℕ)} {fences_first fences_now acks_first acks_now : ℕ}
-    (so_far : RanSoFar P start first script taken volume false words trail has_ended rest now fences_first fences_now acks_first acks_now) (line : Line) where
-  pub going : IsGoing start so_far.answers so_far.states volume words trail
-  going = so_far.going refl
+module _ {P : ℕ} {start : State} {first : DeviceView} {script : Option (List ℕ)} {taken : List ℕ → Type 0} {old : Mounted} {input : Input} {before : List ℕ → Type 0}
+    (so_far : RanSoFar P start first script taken old input before) (line : Line) {new : Mounted} (moves : MovesOn old new) where
+  pub faults_on : CountsFaults new.volume.stopped first.faults new.device.faults
+  faults_on = counts_on so_far.faults so_far.order moves.faults moves.cause moves.stays moves.no_fault
 
-  -- the state that the line finds
-  abbrev pub old : State
-  old = last_state start so_far.states
+  pub faults_order : first.faults ≤ new.device.faults
+  faults_order = let one = so_far.order in let two = moves.faults in omega (arith, one, two)
 
-  pub many : length so_far.lines ≡ length so_far.states
-  many = answers_as_lines P start so_far.lines so_far.answers so_far.states so_far.run going.each
+  module _ (was : old.volume.stopped ≡ false) where
+    pub going : IsGoing start so_far.answers so_far.states old
+    going = so_far.going was
 
-  module _ {volume_after : VolumeView} {reply : Reply} {words_after : List ℕ} {trail_after : Option Trail} {fences_after : ℕ} (done : HasAnswered P (last_state start so_far.states) line volume_after reply trail words_after trail_after fences_now fences_after) where
-    pub new_is : last_state start (so_far.states ++ done.new ∷ []) ≡ done.new
-    new_is = last_state-append start so_far.states done.new
+    pub many : length so_far.lines ≡ length so_far.states
+    many = answers_as_lines P start so_far.lines so_far.answers so_far.states so_far.run going.each
 
-    pub while_running : (k : ℕ) (image : List ℕ) → ((k ≡ 0) × MayReadAs P (last_state start so_far.states) (command_of (Some line)) image) ⊎ ((k ≡ 1) × MayReadAs P done.new None image)
-        → IsBetween P start (so_far.states ++ done.new ∷ []) (so_far.lines ++ line ∷ []) (length so_far.states + k) image
-    while_running k image (inl (none, may)) =
-        between_state P start so_far.states done.new (so_far.lines ++ line ∷ []) (length so_far.states + k) image
-        (between_now P start so_far.states so_far.lines line (length so_far.states + k) image (omega (arith, many, none)) (omega (arith, none)) may)
-    while_running k image (inr (one, may)) =
-        between_end P start (so_far.states ++ done.new ∷ []) (so_far.lines ++ line ∷ []) (length so_far.states + k) image
-        (one_more so_far.lines line ∙ omega (arith, many, one)) (one_more so_far.states done.new ∙ omega (arith, one))
-        (subst (λ (s : State). MayReadAs P s None image) (sym new_is) may)
+    module _ (is : new.volume.stopped ≡ false) {reply : Reply} (done : HasAnswered P (last_state start so_far.states) line new.volume reply old.device new.device) where
+      pub new_is : last_state start (so_far.states ++ done.new ∷ []) ≡ done.new
+      new_is = last_state-append start so_far.states done.new
 
-    pub at_ack : (k : ℕ) (image : List ℕ) → (k ≡ 1) × IsAt P done.new image → IsStateAfter P start (so_far.states ++ done.new ∷ []) (length so_far.states + k) image
-    at_ack k image (one, is) =
-        state_after_all P start (so_far.states ++ done.new ∷ []) (length so_far.states + k) image
-        (one_more so_far.states done.new ∙ omega (arith, one)) (subst (λ (s : State). IsAt P s image) (sym new_is) is)
+      pub while_running : (k : ℕ) (image : List ℕ) → ((k ≡ 0) × MayReadAs P (last_state start so_far.states) (command_of (Some line)) image) ⊎ ((k ≡ 1) × MayReadAs P done.new None image)
+          → IsBetween P start (so_far.states ++ done.new ∷ []) (so_far.lines ++ line ∷ []) (length so_far.states + k) image
+      while_running k image (inl (none, may)) =
+          between_state P start so_far.states done.new (so_far.lines ++ line ∷ []) (length so_far.states + k) image
+          (between_now P start so_far.states so_far.lines line (length so_far.states + k) image (omega (arith, many, none)) (omega (arith, none)) may)
+      while_running k image (inr (one, may)) =
+          between_end P start (so_far.states ++ done.new ∷ []) (so_far.lines ++ line ∷ []) (length so_far.states + k) image
+          (one_more so_far.lines line ∙ omega (arith, many, one)) (one_more so_far.states done.new ∙ omega (arith, one))
+          (subst (λ (s : State). MayReadAs P s None image) (sym new_is) may)
 
-    abbrev pub ran_answered : {ended_after : Bool} {rest_after now_after : Option (List ℕ)} {acks_after : ℕ} → AreTakenTold (so_far.lines ++ line ∷ []) ended_after script rest_after
-        → now_after ≡ with_bytes now (answer_text done.answer) → acks_after ≡ acks_now + 1
-        → RanSoFar P start first script taken volume_after false words_after trail_after ended_after rest_after now_after fences_first fences_after acks_first acks_after
-    ran_answered {now_after = now_after} are_taken written acks_are = record {
-      lines = so_far.lines ++ line ∷ [];
-      answers = so_far.answers ++ done.answer ∷ [];
-      states = so_far.states ++ done.new ∷ [];
-      run = run_step P start so_far.lines so_far.answers so_far.states line done.answer done.new so_far.run going.each done.step;
-      going = λ is. record {
-        each = one_more so_far.states done.new ∙ ap (λ (k : ℕ). k + 1) going.each ∙ sym (one_more so_far.answers done.answer);
-        stands = subst (λ (s : State). StandsFor volume_after words_after trail_after s) (sym new_is) done.stands;
-      };
-      halted = λ is. absurd (cc is);
-      are_taken = are_taken;
-      texts = texts_more taken so_far.answers done.answer now now_after so_far.texts written;
-      acks = acks_after (length so_far.states) so_far.counted
-          (acks_weaker (λ k image is. state_after_more P start so_far.states done.new k image is) so_far.acks)
-          (acks_weaker at_ack done.acks);
-      any_moment = leaves_after (length so_far.states) so_far.counted
-          (leaves_weaker (λ k image is. between_state P start so_far.states done.new (so_far.lines ++ line ∷ []) k image (between_line P start so_far.states so_far.lines line k image is)) so_far.any_moment)
-          (leaves_weaker while_running done.any_moment);
-      quiet = acts_after (length so_far.states) so_far.counted so_far.any_moment.continues done.any_moment.continues
-          (acts_weaker (λ k may. may_store_more so_far.answers (done.answer ∷ []) k may) so_far.quiet)
-          (acts_weaker (λ k may. may_store_now so_far.answers done.answer (length so_far.states) k going.each may) done.quiet);
-      halts = λ is. absurd (cc is);
-      counted = λ told is. acked_then (length so_far.states) 1 so_far.any_moment.continues done.any_moment.continues so_far.counted done.one_ack told is ∙ sym (one_more so_far.states done.new);
-      fences = λ is. fences_more start so_far.lines so_far.answers so_far.states line done.answer done.new fences_first fences_now _ many going.each (so_far.fences refl) done.fences;
-      ack_count = ack_more so_far.states done.new acks_first acks_now _ so_far.ack_count acks_are;
-    }
+      pub at_ack : (k : ℕ) (image : List ℕ) → (k ≡ 1) × IsAt P done.new image → IsStateAfter P start (so_far.states ++ done.new ∷ []) (length so_far.states + k) image
+      at_ack k image (one, is_at) =
+          state_after_all P start (so_far.states ++ done.new ∷ []) (length so_far.states + k) image
+          (one_more so_far.states done.new ∙ omega (arith, one)) (subst (λ (s : State). IsAt P s image) (sym new_is) is_at)
 
-  module _ {trail_after : Option Trail} (failed : HasFailed P (last_state start so_far.states) line trail trail_after) where
-    pub while_failing : (k : ℕ) (image : List ℕ) → (k ≡ 0) × MayReadAs P (last_state start so_far.states) (command_of (Some line)) image → IsBetween P start so_far.states (so_far.lines ++ line ∷ []) (length so_far.states + k) image
-    while_failing k image (none, may) =
-        between_now P start so_far.states so_far.lines line (length so_far.states + k) image (omega (arith, many, none)) (omega (arith, none)) may
+      abbrev pub ran_answered : {input_after : Input} {after : List ℕ → Type 0} → HasTaken (so_far.lines ++ line ∷ []) script input_after
+          → Takes before (answer_text done.answer) after → new.device.acks ≡ old.device.acks + 1
+          → RanSoFar P start first script taken new input_after after
+      ran_answered {after = after} has_taken written acks_are = record {
+        reads = so_far.reads;
+        size = moves.size ∙ so_far.size;
+        lines = so_far.lines ++ line ∷ [];
+        answers = so_far.answers ++ done.answer ∷ [];
+        states = so_far.states ++ done.new ∷ [];
+        run = run_step P start so_far.lines so_far.answers so_far.states line done.answer done.new so_far.run going.each done.step;
+        going = λ goes. record {
+          each = one_more so_far.states done.new ∙ ap (λ (k : ℕ). k + 1) going.each ∙ sym (one_more so_far.answers done.answer);
+          stands = subst (λ (s : State). StandsFor new.volume new.device s) (sym new_is) done.stands;
+        };
+        halted = λ halts. absurd (apart halts is);
+        faults = faults_on;
+        order = faults_order;
+        has_taken = has_taken;
+        texts = texts_more taken so_far.answers done.answer before after so_far.texts written;
+        acks = acks_after (length so_far.states) so_far.counted
+            (acks_weaker (λ k image is_at. state_after_more P start so_far.states done.new k image is_at) so_far.acks)
+            (acks_weaker at_ack done.acks);
+        any_moment = leaves_after (length so_far.states) so_far.counted
+            (leaves_weaker (λ k image may. between_state P start so_far.states done.new (so_far.lines ++ line ∷ []) k image (between_line P start so_far.states so_far.lines line k image may)) so_far.any_moment)
+            (leaves_weaker while_running done.any_moment);
+        quiet = acts_after (length so_far.states) so_far.counted so_far.any_moment.continues done.any_moment.continues
+            (acts_weaker (λ k may. may_store_more so_far.answers (done.answer ∷ []) k may) so_far.quiet)
+            (acts_weaker (λ k may. may_store_now so_far.answers done.answer (length so_far.states) k going.each may) done.quiet);
+        halts = λ halts. absurd (apart halts is);
+        counted = λ told is_told. acked_then (length so_far.states) 1 so_far.any_moment.continues done.any_moment.continues so_far.counted done.one_ack told is_told ∙ sym (one_more so_far.states done.new);
+        fences = λ goes. fences_more start so_far.lines so_far.answers so_far.states line done.answer done.new first.fences old.device.fences _ many going.each (so_far.fences was) done.fences;
+        ack_count = ack_more so_far.states done.new first.acks old.device.acks _ so_far.ack_count acks_are;
+      }
 
-    abbrev pub ran_failed : (volume_after : VolumeView) (words_after : List ℕ) (fences_after : ℕ) {ended_after : Bool} {rest_after now_after : Option (List ℕ)} {acks_after : ℕ} → AreTakenTold (so_far.lines ++ line ∷ []) ended_after script rest_after
-        → now_after ≡ with_bytes now (answer_text Fault) → acks_after ≡ acks_now
-        → RanSoFar P start first script taken volume_after true words_after trail_after ended_after rest_after now_after fences_first fences_after acks_first acks_after
-    ran_failed volume_after words_after fences_after {now_after = now_after} are_taken written acks_are = record {
-      lines = so_far.lines ++ line ∷ [];
-      answers = so_far.answers ++ Fault ∷ [];
-      states = so_far.states;
-      run = run_fails P start so_far.lines so_far.answers so_far.states line Fault so_far.run going.each failed.fails;
-      going = λ is. absurd (cc is);
-      halted = λ is. omega (arith, going.each, one_more so_far.answers Fault);
-      are_taken = are_taken;
-      texts = texts_more taken so_far.answers Fault now now_after so_far.texts written;
-      acks = acks_after (length so_far.states) so_far.counted so_far.acks (acks_none _ failed.any_moment.continues failed.no_ack);
-      any_moment = leaves_after (length so_far.states) so_far.counted
-          (leaves_weaker (λ k image is. between_line P start so_far.states so_far.lines line k image is) so_far.any_moment)
-          (leaves_weaker while_failing failed.any_moment);
-      quiet = acts_after (length so_far.states) so_far.counted so_far.any_moment.continues failed.any_moment.continues
-          (acts_weaker (λ k may. may_store_more so_far.answers (Fault ∷ []) k may) so_far.quiet)
-          (acts_weaker (λ k may. may_store_now so_far.answers Fault (length so_far.states) k going.each may) (acts_failed failed.any_moment.continues failed.no_ack));
-      halts = λ is. failed.last;
-      counted = λ told is. acked_then (length so_far.states) 0 so_far.any_moment.continues failed.any_moment.continues so_far.counted (λ t i. failed.no_ack) told is ∙ omega arith;
-      fences = λ is. absurd (cc is);
-      ack_count = acks_are ∙ so_far.ack_count;
-    }
+    module _ (is : new.volume.stopped ≡ true) (failed : HasFailed P (last_state start so_far.states) line old.device new.device) where
+      pub while_failing : (k : ℕ) (image : List ℕ) → (k ≡ 0) × MayReadAs P (last_state start so_far.states) (command_of (Some line)) image → IsBetween P start so_far.states (so_far.lines ++ line ∷ []) (length so_far.states + k) image
+      while_failing k image (none, may) =
+          between_now P start so_far.states so_far.lines line (length so_far.states + k) image (omega (arith, many, none)) (omega (arith, none)) may
 
--- ---- one line after a failed fence
+      abbrev pub ran_failed : {input_after : Input} {after : List ℕ → Type 0} → HasTaken (so_far.lines ++ line ∷ []) script input_after
+          → Takes before (answer_text Fault) after → new.device.acks ≡ old.device.acks
+          → RanSoFar P start first script taken new input_after after
+      ran_failed {after = after} has_taken written acks_are = record {
+        reads = so_far.reads;
+        size = moves.size ∙ so_far.size;
+        lines = so_far.lines ++ line ∷ [];
+        answers = so_far.answers ++ Fault ∷ [];
+        states = so_far.states;
+        run = run_fails P start so_far.lines so_far.answers so_far.states line Fault so_far.run going.each failed.fails;
+        going = λ goes. absurd (apart is goes);
+        halted = λ halts. omega (arith, going.each, one_more so_far.answers Fault);
+        faults = faults_on;
+        order = faults_order;
+        has_taken = has_taken;
+        texts = texts_more taken so_far.answers Fault before after so_far.texts written;
+        acks = acks_after (length so_far.states) so_far.counted so_far.acks (acks_none _ failed.any_moment.continues failed.no_ack);
+        any_moment = leaves_after (length so_far.states) so_far.counted
+            (leaves_weaker (λ k image may. between_line P start so_far.states so_far.lines line k image may) so_far.any_moment)
+            (leaves_weaker while_failing failed.any_moment);
+        quiet = acts_after (length so_far.states) so_far.counted so_far.any_moment.continues failed.any_moment.continues
+            (acts_weaker (λ k may. may_store_more so_far.answers (Fault ∷ []) k may) so_far.quiet)
+            (acts_weaker (λ k may. may_store_now so_far.answers Fault (length so_far.states) k going.each may) (acts_failed failed.any_moment.continues failed.no_ack));
+        halts = λ halts. failed.last;
+        counted = λ told is_told. acked_then (length so_far.states) 0 so_far.any_moment.continues failed.any_moment.continues so_far.counted (λ t i. failed.no_ack) told is_told ∙ omega arith;
+        fences = λ goes. absurd (apart is goes);
+        ack_count = acks_are ∙ so_far.ack_count;
+      }
 
-abbrev pub ran_stopped : {P : ℕ} {start : State} {first : Option Trail} {script taken : Option (List ℕ)} {volume : VolumeView} {words : List ℕ} {trail : Option Trail} {has_ended : Bool} {rest now : Option (List ℕ)} {fences_first fences_now acks_first acks_now : ℕ}
-    (so_far : RanSoFar P start first script taken volume true words trail has_ended rest now fences_first fences_now acks_first acks_now) (line : Line) (volume_after : VolumeView) (fences_after : ℕ) {words_after : List ℕ} {trail_after : Option Trail} {ended_after : Bool} {rest_after now_after : Option (List ℕ)} {acks_after : ℕ}
-    → trail_after ≡ trail → AreTakenTold (so_far.lines ++ line ∷ []) ended_after script rest_after → now_after ≡ with_bytes now (answer_text Stopped) → acks_after ≡ acks_now
-    → RanSoFar P start first script taken volume_after true words_after trail_after ended_after rest_after now_after fences_first fences_after acks_first acks_after
-ran_stopped {P = P} {start = start} {first = first} {taken = taken} {trail = trail} {now = now} so_far line volume_after fences_after {trail_after = trail_after} {now_after = now_after} same are_taken written acks_are = record {
+-- ---- one line after a failed fence, which does nothing
+
+abbrev pub ran_stopped : {P : ℕ} {start : State} {first : DeviceView} {script : Option (List ℕ)} {taken : List ℕ → Type 0} {old : Mounted} {input : Input} {before : List ℕ → Type 0}
+    (so_far : RanSoFar P start first script taken old input before) (line : Line) → old.volume.stopped ≡ true → {input_after : Input} {after : List ℕ → Type 0}
+    → HasTaken (so_far.lines ++ line ∷ []) script input_after → Takes before (answer_text Stopped) after
+    → RanSoFar P start first script taken old input_after after
+ran_stopped {P = P} {start = start} {taken = taken} {before = before} so_far line is {after = after} has_taken written = record {
+  reads = so_far.reads;
+  size = so_far.size;
   lines = so_far.lines ++ line ∷ [];
   answers = so_far.answers ++ Stopped ∷ [];
   states = so_far.states;
-  run = run_stopped P start so_far.lines so_far.answers so_far.states line so_far.run (so_far.halted refl);
-  going = λ is. absurd (cc is);
-  halted = λ is. omega (arith, so_far.halted refl, one_more so_far.answers Stopped);
-  are_taken = are_taken;
-  texts = texts_more taken so_far.answers Stopped now now_after so_far.texts written;
-  acks = subst (λ (t : Option Trail). AcksSettled first t (IsStateAfter P start so_far.states)) (sym same) so_far.acks;
-  any_moment = subst (λ (t : Option Trail). LeavesOnly first t (IsBetween P start so_far.states (so_far.lines ++ line ∷ []))) (sym same)
-      (leaves_weaker (λ k image is. between_line P start so_far.states so_far.lines line k image is) so_far.any_moment);
-  quiet = subst (λ (t : Option Trail). ActsOnly first t (λ k. MayStore (slice_get (so_far.answers ++ Stopped ∷ []) k))) (sym same)
-      (acts_weaker (λ k may. may_store_more so_far.answers (Stopped ∷ []) k may) so_far.quiet);
-  halts = λ is. subst EndsInFault (sym same) (so_far.halts refl);
-  counted = subst (λ (t : Option Trail). Acked first t (length so_far.states)) (sym same) so_far.counted;
-  fences = λ is. absurd (cc is);
-  ack_count = acks_are ∙ so_far.ack_count;
+  run = run_stopped P start so_far.lines so_far.answers so_far.states line so_far.run (so_far.halted is);
+  going = λ goes. absurd (apart is goes);
+  halted = λ halts. omega (arith, so_far.halted is, one_more so_far.answers Stopped);
+  faults = so_far.faults;
+  order = so_far.order;
+  has_taken = has_taken;
+  texts = texts_more taken so_far.answers Stopped before after so_far.texts written;
+  acks = so_far.acks;
+  any_moment = leaves_weaker (λ k image may. between_line P start so_far.states so_far.lines line k image may) so_far.any_moment;
+  quiet = acts_weaker (λ k may. may_store_more so_far.answers (Stopped ∷ []) k may) so_far.quiet;
+  halts = so_far.halts;
+  counted = so_far.counted;
+  fences = λ goes. absurd (apart is goes);
+  ack_count = so_far.ack_count;
 }
 
 -- ---- before the first line
 
-pub ran_none : {P : ℕ} {start : State} {volume : VolumeView} {words : List ℕ} {trail : Option Trail} {script taken : Option (List ℕ)} {fences acks : ℕ} → StandsFor volume words trail start
-    → IsBetween P start [] [] 0 words
-    → RanSoFar P start trail script taken volume false words trail false script taken fences fences acks acks
-ran_none {trail = trail} {script = script} {taken = taken} stands between = record {
+pub ran_none : {start : State} (now : Mounted) (script : Option (List ℕ)) (taken : List ℕ → Type 0) {input : Input} → now.volume.stopped ≡ false → StandsFor now.volume now.device start
+    → HasTaken [] script input → RanSoFar now.volume.size start now.device script taken now input taken
+ran_none {start = start} now script taken goes stands has_taken = record {
+  reads = stands.reads;
+  size = refl;
   lines = [];
   answers = [];
   states = [];
   run = tt;
   going = λ is. record { each = refl; stands = stands };
-  halted = λ is. absurd (cc is);
-  are_taken = taken_none script;
-  texts = no_texts taken;
-  acks = acks_here trail _;
-  any_moment = leaves_here _ stands.settled between;
+  halted = λ is. absurd (apart is goes);
+  faults = record { cause = λ is. absurd (apart is goes); no_fault = λ is. refl };
+  order = omega arith;
+  has_taken = has_taken;
+  texts = takes_none taken;
+  acks = acks_here now.device.trail _;
+  any_moment = leaves_here _ stands.settled (start, refl, may_be_there now.volume.size start now.device.words (stands_at now.volume now.device stands));
   quiet = acts_here _ refl;
-  halts = λ is. absurd (cc is);
-  counted = λ told is. acks_from-here (continues_here trail);
+  halts = λ is. absurd (apart is goes);
+  counted = λ told is. acks_from-here (continues_here now.device.trail);
   fences = λ is. omega arith;
   ack_count = omega arith;
 }
-  where
-    taken_none : (script : Option (List ℕ)) → AreTakenTold [] false script script
-    taken_none None = refl
-    taken_none (Some bytes) = record { front = []; split = refl; all = refl; complete = λ is more. refl }
-
-    no_texts : (taken : Option (List ℕ)) → taken ≡ with_bytes taken []
-    no_texts None = refl
-    no_texts (Some bytes) = ap (λ (b : List ℕ). Some b) (sym (append-nil bytes))

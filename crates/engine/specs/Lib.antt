@@ -1,9 +1,9 @@
 pub mod Session
 pub mod Run
 pub mod Quiet
-pub mod Fences
 pub mod Replies
 pub mod Exec
 pub mod Listing
 pub mod Script
 pub mod Turns
+pub mod Laws

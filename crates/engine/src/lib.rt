@@ -2,10 +2,12 @@
 #![tactic(auto)]
 
 mod command;
+mod laws;
 mod listing;
 mod session;
 mod turns;
 
+pub use laws::plain_runs_are_runs;
 pub use session::Session;
 pub use turns::run;
 

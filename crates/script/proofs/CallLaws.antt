@@ -2,10 +2,10 @@
 use Rattle.std.specs.Prelude.{ℕ, Bool, true, false, cond, List, [], ◌∷◌, length, nat_lt, codes, Result, Ok, Err, IfOk}
 use Rattle.tree_model.specs.PathText.{Route, path_of}
 use Rattle.tree_model.specs.Run.{Line}
+use Rattle.tree_model.specs.Supported.{IsSupported}
 use Rattle.tree_model.specs.declared.command.Command.TheVariants.{Create, Mkdir, Stat, List as Show}
 use Rattle.tree_model.specs.declared.reply.LineFault.{LineFault}
 use Rattle.script.specs.Lines.{line_limit, words_of, is_word, on_path, of_two, of_words, call_of}
-use Rattle.script.specs.Calls.{IsSupported}
 
 either : (b : Bool) (one other : Line) → IfOk one IsSupported → IfOk other IsSupported → IfOk (cond b one other) IsSupported
 either true one other has has_other = has

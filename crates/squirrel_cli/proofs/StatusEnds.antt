@@ -6,6 +6,9 @@ use Rattle.script.specs.declared.run_end.RunEnd.{RunEnd}
 use Rattle.script.specs.declared.run_end.RunEnd.TheVariants as run_end
 use Rattle.squirrel_cli.specs.declared.status.Status.{Status}
 use Rattle.squirrel_cli.specs.declared.status.Status.TheVariants as status
+use Rattle.engine.specs.Session.{Mounted}
+use Rattle.engine.specs.Script.{HasCause as RunHasCause, LeavesRun}
+use Rattle.squirrel_cli.specs.Causes.{HasCause}
 use Rattle.squirrel_cli.specs.Ends.{end_of, GaveAll, IsShortScript}
 
 pub ends_as : {is other : Status} {end wanted : RunEnd} → end_of is ≡ Some end → is ≡ other → end_of other ≡ Some wanted → end ≡ wanted
@@ -24,18 +27,18 @@ status_of_run status.WriteFault end e = inr (inr (inr (inr (inl refl))))
 status_of_run status.ScriptLimit end e = inr (inr (inr (inr (inr refl))))
 
 -- where nothing hindered it the work is done
-pub run_done : (is : Status) → (is ≡ status.NoMemory) ⊎ IsSome (end_of is) → is ≢ status.DeviceFault → is ≢ status.ReadFault → is ≢ status.WriteFault → is ≢ status.ScriptLimit
-    → (is ≡ status.Done) ⊎ (is ≡ status.NoMemory)
-run_done is (inl memory) device read write limit = inr memory
-run_done status.Done (inr ended) device read write limit = inl refl
-run_done status.Usage (inr ended) device read write limit = absurd (cc ended)
-run_done status.NoMemory (inr ended) device read write limit = inr refl
-run_done status.NotVolume (inr ended) device read write limit = absurd (cc ended)
-run_done (status.Damaged violation) (inr ended) device read write limit = absurd (cc ended)
-run_done status.DeviceFault (inr ended) device read write limit = absurd (device refl)
-run_done status.ReadFault (inr ended) device read write limit = absurd (read refl)
-run_done status.WriteFault (inr ended) device read write limit = absurd (write refl)
-run_done status.ScriptLimit (inr ended) device read write limit = absurd (limit refl)
+pub run_done : (is : Status) → (is ≡ status.NoMemory) ⊎ IsSome (end_of is) → is ≢ status.DeviceFault → is ≢ status.ReadFault → is ≢ status.WriteFault
+    → (is ≡ status.Done) ⊎ (is ≡ status.NoMemory) ⊎ (is ≡ status.ScriptLimit)
+run_done is (inl memory) device read write = inr (inl memory)
+run_done status.Done (inr ended) device read write = inl refl
+run_done status.Usage (inr ended) device read write = absurd (cc ended)
+run_done status.NoMemory (inr ended) device read write = inr (inl refl)
+run_done status.NotVolume (inr ended) device read write = absurd (cc ended)
+run_done (status.Damaged violation) (inr ended) device read write = absurd (cc ended)
+run_done status.DeviceFault (inr ended) device read write = absurd (device refl)
+run_done status.ReadFault (inr ended) device read write = absurd (read refl)
+run_done status.WriteFault (inr ended) device read write = absurd (write refl)
+run_done status.ScriptLimit (inr ended) device read write = inr (inr refl)
 
 pub mkfs_done : {is : Status} → (is ≡ status.Usage) ⊎ (is ≡ status.Done) ⊎ (is ≡ status.NoMemory) ⊎ (is ≡ status.DeviceFault) ⊎ (is ≡ status.WriteFault)
     → is ≢ status.Usage → is ≢ status.DeviceFault → is ≢ status.WriteFault → (is ≡ status.Done) ⊎ (is ≡ status.NoMemory)
@@ -75,3 +78,15 @@ tells_write_fault status.DeviceFault e = absurd (cc e)
 tells_write_fault status.ReadFault e = absurd (cc e)
 tells_write_fault status.WriteFault e = refl
 tells_write_fault status.ScriptLimit e = absurd (cc e)
+
+-- a status tells the causes of the end of the run
+pub status_cause : (is : Status) (end : RunEnd) {old new : Mounted} {reads_before reads writes_before writes : ℕ} → end_of is ≡ Some end → RunHasCause end reads_before reads writes_before writes → LeavesRun end old new
+    → HasCause is old.device new.device reads_before reads writes_before writes
+status_cause is end ended cause leaves = record {
+  device = λ same. leaves.faulted (ends_as ended same refl);
+  done = λ same. (leaves.done (ends_as ended same refl)).0;
+  read = λ same. cause.read (ends_as ended same refl);
+  no_read_fault = λ not. cause.no_read_fault (λ e. not (tells_read_fault is (ended ∙ ap Some e)));
+  write = λ same. cause.write (ends_as ended same refl);
+  no_write_fault = λ not. cause.no_write_fault (λ e. not (tells_write_fault is (ended ∙ ap Some e)));
+}

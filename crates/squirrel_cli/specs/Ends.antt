@@ -21,7 +21,7 @@ end_of ReadFault = Some ends.ReadFault
 end_of WriteFault = Some ends.WriteFault
 end_of ScriptLimit = Some ends.Limit
 
--- 2^32 bytes left the source
+-- the source gave 2^32 bytes
 abbrev pub GaveAll : Option (List ℕ) → Option (List ℕ) → Type 0
 GaveAll None after = Unit {0}
 GaveAll (Some before) None = ⊥

@@ -1,6 +1,7 @@
 pub mod Job
 pub mod Wanted
 pub mod Status
-pub mod Texts
 pub mod Ends
-pub mod Refusals
+pub mod Told
+pub mod Causes
+pub mod Answers

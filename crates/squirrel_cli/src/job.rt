@@ -2,9 +2,9 @@
 ghost use Rattle.std.specs.Prelude.{◌≡◌, length};
 ghost use Rattle.squirrel_cli.specs.Job.{job_of as job_of_words, job_of_two as run_of, job_of_three as mkfs_of, is_option as begins_with_dash, is_volume_size as has_volume_size};
 
-use crate::number::number_of;
 use crate::words::Words;
 use layout::Geometry;
+use script::number_of;
 
 /// A job on an image.
 #[derive(Clone, Copy, Debug, PartialEq, Eq)]

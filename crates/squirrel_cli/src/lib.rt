@@ -3,7 +3,6 @@
 
 mod job;
 mod mkfs;
-mod number;
 mod scripted;
 mod status;
 mod top_call;

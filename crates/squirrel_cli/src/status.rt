@@ -1,7 +1,9 @@
 ghost use Rattle.std.specs.Prelude.{◌≡◌};
 ghost use Rattle.squirrel_cli.specs.Status.{number_of_status};
+ghost use Rattle.squirrel_cli.specs.Told.{status_of_write as told_status};
 
 use image_reading::Violation;
+use io_edge::WriteFault;
 
 /// How a job ended.
 #[derive(Clone, Copy, Debug, PartialEq, Eq)]
@@ -10,7 +12,7 @@ pub enum Status {
     Done,
     /// The words ask for no job, or for a volume of another size than the device.
     Usage,
-    /// There was not enough memory, before anything was written.
+    /// Out of memory, before anything was written.
     NoMemory,
     /// The device's length or its first words are no volume's.
     NotVolume,
@@ -42,5 +44,15 @@ impl Status {
             Status::WriteFault => 7,
             Status::ScriptLimit => 8,
         }
+    }
+}
+
+// This status where its text was written, and else that of a write that failed.
+pub fn status_of_write(written: Result<(), WriteFault>, status: Status) -> Status
+    ensures { result ≡ told_status written status }
+{
+    match written {
+        Ok(()) => status,
+        Err(WriteFault) => Status::WriteFault,
     }
 }

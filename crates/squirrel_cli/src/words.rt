@@ -38,13 +38,9 @@ impl Words {
         ensures ok { OnOk result (self.new ≡ self.old ++ word.now ∷ []) }
         ensures err { OnErr result (self.new ≡ self.old) }
     {
-        match owned(self.alloc, word) {
-            Ok(word) => match self.words.push(word) {
-                Ok(()) => Ok(()),
-                Err(_) => Err(NoMemory),
-            },
-            Err(fault) => Err(fault),
-        }
+        let word = owned(self.alloc, word)?;
+        self.words.push(word)?;
+        Ok(())
     }
 
     /// How many words there are.
@@ -83,10 +79,8 @@ impl ImagePath {
     pub(crate) fn new(alloc: Global, text: &str) -> Result<ImagePath, NoMemory>
         ensures { IfOk result (λ path. path ≡ text.now) }
     {
-        match owned(alloc, text) {
-            Ok(text) => Ok(ImagePath { text }),
-            Err(fault) => Err(fault),
-        }
+        let text = owned(alloc, text)?;
+        Ok(ImagePath { text })
     }
 
     /// The text.
@@ -101,8 +95,6 @@ impl ImagePath {
 fn owned(alloc: Global, text: &str) -> Result<String, NoMemory>
     ensures { IfOk result (λ owned. string_bytes owned ≡ text.now) }
 {
-    match text.to_string(alloc) {
-        Ok(owned) => Ok(owned),
-        Err(_) => Err(NoMemory),
-    }
+    let owned = text.to_string(alloc)?;
+    Ok(owned)
 }

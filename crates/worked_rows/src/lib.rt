@@ -1,12 +1,8 @@
-//! Worked examples of whole jobs, on a device in memory or in a file, with a script and an output in memory.
+//! Worked examples of whole jobs, on a device, with a script and an output in memory.
 #![tactic(auto)]
 
 #[cfg(test)]
-mod entries;
-#[cfg(test)]
 mod faults;
-#[cfg(test)]
-mod files;
 #[cfg(test)]
 mod jobs;
 #[cfg(test)]

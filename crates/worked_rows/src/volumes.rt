@@ -119,14 +119,20 @@ fn compare(rt: &impl Abort, alloc: Global, image: &[u64], told: &str) -> Result<
     Ok(())
 }
 
-// The words of a volume of 16 pages with the file `/a`, of which one is set.
-fn with_word(alloc: Global, word: usize, value: u64) -> Result<Vec<u64>, Fail> {
+// The words of a volume of 16 pages with the file `/a`, of which some are set.
+fn with_words(alloc: Global, changes: &[(usize, u64)]) -> Result<Vec<u64>, Fail> {
     let volume = small_volume(alloc)?;
     let left = job_on(alloc, "squirrel run v", volume.as_slice(), b"create /a\n")?;
     let mut image = left.image;
-    let place = image.get_mut(word).ok_or("no word")?;
-    *place = value;
+    for (word, value) in changes {
+        let place = image.get_mut(*word).ok_or("no word")?;
+        *place = *value;
+    }
     Ok(image)
+}
+
+fn with_word(alloc: Global, word: usize, value: u64) -> Result<Vec<u64>, Fail> {
+    with_words(alloc, &[(word, value)])
 }
 
 #[test]
@@ -168,7 +174,7 @@ fn volumes_that_break_a_rule(rt: HostRuntime) -> Result<(), Fail> {
     Ok(())
 }
 
-// They break no rule, but a stop left something to be repaired: links that are too high, a rename pointer, and an inode, a
+// They break no rule, but a crash left something to be repaired: links that are too high, a rename pointer, and an inode, a
 // page and a slot that nothing names and that aren't zero.
 #[test]
 fn volumes_that_need_recovery(rt: HostRuntime) -> Result<(), Fail> {
@@ -189,13 +195,27 @@ fn volumes_that_need_recovery(rt: HostRuntime) -> Result<(), Fail> {
     Ok(())
 }
 
-// The file's slot, copied to the slot after it.
+// Rename pointers in the slots 1 and 2, each of which names the other; the file's slot copied to the slot after it; a directory
+// in place of the file, with the name `b` in that slot; a size over 2^40; and one byte, for which the pages 1 and 2 stand.
 #[test]
-fn a_name_that_stands_twice(rt: HostRuntime) -> Result<(), Fail> {
-    let mut image = with_word(rt.alloc(), 1_552, 2)?;
-    let name = image.get_mut(1_554).ok_or("no word")?;
-    *name = 0x61_0001;
-    compare(&rt, rt.alloc(), image.as_slice(), "damaged 8 1\n")
+fn volumes_that_break_a_rule_by_more_words(rt: HostRuntime) -> Result<(), Fail> {
+    for (changes, told) in [
+        ([(1_553, 3), (1_569, 2)].as_slice(), "damaged 4 2\n"),
+        (&[(1_552, 2), (1_554, 0x61_0001)], "damaged 8 1\n"),
+        (
+            &[(513, 3), (528, 2), (529, 2), (1_552, 2), (1_554, 0x62_0001)],
+            "damaged 9 1\n",
+        ),
+        (&[(530, 0x100_0000_0001)], "damaged 11 2\n"),
+        (
+            &[(530, 1), (1_032, 2), (1_033, 1), (1_040, 2), (1_041, 1)],
+            "damaged 13 2\n",
+        ),
+    ] {
+        let image = with_words(rt.alloc(), changes)?;
+        compare(&rt, rt.alloc(), image.as_slice(), told)?;
+    }
+    Ok(())
 }
 
 // Words that no one reads may be anything.

@@ -1,32 +1,40 @@
-use Rattle.std.proofs.Common.{◌≡◌, length, sym, ap, ◌∙◌}
-use Rattle.std.proofs.lemmas.Result.{on_err_weaker, on_ok_weaker}
-use Rattle.engine.proofs.ListingLaws.{on_any_err, line_begun, line_in_entries, line_unended, line_whole}
+use Rattle.std.proofs.Common.{◌≡◌, ◌++◌, [], ◌∷◌, codes, decimal, length, sym, ap, ◌∙◌}
+use Rattle.io_edge.proofs.BytesLaws.{writes_as, writes_then, writes_cut}
+use Rattle.tree_model.specs.Step.{Listed}
+use Rattle.script.specs.Lines.{newline}
+use Rattle.script.specs.Texts.{answer_text}
+use Rattle.engine.specs.Listing.{entries_text}
+use Rattle.engine.proofs.ListingLaws.{writes_broken, listing_text}
+use Rattle.engine.proofs.Told.{directory_within}
 use Rattle.engine.proofs.listing.write_names.Goals as goal
 
-pub returns-in_err-write_count-clause-err : goal.returns-in_err-write_count-clause-err
-returns-in_err-write_count-clause-err g c = λ names lists.
-    let counted : c.count-count.result ≡ length names = c.count-count.ensures.names lists.state lists.stands lists.directory ∙ ap length (sym lists.names_are) in
-    on_any_err c.from_residual.result _ (line_begun c.args.directory names c.count-count.result counted (g.K.Sink.taken c.args.sink.now) (g.K.Sink.taken c.write_count.new.sink) c.in_err-write_count.ensures.err)
+pub count-count-requires-clause-from_one : goal.count-count-requires-clause-from_one
+count-count-requires-clause-from_one g c = let (device, names, lists) = c.requires in (directory_within c.args.volume.now device c.args.directory lists.stands lists.directory).0
 
-pub returns-in_err-write_entries-clause-err : goal.returns-in_err-write_entries-clause-err
-returns-in_err-write_entries-clause-err g c = λ names lists.
-    let counted : c.count-count.result ≡ length names = c.count-count.ensures.names lists.state lists.stands lists.directory ∙ ap length (sym lists.names_are) in
-    on_any_err c.from_residual-in_err-write_entries.result _
-    (line_in_entries c.args.directory names c.count-count.result counted (g.K.Sink.taken c.args.sink.now) (g.K.Sink.taken c.write_count.new.sink) (g.K.Sink.taken c.write_entries.new.sink)
-    c.in_ok-write_count.ensures.ok (c.in_err-write_entries.ensures.err names lists counted))
+pub count-count-requires-clause-in_range : goal.count-count-requires-clause-in_range
+count-count-requires-clause-in_range g c = let (device, names, lists) = c.requires in (directory_within c.args.volume.now device c.args.directory lists.stands lists.directory).1
 
-pub returns-clause-ok : goal.returns-clause-ok
-returns-clause-ok g c = λ names lists.
-    let counted : c.count-count.result ≡ length names = c.count-count.ensures.names lists.state lists.stands lists.directory ∙ ap length (sym lists.names_are) in
-    on_ok_weaker c.write_newline.result
-    (line_whole c.args.directory names c.count-count.result counted (g.K.Sink.taken c.args.sink.now) (g.K.Sink.taken c.write_count.new.sink) (g.K.Sink.taken c.write_entries.new.sink) (g.K.Sink.taken c.write_newline.new.sink)
-    c.in_ok-write_count.ensures.ok (c.in_ok-write_entries.ensures.ok names lists counted))
-    c.write_newline.ensures.ok
+pub returns-in_err-write_count : goal.returns-in_err-write_count
+returns-in_err-write_count g c = λ device names lists.
+    let counted : c.count-count.result ≡ length names = c.count-count.ensures.names device lists.state lists.stands lists.directory ∙ ap length (sym lists.names_are) in
+    let beginning = codes "ok " ++ decimal c.count-count.result in
+    writes_as _ _ _ _ ((beginning ++ entries_text names) ++ newline ∷ []) (answer_text (Listed c.args.directory names)) c.from_residual.result (sym (listing_text c.args.directory names c.count-count.result counted))
+    (writes_broken {T = Unit {0}} (beginning ++ entries_text names) (newline ∷ []) c.from_residual.result c.from_residual.ensures.0 (writes_cut _ _ _ _ beginning (entries_text names) _ c.in_err-write_count.ensures))
 
-pub returns-clause-err : goal.returns-clause-err
-returns-clause-err g c = λ names lists.
-    let counted : c.count-count.result ≡ length names = c.count-count.ensures.names lists.state lists.stands lists.directory ∙ ap length (sym lists.names_are) in
-    on_err_weaker c.write_newline.result
-    (line_unended c.args.directory names c.count-count.result counted (g.K.Sink.taken c.args.sink.now) (g.K.Sink.taken c.write_count.new.sink) (g.K.Sink.taken c.write_entries.new.sink) (g.K.Sink.taken c.write_newline.new.sink)
-    c.in_ok-write_count.ensures.ok (c.in_ok-write_entries.ensures.ok names lists counted))
-    c.write_newline.ensures.err
+pub returns-in_err-write_entries : goal.returns-in_err-write_entries
+returns-in_err-write_entries g c = λ device names lists.
+    let counted : c.count-count.result ≡ length names = c.count-count.ensures.names device lists.state lists.stands lists.directory ∙ ap length (sym lists.names_are) in
+    let beginning = codes "ok " ++ decimal c.count-count.result in
+    let broken = c.from_residual-in_err-write_entries in
+    writes_as _ _ _ _ ((beginning ++ entries_text names) ++ newline ∷ []) (answer_text (Listed c.args.directory names)) broken.result (sym (listing_text c.args.directory names c.count-count.result counted))
+    (writes_broken (beginning ++ entries_text names) (newline ∷ []) broken.result broken.ensures.0
+    (writes_then (g.K.Sink.took c.args.sink.now) (g.K.Sink.took c.write_count.new.sink) (g.K.Sink.took c.write_entries.new.sink) _ _ _ beginning (entries_text names) _ _ c.in_ok-write_count.ensures (c.in_err-write_entries.ensures device names lists counted)))
+
+pub returns : goal.returns
+returns g c = λ device names lists.
+    let counted : c.count-count.result ≡ length names = c.count-count.ensures.names device lists.state lists.stands lists.directory ∙ ap length (sym lists.names_are) in
+    let beginning = codes "ok " ++ decimal c.count-count.result in
+    writes_as _ _ _ _ ((beginning ++ entries_text names) ++ newline ∷ []) (answer_text (Listed c.args.directory names)) c.write_newline.result (sym (listing_text c.args.directory names c.count-count.result counted))
+    (writes_then (g.K.Sink.took c.args.sink.now) (g.K.Sink.took c.write_entries.new.sink) (g.K.Sink.took c.write_newline.new.sink) _ _ _ (beginning ++ entries_text names) (newline ∷ []) _ c.write_newline.result
+    (writes_then (g.K.Sink.took c.args.sink.now) (g.K.Sink.took c.write_count.new.sink) (g.K.Sink.took c.write_entries.new.sink) _ _ _ beginning (entries_text names) _ _ c.in_ok-write_count.ensures (c.in_ok-write_entries.ensures device names lists counted))
+    c.write_newline.ensures)

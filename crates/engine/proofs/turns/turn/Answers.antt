@@ -1,90 +1,80 @@
 use Rattle.std.proofs.Common.{◌≡◌, false, refl, subst, sym, ap, ◌∙◌}
+use Rattle.std.specs.Prelude.{Err, IfOk}
+use Rattle.std.specs.ControlFlow.{MatchControlFlow}
+use Rattle.std.specs.declared.ops.ControlFlow.{ControlFlow}
 use Rattle.tree_model.specs.Run.{Line}
 use Rattle.tree_model.specs.declared.reply.LineFault.TheVariants.{BadLine}
-use Rattle.std.specs.Prelude.{Err}
 use Rattle.script.specs.Lines.{call_of}
-use Rattle.script.specs.Calls.{line_of_call, MayCome}
-use Rattle.script.proofs.CallLaws.{call_comes}
+use Rattle.tree_model.specs.Supported.{IsSupported}
+use Rattle.script.specs.Calls.{line_of_call}
+use Rattle.script.proofs.CallLaws.{call_is_supported}
 use Rattle.script.specs.Reader.{pending, current, read_count, has_ended}
 use Rattle.script.specs.Reading.{rest_of}
+use Rattle.script.specs.declared.run_end.RunEnd.{RunEnd}
 use Rattle.script.specs.declared.run_end.RunEnd.TheVariants as end
 use Rattle.volume.specs.Volume.{VolumeView}
 use Rattle.engine.specs.Run.{last_state}
-use Rattle.engine.specs.Turns.{Turned}
-use Rattle.engine.proofs.Taken.{taken_told, taken_long_told, executes_read_fault, executes_limit}
-use Rattle.engine.proofs.Wrote.{not_true, not_cut, line_more, line_ends}
+use Rattle.engine.specs.Session.{on}
+use Rattle.engine.specs.Script.{RunsScript}
+use Rattle.engine.specs.Turns.{Turned, end_at, flow_of, input_of}
+use Rattle.engine.proofs.Faults.{not_true}
+use Rattle.engine.proofs.Taken.{executes_read_fault, executes_limit}
+use Rattle.engine.proofs.Turned.{line_goes, GoesOrEnds}
 use Rattle.engine.proofs.RunEnds.{run_ends}
-use Rattle.engine.proofs.InputEnds.{counted_on, input_ends}
+use Rattle.engine.proofs.InputEnds.{counted_on, input_ends, takes_line, takes_long_line}
 use Rattle.engine.proofs.turns.turn.Goals as goal
 
-pub answer-requires-in-Ok-Line-clause-come : goal.answer-requires-in-Ok-Line-clause-come
-answer-requires-in-Ok-Line-clause-come g c = subst MayCome (sym c.parse-call.ensures.call) (call_comes c.line.result.now)
+pub answer-requires-in-Ok-Line-clause-supported : goal.answer-requires-in-Ok-Line-clause-supported
+answer-requires-in-Ok-Line-clause-supported g c = subst (λ (line : Line). IfOk line IsSupported) (sym c.parse-call.ensures.call) (call_is_supported c.line.result.now)
 
-pub returns-in-Err-clause-ends : goal.returns-in-Err-clause-ends
-returns-in-Err-clause-ends g c start first script taken reads so_far counted counts =
+pub returns-in-Err-clause-goes : goal.returns-in-Err-clause-goes
+returns-in-Err-clause-goes g c pages start first script began so_far =
     let unended = not_true (has_ended c.args.lines.now) (λ is. let e = (c.in-Err.ensures.end_seen is).0 in cc e) in
-    run_ends end.ReadFault first (g.P.Pm.view c.args.pm.now) (g.S.Source.left c.next.new.source) (g.K.Sink.taken c.args.sink.now) so_far refl counts reads tt
-    (executes_read_fault so_far.lines (has_ended c.args.lines.now) script (rest_of (pending c.args.lines.now) (g.S.Source.left c.args.source.now)) (g.S.Source.left c.next.new.source) so_far.are_taken unended c.in-Err.ensures.err)
+    run_ends so_far end.ReadFault (g.S.Source.left c.next.new.source) (g.K.Sink.took c.args.sink.now) tt
+    (executes_read_fault so_far.lines (has_ended c.args.lines.now) script (rest_of (pending c.args.lines.now) (g.S.Source.left c.args.source.now)) (g.S.Source.left c.next.new.source) so_far.has_taken.told unended c.in-Err.ensures.step)
     so_far.texts
 
-pub returns-in-Ok-End-clause-ends : goal.returns-in-Ok-End-clause-ends
-returns-in-Ok-End-clause-ends g c start first script taken reads so_far counted counts =
+pub returns-in-Ok-End-clause-goes : goal.returns-in-Ok-End-clause-goes
+returns-in-Ok-End-clause-goes g c pages start first script began so_far =
     let over = rw c.in-Ok-End.field-0-is at c.in-Ok-End.ensures.step in
     let stopped = c.stopped.ensures ∙ ap (λ (v : VolumeView). v.stopped) c.volume.ensures in
-    input_ends c.args.session.now.volume.stopped first (g.P.Pm.view c.args.pm.now) reads so_far c.end_of_input.result (λ is. c.end_of_input.ensures.faulted (stopped ∙ is)) (λ is. c.end_of_input.ensures.done (stopped ∙ is)) (rest_of (pending c.next.new.self) (g.S.Source.left c.next.new.source)) (g.S.Source.left c.next.new.source) (read_count c.next.new.self) over.2
-    (counted_on 0 _ _ script _ _ counted c.in-Ok-End.ensures.counted) (c.in-Ok-End.ensures.ended over.1) over.0 counts refl
+    let left = g.S.Source.left c.next.new.source in
+    subst (λ (ended : RunEnd). RunsScript pages first (g.P.Pm.view c.args.pm.now) ended script left (g.K.Sink.took began) (g.K.Sink.took c.args.sink.now)) (sym (c.end_of_input.ensures ∙ ap end_at stopped))
+    (input_ends so_far (rest_of (pending c.next.new.self) left) left (read_count c.next.new.self) over.2
+    (counted_on 0 _ _ script _ _ so_far.has_taken.counted c.in-Ok-End.ensures.counted) (c.in-Ok-End.ensures.counts.ended over.1) over.0)
 
-pub returns-in-Ok-Limit-clause-ends : goal.returns-in-Ok-Limit-clause-ends
-returns-in-Ok-Limit-clause-ends g c start first script taken reads so_far counted counts =
+pub returns-in-Ok-Limit-clause-goes : goal.returns-in-Ok-Limit-clause-goes
+returns-in-Ok-Limit-clause-goes g c pages start first script began so_far =
     let limit = rw c.in-Ok-Limit.field-0-is at c.in-Ok-Limit.ensures.step in
     let unended = not_true (has_ended c.args.lines.now) (λ is. let e = (c.in-Ok-Limit.ensures.end_seen is).0 in cc (e, c.in-Ok-Limit.field-0-is)) in
-    run_ends end.Limit first (g.P.Pm.view c.args.pm.now) (g.S.Source.left c.next.new.source) (g.K.Sink.taken c.args.sink.now) so_far refl counts reads tt
-    (executes_limit so_far.lines (has_ended c.args.lines.now) script (rest_of (pending c.args.lines.now) (g.S.Source.left c.args.source.now)) (g.S.Source.left c.next.new.source) (read_count c.next.new.self) so_far.are_taken unended limit.0 limit.1
-    (counted_on 0 _ _ script _ _ counted c.in-Ok-Limit.ensures.counted))
+    run_ends so_far end.Limit (g.S.Source.left c.next.new.source) (g.K.Sink.took c.args.sink.now) tt
+    (executes_limit so_far.lines (has_ended c.args.lines.now) script (rest_of (pending c.args.lines.now) (g.S.Source.left c.args.source.now)) (g.S.Source.left c.next.new.source) (read_count c.next.new.self) so_far.has_taken.told unended limit.0 limit.1
+    (counted_on 0 _ _ script _ _ so_far.has_taken.counted c.in-Ok-Limit.ensures.counted))
     so_far.texts
 
-pub returns-in-Ok-TooLong-clause-more : goal.returns-in-Ok-TooLong-clause-more
-returns-in-Ok-TooLong-clause-more g c is start first script taken fences acks so_far =
+pub returns-in-Ok-TooLong-clause-goes : goal.returns-in-Ok-TooLong-clause-goes
+returns-in-Ok-TooLong-clause-goes g c pages start first script began so_far =
     let takes = rw c.in-Ok-TooLong.field-0-is at c.in-Ok-TooLong.ensures.step in
     let stays = λ (new : has_ended c.next.new.self ≡ false). not_true (has_ended c.args.lines.now) (λ old. let e = (c.in-Ok-TooLong.ensures.end_seen old).0 in cc (e, c.in-Ok-TooLong.field-0-is)) in
-    line_more so_far (Err BadLine) c.answer.new.session.volume c.answer.new.session.volume.stopped (g.P.Pm.view c.answer.new.pm).words (g.P.Pm.view c.answer.new.pm).trail c.answer.result c.end_of_write.result
-    (has_ended c.next.new.self) (rest_of (pending c.next.new.self) (g.S.Source.left c.next.new.source)) (g.K.Sink.taken c.answer.new.sink) c.end_of_write.ensures.cut is (c.answer.ensures.turned (last_state start so_far.states) (λ was. (so_far.going was).stands))
-    (taken_long_told so_far.lines (has_ended c.args.lines.now) (has_ended c.next.new.self) script (rest_of (pending c.args.lines.now) (g.S.Source.left c.args.source.now)) (rest_of (pending c.next.new.self) (g.S.Source.left c.next.new.source)) (read_count c.next.new.self) so_far.are_taken stays takes)
+    let input = input_of c.next.new.self (g.S.Source.left c.next.new.source) in
+    let has_taken = takes_long_line c.args.lines.now c.next.new.self so_far.has_taken stays c.in-Ok-TooLong.ensures.counted takes in
+    let new = on c.answer.new.session.volume (g.P.Pm.view c.answer.new.pm) in
+    subst (GoesOrEnds so_far (Err BadLine) input has_taken (g.K.Sink.took c.answer.new.sink) new) (sym c.flow_of_write.ensures)
+    (line_goes so_far (Err BadLine) input has_taken (g.K.Sink.took c.answer.new.sink) new c.answer.ensures.moves c.answer.result
+    (c.answer.ensures.turned (last_state start so_far.states) (λ was. (so_far.going was).stands)))
 
-pub returns-in-Ok-TooLong-clause-ends : goal.returns-in-Ok-TooLong-clause-ends
-returns-in-Ok-TooLong-clause-ends g c start first script taken reads so_far counted counts =
-    let takes = rw c.in-Ok-TooLong.field-0-is at c.in-Ok-TooLong.ensures.step in
-    let stays = λ (new : has_ended c.next.new.self ≡ false). not_true (has_ended c.args.lines.now) (λ old. let e = (c.in-Ok-TooLong.ensures.end_seen old).0 in cc (e, c.in-Ok-TooLong.field-0-is)) in
-    line_ends first (g.P.Pm.view c.args.pm.now) (g.P.Pm.view c.answer.new.pm) so_far (Err BadLine) c.answer.new.session.volume c.answer.new.session.volume.stopped reads c.answer.result c.end_of_write.result
-    (has_ended c.next.new.self) (rest_of (pending c.next.new.self) (g.S.Source.left c.next.new.source)) (g.S.Source.left c.next.new.source) (g.K.Sink.taken c.answer.new.sink) (read_count c.next.new.self) c.end_of_write.ensures.whole c.end_of_write.ensures.cut (c.answer.ensures.turned (last_state start so_far.states) (λ was. (so_far.going was).stands))
-    (taken_long_told so_far.lines (has_ended c.args.lines.now) (has_ended c.next.new.self) script (rest_of (pending c.args.lines.now) (g.S.Source.left c.args.source.now)) (rest_of (pending c.next.new.self) (g.S.Source.left c.next.new.source)) (read_count c.next.new.self) so_far.are_taken stays takes)
-    (counted_on 0 _ _ script _ _ counted c.in-Ok-TooLong.ensures.counted) counts c.answer.ensures.size
-
-pub returns-in-Ok-TooLong-clause-no_write_fault : goal.returns-in-Ok-TooLong-clause-no_write_fault
-returns-in-Ok-TooLong-clause-no_write_fault g c not = not_cut c.answer.result c.end_of_write.result c.end_of_write.ensures.cut not c.answer.ensures.ok_faults
-
-pub returns-in-Ok-Line-clause-no_write_fault : goal.returns-in-Ok-Line-clause-no_write_fault
-returns-in-Ok-Line-clause-no_write_fault g c not = not_cut c.answer-in-Ok-Line.result c.end_of_write-in-Ok-Line.result c.end_of_write-in-Ok-Line.ensures.cut not c.answer-in-Ok-Line.ensures.ok_faults
-
-pub returns-in-Ok-Line-clause-more : goal.returns-in-Ok-Line-clause-more
-returns-in-Ok-Line-clause-more g c is start first script taken fences acks so_far =
+pub returns-in-Ok-Line-clause-goes : goal.returns-in-Ok-Line-clause-goes
+returns-in-Ok-Line-clause-goes g c pages start first script began so_far =
     let step = rw c.in-Ok-Line.field-0-is at c.in-Ok-Line.ensures.step in
     let stays = λ (new : has_ended c.next.new.self ≡ false). not_true (has_ended c.args.lines.now) (λ old. let e = (c.in-Ok-Line.ensures.end_seen old).0 in cc (e, c.in-Ok-Line.field-0-is)) in
+    let line = call_of (current c.next.new.self) in
     let asked : line_of_call c.parse-call.result ≡ call_of (current c.next.new.self) = c.parse-call.ensures.call ∙ ap call_of c.line.ensures in
-    line_more so_far (call_of (current c.next.new.self)) c.answer-in-Ok-Line.new.session.volume c.answer-in-Ok-Line.new.session.volume.stopped (g.P.Pm.view c.answer-in-Ok-Line.new.pm).words (g.P.Pm.view c.answer-in-Ok-Line.new.pm).trail c.answer-in-Ok-Line.result c.end_of_write-in-Ok-Line.result
-    (has_ended c.next.new.self) (rest_of (pending c.next.new.self) (g.S.Source.left c.next.new.source)) (g.K.Sink.taken c.answer-in-Ok-Line.new.sink) c.end_of_write-in-Ok-Line.ensures.cut is
-    (subst (λ (l : Line). Turned c.args.session.now.volume.size (last_state start so_far.states) c.args.session.now.volume.stopped l c.answer-in-Ok-Line.new.session.volume c.answer-in-Ok-Line.new.session.volume.stopped (g.P.Pm.view c.args.pm.now).trail (g.P.Pm.view c.answer-in-Ok-Line.new.pm).words (g.P.Pm.view c.answer-in-Ok-Line.new.pm).trail c.answer-in-Ok-Line.result (g.K.Sink.taken c.args.sink.now) (g.K.Sink.taken c.answer-in-Ok-Line.new.sink)
-    (g.P.Pm.view c.args.pm.now).fences (g.P.Pm.view c.answer-in-Ok-Line.new.pm).fences (g.P.Pm.view c.args.pm.now).acks (g.P.Pm.view c.answer-in-Ok-Line.new.pm).acks) asked (c.answer-in-Ok-Line.ensures.turned (last_state start so_far.states) (λ was. (so_far.going was).stands)))
-    (taken_told so_far.lines (has_ended c.args.lines.now) (has_ended c.next.new.self) script (rest_of (pending c.args.lines.now) (g.S.Source.left c.args.source.now)) (rest_of (pending c.next.new.self) (g.S.Source.left c.next.new.source)) (current c.next.new.self) (read_count c.next.new.self) so_far.are_taken stays step.1)
-
-pub returns-in-Ok-Line-clause-ends : goal.returns-in-Ok-Line-clause-ends
-returns-in-Ok-Line-clause-ends g c start first script taken reads so_far counted counts =
-    let step = rw c.in-Ok-Line.field-0-is at c.in-Ok-Line.ensures.step in
-    let stays = λ (new : has_ended c.next.new.self ≡ false). not_true (has_ended c.args.lines.now) (λ old. let e = (c.in-Ok-Line.ensures.end_seen old).0 in cc (e, c.in-Ok-Line.field-0-is)) in
-    let asked : line_of_call c.parse-call.result ≡ call_of (current c.next.new.self) = c.parse-call.ensures.call ∙ ap call_of c.line.ensures in
-    line_ends first (g.P.Pm.view c.args.pm.now) (g.P.Pm.view c.answer-in-Ok-Line.new.pm) so_far (call_of (current c.next.new.self)) c.answer-in-Ok-Line.new.session.volume c.answer-in-Ok-Line.new.session.volume.stopped reads c.answer-in-Ok-Line.result c.end_of_write-in-Ok-Line.result
-    (has_ended c.next.new.self) (rest_of (pending c.next.new.self) (g.S.Source.left c.next.new.source)) (g.S.Source.left c.next.new.source) (g.K.Sink.taken c.answer-in-Ok-Line.new.sink) (read_count c.next.new.self) c.end_of_write-in-Ok-Line.ensures.whole c.end_of_write-in-Ok-Line.ensures.cut
-    (subst (λ (l : Line). Turned c.args.session.now.volume.size (last_state start so_far.states) c.args.session.now.volume.stopped l c.answer-in-Ok-Line.new.session.volume c.answer-in-Ok-Line.new.session.volume.stopped (g.P.Pm.view c.args.pm.now).trail (g.P.Pm.view c.answer-in-Ok-Line.new.pm).words (g.P.Pm.view c.answer-in-Ok-Line.new.pm).trail c.answer-in-Ok-Line.result (g.K.Sink.taken c.args.sink.now) (g.K.Sink.taken c.answer-in-Ok-Line.new.sink)
-    (g.P.Pm.view c.args.pm.now).fences (g.P.Pm.view c.answer-in-Ok-Line.new.pm).fences (g.P.Pm.view c.args.pm.now).acks (g.P.Pm.view c.answer-in-Ok-Line.new.pm).acks) asked (c.answer-in-Ok-Line.ensures.turned (last_state start so_far.states) (λ was. (so_far.going was).stands)))
-    (taken_told so_far.lines (has_ended c.args.lines.now) (has_ended c.next.new.self) script (rest_of (pending c.args.lines.now) (g.S.Source.left c.args.source.now)) (rest_of (pending c.next.new.self) (g.S.Source.left c.next.new.source)) (current c.next.new.self) (read_count c.next.new.self) so_far.are_taken stays step.1)
-    (counted_on 0 _ _ script _ _ counted c.in-Ok-Line.ensures.counted) counts c.answer-in-Ok-Line.ensures.size
+    let input = input_of c.next.new.self (g.S.Source.left c.next.new.source) in
+    let has_taken = takes_line c.args.lines.now c.next.new.self so_far.has_taken stays c.in-Ok-Line.ensures.counted (current c.next.new.self) step.1 in
+    let done = c.answer-in-Ok-Line in
+    let old = on c.args.session.now.volume (g.P.Pm.view c.args.pm.now) in
+    let new = on done.new.session.volume (g.P.Pm.view done.new.pm) in
+    subst (GoesOrEnds so_far line input has_taken (g.K.Sink.took done.new.sink) new) (sym c.flow_of_write-in-Ok-Line.ensures)
+    (line_goes so_far line input has_taken (g.K.Sink.took done.new.sink) new done.ensures.moves done.result
+    (subst (λ (l : Line). Turned old.volume.size (last_state start so_far.states) l old new done.result (g.K.Sink.took c.args.sink.now) (g.K.Sink.took done.new.sink)) asked
+    (done.ensures.turned (last_state start so_far.states) (λ was. (so_far.going was).stands))))

@@ -1,4 +1,4 @@
-use Rattle.std.proofs.Common.{◌≡◌, ℕ, ◌*◌, ◌/◌, List, length, ap, subst, ◌∙◌, arith}
+use Rattle.std.proofs.Common.{rules, ◌≡◌, ℕ, ◌*◌, ◌/◌, List, length, ap, subst, ◌∙◌, arith}
 use Rattle.std.specs.Prelude.{Option}
 use Rattle.pm_trait.specs.Trail.{Trail}
 use Rattle.pm_trait.specs.Device.{LeavesOnly, IsHonest}
@@ -6,8 +6,8 @@ use Rattle.pm_trait.proofs.ContinuesLaws.{no_acks_told}
 use Rattle.format_ops.specs.Stops.{IsOldHiddenOrFormatted}
 use Rattle.layout.specs.Format.{IsFormattedFrom}
 use Rattle.image_reading.specs.Laws.{IsFresh}
-use Rattle.io_edge.specs.Bytes.{with_bytes}
-use Rattle.squirrel_cli.specs.Texts.{formatted_text}
+use Rattle.io_edge.specs.Bytes.{Takes, TakesPrefix}
+use Rattle.script.specs.Texts.{formatted_text}
 use Rattle.squirrel_cli.proofs.Unacknowledged.{leaves_unacknowledged}
 use Rattle.squirrel_cli.proofs.mkfs.make_volume.Goals as goal
 
@@ -22,38 +22,44 @@ format_leaves {a = a} {b = b} {old = old} pages before behind stays leaves long 
     let made : length old / 512 ≡ pages = omega (arith, long) in
     leaves_unacknowledged (subst (λ (p : ℕ). LeavesOnly a b (λ k. IsOldHiddenOrFormatted p old)) made leaves) (no_acks_told b leaves.continues before behind stays)
 
-pub returns-in-Ok-write_all-clause-any_moment : goal.returns-in-Ok-write_all-clause-any_moment
-returns-in-Ok-write_all-clause-any_moment g c long =
-    format_leaves c.args.pages (g.met.P.Pm.honest c.args.pm.now) (g.met.P.Pm.honest c.format.new.pm) c.format.ensures.acks c.format.ensures.any_moment long
+pub returns-in-Ok-write_formatted-clause-makes : goal.returns-in-Ok-write_formatted-clause-makes
+returns-in-Ok-write_formatted-clause-makes g c =
+    let here = c.in-Some.ensures in
+    let made = pages_of (g.P.Pm.view c.args.pm.now).words c.image.result.now c.args.pages c.image.ensures here.1 in
+    record {
+      formatted = λ ends. subst (λ (p : ℕ). IsFormattedFrom p (g.P.Pm.view c.args.pm.now).words (g.P.Pm.view c.format.new.pm).words) made c.in-Ok.ensures.formatted;
+      fresh = λ ends. subst (λ (p : ℕ). IsFresh p (g.P.Pm.view c.format.new.pm).words) made c.in-Ok.ensures.fresh;
+      no_fault = search rules;
+      told = λ done. subst (λ (p : ℕ). Takes (g.K.Sink.took c.args.out.now) (formatted_text p) (g.K.Sink.took c.write_formatted.new.sink)) here.0 c.in-Ok-write_formatted.ensures.whole;
+      cut = search rules;
+      any_moment = λ long. format_leaves c.args.pages (g.met.P.Pm.honest c.args.pm.now) (g.met.P.Pm.honest c.format.new.pm) c.format.ensures.acks c.format.ensures.any_moment long;
+      fences = search rules;
+      acks = c.format.ensures.acks;
+    }
 
-pub returns-in-Err-clause-any_moment : goal.returns-in-Err-clause-any_moment
-returns-in-Err-clause-any_moment g c long =
-    format_leaves c.args.pages (g.met.P.Pm.honest c.args.pm.now) (g.met.P.Pm.honest c.format.new.pm) c.format.ensures.acks c.format.ensures.any_moment long
+pub returns-in-Err-clause-makes : goal.returns-in-Err-clause-makes
+returns-in-Err-clause-makes g c =
+    let here = c.in-Some.ensures in
+    let made = pages_of (g.P.Pm.view c.args.pm.now).words c.image.result.now c.args.pages c.image.ensures here.1 in
+    record {
+      formatted = λ ends. subst (λ (p : ℕ). IsFormattedFrom p (g.P.Pm.view c.args.pm.now).words (g.P.Pm.view c.format.new.pm).words) made c.in-Ok.ensures.formatted;
+      fresh = λ ends. subst (λ (p : ℕ). IsFresh p (g.P.Pm.view c.format.new.pm).words) made c.in-Ok.ensures.fresh;
+      no_fault = search rules;
+      told = search rules;
+      cut = λ is. subst (λ (p : ℕ). TakesPrefix (g.K.Sink.took c.args.out.now) (formatted_text p) (g.K.Sink.took c.write_formatted.new.sink)) here.0 c.in-Err.ensures.cut;
+      any_moment = λ long. format_leaves c.args.pages (g.met.P.Pm.honest c.args.pm.now) (g.met.P.Pm.honest c.format.new.pm) c.format.ensures.acks c.format.ensures.any_moment long;
+      fences = search rules;
+      acks = c.format.ensures.acks;
+    }
 
-pub returns-in-Err-PmFault-clause-any_moment : goal.returns-in-Err-PmFault-clause-any_moment
-returns-in-Err-PmFault-clause-any_moment g c long =
-    format_leaves c.args.pages (g.met.P.Pm.honest c.args.pm.now) (g.met.P.Pm.honest c.format.new.pm) c.format.ensures.acks c.format.ensures.any_moment long
-
-pub returns-in-Ok-write_all-clause-formatted : goal.returns-in-Ok-write_all-clause-formatted
-returns-in-Ok-write_all-clause-formatted g c ends =
-    subst (λ (p : ℕ). IsFormattedFrom p (g.P.Pm.view c.args.pm.now).words (g.P.Pm.view c.format.new.pm).words)
-    (pages_of (g.P.Pm.view c.args.pm.now).words c.image.result.now c.args.pages c.image.ensures c.in-Some.ensures.words) c.in-Ok.ensures.formatted
-
-pub returns-in-Ok-write_all-clause-fresh : goal.returns-in-Ok-write_all-clause-fresh
-returns-in-Ok-write_all-clause-fresh g c ends =
-    subst (λ (p : ℕ). IsFresh p (g.P.Pm.view c.format.new.pm).words)
-    (pages_of (g.P.Pm.view c.args.pm.now).words c.image.result.now c.args.pages c.image.ensures c.in-Some.ensures.words) c.in-Ok.ensures.fresh
-
-pub returns-in-Ok-write_all-clause-told : goal.returns-in-Ok-write_all-clause-told
-returns-in-Ok-write_all-clause-told g c ends =
-    c.in-Ok-write_all.ensures.ok ∙ ap (λ (text : List ℕ). with_bytes (g.K.Sink.taken c.args.out.now) text) (c.as_slice.ensures.value ∙ c.formatted_line.ensures ∙ ap formatted_text c.in-Some.ensures.pages)
-
-pub returns-in-Err-clause-formatted : goal.returns-in-Err-clause-formatted
-returns-in-Err-clause-formatted g c ends =
-    subst (λ (p : ℕ). IsFormattedFrom p (g.P.Pm.view c.args.pm.now).words (g.P.Pm.view c.format.new.pm).words)
-    (pages_of (g.P.Pm.view c.args.pm.now).words c.image.result.now c.args.pages c.image.ensures c.in-Some.ensures.words) c.in-Ok.ensures.formatted
-
-pub returns-in-Err-clause-fresh : goal.returns-in-Err-clause-fresh
-returns-in-Err-clause-fresh g c ends =
-    subst (λ (p : ℕ). IsFresh p (g.P.Pm.view c.format.new.pm).words)
-    (pages_of (g.P.Pm.view c.args.pm.now).words c.image.result.now c.args.pages c.image.ensures c.in-Some.ensures.words) c.in-Ok.ensures.fresh
+pub returns-in-Err-PmFault-clause-makes : goal.returns-in-Err-PmFault-clause-makes
+returns-in-Err-PmFault-clause-makes g c = record {
+  formatted = search rules;
+  fresh = search rules;
+  no_fault = search rules;
+  told = search rules;
+  cut = search rules;
+  any_moment = λ long. format_leaves c.args.pages (g.met.P.Pm.honest c.args.pm.now) (g.met.P.Pm.honest c.format.new.pm) c.format.ensures.acks c.format.ensures.any_moment long;
+  fences = search rules;
+  acks = c.format.ensures.acks;
+}

@@ -1,0 +1,45 @@
+-- What a job answers, and what it leaves.
+use Rattle.std.specs.Prelude.{◌≡◌, ◌⊎◌, ℕ, ◌+◌, ◌*◌, ◌≤◌, List, length, Option, Some, IsSome}
+use Rattle.pm_trait.specs.Device.{LeavesOnly}
+use Rattle.pm_trait.specs.DeviceView.{DeviceView}
+use Rattle.io_edge.specs.Bytes.{Takes, TakesPrefix}
+use Rattle.layout.specs.Format.{IsFormattedFrom}
+use Rattle.script.specs.Texts.{formatted_text, not_a_volume_text, damaged_text}
+use Rattle.image_reading.specs.Laws.{IsFresh}
+use Rattle.image_reading.specs.declared.Violation.{Violation}
+use Rattle.format_ops.specs.Stops.{IsOldHiddenOrFormatted}
+use Rattle.mount_scan.specs.Mounting.{HoldsVolume, IsTidy, IsDamage}
+use Rattle.squirrel_cli.specs.declared.job.Job.{Job}
+use Rattle.squirrel_cli.specs.declared.job.Job.TheVariants.{Run}
+use Rattle.squirrel_cli.specs.declared.status.Status.{Status}
+use Rattle.squirrel_cli.specs.declared.status.Status.TheVariants.{Done, NoMemory, NotVolume, Damaged, WriteFault}
+use Rattle.squirrel_cli.specs.Ends.{end_of}
+use Rattle.squirrel_cli.specs.Told.{IsTold}
+
+-- What a status tells of a device with these words, and what was written of it. Only `run` is answered so.
+pub record Tells (result : Status) (job : Option Job) (words : List ℕ) (took now : List ℕ → Type 0) : Type 0 where
+  pub not_volume : result ≡ NotVolume → (job ≡ Some Run) × ¬ HoldsVolume words × Takes took not_a_volume_text now
+  pub damaged : (violation : Violation) → result ≡ Damaged violation
+      → (job ≡ Some Run) × HoldsVolume words × IsDamage words violation × Takes took (damaged_text violation.rule violation.place) now
+  -- a run has ended on a volume that needs no recovery, or the text of a refusal was cut
+  pub answered : job ≡ Some Run → IsSome (end_of result) → IsTidy words ⊎ (result ≡ WriteFault) × ¬ IsTidy words
+
+-- `mkfs` makes the device a fresh volume of so many pages, and tells its numbers. It leaves the root alone, and every word of the
+-- data pages as it was; a crash in it leaves the old words, no volume, or the fresh one. It acknowledges nothing.
+pub record Makes (pages : ℕ) (result : Status) (before after : DeviceView) (took now : List ℕ → Type 0) : Type 0 where
+  pub formatted : (result ≡ Done) ⊎ (result ≡ WriteFault) → IsFormattedFrom pages before.words after.words
+  pub fresh : (result ≡ Done) ⊎ (result ≡ WriteFault) → IsFresh pages after.words
+  pub no_fault : (result ≡ Done) ⊎ (result ≡ WriteFault) → after.faults ≡ before.faults
+  pub told : result ≡ Done → Takes took (formatted_text pages) now
+  pub cut : result ≡ WriteFault → TakesPrefix took (formatted_text pages) now
+  pub any_moment : length before.words ≡ 512 * pages → LeavesOnly before.trail after.trail (λ acks image. (acks ≡ 0) × IsOldHiddenOrFormatted pages before.words image)
+  pub fences : after.fences ≤ before.fences + 3
+  pub acks : after.acks ≡ before.acks
+
+-- `run` tells that the device is no volume, or which rule it breaks first and where, or that it needs recovery, and leaves it alone.
+pub record Refuses (result : Status) (before after : DeviceView) (took now : List ℕ → Type 0) : Type 0 where
+  pub not_volume : ¬ HoldsVolume before.words → IsTold NotVolume not_a_volume_text result took now
+  pub damaged : HoldsVolume before.words → (result ≡ NoMemory)
+      ⊎ (violation : Violation) × IsDamage before.words violation × IsTold (Damaged violation) (damaged_text violation.rule violation.place) result took now
+  pub words : after.words ≡ before.words
+  pub trail : after.trail ≡ before.trail

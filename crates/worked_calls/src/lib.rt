@@ -1,0 +1,7 @@
+//! Worked examples of the calls below the top one, on a device in memory and on one in a file.
+#![tactic(auto)]
+
+#[cfg(test)]
+mod entries;
+#[cfg(test)]
+mod files;
