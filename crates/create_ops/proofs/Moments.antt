@@ -27,13 +27,6 @@ quiet_weaker Q R implies run = leaves_weaker {P = Quietly Q} {Q = Quietly R} (λ
 pub no_ack_then : {a b c : Option Trail} {P Q : ℕ → List ℕ → Type 0} → LeavesOnly a b P → LeavesOnly b c Q → acks_from a b (moment_of b) ≡ 0 → acks_from b c (moment_of c) ≡ 0 → acks_from a c (moment_of c) ≡ 0
 no_ack_then one two none also = let joined = acks_from-then one.continues two.continues in omega (arith, joined, none, also)
 
-pub acks_none_then : {a b c d : Option Trail} {P Q R : ℕ → List ℕ → Type 0} → LeavesOnly a b P → LeavesOnly b c Q → LeavesOnly c d R → acks_from a b (moment_of b) ≡ 0 → acks_from b c (moment_of c) ≡ 0 → acks_from c d (moment_of d) ≡ 0
-    → acks_from a d (moment_of d) ≡ 0
-acks_none_then one two three none also last =
-    let joined = acks_from-then (continues_then one.continues two.continues) three.continues in
-    let first = no_ack_then one two none also in
-    omega (arith, joined, first, last)
-
 pub on_ok : {T E F : Type 0} (result : Result T E) → F → OnOk result F
 on_ok (Ok done) holds = holds
 on_ok (Err fault) holds = tt

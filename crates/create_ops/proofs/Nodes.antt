@@ -39,10 +39,6 @@ name_stored {a} {c = c} {lines = lines} P s dentry pages slot both run flushes =
     subst (λ (count : ℕ). Stores (IsNameWord P s) a c (14 + count)) both
     (subst (λ (p : ℕ). Stores (IsNameWord p s) a c (14 + lines)) pages (subst (λ (k : ℕ). Stores (IsNameWord dentry.pages k) a c (14 + lines)) slot (stores_flushed run (lines_stores flushes))))
 
--- nothing is counted of a file
-pub no_links : {a : DeviceView} (directory : ℕ) → Stores (IsParentWord AFile directory) a a 2
-no_links {a} directory = stores_weaker 2 (λ word none. none) (omega arith) (stores_nothing a)
-
 -- ---- the commit
 
 pub commit_flushed : {trail : Option Trail} (P Q s t : ℕ) → Q ≡ P → t ≡ s → ((word : ℕ) → IsSlotWord Q t word → IsFlushed trail word) → (word : ℕ) → word ≡ slot_word_of P s 0 → IsFlushed trail word

@@ -36,7 +36,7 @@ ack_counts (Some trail) {new} appended told is =
 pub stands_at : (volume : VolumeView) (device : DeviceView) {state : State} → StandsFor volume device state → IsAt volume.size state device.words
 stands_at volume device stands = record { tidy = stands.tidy; reads = stands.reads }
 
--- the state that a line leaves is one that a stop in it may leave
+-- the state that a line leaves is one that a crash in it may leave
 pub may_be_after : (P : ℕ) (old : State) (line : Line) (answer : Answer) (new : State) (words : List ℕ) → LineStep P old line answer new → IsAt P new words
     → MayReadAs P old (command_of (Some line)) words
 may_be_after P old (Ok command) answer new words (inl step) is =
@@ -46,7 +46,7 @@ may_be_after P old (Ok command) answer new words (inr lacks) is =
 may_be_after P old (Err fault) answer new words step is =
     record { sound = is.tidy.sound; tree = new.tree; reads = is.reads.tree; allowed = ap (λ (s : State). s.tree) step.1 }
 
--- what a stop with no line running may leave, it may leave with any line running
+-- what a crash with no line running may leave, it may leave with any line running
 pub may_more : (P : ℕ) (state : State) (line : Line) (image : List ℕ) → MayReadAs P state None image → MayReadAs P state (command_of (Some line)) image
 may_more P state (Ok command) image may = record { sound = may.sound; tree = may.tree; reads = may.reads; allowed = inl may.allowed }
 may_more P state (Err fault) image may = may

@@ -1,4 +1,4 @@
--- What a stop leaves where nothing happens, or an acknowledgement alone.
+-- What a crash leaves where nothing happens, or an acknowledgement alone.
 use Rattle.std.proofs.Common.{◌≡◌, inl, inr, ℕ, ◌+◌, ◌≤◌, List, [], ◌∷◌, length, take, Contains, refl, sym, ap, subst, arith, length-append}
 use Rattle.std.proofs.lemmas.Bool.{cases_lt}
 use Rattle.std.specs.Prelude.{Option, Some, None, slice_index}
@@ -23,7 +23,7 @@ whole : {A : Type 0} (xs : List A) → take (length xs) xs ≡ xs
 whole [] = refl
 whole (x ∷ xs) = ap (λ rest. x ∷ rest) (whole xs)
 
--- the words of a settled device are among what a stop may leave
+-- the words of a settled device are among what a crash may leave
 left_here : (now : List ℕ) (trail : Trail) → IsSettledAt now (Some trail) → MayLeave (Some trail) (length trail.events) now
 left_here now trail settled =
     subst (λ (events : List Event). IsCrashImage (record { base = trail.base; events = events }) now) (sym (whole trail.events)) (record {

@@ -17,7 +17,7 @@ pub record IsListing (volume : VolumeView) (device : DeviceView) (inode : ℕ) (
   pub directory : is_directory state.tree inode ≡ true
   pub names_are : names ≡ names_in state.tree inode
 
--- the volume has all that is written of the answer; no read has come yet
+-- the volume has all that is written of the answer; nothing has been read yet
 abbrev pub IsTold : VolumeView → DeviceView → Answer → Type 0
 IsTold volume device Done = Unit {0}
 IsTold volume device (Count n) = Unit {0}

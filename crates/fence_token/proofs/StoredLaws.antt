@@ -68,15 +68,6 @@ flushes_nothing device = record {
   stores_none = interval_empty device.words device.trail;
 }
 
-pub flushes_line : {a b : DeviceView} {line : ℕ} → Performs a b (Flush line ∷ []) → Flushes a b (Flush line ∷ []) 1
-flushes_line {line = line} performed = record {
-  words = performed.words;
-  trail = performed.trail;
-  room = performed.room;
-  counts = performed.counts;
-  stores_none = interval_flush line performed.words performed.trail;
-}
-
 pub flushes_then : {a b c : DeviceView} {first second : List Event} {m n : ℕ} → Flushes a b first m → Flushes b c second n → Flushes a c (first ++ second) (m + n)
 flushes_then {a} {first = first} {second = second} one two = record {
   words = two.words ∙ one.words;

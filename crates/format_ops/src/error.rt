@@ -11,7 +11,7 @@ pub enum FormatError {
     /// The device is not of so many words as a volume has.
     #[error("not the size of a volume")]
     BadSize,
-    /// A fence failed. What a stop may leave is no volume, or the old one or the new one whole.
+    /// A fence failed. What a crash may leave is no volume, or the old one or the new one whole.
     #[error("the device failed")]
     PmFault,
     /// The device had no room for the events. It was not written.

@@ -1,4 +1,4 @@
-//! Makes a device an empty volume, so that a stop at any moment leaves the old words, no volume, or the whole new one.
+//! Makes a device an empty volume, so that a crash at any moment leaves the old words, no volume, or the whole new one.
 #![tactic(auto)]
 
 mod error;

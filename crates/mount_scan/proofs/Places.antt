@@ -54,12 +54,6 @@ module _ (P : ℕ) (I : List ℕ) where
             of_others = λ other. absurd (other file);
           }
 
-pub same_twice : (inode : ℕ) (first second third : List NodeView) → IsSameElsewhere inode first second → IsSameElsewhere inode second third → IsSameElsewhere inode first third
-same_twice inode first second third one two = record {
-  inodes = two.inodes ∙ one.inodes;
-  others = λ other apart. two.others other apart ∙ one.others other apart;
-}
-
 -- as many pages as bytes of a size take
 pub pages_counted : (count size : ℕ) → count ≡ div_ceil size 4096 → count ≡ pages_of_size size
 unfolding pages_of_size

@@ -21,13 +21,6 @@ pub listed_last : (lines : List ℕ) (line : ℕ) → is_listed (lines ++ line �
 listed_last [] line = grind (arith, common_steps)
 listed_last (first ∷ lines) line = let rest = listed_last lines line in rw rest (grind (arith, common_steps))
 
--- a line that was listed is listed still
-pub listed_still : (lines : List ℕ) (line other : ℕ) → is_listed lines other ≡ true → is_listed (lines ++ line ∷ []) other ≡ true
-listed_still lines line other was = elim (cases_eq other line) [
-  | inl same ↦ rw same (listed_last lines line)
-  | inr differs ↦ listed_other lines line other differs ∙ was
-]
-
 -- one more line was given
 adds_more : (before mid after words lines : List ℕ) (line : ℕ) (eight : List ℕ) → ((k : ℕ) → k < 8 → slice_index eight k ≡ slice_index words (8 * line + k)) → AddsLines before mid words lines → AddsLine mid after line eight → AddsLines before after words (lines ++ line ∷ [])
 adds_more before mid after words lines line eight part had has = record {

@@ -8,7 +8,7 @@ abbrev pub mirrored_words : {F : Type 0} → Option (Mirror F) → List ℕ
 mirrored_words None = []
 mirrored_words (Some mirror) = mirror.words.items
 
--- The medium has the words of each line that was flushed, and no stop takes them from it; all its other words are as they
+-- The medium has the words of each line that was flushed, and no crash takes them from it; all its other words are as they
 -- were. Where there is none nothing is said.
 abbrev pub IsGiven : {F : Type 0} → (F → Option (List ℕ)) → (F → Option (List ℕ)) → Option (Mirror F) → Option (Mirror F) → Type 0
 IsGiven held safe None new = ⊤

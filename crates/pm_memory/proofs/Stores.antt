@@ -27,25 +27,12 @@ all_to_come base events keep numbers chooses = record {
     within : (word : ℕ) → word < length numbers → word < length base
     within word inside = omega (arith, inside, chooses.long)
 
-none_left : (value number : ℕ) → number ≤ 0 → get_or (value ∷ []) number 0 ≡ value
-none_left value zero none = refl
-none_left value (suc number) none = absurd (omega arith)
-
 -- it is said of the lists and events themselves
 pub to_come_of : {wanted : ℕ → ℕ} {image other numbers others : List ℕ} {later rest : List Event} → image ≡ other → numbers ≡ others → later ≡ rest → IsStillToCome wanted image numbers later → IsStillToCome wanted other others rest
 to_come_of {wanted} {image} {other} {numbers} {others} {later} {rest} same_image same_numbers same_events to_come =
     subst (λ (l : List ℕ). IsStillToCome wanted l others rest) same_image
     (subst (λ (l : List ℕ). IsStillToCome wanted image l rest) same_numbers
     (subst (λ (l : List Event). IsStillToCome wanted image numbers l) same_events to_come))
-
--- after the last event the image is the wanted one
-pub all_made : (base : List ℕ) (events : List Event) (keep image numbers : List ℕ) → length numbers ≡ length base → IsStillToCome (chosen (record { base = base; events = events }) keep) image numbers [] → IsChosenImage (record { base = base; events = events }) keep image
-all_made base events keep image numbers long made = record {
-  long = made.long ∙ long;
-  each = λ word inside.
-      let within : word < length numbers = omega (arith, inside, long) in
-      sym (made.each word within ∙ none_left (get_or image word 0) (get_or numbers word 0) (made.within word within));
-}
 
 -- the number that is reckoned from the counts
 pub chosen_number : (events : List Event) (keep : List ℕ) (word rank unsettled stores : ℕ) → unsettled ≡ length (unsettled_stores word events) → stores ≡ length (stores_to word events) → rank ≡ rank_of (record { base = []; events = events }) word → stores - unsettled + get_or keep (rank % length keep) 0 % (unsettled + 1) ≡ chosen_store events keep word

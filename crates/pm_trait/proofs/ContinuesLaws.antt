@@ -1,4 +1,4 @@
--- Laws of trails that go on: their moments, their acknowledgements and what a stop may leave at a moment.
+-- Laws of trails that go on: their moments, their acknowledgements and what a crash may leave at a moment.
 use Rattle.std.proofs.Common.{◌≡◌, ℕ, zero, suc, ◌+◌, ◌-◌, ◌<◌, ◌≤◌, List, [], ◌∷◌, ◌++◌, length, get_or, take, drop, refl, sym, ◌∙◌, ap, subst, arith, append_assoc, length-append, take-append-drop}
 use Rattle.std.specs.Prelude.{Option, Some, None, IfSome, slice_get}
 use Rattle.std.proofs.lemmas.List.{append-nil, take-append-le, get_or_append_left, get_or-append-add}
@@ -46,7 +46,7 @@ moment_of-more (Some trail) more = omega (arith, length-append trail.events more
 pub moment_of-continues : {old new : Option Trail} → Continues old new → moment_of old ≤ moment_of new
 moment_of-continues {old} {new} run = subst (λ (t : Option Trail). moment_of old ≤ moment_of t) (sym run.appended) (moment_of-more old run.more)
 
--- what a stop may leave at a moment does not change with what comes later
+-- what a crash may leave at a moment does not change with what comes later
 pub may_leave-more : (trail : Option Trail) (more : List Event) (moment : ℕ) (image : List ℕ) → moment ≤ moment_of trail → MayLeave (with_events trail more) moment image → MayLeave trail moment image
 may_leave-more None more moment image upto may = may
 may_leave-more (Some trail) more moment image upto may =

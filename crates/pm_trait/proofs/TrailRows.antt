@@ -1,4 +1,4 @@
--- What a stop may leave of the first word, which was 5, after some events: the settled value, then the later stores.
+-- What a crash may leave of the first word, which was 5, after some events: the settled value, then the later stores.
 use Rattle.std.proofs.Common.{◌≡◌, ℕ, List, [], ◌∷◌, refl}
 use Rattle.pm_trait.specs.declared.event.Event.{Event}
 use Rattle.pm_trait.specs.declared.event.Event.TheVariants.{Store, Flush, Fence, BadFence, Ack}

@@ -4,16 +4,16 @@ use Rattle.pm_trait.specs.declared.event.Event.TheVariants.{Fence, Ack}
 use Rattle.pm_trait.specs.Trail.{Trail}
 use Rattle.pm_trait.specs.Device.{with_event, moment_of, MayLeave, LeavesOnly, AcksSettled, Mix, IsClean, IsFlushed, IsInFlight, IsSettledAt, IsHonest, IsInterval}
 
--- a stop leaves a settled device as it reads
+-- a crash leaves a settled device as it reads
 abbrev pub SettledLaw : Type 0
 SettledLaw = (now image : List ℕ) (trail : Option Trail) → IsSettledAt now trail → MayLeave trail (moment_of trail) image → image ≡ now
 
--- at each moment of an interval that began with settled words a stop leaves a mix of the old words and the new ones
+-- at each moment of an interval that began with settled words a crash leaves a mix of the old words and the new ones
 abbrev pub IntervalLaw : Type 0
 IntervalLaw = (is_stored : ℕ → Bool) (a b : List ℕ) (ta tb : Option Trail) → IsSettledAt a ta → IsInterval (λ word. is_stored word ≡ true) a ta b tb →
     LeavesOnly ta tb (λ acks image. (acks ≡ 0) × Mix a b image)
 
--- a fence that succeeds settles an interval whose stores are all flushed, and what a stop leaves up to its end is a mix
+-- a fence that succeeds settles an interval whose stores are all flushed, and what a crash leaves up to its end is a mix
 pub record FenceSettles (a c : List ℕ) (ta tc : Option Trail) : Type 0 where
   pub settled : IsSettledAt c tc
   pub leaves : LeavesOnly ta tc (λ acks image. (acks ≡ 0) × Mix a c image)

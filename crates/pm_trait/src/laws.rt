@@ -1,17 +1,17 @@
 // What a caller may rest on of every device, each law as a contract.
 ghost use Rattle.pm_trait.specs.Laws.{SettledLaw, IntervalLaw, FenceLaw, TicketLaw, AckLaw};
 
-/// A stop leaves a settled device as it reads.
+/// A crash leaves a settled device as it reads.
 pub fn settled_law()
     ensures { SettledLaw }
 {}
 
-/// A stop in an interval that began with settled words leaves old and new words mixed.
+/// A crash in an interval that began with settled words leaves old and new words mixed.
 pub fn interval_law()
     ensures { IntervalLaw }
 {}
 
-/// A fence settles an interval whose stores are flushed, and until its end a stop leaves old and new words mixed.
+/// A fence settles an interval whose stores are flushed, and until its end a crash leaves old and new words mixed.
 pub fn fence_law()
     ensures { FenceLaw }
 {}
@@ -21,7 +21,7 @@ pub fn ticket_law()
     ensures { TicketLaw }
 {}
 
-/// An acknowledgement changes nothing of what a stop leaves of a settled device.
+/// An acknowledgement changes nothing of what a crash leaves of a settled device.
 pub fn ack_law()
     ensures { AckLaw }
 {}

@@ -56,7 +56,7 @@ told_map None b R S f told = told
 told_map (Some a) None R S f told = absurd told
 told_map (Some a) (Some b) R S f told = f a b told
 
--- a line off the front of what was read, where the source has this left
+-- a line off the beginning of what was read, where the source has this left
 at_break : (left : Option (List ℕ)) (pending : List ℕ) (place read : ℕ) (seen : Bool) → BreaksAt newline pending place
     → IfTold (rest_of pending left) (rest_of (drop (place + 1) pending) left) (TakesLine (take place pending) read seen)
 at_break None pending place read seen found = refl

@@ -9,19 +9,6 @@ use Rattle.script.specs.Lines.{space, newline}
 use Rattle.script.specs.Texts.{answer_text, name_text}
 use Rattle.script.specs.Replies.{IsPlain, reply_text}
 
--- a plain reply has the text of its answer
-pub reply_text-reply_of : (answer : Answer) → IsPlain (reply_of answer) → reply_text (reply_of answer) ≡ answer_text answer
-reply_text-reply_of Done plain = refl
-reply_text-reply_of (Count n) plain = refl
-reply_text-reply_of (Status s) plain = refl
-reply_text-reply_of (Bytes bytes) plain = absurd plain
-reply_text-reply_of (Listed directory names) plain = absurd plain
-reply_text-reply_of (Space f) plain = refl
-reply_text-reply_of (Refused refusal) plain = refl
-reply_text-reply_of (Unread fault) plain = refl
-reply_text-reply_of Fault plain = refl
-reply_text-reply_of Stopped plain = refl
-
 join-map : (word : List ℕ) (names : List (List ℕ)) → join_with_byte space (word ∷ map name_text names) ≡ word ++ flat_map (λ name. space ∷ name_text name) names
 join-map word [] = sym (append-nil word)
 join-map word (name ∷ names) = ap (λ rest. word ++ (space ∷ rest)) (join-map (name_text name) names)

@@ -26,12 +26,12 @@ pub record IsLastLine (line : List ℕ) (read : ℕ) (seen : Bool) (old new : Li
   pub below : read < script_limit
   pub end_seen : IsTrue seen
 
--- the line was taken off the front, with its newline or as the last one
+-- the line was taken off the beginning, with its newline or as the last one
 pub record TakesLine (line : List ℕ) (read : ℕ) (seen : Bool) (old new : List ℕ) : Type 0 where
   pub unbroken : IsUnbroken line
   pub taken : (old ≡ line ++ newline ∷ new) ⊎ IsLastLine line read seen old new
 
--- a line over the limit was taken off the front
+-- a line over the limit was taken off the beginning
 pub record TakesLongLine (read : ℕ) (seen : Bool) (old new : List ℕ) : Type 0 where
   pub line : List ℕ
   pub long : line_limit < length line
@@ -42,13 +42,13 @@ pub record IsOver (old new : List ℕ) : Type 0 where
   pub before : old ≡ []
   pub now : new ≡ []
 
--- of what was to be given a front without a newline was read, and this is left in the source
+-- of what was to be given a prefix without a newline was read, and this is left in the source
 pub record BreaksOff (old left : List ℕ) : Type 0 where
   pub begun : List ℕ
   pub unbroken : IsUnbroken begun
   pub split : old ≡ begun ++ left
 
--- the front that was read raised the count by its length
+-- the prefix that was read raised the count by its length
 pub record ReadFront (before now : ℕ) (old new : List ℕ) : Type 0 where
   pub front : List ℕ
   pub split : old ≡ front ++ new
@@ -84,7 +84,7 @@ pub record ReadsOn (old_left : Option (List ℕ)) (old : List ℕ) (before : ℕ
   pub front : IfTold old_left left (ReadFront before now)
   pub never_fewer : before ≤ now
 
--- the front of a line over the limit was read and dropped
+-- the beginning of a line over the limit was read and dropped
 pub record HasSkipped (old new : List ℕ) : Type 0 where
   pub begun : List ℕ
   pub unbroken : IsUnbroken begun

@@ -171,7 +171,7 @@ fn new_buffers(rt: HostRuntime) -> Result<(), Fail> {
     Ok(())
 }
 
-// A source of bytes that are no newlines. It keeps the least room that it was lent.
+// A source of bytes that are no newlines. It keeps the least room that it was given.
 #[derive(Drop)]
 struct Probe {
     left: usize,

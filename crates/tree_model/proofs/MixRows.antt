@@ -3,7 +3,7 @@ use Rattle.std.proofs.Common.{◌≡◌, ℕ, Bool, true, false, not, List, [], 
 use Rattle.std.specs.List.{list_all}
 use Rattle.tree_model.specs.Allowed.{is_mix}
 
--- a write, the bytes before it, and bytes that are found after a stop
+-- a write, the bytes before it, and bytes that are found after a crash
 pub record CutWrite : Type 0 where
   pub offset : ℕ
   pub written : List ℕ

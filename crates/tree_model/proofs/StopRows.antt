@@ -1,4 +1,4 @@
--- What a line may get and what a stop may leave, on closed trees.
+-- What a line may get and what a crash may leave, on closed trees.
 use Rattle.std.proofs.Common.{◌≡◌, [], ◌∷◌, ◌++◌, map, refl, Ok, Err, replicate, inl, inr, IsTrue, false, true, true≢false, Some, is_some, sym, ap}
 use Rattle.layout.specs.Geometry.{inodes_of, data_pages_of}
 use Rattle.tree_model.specs.declared.command.Command.TheVariants.{Create, Mkdir, Link, Unlink, Rmdir, Rename, Write, Truncate, Read, Stat, List as Show, Df}

@@ -117,9 +117,3 @@ contains_before shorter longer entry other with there =
         | inr back ↦ inr (subst (λ es. Contains es other) (sym with.shorter_is) (Contains-append_right with.front with.back other back))
       ]
     ]
-
-pub length_with : (shorter longer : List Entry) (entry : Entry) → IsWithEntry shorter longer entry → length longer ≡ length shorter + 1
-length_with shorter longer entry with =
-    let long = ap length with.longer_is ∙ length-append with.front (entry ∷ with.back) in
-    let short = ap length with.shorter_is ∙ length-append with.front with.back in
-    omega (arith, long, short)

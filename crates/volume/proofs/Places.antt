@@ -39,9 +39,6 @@ pub in_one : (page other : ℕ) → Contains (page ∷ []) other → other ≡ p
 in_one page other (zero, lt, is) = sym is
 in_one page other (suc k, lt, is) = absurd (omega arith)
 
-none_contained : (page : ℕ) → Contains [] page → ⊥
-none_contained page (k, lt, is) = omega arith
-
 -- ---- the lowest of some
 
 less : (k other : ℕ) → nat_lt k other ≡ true → k < other
@@ -65,9 +62,6 @@ lowest_alike Q R None to from none = λ k r. none k (from k r)
 lowest_alike Q R (Some k) to from (here, before) = (to k here, (λ x lt r. before x lt (from x r)))
 
 -- ---- slots that name nothing
-
-pub vacant_in_none : (P : ℕ) (I : List ℕ) → IsLowestOf (IsVacantAmong P I []) None
-vacant_in_none P I slot vacant = none_contained (page_of_slot slot) vacant.0
 
 pub vacant_in_more : (P : ℕ) (I pages more : List ℕ) (a b : Option ℕ) → IsLowestOf (IsVacantAmong P I pages) a → IsLowestOf (IsVacantAmong P I more) b → IsLowestOf (IsVacantAmong P I (pages ++ more)) (lower_of a b)
 vacant_in_more P I pages more a b lowest lowest_too =

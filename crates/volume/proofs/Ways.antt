@@ -42,23 +42,10 @@ pub way_fails : (T : Tree) (path names : Route) (name : List ℕ) (here : ℕ) (
     → step_into T (Ok (record { path = way.front; id = here })) name ≡ Err fault → walk T path ≡ Err fault
 way_fails T path names name here fault way step = way.left ∙ ap (λ r. walk_on T r names) step ∙ walk_on-fault T fault names
 
-pub way_ends : (T : Tree) (path : Route) (here : ℕ) → IsOnWay T path [] here → walk T path ≡ Ok (record { path = path; id = here })
-way_ends T path here way = way.left ∙ ap (λ p. Ok (record { path = p; id = here })) (sym (append-nil way.front) ∙ way.whole)
-
 -- ---- to the directory for the last name
 
 pub parent_fails : (T : Tree) (path : Route) (fault : Refusal) → walk T (parent path) ≡ Err fault → walk_to_parent T path ≡ Err fault
 parent_fails T path fault e = ap (only_directory T) e
-
-pub parent_found : (T : Tree) (path : Route) (here : ℕ) → walk T (parent path) ≡ Ok (record { path = parent path; id = here }) → is_directory T here ≡ true
-    → walk_to_parent T path ≡ Ok (record { path = parent path; id = here })
-parent_found T path here e directory =
-    ap (only_directory T) e ∙ ap (λ b. cond b (Ok (record { path = parent path; id = here })) (Err NotDir)) directory
-
-pub parent_no_directory : (T : Tree) (path : Route) (here : ℕ) → walk T (parent path) ≡ Ok (record { path = parent path; id = here }) → is_directory T here ≡ false
-    → walk_to_parent T path ≡ Err NotDir
-parent_no_directory T path here e file =
-    ap (only_directory T) e ∙ ap (λ b. cond b (Ok (record { path = parent path; id = here })) (Err NotDir)) file
 
 -- the root has no parent but itself
 pub root_holds : (T : Tree) → IsTree T → walk_to_parent T [] ≡ Ok root_place

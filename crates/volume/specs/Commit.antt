@@ -7,7 +7,7 @@ use Rattle.tree_model.specs.Tree.{Tree}
 use Rattle.image_reading.specs.Reading.{Reads}
 
 -- The new trail goes on from the old one. At each moment from the end of the old one to the end of the new one, all that a
--- stop may leave with one value of the commit word reads as one tree: no other word that was stored changes a reading, in
+-- crash may leave with one value of the commit word reads as one tree: no other word that was stored changes a reading, in
 -- any mix.
 pub record HangsOn (P : ℕ) (old new : Option Trail) (commit : ℕ) : Type 0 where
   pub continues : Continues old new

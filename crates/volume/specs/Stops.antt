@@ -1,4 +1,4 @@
--- What a stop inside a command may leave.
+-- What a crash inside a command may leave.
 use Rattle.std.specs.Prelude.{ℕ, List, Option}
 use Rattle.tree_model.specs.Tree.{Tree}
 use Rattle.tree_model.specs.Run.{State}
@@ -7,7 +7,7 @@ use Rattle.tree_model.specs.declared.command.Command.{Command}
 use Rattle.image_reading.specs.Soundness.{Sound}
 use Rattle.image_reading.specs.Reading.{Reads}
 
--- The image is sound, and reads as a tree that a stop in this command may leave.
+-- The image is sound, and reads as a tree that a crash in this command may leave.
 pub record MayReadAs (P : ℕ) (state : State) (command : Option Command) (image : List ℕ) : Type 0 where
   pub sound : Sound P image
   pub tree : Tree

@@ -38,7 +38,13 @@ impl Volume {
         inodes: Numbers,
         data_pages: Numbers,
     ) -> Volume
-        ensures { result ≡ record { size = geometry.pages; index = index; inodes = inodes; data_pages = data_pages; stopped = false } }
+        ensures { result ≡ record {
+          size = geometry.pages;
+          index = index;
+          inodes = inodes;
+          data_pages = data_pages;
+          stopped = false;
+        } }
     {
         Volume {
             geometry,

@@ -104,7 +104,7 @@ fn the_output_is_full(rt: HostRuntime) -> Result<(), Fail> {
     Ok(())
 }
 
-// Each write fails once: the output is a front of the whole one.
+// Each write fails once: the output is a prefix of the whole one.
 #[test]
 fn a_write_fails(rt: HostRuntime) -> Result<(), Fail> {
     let volume = small_volume(rt.alloc())?;

@@ -15,7 +15,7 @@ use Rattle.squirrel_cli.proofs.mkfs.make_volume.Goals as goal
 pages_of : (now seen : List ℕ) (pages : ℕ) → seen ≡ now → length seen ≡ 512 * pages → length now / 512 ≡ pages
 pages_of now seen pages is long = let same = ap length is in omega (arith, same, long)
 
--- what a stop in a format leaves, and that it acknowledges nothing
+-- what a crash in a format leaves, and that it acknowledges nothing
 format_leaves : {a b : Option Trail} {old new : List ℕ} {fences acks fences_after acks_after : ℕ} (pages : ℕ) → IsHonest old a fences acks → IsHonest new b fences_after acks_after → acks_after ≡ acks
     → LeavesOnly a b (λ k. IsOldHiddenOrFormatted (length old / 512) old) → length old ≡ 512 * pages → LeavesOnly a b (λ k image. (k ≡ 0) × IsOldHiddenOrFormatted pages old image)
 format_leaves {a = a} {b = b} {old = old} pages before behind stays leaves long =
