@@ -1,4 +1,4 @@
--- On which word the reading of a stopped make hangs.
+-- On which word the reading of a make that crashed hangs.
 use Rattle.std.proofs.Common.{◌≡◌, ◌≢◌, inl, inr, ℕ, ◌≤◌, List, slice_index, set, sym, subst, ◌∙◌, arith, get_or-set_other}
 use Rattle.std.specs.Prelude.{Option, Result}
 use Rattle.std.proofs.lemmas.Bool.{cases_eq, cases_lt}

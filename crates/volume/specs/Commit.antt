@@ -1,4 +1,4 @@
--- On which word the reading of a stopped command hangs.
+-- On which word the reading of a command that crashed hangs.
 use Rattle.std.specs.Prelude.{◌≡◌, ℕ, ◌≤◌, List, Option}
 use Rattle.pm_trait.specs.Trail.{Trail}
 use Rattle.pm_trait.specs.Device.{moment_of, MayLeave, Continues}

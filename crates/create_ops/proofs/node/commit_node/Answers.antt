@@ -13,7 +13,7 @@ returns-in-Ok-clause-device g c =
     let dentry = c.args.node.dentry in
     let entry = c.commit-entry in
     let flush = c.flush-committed.ensures in
-    ok_ends tt c.requires.settled (slot_stored (ap (λ (d : DentryView). touched_lines d.touched) entry.ensures.object) entry.ensures.device flush.device)
+    ok_ends tt c.requires.begins.settled (slot_stored (ap (λ (d : DentryView). touched_lines d.touched) entry.ensures.object) entry.ensures.device flush.device)
     (commit_flushed dentry.pages entry.result.pages dentry.slot entry.result.slot (ap (λ (d : DentryView). d.pages) entry.ensures.object) (ap (λ (d : DentryView). d.slot) entry.ensures.object) flush.flushed)
     c.in-Ok.ensures.device
 
@@ -26,7 +26,7 @@ returns-in-Err-clause-device g c =
     let dentry = c.args.node.dentry in
     let entry = c.commit-entry in
     let flush = c.flush-committed.ensures in
-    err_ends c.in-Err.fault c.requires.settled (slot_stored (ap (λ (d : DentryView). touched_lines d.touched) entry.ensures.object) entry.ensures.device flush.device)
+    err_ends c.in-Err.fault c.requires.begins.settled (slot_stored (ap (λ (d : DentryView). touched_lines d.touched) entry.ensures.object) entry.ensures.device flush.device)
     (commit_flushed dentry.pages entry.result.pages dentry.slot entry.result.slot (ap (λ (d : DentryView). d.pages) entry.ensures.object) (ap (λ (d : DentryView). d.slot) entry.ensures.object) flush.flushed)
     c.in-Err.ensures.device
 

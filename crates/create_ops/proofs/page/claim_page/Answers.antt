@@ -20,7 +20,7 @@ returns-in-Ok-clause-device g c =
     let one = c.requires.one in
     let stores = claim_stores page.volume_pages page.pages c.args.directory one dirty.ensures.device in
     let flushes = page_flushes dirty.result.volume_pages dirty.result.pages dirty.result.touched 1 lines (ap length pages ∙ one) c.flush-claimed.ensures.device in
-    ok_ends tt c.requires.settled (stores_flushed stores flushes)
+    ok_ends tt c.requires.begins.settled (stores_flushed stores flushes)
     (claim_flushed page.volume_pages dirty.result.volume_pages page.pages dirty.result.pages volume pages one c.flush-claimed.ensures.flushed)
     c.in-Ok.ensures.device
 
@@ -34,7 +34,7 @@ returns-in-Err-clause-device g c =
     let one = c.requires.one in
     let stores = claim_stores page.volume_pages page.pages c.args.directory one dirty.ensures.device in
     let flushes = page_flushes dirty.result.volume_pages dirty.result.pages dirty.result.touched 1 lines (ap length pages ∙ one) c.flush-claimed.ensures.device in
-    err_ends c.in-Err.fault c.requires.settled (stores_flushed stores flushes)
+    err_ends c.in-Err.fault c.requires.begins.settled (stores_flushed stores flushes)
     (claim_flushed page.volume_pages dirty.result.volume_pages page.pages dirty.result.pages volume pages one c.flush-claimed.ensures.flushed)
     c.in-Err.ensures.device
 

@@ -13,7 +13,7 @@ pub at-free-requires-clause-settled : goal.at-free-requires-clause-settled
 at-free-requires-clause-settled g c =
     let geometry = c.args.geometry.now in
     page_settled geometry.pages c.args.page.now (g.P.Pm.view c.args.pm.now).words (g.P.Pm.view c.args.pm.now).trail geometry.volume_size c.requires.one
-    (subst (λ (n : ℕ). slice_index c.args.page.now 0 < n) geometry.data_pages_exact c.requires.in_range) c.requires.whole c.requires.settled
+    (subst (λ (n : ℕ). slice_index c.args.page.now 0 < n) geometry.data_pages_exact c.requires.in_range) c.requires.whole c.requires.begins.settled
 
 pub at-free-requires-clause-alike : goal.at-free-requires-clause-alike
 at-free-requires-clause-alike g c = one_page_alike c.args.geometry.now.pages c.args.page.now (g.P.Pm.view c.args.pm.now).words c.requires.one
@@ -31,7 +31,7 @@ returns-in-Ok-clause-device g c =
     let lines = ap (λ (view : PageView). touched_lines view.touched) dirty.ensures.object in
     let stores = fill_stores free.result.volume_pages free.result.pages one dirty.ensures.device in
     let flushes = page_flushes dirty.result.volume_pages dirty.result.pages dirty.result.touched 65 lines (ap length pages ∙ one) c.flush-filled.ensures.device in
-    ok_ends c.settle.result c.requires.settled (stores_flushed stores flushes)
+    ok_ends c.settle.result c.requires.begins.settled (stores_flushed stores flushes)
     (made_flushed free.result.volume_pages dirty.result.volume_pages free.result.pages dirty.result.pages volume pages one c.flush-filled.ensures.flushed)
     c.in-Ok.ensures.device
 
@@ -45,7 +45,7 @@ returns-in-Err-clause-device g c =
     let lines = ap (λ (view : PageView). touched_lines view.touched) dirty.ensures.object in
     let stores = fill_stores free.result.volume_pages free.result.pages one dirty.ensures.device in
     let flushes = page_flushes dirty.result.volume_pages dirty.result.pages dirty.result.touched 65 lines (ap length pages ∙ one) c.flush-filled.ensures.device in
-    err_ends c.in-Err.fault c.requires.settled (stores_flushed stores flushes)
+    err_ends c.in-Err.fault c.requires.begins.settled (stores_flushed stores flushes)
     (made_flushed free.result.volume_pages dirty.result.volume_pages free.result.pages dirty.result.pages volume pages one c.flush-filled.ensures.flushed)
     c.in-Err.ensures.device
 

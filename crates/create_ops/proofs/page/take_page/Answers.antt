@@ -19,11 +19,11 @@ pub returns-in-None-clause-any_moment : goal.returns-in-None-clause-any_moment
 returns-in-None-clause-any_moment g c =
     let P = c.args.geometry.now.pages in
     let W = (g.P.Pm.view c.args.pm.now).words in
-    leaves_here (Quietly (SameMeaning P W)) c.requires.settled (refl, meanings_chain.itself P W c.requires.holder.sound)
+    leaves_here (Quietly (SameMeaning P W)) c.requires.begins.settled (refl, meanings_chain.itself P W c.requires.holder.sound)
 
 pub returns-in-None-clause-stays : goal.returns-in-None-clause-stays
 returns-in-None-clause-stays g c = λ before after reads differ.
-    reads_stay_here c.args.geometry.now.pages before after c.requires.settled reads differ
+    reads_stay_here c.args.geometry.now.pages before after c.requires.begins.settled reads differ
 
 pub open_page-requires-clause-page : goal.open_page-requires-clause-page
 open_page-requires-clause-page g c = subst (MayTake c.args.geometry.now.pages (g.P.Pm.view c.args.pm.now).words) c.in-Some.is c.requires.page
@@ -37,7 +37,7 @@ returns-in-Some-clause-opened g c =
 pub returns-in-None-clause-device : goal.returns-in-None-clause-device
 returns-in-None-clause-device g c =
     let device = g.P.Pm.view c.args.pm.now in
-    subst (λ (new_page : Option ℕ). MakesIntervals {E = PmFault} device device 583 (page_fences new_page) (Ok tt)) (sym c.in-None.is) (intervals_within 583 (omega arith) (intervals_none device tt c.requires.settled))
+    subst (λ (new_page : Option ℕ). MakesIntervals {E = PmFault} device device 583 (page_fences new_page) (Ok tt)) (sym c.in-None.is) (intervals_within 583 (omega arith) (intervals_none device tt c.requires.begins.settled))
 
 pub returns-in-Some-clause-device : goal.returns-in-Some-clause-device
 returns-in-Some-clause-device g c =
