@@ -3,7 +3,6 @@ ghost use Rattle.std.specs.Prelude.{◌≡◌};
 ghost use Rattle.pm_trait.specs.DeviceView.{IsSettledView};
 
 use crate::entries::create;
-use format_ops::format;
 use mount_scan::mount;
 use pm_file::{FileFault, FilePm};
 use pm_memory::RamPm;
@@ -41,7 +40,7 @@ fn a_file_holds_the_words_of_the_calls(rt: HostRuntime) -> Result<(), Fail> {
     assert!(rt; matches!(missing, Err(FileFault::Failed)));
 
     let mut made = FilePm::make(&rt, alloc, path.as_str(), 16)?;
-    format(&mut made)?;
+    format_ops::format(&mut made)?;
     drop(made);
 
     let mut opened = FilePm::from_path(&rt, alloc, path.as_str())?;

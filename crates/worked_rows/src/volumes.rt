@@ -201,14 +201,14 @@ fn volumes_that_need_recovery(rt: HostRuntime) -> Result<(), Fail> {
 fn volumes_that_break_a_rule_by_more_words(rt: HostRuntime) -> Result<(), Fail> {
     for (changes, told) in [
         ([(1_553, 3), (1_569, 2)].as_slice(), "damaged 4 2\n"),
-        (&[(1_552, 2), (1_554, 0x61_0001)], "damaged 8 1\n"),
+        ([(1_552, 2), (1_554, 0x61_0001)].as_slice(), "damaged 8 1\n"),
         (
-            &[(513, 3), (528, 2), (529, 2), (1_552, 2), (1_554, 0x62_0001)],
+            [(513, 3), (528, 2), (529, 2), (1_552, 2), (1_554, 0x62_0001)].as_slice(),
             "damaged 9 1\n",
         ),
-        (&[(530, 0x100_0000_0001)], "damaged 11 2\n"),
+        ([(530, 0x100_0000_0001)].as_slice(), "damaged 11 2\n"),
         (
-            &[(530, 1), (1_032, 2), (1_033, 1), (1_040, 2), (1_041, 1)],
+            [(530, 1), (1_032, 2), (1_033, 1), (1_040, 2), (1_041, 1)].as_slice(),
             "damaged 13 2\n",
         ),
     ] {
