@@ -200,7 +200,7 @@ fn volumes_that_need_recovery(rt: HostRuntime) -> Result<(), Fail> {
 #[test]
 fn volumes_that_break_a_rule_by_more_words(rt: HostRuntime) -> Result<(), Fail> {
     for (changes, told) in [
-        ([(1_553, 3), (1_569, 2)].as_slice(), "damaged 4 2\n"),
+        ([(1_553usize, 3u64), (1_569, 2)].as_slice(), "damaged 4 2\n"),
         ([(1_552, 2), (1_554, 0x61_0001)].as_slice(), "damaged 8 1\n"),
         (
             [(513, 3), (528, 2), (529, 2), (1_552, 2), (1_554, 0x62_0001)].as_slice(),
