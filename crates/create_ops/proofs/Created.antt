@@ -24,7 +24,7 @@ use Rattle.layout.specs.declared.kinds.NodeKind.{NodeKind}
 use Rattle.layout.specs.declared.kinds.NodeKind.TheVariants.{File as AFile, Directory as ADirectory}
 use Rattle.volume.specs.declared.plan.NewEntry.{NewEntry}
 use Rattle.volume.specs.Planned.{IsPlace}
-use Rattle.volume.specs.Stops.{MayReadAs}
+use Rattle.volume.specs.Crashes.{MayReadAs}
 use Rattle.volume.specs.Prepared.{making}
 use Rattle.image_laws.proofs.Creates.{create_law}
 use Rattle.image_laws.proofs.PageCreates.{new_page_law}

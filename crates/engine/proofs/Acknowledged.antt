@@ -18,7 +18,7 @@ use Rattle.volume.specs.Stands.{StandsFor, Knows}
 use Rattle.image_reading.specs.Reading.{ReadsAs}
 use Rattle.image_reading.specs.Tidy.{Tidy}
 use Rattle.pm_trait.specs.DeviceView.{Acknowledges}
-use Rattle.volume.specs.Stops.{MayReadAs}
+use Rattle.volume.specs.Crashes.{MayReadAs}
 use Rattle.engine.specs.Exec.{Executed, HasAnswered}
 use Rattle.engine.specs.Quiet.{MayStore}
 use Rattle.engine.specs.Replies.{IsTold}

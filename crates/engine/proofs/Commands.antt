@@ -23,7 +23,7 @@ use Rattle.tree_model.specs.declared.reply.Reply.TheVariants as reply
 use Rattle.image_reading.specs.Reading.{Reads}
 use Rattle.volume.specs.Volume.{VolumeView}
 use Rattle.volume.specs.Stands.{StandsFor}
-use Rattle.volume.specs.Stops.{MayReadAs}
+use Rattle.volume.specs.Crashes.{MayReadAs}
 use Rattle.volume.specs.Carried.{Follows, Answers}
 use Rattle.volume.specs.Prepared.{IsRefusal, IsMaking, IsSameButPlaces, IsSameButRoom, Prepares, making}
 use Rattle.volume.specs.Planned.{IsPlanOf, fences_for, fences_of_plan}

@@ -3,7 +3,7 @@ use Rattle.std.proofs.Common.{◌≡◌, ℕ, Bool, false, List, [], refl, sym, 
 use Rattle.std.specs.Prelude.{Option, Some, None}
 use Rattle.script.specs.declared.lines.Lines.{Lines}
 use Rattle.script.specs.Reader.{pending, read_count, has_ended}
-use Rattle.script.specs.Reading.{rest_of, IfTold, ReadFront}
+use Rattle.script.specs.Reading.{rest_of, IfTold, ReadPrefix}
 use Rattle.engine.specs.Turns.{AreTakenTold, HasTaken, input_of}
 
 -- no line was taken, and nothing was read
@@ -19,6 +19,6 @@ taken_none lines script none unread unended = record {
     told None = refl
     told (Some bytes) = record { front = []; split = refl; all = refl; complete = λ is more. refl }
 
-    counted : (script : Option (List ℕ)) → IfTold script script (ReadFront 0 (read_count lines))
+    counted : (script : Option (List ℕ)) → IfTold script script (ReadPrefix 0 (read_count lines))
     counted None = refl
     counted (Some bytes) = record { front = []; split = refl; counted = omega (arith, unread) }

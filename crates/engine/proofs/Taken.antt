@@ -7,7 +7,7 @@ use Rattle.tree_model.specs.Run.{Line}
 use Rattle.tree_model.specs.declared.reply.LineFault.TheVariants.{BadLine}
 use Rattle.script.specs.Lines.{newline, script_limit, call_of, calls_of, complete_lines_of}
 use Rattle.script.proofs.LineLaws.{lines_of-taken, complete_lines_of-front, complete_lines_of-begun, call_of-long}
-use Rattle.script.specs.Reading.{IfTold, TakesLine, TakesLongLine, IsOver, BreaksOff, ReadFront}
+use Rattle.script.specs.Reading.{IfTold, TakesLine, TakesLongLine, IsOver, BreaksOff, ReadPrefix}
 use Rattle.script.specs.declared.run_end.RunEnd.TheVariants.{Done, Faulted, ReadFault, WriteFault, Limit}
 use Rattle.engine.specs.Script.{ExecutesTold}
 use Rattle.engine.specs.Turns.{Input, AreTaken, AreTakenTold, HasTaken}
@@ -75,14 +75,14 @@ complete_taken {lines} left taken unseen breaks = (
 )
 
 -- the whole script was read
-all_read : (script left : List ℕ) (read : ℕ) → ReadFront 0 read script left → left ≡ [] → read < script_limit → length script < script_limit
+all_read : (script left : List ℕ) (read : ℕ) → ReadPrefix 0 read script left → left ≡ [] → read < script_limit → length script < script_limit
 all_read script left read counted ended below =
     let whole : length script ≡ length counted.front + length left = ap length counted.split ∙ length-append counted.front left in
     let as_many : read ≡ 0 + length counted.front = counted.counted in
     let none : length left ≡ 0 = ap length ended in
     omega (arith, whole, as_many, none, below)
 
-pub executes_done : (lines : List Line) (seen : Bool) (script rest rest_after left : Option (List ℕ)) (read : ℕ) → AreTakenTold lines seen script rest → IfTold rest rest_after IsOver → IfTold script left (ReadFront 0 read) → IsEnd left
+pub executes_done : (lines : List Line) (seen : Bool) (script rest rest_after left : Option (List ℕ)) (read : ℕ) → AreTakenTold lines seen script rest → IfTold rest rest_after IsOver → IfTold script left (ReadPrefix 0 read) → IsEnd left
     → read < script_limit → ExecutesTold Done script left lines × ExecutesTold Faulted script left lines
 executes_done lines seen None rest rest_after left read taken over counted ended below = (tt, tt)
 executes_done lines seen (Some script) None rest_after left read taken over counted ended below = absurd taken
@@ -98,7 +98,7 @@ executes_read_fault lines seen (Some script) None left taken unseen breaks = abs
 executes_read_fault lines seen (Some script) (Some rest) None taken unseen breaks = absurd breaks
 executes_read_fault lines seen (Some script) (Some rest) (Some left) taken unseen breaks = complete_taken left taken unseen breaks
 
-pub executes_limit : (lines : List Line) (seen : Bool) (script rest left : Option (List ℕ)) (read : ℕ) → AreTakenTold lines seen script rest → seen ≡ false → read ≡ script_limit → IfTold rest left BreaksOff → IfTold script left (ReadFront 0 read)
+pub executes_limit : (lines : List Line) (seen : Bool) (script rest left : Option (List ℕ)) (read : ℕ) → AreTakenTold lines seen script rest → seen ≡ false → read ≡ script_limit → IfTold rest left BreaksOff → IfTold script left (ReadPrefix 0 read)
     → ExecutesTold Limit script left lines
 executes_limit lines seen None rest left read taken unseen all breaks counted = tt
 executes_limit lines seen (Some script) None left read taken unseen all breaks counted = absurd taken
@@ -113,7 +113,7 @@ executes_limit lines seen (Some script) (Some rest) (Some left) read taken unsee
 pub executes_write_fault : (lines : List Line) (script : Option (List ℕ)) (input : Input) → HasTaken lines script input → ExecutesTold WriteFault script input.left lines
 executes_write_fault lines script input has_taken = cut script input.rest input.left has_taken.told has_taken.counted
   where
-    cut : (script rest left : Option (List ℕ)) → AreTakenTold lines input.seen script rest → IfTold script left (ReadFront 0 input.read) → ExecutesTold WriteFault script left lines
+    cut : (script rest left : Option (List ℕ)) → AreTakenTold lines input.seen script rest → IfTold script left (ReadPrefix 0 input.read) → ExecutesTold WriteFault script left lines
     cut None rest left taken counted = tt
     cut (Some script) None left taken counted = absurd taken
     cut (Some script) (Some rest) None taken counted = absurd counted

@@ -14,7 +14,7 @@ use Rattle.tree_model.specs.Step.{Answer, Fault, Stopped}
 use Rattle.tree_model.specs.Run.{Line, State}
 use Rattle.tree_model.specs.declared.reply.Reply.{Reply}
 use Rattle.script.specs.Texts.{answer_text}
-use Rattle.volume.specs.Stops.{MayReadAs}
+use Rattle.volume.specs.Crashes.{MayReadAs}
 use Rattle.engine.specs.Run.{state_after, last_state, command_of, IsAt, IsBetween, IsStateAfter}
 use Rattle.engine.specs.Quiet.{MayStore, ActsOnly}
 use Rattle.engine.specs.Script.{texts_of}

@@ -13,7 +13,7 @@ use Rattle.tree_model.specs.declared.reply.Reply.TheVariants as replies
 use Rattle.image_reading.specs.Reading.{Reads}
 use Rattle.volume.specs.Volume.{VolumeView}
 use Rattle.volume.specs.Prepared.{IsSameButPlaces}
-use Rattle.volume.specs.Stops.{MayReadAs}
+use Rattle.volume.specs.Crashes.{MayReadAs}
 use Rattle.tree_model.specs.Fences.{fences_of}
 use Rattle.engine.specs.Quiet.{MayStore, ActsOnly}
 use Rattle.engine.specs.Replies.{IsReplyOf}

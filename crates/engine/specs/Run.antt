@@ -6,7 +6,7 @@ use Rattle.tree_model.specs.Run.{Line, State, LineStep, LineFails}
 use Rattle.tree_model.specs.declared.command.Command.{Command}
 use Rattle.image_reading.specs.Reading.{ReadsAs}
 use Rattle.image_reading.specs.Tidy.{Tidy}
-use Rattle.volume.specs.Stops.{MayReadAs}
+use Rattle.volume.specs.Crashes.{MayReadAs}
 
 -- The lines may get these answers, and after each that is no Fault and follows none this state. Where the device fails
 -- at a line it is answered Fault, and every later line is answered Stopped.

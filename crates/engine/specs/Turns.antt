@@ -16,7 +16,7 @@ use Rattle.script.specs.declared.run_end.RunEnd.{RunEnd}
 use Rattle.script.specs.declared.run_end.RunEnd.TheVariants as end
 use Rattle.script.specs.Lines.{call_of, calls_of, complete_lines_of}
 use Rattle.script.specs.Reader.{pending, read_count, has_ended}
-use Rattle.script.specs.Reading.{rest_of, IfTold, ReadFront}
+use Rattle.script.specs.Reading.{rest_of, IfTold, ReadPrefix}
 use Rattle.script.specs.Texts.{answer_text}
 use Rattle.engine.specs.Exec.{HasAnswered, HasFailed}
 use Rattle.tree_model.specs.Fences.{fences_of_run}
@@ -119,7 +119,7 @@ AreTakenTold lines seen (Some script) (Some rest) = AreTaken lines seen script r
 -- the lines were taken off the script, and what was read of it is counted
 pub record HasTaken (lines : List Line) (script : Option (List ℕ)) (input : Input) : Type 0 where
   pub told : AreTakenTold lines input.seen script input.rest
-  pub counted : IfTold script input.left (ReadFront 0 input.read)
+  pub counted : IfTold script input.left (ReadPrefix 0 input.read)
 
 -- the device's count of faults has risen where the volume is stopped, and is as before where it isn't
 pub record CountsFaults (stopped : Bool) (before now : ℕ) : Type 0 where

@@ -4,7 +4,8 @@ use Rattle.std.proofs.lemmas.List.{reverse-append, reverse-reverse}
 use Rattle.std.proofs.lemmas.Bool.Decides.{nat_tests}
 use Rattle.layout.specs.Fields.{slot_inode, slot_name}
 use Rattle.tree_model.specs.PathText.{Route}
-use Rattle.tree_model.specs.Tree.{Tree, route_cmp, route_cmp_total, route_cmp-IsAntisymmetric, id_at, is_in, is_number, is_root, parent, entries_in, name_count}
+use Rattle.tree_model.specs.Tree.{Tree, route_cmp, route_cmp_total, id_at, is_in, is_number, is_root, parent, entries_in, name_count}
+use Rattle.tree_model.proofs.TableLaws.{route_cmp-IsAntisymmetric}
 use Rattle.tree_model.proofs.TreeLaws.{parent-below, not_root-below, is_in-at}
 use Rattle.image_reading.specs.Counts.{Count}
 use Rattle.image_reading.specs.Reading.{slot_owner, Names, IsReachedSlot, Reads}

@@ -5,8 +5,9 @@ use Rattle.std.specs.Cmp.{nat_cmp_total}
 use Rattle.layout.specs.Fields.{inode_kind, slot_inode, slot_name}
 use Rattle.layout.specs.Geometry.{page_of_slot}
 use Rattle.tree_model.specs.PathText.{Route}
-use Rattle.tree_model.specs.Table.{get, insert, get-insert}
+use Rattle.tree_model.specs.Table.{get, insert}
 use Rattle.tree_model.specs.Tree.{Node, Directory, File, Room, pages_in}
+use Rattle.tree_model.proofs.TableLaws.{get-insert}
 use Rattle.tree_model.proofs.TreeLaws.{same_id_itself, other_id}
 use Rattle.image_reading.specs.Counts.{Count}
 use Rattle.image_reading.specs.Reading.{slot_owner, Reached, IsNode, IsRoomOf, HasRoom}

@@ -8,7 +8,7 @@ use Rattle.layout.specs.Geometry.{inodes_of}
 use Rattle.tree_model.proofs.EntryLaws.{front, back, find-below, find-first}
 use Rattle.tree_model.specs.PathText.{Route}
 use Rattle.tree_model.specs.Step.{without_path, without_unnamed}
-use Rattle.tree_model.specs.Table.{get-retain}
+use Rattle.tree_model.proofs.TableLaws.{get-retain}
 use Rattle.tree_model.specs.Tree.{Node, Tree, route_cmp, route_cmp_total, id_at, node_at, is_directory, is_directory_node}
 use Rattle.tree_model.proofs.TreeLaws.{is_same, other_route, same_id}
 use Rattle.image_reading.specs.Reading.{Names, Reached, IsNode, Reads}

@@ -5,8 +5,9 @@ use Rattle.std.specs.Cmp.{nat_cmp_total}
 use Rattle.layout.specs.Fields.{slot_inode}
 use Rattle.layout.specs.Geometry.{page_of_slot, slot_word_of}
 use Rattle.tree_model.specs.PathText.{Route}
-use Rattle.tree_model.specs.Table.{get, remove, get-remove}
+use Rattle.tree_model.specs.Table.{get, remove}
 use Rattle.tree_model.specs.Tree.{Room, pages_in}
+use Rattle.tree_model.proofs.TableLaws.{get-remove}
 use Rattle.tree_model.proofs.TreeLaws.{same_id_itself, other_id}
 use Rattle.image_reading.specs.Counts.{Count, IsIn, IsDistinct}
 use Rattle.image_reading.specs.Reading.{IsDirectory, slot_owner, Reached, IsRoomOf, HasRoom}

@@ -5,8 +5,9 @@ use Rattle.std.specs.Cmp.{nat_cmp_total}
 use Rattle.std.specs.FinMap.{nat_cmp-IsAntisymmetric}
 use Rattle.layout.specs.Geometry.{inodes_of}
 use Rattle.layout.specs.Fields.{inode_kind}
-use Rattle.tree_model.specs.Table.{table_of, get-table_of}
+use Rattle.tree_model.specs.Table.{table_of}
 use Rattle.tree_model.specs.Tree.{Room}
+use Rattle.tree_model.proofs.TableLaws.{get-table_of}
 use Rattle.image_reading.specs.Counts.{Count}
 use Rattle.image_reading.specs.Reading.{IsDirectory, Reached, IsRoomOf, HasRoom}
 use Rattle.image_reading.specs.Soundness.{IsCoherent}

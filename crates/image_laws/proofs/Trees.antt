@@ -7,8 +7,9 @@ use Rattle.std.proofs.Common.{nat_cmp}
 use Rattle.layout.specs.Geometry.{inodes_of}
 use Rattle.layout.specs.Fields.{inode_kind}
 use Rattle.tree_model.specs.PathText.{Route}
-use Rattle.tree_model.specs.Table.{table_of, get-table_of}
-use Rattle.tree_model.specs.Tree.{Node, Tree, route_cmp, route_cmp_total, route_cmp-IsAntisymmetric, is_directory, parent, last_name}
+use Rattle.tree_model.specs.Table.{table_of}
+use Rattle.tree_model.specs.Tree.{Node, Tree, route_cmp, route_cmp_total, is_directory, parent, last_name}
+use Rattle.tree_model.proofs.TableLaws.{get-table_of, route_cmp-IsAntisymmetric}
 use Rattle.image_reading.specs.Reading.{Names, Reached, IsNode, Reads}
 use Rattle.image_reading.specs.Soundness.{IsCoherent}
 use Rattle.image_counts.proofs.Paths.{one_inode}

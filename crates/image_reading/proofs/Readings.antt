@@ -2,8 +2,9 @@
 use Rattle.std.proofs.Common.{◌≡◌, ℕ, ◌≤◌, Bool, IsTrue, List, [], ◌∷◌, subst, Option, Some, None, refl, sym}
 use Rattle.std.specs.Cmp.{nat_cmp_total}
 use Rattle.std.specs.FinMap.{nat_cmp-IsAntisymmetric}
-use Rattle.tree_model.specs.Table.{get, same_table}
-use Rattle.tree_model.specs.Tree.{route_cmp_total, route_cmp-IsAntisymmetric, id_at, node_at}
+use Rattle.tree_model.specs.Table.{get}
+use Rattle.tree_model.specs.Tree.{route_cmp_total, id_at, node_at}
+use Rattle.tree_model.proofs.TableLaws.{route_cmp-IsAntisymmetric, same_table}
 use Rattle.tree_model.specs.PathText.{Route}
 use Rattle.layout.specs.Geometry.{inodes_of}
 use Rattle.layout.specs.Fields.{slot_inode, slot_name}

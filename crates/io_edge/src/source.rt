@@ -11,7 +11,7 @@ pub struct ReadFault;
 
 /// What gives bytes, in pieces of any size.
 pub trait Source {
-    /// The bytes that are left, where the source tells them.
+    /// The bytes that are left, where they are known.
     ghost left: { Self → Option (List ℕ) };
 
     /// How often a read has failed.

@@ -8,7 +8,7 @@ ghost use Rattle.volatile_index.specs.Index.{inodes_of_index, entries_of, pages_
 ghost use Rattle.volume.specs.Stands.{KnowsNodes};
 ghost use Rattle.mount_scan.specs.Building.{HasPlaces, HasPlacesOf, Holds};
 
-use layout::{FILE, Geometry, PAGE_BYTES, PAGE_SLOTS, name_of_words};
+use layout::{BYTES, FILE, Geometry, PAGE_BYTES, PAGE_SLOTS, name_of_words};
 use pm_trait::NoMemory;
 use std::alloc::Global;
 use volatile_index::Index;
@@ -77,7 +77,7 @@ fn add_page(
     if fields.owner == 0 {
         return Ok(());
     }
-    if fields.kind == FILE {
+    if fields.kind == BYTES {
         index.set_page(fields.owner, fields.offset, page);
         return Ok(());
     }

@@ -5,7 +5,7 @@ use Rattle.std.proofs.lemmas.List.{append-nil, length-take-le}
 use Rattle.io_edge.specs.Bytes.{GivesFirst, IsEnd}
 use Rattle.script.specs.Lines.{newline, line_limit, script_limit, IsUnbroken}
 use Rattle.script.specs.Places.{BreaksAt}
-use Rattle.script.specs.Reading.{rest_of, IfTold, TakesLine, TakesLongLine, IsOver, BreaksOff, GoesOn, ReadFront, ReadsOnto, ReadsOn, HasSkipped, SkipsOn}
+use Rattle.script.specs.Reading.{rest_of, IfTold, TakesLine, TakesLongLine, IsOver, BreaksOff, GoesOn, ReadPrefix, ReadsOnto, ReadsOn, HasSkipped, SkipsOn}
 use Rattle.script.specs.declared.lines.Step.{Step}
 use Rattle.script.specs.declared.lines.Step.TheVariants.{Line, TooLong, End}
 use Rattle.script.proofs.PlaceLaws.{lacks_append}
@@ -19,7 +19,7 @@ told_trans (Some a) None c R S T join first second = absurd first
 told_trans (Some a) (Some b) None R S T join first second = absurd second
 told_trans (Some a) (Some b) (Some c) R S T join first second = join a b c first second
 
-front_trans : (first second third : ℕ) (x y z : List ℕ) → ReadFront first second x y → ReadFront second third y z → ReadFront first third x z
+front_trans : (first second third : ℕ) (x y z : List ℕ) → ReadPrefix first second x y → ReadPrefix second third y z → ReadPrefix first third x z
 front_trans first second third x y z one two =
     let count_one = one.counted in
     let count_two = two.counted in
@@ -31,7 +31,7 @@ front_trans first second third x y z one two =
 
 -- ---- reads
 
-front_none : (old new : List ℕ) (count : ℕ) → old ≡ new → ReadFront count count old new
+front_none : (old new : List ℕ) (count : ℕ) → old ≡ new → ReadPrefix count count old new
 front_none old new count same = record { front = []; split = same; counted = omega arith }
 
 pub reads_none : (left : Option (List ℕ)) (pending : List ℕ) (count : ℕ) → ReadsOn left pending count left pending count
@@ -45,7 +45,7 @@ reads_trans left-0 pending-0 count-0 left-1 pending-1 count-1 left-2 pending-2 c
     let fewer_two = second.never_fewer in
     record {
       rest = second.rest ∙ first.rest;
-      front = told_trans left-0 left-1 left-2 (ReadFront count-0 count-1) (ReadFront count-1 count-2) (ReadFront count-0 count-2) (front_trans count-0 count-1 count-2) first.front second.front;
+      front = told_trans left-0 left-1 left-2 (ReadPrefix count-0 count-1) (ReadPrefix count-1 count-2) (ReadPrefix count-0 count-2) (front_trans count-0 count-1 count-2) first.front second.front;
       never_fewer = omega (arith, fewer_one, fewer_two);
     }
 
@@ -160,14 +160,14 @@ skip_on old_left old count-0 left-1 none count-1 left-2 pending count-2 skips em
     let fewer_two = reads.never_fewer in
     record {
       skipped = skipped_on (rest_of old old_left) left-1 left-2 pending skips.skipped (reads.rest ∙ ap (λ p. rest_of p left-1) empty) unbroken;
-      front = told_trans old_left left-1 left-2 (ReadFront count-0 count-1) (ReadFront count-1 count-2) (ReadFront count-0 count-2) (front_trans count-0 count-1 count-2) skips.front reads.front;
+      front = told_trans old_left left-1 left-2 (ReadPrefix count-0 count-1) (ReadPrefix count-1 count-2) (ReadPrefix count-0 count-2) (front_trans count-0 count-1 count-2) skips.front reads.front;
       never_fewer = omega (arith, fewer_one, fewer_two);
     }
 
 pub skip_front : (old_left : Option (List ℕ)) (old : List ℕ) (count-0 : ℕ) (left-1 : Option (List ℕ)) (none : List ℕ) (count-1 : ℕ) (left-2 : Option (List ℕ)) (pending : List ℕ) (count-2 : ℕ)
-    → SkipsOn old_left old count-0 left-1 count-1 → ReadsOn left-1 none count-1 left-2 pending count-2 → IfTold old_left left-2 (ReadFront count-0 count-2)
+    → SkipsOn old_left old count-0 left-1 count-1 → ReadsOn left-1 none count-1 left-2 pending count-2 → IfTold old_left left-2 (ReadPrefix count-0 count-2)
 skip_front old_left old count-0 left-1 none count-1 left-2 pending count-2 skips reads =
-    told_trans old_left left-1 left-2 (ReadFront count-0 count-1) (ReadFront count-1 count-2) (ReadFront count-0 count-2) (front_trans count-0 count-1 count-2) skips.front reads.front
+    told_trans old_left left-1 left-2 (ReadPrefix count-0 count-1) (ReadPrefix count-1 count-2) (ReadPrefix count-0 count-2) (front_trans count-0 count-1 count-2) skips.front reads.front
 
 off_skipped : (x y : List ℕ) → HasSkipped x y → BreaksOff x y
 off_skipped x y skipped = record { begun = skipped.begun; unbroken = skipped.unbroken; split = skipped.split }
@@ -236,6 +236,6 @@ skip_last old left-1 left-2 none pending new read seen is_seen new_none skipped 
     subst (λ (l : Option (List ℕ)). IfTold old l (TakesLongLine read seen)) (sym (ap (λ p. rest_of p left-2) new_none ∙ rest_none left-2)) told
 
 pub counted_on : (left-0 : Option (List ℕ)) (pending-0 : List ℕ) (count-0 : ℕ) (left-1 : Option (List ℕ)) (pending-1 : List ℕ) (count-1 : ℕ) (left-2 : Option (List ℕ)) (count-2 : ℕ)
-    → ReadsOn left-0 pending-0 count-0 left-1 pending-1 count-1 → IfTold left-1 left-2 (ReadFront count-1 count-2) → IfTold left-0 left-2 (ReadFront count-0 count-2)
+    → ReadsOn left-0 pending-0 count-0 left-1 pending-1 count-1 → IfTold left-1 left-2 (ReadPrefix count-1 count-2) → IfTold left-0 left-2 (ReadPrefix count-0 count-2)
 counted_on left-0 pending-0 count-0 left-1 pending-1 count-1 left-2 count-2 reads front =
-    told_trans left-0 left-1 left-2 (ReadFront count-0 count-1) (ReadFront count-1 count-2) (ReadFront count-0 count-2) (front_trans count-0 count-1 count-2) reads.front front
+    told_trans left-0 left-1 left-2 (ReadPrefix count-0 count-1) (ReadPrefix count-1 count-2) (ReadPrefix count-0 count-2) (front_trans count-0 count-1 count-2) reads.front front

@@ -49,7 +49,7 @@ pub record BreaksOff (old left : List ℕ) : Type 0 where
   pub split : old ≡ begun ++ left
 
 -- the prefix that was read raised the count by its length
-pub record ReadFront (before now : ℕ) (old new : List ℕ) : Type 0 where
+pub record ReadPrefix (before now : ℕ) (old new : List ℕ) : Type 0 where
   pub front : List ℕ
   pub split : old ≡ front ++ new
   pub counted : now ≡ before + length front
@@ -81,7 +81,7 @@ pub record ReadsOnto (count : ℕ) (old_left : Option (List ℕ)) (old : List �
 -- reads went on from the old state: what is to be given stays, and the bytes that left the source are counted
 pub record ReadsOn (old_left : Option (List ℕ)) (old : List ℕ) (before : ℕ) (left : Option (List ℕ)) (pending : List ℕ) (now : ℕ) : Type 0 where
   pub rest : rest_of pending left ≡ rest_of old old_left
-  pub front : IfTold old_left left (ReadFront before now)
+  pub front : IfTold old_left left (ReadPrefix before now)
   pub never_fewer : before ≤ now
 
 -- the beginning of a line over the limit was read and dropped
@@ -94,7 +94,7 @@ pub record HasSkipped (old new : List ℕ) : Type 0 where
 -- a line over the limit was begun and dropped, as far as it was read
 pub record SkipsOn (old_left : Option (List ℕ)) (old : List ℕ) (before : ℕ) (left : Option (List ℕ)) (now : ℕ) : Type 0 where
   pub skipped : IfTold (rest_of old old_left) left HasSkipped
-  pub front : IfTold old_left left (ReadFront before now)
+  pub front : IfTold old_left left (ReadPrefix before now)
   pub never_fewer : before ≤ now
 
 -- what a read found, after it

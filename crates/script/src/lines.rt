@@ -67,7 +67,7 @@ impl Lines {
     ghost use Rattle.script.specs.Lines.{newline, line_limit, script_limit, IsUnbroken};
     ghost use Rattle.script.specs.Places.{BreaksAt};
     ghost use Rattle.script.specs.Reader.{pending, current, read_count, given_count, has_ended, IsUnread};
-    ghost use Rattle.script.specs.Reading.{rest_of, IfTold, ReadFront, ReadsOnto, ReadsOn, IsFound};
+    ghost use Rattle.script.specs.Reading.{rest_of, IfTold, ReadPrefix, ReadsOnto, ReadsOn, IsFound};
     ghost use Rattle.script.specs.Stepping.{StepsTo, CountsStep, IsBegun, TakesAt, TakesLast, DropsAll, Keeps, CountsRead, CountsPiece};
 
     /// Nothing is read yet. All the memory is taken here.
@@ -95,7 +95,7 @@ impl Lines {
         requires { IsTrue (has_ended self.old) → IsEnd (S.left source.old) }
         ensures step { StepsTo (rest_of (pending self.old) (S.left source.old)) (S.left source.new) self.new result }
         ensures counted { IfTold (S.left source.old) (S.left source.new)
-            (ReadFront (read_count self.old) (read_count self.new)) }
+            (ReadPrefix (read_count self.old) (read_count self.new)) }
         ensures counts { CountsStep (S.left source.new)
             (S.faults source.old) (S.faults source.new) self.old self.new result }
         ensures line_ready { Contains (pending self.old) newline → IsOk result × (source.new ≡ source.old) }
@@ -241,7 +241,7 @@ impl Lines {
         requires { IsBegun self.old }
         ensures step { StepsTo (rest_of (pending self.old) (S.left source.old)) (S.left source.new) self.new result }
         ensures counted { IfTold (S.left source.old) (S.left source.new)
-            (ReadFront (read_count self.old) (read_count self.new)) }
+            (ReadPrefix (read_count self.old) (read_count self.new)) }
         ensures counts { CountsStep (S.left source.new)
             (S.faults source.old) (S.faults source.new) self.old self.new result }
     {
@@ -263,7 +263,7 @@ impl Lines {
         requires long { line_limit < length (pending self.old) }
         ensures step { StepsTo (rest_of (pending self.old) (S.left source.old)) (S.left source.new) self.new result }
         ensures counted { IfTold (S.left source.old) (S.left source.new)
-            (ReadFront (read_count self.old) (read_count self.new)) }
+            (ReadPrefix (read_count self.old) (read_count self.new)) }
         ensures counts { CountsStep (S.left source.new)
             (S.faults source.old) (S.faults source.new) self.old self.new result }
     {

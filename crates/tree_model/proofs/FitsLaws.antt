@@ -9,8 +9,9 @@ use Rattle.std.proofs.lemmas.Bool.Decides.{nat_tests}
 use Rattle.layout.specs.Geometry.{IsVolumeSize, pieces, inodes_of}
 use Rattle.layout.proofs.GeometryLaws.{some_inodes}
 use Rattle.tree_model.specs.PathText.{Route}
-use Rattle.tree_model.specs.Table.{Table, get, retain, insert, get-insert, get-retain}
+use Rattle.tree_model.specs.Table.{Table, get, retain, insert}
 use Rattle.tree_model.specs.Tree.{Tree, Node, Directory, File, Room, IsTree, IsRoom, fresh, fresh_room, root_id, node_at, node_pages, file_pages, bytes_of, bytes_of_node, is_root, parent, is_directory, is_file, is_above, name_count}
+use Rattle.tree_model.proofs.TableLaws.{get-insert, get-retain}
 use Rattle.tree_model.specs.Capacity.{Supply, untaken, inodes_in_use, pages_in_use, free_pages, free_inodes, file_limit, Fits}
 use Rattle.tree_model.specs.Walk.{walk, walk_to_parent}
 use Rattle.tree_model.specs.Step.{first, at, fault_of, refusal_with, refusal_of, outcome_of, step, tree_after, least_free_id, with_bytes, with_moved, without_path, without_unnamed, overwritten, resized, is_there, id_of, is_same_node, gaining, page_for_name, rise, need, lacks_pages, lacks_inodes, room_after, RoomAfter, RoomAfterWith}

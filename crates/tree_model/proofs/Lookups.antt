@@ -3,7 +3,7 @@ use Rattle.std.proofs.Common.{◌≡◌, ℕ, Bool, true, false, cond, List, [],
 use Rattle.std.specs.Cmp.Lexicographic.{nat_list_eq_equiv, bytes_decides}
 use Rattle.std.specs.FinMap.{find}
 use Rattle.tree_model.specs.PathText.{Route}
-use Rattle.tree_model.specs.Table.{get-table_of}
+use Rattle.tree_model.proofs.TableLaws.{get-table_of}
 use Rattle.tree_model.specs.Tree.{Tree, route_cmp, route_cmp_total, rest_after, id_at}
 use Rattle.tree_model.specs.Step.{with_moved, moved_path}
 use Rattle.tree_model.proofs.TreeLaws.{is_same, same_route, is_same_itself, not_true}

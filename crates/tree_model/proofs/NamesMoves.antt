@@ -4,7 +4,8 @@ use Rattle.std.proofs.lemmas.Bool.Decides.{nat_tests}
 use Rattle.std.specs.Ordering.{eq_by_cmp}
 use Rattle.std.specs.FinMap.Entries.{length_without, find-where_key, is_sorted-where_key}
 use Rattle.tree_model.specs.PathText.{Route}
-use Rattle.tree_model.specs.Tree.{Tree, Node, Directory, File, Room, IsTree, root_id, route_cmp, route_cmp_total, route_cmp-IsAntisymmetric, is_root, parent, id_at, is_directory, is_file, is_in, is_number, entries_in, name_count, bytes_of}
+use Rattle.tree_model.specs.Tree.{Tree, Node, Directory, File, Room, IsTree, root_id, route_cmp, route_cmp_total, is_root, parent, id_at, is_directory, is_file, is_in, is_number, entries_in, name_count, bytes_of}
+use Rattle.tree_model.proofs.TableLaws.{route_cmp-IsAntisymmetric}
 use Rattle.tree_model.specs.Capacity.{Supply}
 use Rattle.tree_model.specs.Walk.{walk, walk_to_parent}
 use Rattle.tree_model.specs.Step.{first, at, fault_of, refusal_with, with_new, with_bytes, without_path, overwritten, tree_after, is_there, id_of, gaining, losing}

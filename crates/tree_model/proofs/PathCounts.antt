@@ -6,8 +6,9 @@ use Rattle.std.specs.List.{list_any}
 use Rattle.std.specs.FinMap.Entries.{find, where_key, is_sorted}
 use Rattle.std.proofs.lemmas.Bool.Decides.{nat_tests}
 use Rattle.tree_model.specs.PathText.{Route}
-use Rattle.tree_model.specs.Table.{get-retain, get-table_of, table_of}
+use Rattle.tree_model.specs.Table.{table_of}
 use Rattle.tree_model.specs.Tree.{Tree, Node, IsTree, route_cmp, route_cmp_total, rest_after, id_at, node_at, path_count}
+use Rattle.tree_model.proofs.TableLaws.{get-retain, get-table_of}
 use Rattle.tree_model.specs.Step.{without_path, without_unnamed, with_moved, moved_path}
 use Rattle.tree_model.proofs.EntryLaws.{front, back, find-below, measure_found, sum_by-put}
 use Rattle.tree_model.proofs.Lookups.{rest_after-append, rest_after-some, origin, origin_of, at_origin, AreClearOf, AreClearOf-from_find, moved_entries, find-moved}

@@ -2,8 +2,9 @@
 use Rattle.std.proofs.Common.{◌≡◌, ◌≢◌, ℕ, suc, ◌+◌, inl, inr, Bool, true, false, cond, ◌==◌, ◌&&◌, ◌||◌, nat_lt, List, [], ◌∷◌, ◌++◌, length, Option, Some, None, is_some, unwrap_or, refl, sym, ap, ◌∙◌, arith, true≢false, append-nil, T}
 use Rattle.std.specs.FinMap.Entries.{find, where_key, is_sorted}
 use Rattle.tree_model.specs.PathText.{Route}
-use Rattle.tree_model.specs.Table.{get-table_of, table_of}
+use Rattle.tree_model.specs.Table.{table_of}
 use Rattle.tree_model.specs.Tree.{Tree, Room, IsTree, root_id, route_cmp, route_cmp_total, is_root, parent, rest_after, id_at, is_directory, is_file, is_above, is_in, is_number, name_count}
+use Rattle.tree_model.proofs.TableLaws.{get-table_of}
 use Rattle.tree_model.specs.Capacity.{Supply}
 use Rattle.tree_model.specs.Walk.{walk, walk_to_parent}
 use Rattle.tree_model.specs.Step.{first, at, fault_of, refusal_with, with_moved, without_path, without_unnamed, moved_path, tree_after, is_there, id_of, is_same_node, lacks_pages, gaining, losing}

@@ -4,8 +4,9 @@ use Rattle.std.specs.Cmp.{nat_cmp_total}
 use Rattle.std.specs.Ordering.{eq_by_cmp}
 use Rattle.std.proofs.lemmas.Bool.Decides.{nat_tests}
 use Rattle.tree_model.specs.PathText.{Route}
-use Rattle.tree_model.specs.Table.{get, insert, get-insert}
+use Rattle.tree_model.specs.Table.{get, insert}
 use Rattle.tree_model.specs.Tree.{Tree, File, Room, IsTree, IsRoom, parent, rest_after, id_at, node_at, is_directory, is_directory_node, is_number, bytes_of, pages_in}
+use Rattle.tree_model.proofs.TableLaws.{get-insert}
 use Rattle.tree_model.specs.Capacity.{Supply}
 use Rattle.tree_model.specs.Step.{id_of, is_same_node, gaining, losing, page_for_name, pages_after, room_after, tree_after, with_bytes, with_moved, without_path, without_unnamed, overwritten, resized, refusal_with, RoomAfterWith}
 use Rattle.tree_model.specs.Run.{State}

@@ -5,8 +5,9 @@ use Rattle.std.specs.Cmp.{nat_cmp_total}
 use Rattle.std.specs.List.{list_all, filter_map}
 use Rattle.std.specs.FinMap.Entries.{find, is_sorted}
 use Rattle.std.proofs.lemmas.Bool.Decides.{nat_tests}
-use Rattle.tree_model.specs.Table.{get, contains_key, get-table_of}
+use Rattle.tree_model.specs.Table.{get, contains_key}
 use Rattle.tree_model.specs.Tree.{Tree, Node, Directory, File, Room, IsRoom, node_at, is_directory, is_directory_node, is_number, name_count, pages_in, may_have}
+use Rattle.tree_model.proofs.TableLaws.{get-table_of}
 use Rattle.tree_model.specs.Step.{tree_after, directories, directory_of, gaining, losing, page_for_name, pages_after, room_after}
 use Rattle.tree_model.specs.declared.command.Command.{Command}
 use Rattle.tree_model.proofs.EntryLaws.{front, back, find-below, find-first}

@@ -40,10 +40,13 @@ fn a_file_holds_the_words_of_the_calls(rt: HostRuntime) -> Result<(), Fail> {
     assert!(rt; matches!(missing, Err(FileFault::Failed)));
 
     let mut made = FilePm::make(&rt, alloc, path.as_str(), 16)?;
+    let mut formatted = RamPm::new(alloc, made.image())?;
     format_ops::format(&mut made)?;
+    format_ops::format(&mut formatted)?;
     drop(made);
 
     let mut opened = FilePm::from_path(&rt, alloc, path.as_str())?;
+    assert_eq!(rt; opened.image(), formatted.image());
     let mut ram = RamPm::new(alloc, opened.image())?;
     assert_eq!(rt; create_on(alloc, &mut opened)?, Reply::Done);
     assert_eq!(rt; create_on(alloc, &mut ram)?, Reply::Done);

@@ -4,7 +4,7 @@ use Rattle.image_reading.specs.Reading.{Reads}
 use Rattle.std.specs.Prelude.{Err}
 use Rattle.pm_trait.proofs.DeviceLaws.{stays_then}
 use Rattle.pm_trait.proofs.DeviceViewLaws.{intervals_one, intervals_then, intervals_failed}
-use Rattle.volume.specs.Stops.{MayReadAs}
+use Rattle.volume.specs.Crashes.{MayReadAs}
 use Rattle.volume.specs.Prepared.{making}
 use Rattle.image_laws.specs.Frame.{SameMeaning}
 use Rattle.create_ops.specs.Making.{page_fences}

@@ -15,14 +15,14 @@ pub set_page-requires-clause-place : goal.set_page-requires-clause-place
 set_page-requires-clause-place c =
     let fields = c.descriptor_at-fields in
     offset_in_file _ _ c.args.page fields.result.owner fields.result.offset c.args.index.now c.requires.tidy c.requires.in_range fields.ensures.owner c.if-fields-eq0.false
-    (sym fields.ensures.kind ∙ c.if-fields-eq-FILE.true) fields.ensures.offset c.requires.holds
+    (sym fields.ensures.kind ∙ c.if-fields-eq-BYTES.true) fields.ensures.offset c.requires.holds
 
-pub returns-then-fields-eq-FILE : goal.returns-then-fields-eq-FILE
-returns-then-fields-eq-FILE c =
+pub returns-then-fields-eq-BYTES : goal.returns-then-fields-eq-BYTES
+returns-then-fields-eq-BYTES c =
     let fields = c.descriptor_at-fields in
     let set = c.set_page.ensures in
     with_set_page _ _ c.args.page fields.result.owner fields.result.offset c.args.index.now c.set_page.new.self c.requires.tidy c.requires.in_range fields.ensures.owner c.if-fields-eq0.false
-    (sym fields.ensures.kind ∙ c.if-fields-eq-FILE.true) fields.ensures.offset set.elsewhere set.node.pages set.node.entries c.requires.holds
+    (sym fields.ensures.kind ∙ c.if-fields-eq-BYTES.true) fields.ensures.offset set.elsewhere set.node.pages set.node.entries c.requires.holds
 
 pub reserve_pages-requires-clause-in_range : goal.reserve_pages-requires-clause-in_range
 reserve_pages-requires-clause-in_range c =
@@ -37,7 +37,7 @@ pub add_entries-requires-clause-kind : goal.add_entries-requires-clause-kind
 add_entries-requires-clause-kind c =
     let fields = c.descriptor_at-fields.ensures in
     subst (IsDirectory c.args.words.now) (sym fields.owner)
-    (directory_owner _ _ c.requires.tidy c.args.page c.requires.in_range (λ zero. c.if-fields-eq0.false (fields.owner ∙ zero)) (λ file. c.if-fields-eq-FILE.false (fields.kind ∙ file)))
+    (directory_owner _ _ c.requires.tidy c.args.page c.requires.in_range (λ zero. c.if-fields-eq0.false (fields.owner ∙ zero)) (λ file. c.if-fields-eq-BYTES.false (fields.kind ∙ file)))
 
 pub add_entries-requires-clause-holds : goal.add_entries-requires-clause-holds
 add_entries-requires-clause-holds c =
@@ -48,4 +48,4 @@ add_entries-requires-clause-holds c =
     let push = c.push_page.ensures in
     let reserved = all_kept P I fields.result.owner c.args.page (32 * c.args.page) c.args.index.now c.reserve_pages.new.self reserve.elsewhere reserve.node.entries reserve.node.pages c.requires.holds in
     with_pushed_page P I c.args.page fields.result.owner c.reserve_pages.new.self c.push_page.new.self c.requires.tidy c.requires.in_range fields.ensures.owner c.if-fields-eq0.false
-    (λ file. c.if-fields-eq-FILE.false (fields.ensures.kind ∙ file)) push.elsewhere push.node.pages push.node.entries reserved
+    (λ file. c.if-fields-eq-BYTES.false (fields.ensures.kind ∙ file)) push.elsewhere push.node.pages push.node.entries reserved

@@ -2,7 +2,7 @@ use Rattle.std.proofs.Common.{ℕ, ◌-◌, ◌<◌, ◌≤◌, length, List, Op
 use Rattle.std.proofs.lemmas.List.{length-take}
 use Rattle.script.specs.Lines.{line_limit, script_limit, IsUnbroken}
 use Rattle.script.specs.Reader.{pending, read_count}
-use Rattle.script.specs.Reading.{IfTold, ReadFront}
+use Rattle.script.specs.Reading.{IfTold, ReadPrefix}
 use Rattle.script.specs.Stepping.{StepsTo}
 use Rattle.script.proofs.ReadingLaws.{reads_trans, line_given, last_given, breaks_off, counted_on}
 use Rattle.script.proofs.lines.Lines.read_line.Goals as goal
@@ -25,7 +25,7 @@ returns-in-Ok-Newline-clause-step g c =
 
 pub returns-in-Ok-Newline-clause-counted : goal.returns-in-Ok-Newline-clause-counted
 returns-in-Ok-Newline-clause-counted g c =
-    subst (λ (n : ℕ). IfTold (g.S.Source.left c.args.source.now) (g.S.Source.left c.read_piece.new.source) (ReadFront (read_count c.args.self.now) n)) (sym c.take_line.ensures.read)
+    subst (λ (n : ℕ). IfTold (g.S.Source.left c.args.source.now) (g.S.Source.left c.read_piece.new.source) (ReadPrefix (read_count c.args.self.now) n)) (sym c.take_line.ensures.read)
     (counted_on _ _ _ _ _ _ _ _ c.reading.invariant.reads c.read_piece.ensures.reads.front)
 
 pub returns-in-Ok-End-clause-step : goal.returns-in-Ok-End-clause-step
@@ -39,7 +39,7 @@ returns-in-Ok-End-clause-step g c =
 
 pub returns-in-Ok-End-clause-counted : goal.returns-in-Ok-End-clause-counted
 returns-in-Ok-End-clause-counted g c =
-    subst (λ (n : ℕ). IfTold (g.S.Source.left c.args.source.now) (g.S.Source.left c.read_piece.new.source) (ReadFront (read_count c.args.self.now) n)) (sym c.take_last.ensures.read)
+    subst (λ (n : ℕ). IfTold (g.S.Source.left c.args.source.now) (g.S.Source.left c.read_piece.new.source) (ReadPrefix (read_count c.args.self.now) n)) (sym c.take_last.ensures.read)
     (counted_on _ _ _ _ _ _ _ _ c.reading.invariant.reads c.read_piece.ensures.reads.front)
 
 pub returns-in-Ok-Limit-clause-step : goal.returns-in-Ok-Limit-clause-step

@@ -1,7 +1,7 @@
 use Rattle.std.proofs.Common.{◌<◌, ℕ, subst, sym, ◌∙◌}
 use Rattle.script.specs.Lines.{script_limit}
 use Rattle.script.specs.Reader.{pending, read_count}
-use Rattle.script.specs.Reading.{IfTold, ReadFront, SkipsOn}
+use Rattle.script.specs.Reading.{IfTold, ReadPrefix, SkipsOn}
 use Rattle.script.proofs.ReadingLaws.{skip_on, skip_front, skip_ends, skip_last, skip_breaks_off}
 use Rattle.script.proofs.lines.Lines.skip_line.Goals as goal
 
@@ -24,7 +24,7 @@ returns-in-Ok-Newline-clause-step g c =
 
 pub returns-in-Ok-Newline-clause-counted : goal.returns-in-Ok-Newline-clause-counted
 returns-in-Ok-Newline-clause-counted g c =
-    subst (λ (n : ℕ). IfTold (g.S.Source.left c.args.source.now) (g.S.Source.left c.read_piece.new.source) (ReadFront (read_count c.args.self.now) n)) (sym c.take_line.ensures.read)
+    subst (λ (n : ℕ). IfTold (g.S.Source.left c.args.source.now) (g.S.Source.left c.read_piece.new.source) (ReadPrefix (read_count c.args.self.now) n)) (sym c.take_line.ensures.read)
     (skip_front _ _ _ _ _ _ _ _ _ c.skipping.invariant.skips c.read_piece.ensures.reads)
 
 pub returns-in-Ok-End-clause-step : goal.returns-in-Ok-End-clause-step
@@ -35,7 +35,7 @@ returns-in-Ok-End-clause-step g c =
 
 pub returns-in-Ok-End-clause-counted : goal.returns-in-Ok-End-clause-counted
 returns-in-Ok-End-clause-counted g c =
-    subst (λ (n : ℕ). IfTold (g.S.Source.left c.args.source.now) (g.S.Source.left c.read_piece.new.source) (ReadFront (read_count c.args.self.now) n)) (sym c.take_last.ensures.read)
+    subst (λ (n : ℕ). IfTold (g.S.Source.left c.args.source.now) (g.S.Source.left c.read_piece.new.source) (ReadPrefix (read_count c.args.self.now) n)) (sym c.take_last.ensures.read)
     (skip_front _ _ _ _ _ _ _ _ _ c.skipping.invariant.skips c.read_piece.ensures.reads)
 
 pub returns-in-Ok-Limit-clause-step : goal.returns-in-Ok-Limit-clause-step
