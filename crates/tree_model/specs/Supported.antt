@@ -1,4 +1,4 @@
--- Which commands are supported so far: those that `prepare` plans.
+-- Which commands are supported: those that `prepare` plans.
 use Rattle.tree_model.specs.declared.command.Command.{Command}
 use Rattle.tree_model.specs.declared.command.Command.TheVariants.{Create, Mkdir, Link, Unlink, Rmdir, Rename, Write, Truncate, Read, Stat as Tell, List as Show, Df}
 

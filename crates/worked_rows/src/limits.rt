@@ -169,8 +169,8 @@ fn set(image: &mut Vec<u64>, word: usize, value: u64) -> Result<(), Fail> {
     Ok(())
 }
 
-// A file has all pages but the root's one: a name in the root has room, and one in an empty directory has none. Want of
-// inodes comes before want of pages.
+// A file has all pages but the root's one: a name in the root has room, and one in an empty directory has none. Being
+// out of inodes comes before being out of pages.
 #[test]
 fn a_volume_without_free_pages(rt: HostRuntime) -> Result<(), Fail> {
     let volume = small_volume(rt.alloc())?;
