@@ -1,13 +1,9 @@
 // Where the words come from and go to.
-ghost use Rattle.std.specs.Prelude.{◌≡◌, ◌+◌, ◌*◌, ◌^◌, ◌<◌, ℕ, List, Option, None, length, IfOk, OnOk};
+ghost use Rattle.std.specs.Prelude.{◌≡◌, ◌+◌, ◌*◌, ◌^◌, ◌<◌, ℕ, List, Option, length, IfOk, OnOk};
 ghost use Rattle.pm_file.specs.Given.{HasLine, ReadsFrom};
 
-use crate::bytes::{bytes_of_line, place_of_line, place_of_page, words_of_page};
-use crate::lock::Locked;
-use crate::sizes::{BYTES_OF_A_PAGE, WORDS_OF_A_PAGE};
-use std::fs::OpenFile;
+use crate::sizes::WORDS_OF_A_PAGE;
 use std::io;
-use std::io::{Read, Seek, SeekFrom, Write};
 
 /// A medium of words, which is read by pages and written by lines.
 pub trait Medium {
@@ -34,27 +30,4 @@ pub trait Medium {
     fn sync(&mut self) -> io::Result<()>
         ensures held { held self.new ≡ held self.old }
         ensures ok { OnOk result (safe self.new ≡ held self.old) };
-}
-
-/// A file, which tells none of its words. They are little-endian.
-impl<F: Read + Write + Seek + OpenFile> Medium for Locked<F> {
-    ghost held = { λ _. None };
-
-    ghost safe = { λ _. None };
-
-    fn read_page(&mut self, page: u64) -> io::Result<[u64; WORDS_OF_A_PAGE]> {
-        let mut bytes = [0u8; BYTES_OF_A_PAGE];
-        self.file.seek(SeekFrom::Start(place_of_page(page)))?;
-        self.file.read_exact(&mut bytes)?;
-        Ok(words_of_page(&bytes))
-    }
-
-    fn write_line(&mut self, line: u64, words: &[u64]) -> io::Result<()> {
-        self.file.seek(SeekFrom::Start(place_of_line(line)))?;
-        self.file.write_all(&bytes_of_line(words))
-    }
-
-    fn sync(&mut self) -> io::Result<()> {
-        self.file.sync_data()
-    }
 }

@@ -14,11 +14,13 @@ pub struct Scanty<R> {
     pub takes: usize,
 }
 
+/// A file that shows whether its lock was taken.
 #[derive(Drop)]
 pub struct ScantyFile<F> {
     file: F,
     gives: usize,
     takes: usize,
+    is_taken: bool,
 }
 
 impl<F: Read> Read for ScantyFile<F> {
@@ -64,12 +66,21 @@ impl<F: OpenFile> OpenFile for ScantyFile<F> {
 }
 
 impl<F: Lockable> Lockable for ScantyFile<F> {
-    ghost is_locked = { λ scanty. F.is_locked scanty.file };
+    ghost is_locked = { λ scanty. scanty.is_taken };
 
     fn lock(self) -> io::Result<ScantyFile<F>> {
-        let ScantyFile { file, gives, takes } = self;
-        let file = file.lock()?;
-        Ok(ScantyFile { file, gives, takes })
+        let ScantyFile {
+            file,
+            gives,
+            takes,
+            is_taken: _,
+        } = self;
+        Ok(ScantyFile {
+            file: file.lock()?,
+            gives,
+            takes,
+            is_taken: true,
+        })
     }
 }
 
@@ -83,6 +94,7 @@ impl<R: Files> Files for Scanty<R> {
             file: self.rt.open_file(how, path)?,
             gives: self.gives,
             takes: self.takes,
+            is_taken: false,
         })
     }
 
