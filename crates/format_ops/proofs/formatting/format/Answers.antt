@@ -4,6 +4,7 @@ use Rattle.pm_trait.specs.Trail.{Trail}
 use Rattle.pm_trait.specs.Device.{LeavesOnly}
 use Rattle.pm_trait.proofs.DeviceLaws.{leaves_here}
 use Rattle.image_reading.specs.Laws.{IsFresh}
+use Rattle.image_reading.proofs.Format.{format_law}
 use Rattle.format_ops.specs.Stops.{IsOldHiddenOrFormatted}
 use Rattle.format_ops.proofs.formatting.format.Goals as goal
 
@@ -24,4 +25,4 @@ returns-clause-fresh g c =
     let old = (g.P.Pm.view c.args.pm.now).words in
     let is : geometry.pages ≡ length old / 512 = omega (arith, c.in-Some.ensures.whole, ap length c.image.ensures) in
     subst (λ (pages : ℕ). IsFresh pages (g.P.Pm.view c.make_volume.new.pm).words) is
-    (c.format_law.ensures geometry.pages (g.P.Pm.view c.reserve.new.self).words (g.P.Pm.view c.make_volume.new.pm).words geometry.volume_size c.in_ok-make_volume.ensures.formatted)
+    (format_law geometry.pages (g.P.Pm.view c.reserve.new.self).words (g.P.Pm.view c.make_volume.new.pm).words geometry.volume_size c.in_ok-make_volume.ensures.formatted)

@@ -1,4 +1,4 @@
-use Rattle.std.proofs.Common.{rules, ◌≡◌, ℕ, ◌*◌, ◌/◌, List, length, ap, subst, ◌∙◌, arith}
+use Rattle.std.proofs.Common.{rules, ◌≡◌, ℕ, ◌*◌, ◌/◌, List, length, ap, subst, arith}
 use Rattle.std.specs.Prelude.{Option}
 use Rattle.pm_trait.specs.Trail.{Trail}
 use Rattle.pm_trait.specs.Device.{LeavesOnly, IsHonest}
@@ -32,9 +32,9 @@ returns-in-Ok-write_formatted-clause-makes g c =
       no_fault = search rules;
       told = λ done. subst (λ (p : ℕ). Takes (g.K.Sink.took c.args.out.now) (formatted_text p) (g.K.Sink.took c.write_formatted.new.sink)) here.0 c.in-Ok-write_formatted.ensures.whole;
       cut = search rules;
-      any_moment = λ long. format_leaves c.args.pages (g.met.P.Pm.honest c.args.pm.now) (g.met.P.Pm.honest c.format.new.pm) c.format.ensures.acks c.format.ensures.any_moment long;
+      any_moment = λ long. format_leaves c.args.pages (g.met.P.Pm.honest c.args.pm.now) (g.met.P.Pm.honest c.format.new.pm) c.in-Ok.ensures.device.acks c.format.ensures.any_moment long;
       fences = search rules;
-      acks = c.format.ensures.acks;
+      acks = c.in-Ok.ensures.device.acks;
     }
 
 pub returns-in-Err-clause-makes : goal.returns-in-Err-clause-makes
@@ -47,9 +47,9 @@ returns-in-Err-clause-makes g c =
       no_fault = search rules;
       told = search rules;
       cut = λ is. subst (λ (p : ℕ). TakesPrefix (g.K.Sink.took c.args.out.now) (formatted_text p) (g.K.Sink.took c.write_formatted.new.sink)) here.0 c.in-Err.ensures.cut;
-      any_moment = λ long. format_leaves c.args.pages (g.met.P.Pm.honest c.args.pm.now) (g.met.P.Pm.honest c.format.new.pm) c.format.ensures.acks c.format.ensures.any_moment long;
+      any_moment = λ long. format_leaves c.args.pages (g.met.P.Pm.honest c.args.pm.now) (g.met.P.Pm.honest c.format.new.pm) c.in-Ok.ensures.device.acks c.format.ensures.any_moment long;
       fences = search rules;
-      acks = c.format.ensures.acks;
+      acks = c.in-Ok.ensures.device.acks;
     }
 
 pub returns-in-Err-PmFault-clause-makes : goal.returns-in-Err-PmFault-clause-makes
@@ -59,7 +59,7 @@ returns-in-Err-PmFault-clause-makes g c = record {
   no_fault = search rules;
   told = search rules;
   cut = search rules;
-  any_moment = λ long. format_leaves c.args.pages (g.met.P.Pm.honest c.args.pm.now) (g.met.P.Pm.honest c.format.new.pm) c.format.ensures.acks c.format.ensures.any_moment long;
+  any_moment = λ long. format_leaves c.args.pages (g.met.P.Pm.honest c.args.pm.now) (g.met.P.Pm.honest c.format.new.pm) (search rules) c.format.ensures.any_moment long;
   fences = search rules;
-  acks = c.format.ensures.acks;
+  acks = search rules;
 }
