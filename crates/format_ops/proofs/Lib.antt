@@ -1,2 +1,2 @@
-mod Stops
+mod CrashLaws
 mod Steps

@@ -1,3 +1,3 @@
 pub mod Outcome
-pub mod Stops
+pub mod Crashes
 pub mod Tables

@@ -7,7 +7,7 @@ use Rattle.layout.specs.Format.{IsFormattedFrom}
 use Rattle.script.specs.Texts.{formatted_text, not_a_volume_text, damaged_text}
 use Rattle.image_reading.specs.Laws.{IsFresh}
 use Rattle.image_reading.specs.declared.Violation.{Violation}
-use Rattle.format_ops.specs.Stops.{IsOldHiddenOrFormatted}
+use Rattle.format_ops.specs.Crashes.{IsOldHiddenOrFormatted}
 use Rattle.mount_scan.specs.Mounting.{HoldsVolume, IsTidy, IsDamage}
 use Rattle.squirrel_cli.specs.declared.job.Job.{Job}
 use Rattle.squirrel_cli.specs.declared.job.Job.TheVariants.{Run}

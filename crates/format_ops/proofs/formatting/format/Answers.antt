@@ -5,7 +5,7 @@ use Rattle.pm_trait.specs.Device.{LeavesOnly}
 use Rattle.pm_trait.proofs.DeviceLaws.{leaves_here}
 use Rattle.image_reading.specs.Laws.{IsFresh}
 use Rattle.image_reading.proofs.Format.{format_law}
-use Rattle.format_ops.specs.Stops.{IsOldHiddenOrFormatted}
+use Rattle.format_ops.specs.Crashes.{IsOldHiddenOrFormatted}
 use Rattle.format_ops.proofs.formatting.format.Goals as goal
 
 pub returns-in_default-clause-any_moment : goal.returns-in_default-clause-any_moment

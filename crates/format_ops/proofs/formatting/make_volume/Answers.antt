@@ -3,8 +3,8 @@ use Rattle.std.specs.Prelude.{Ok, Err, Result, OnOk}
 use Rattle.pm_trait.proofs.DeviceLaws.{fenced_leaves, leaves_then}
 use Rattle.pm_trait.proofs.DeviceViewLaws.{intervals_one, intervals_then, intervals_failed, intervals_within}
 use Rattle.format_ops.specs.Tables.{format_events}
-use Rattle.format_ops.specs.Stops.{IsOldHiddenOrFormatted}
-use Rattle.format_ops.proofs.Stops.{cleared, hidden_tables, hiding, writing, publishing, formatted}
+use Rattle.format_ops.specs.Crashes.{IsOldHiddenOrFormatted}
+use Rattle.format_ops.proofs.CrashLaws.{cleared, hidden_tables, hiding, writing, publishing, formatted}
 use Rattle.format_ops.proofs.formatting.make_volume.Goals as goal
 
 on_ok : {T E P : Type 0} (result : Result T E) → P → OnOk result P

@@ -3,7 +3,7 @@ use Rattle.std.specs.Prelude.{Option}
 use Rattle.pm_trait.specs.Trail.{Trail}
 use Rattle.pm_trait.specs.Device.{LeavesOnly, IsHonest}
 use Rattle.pm_trait.proofs.ContinuesLaws.{no_acks_told}
-use Rattle.format_ops.specs.Stops.{IsOldHiddenOrFormatted}
+use Rattle.format_ops.specs.Crashes.{IsOldHiddenOrFormatted}
 use Rattle.layout.specs.Format.{IsFormattedFrom}
 use Rattle.image_reading.specs.Laws.{IsFresh}
 use Rattle.io_edge.specs.Bytes.{Takes, TakesPrefix}

@@ -8,7 +8,7 @@ use Rattle.layout.specs.Superblock.{magic, head_of}
 use Rattle.layout.specs.Fields.{word}
 use Rattle.layout.specs.Format.{root_words, IsFormattedFrom}
 use Rattle.format_ops.specs.Tables.{IsTableValue, HasTableValues, SameBeside}
-use Rattle.format_ops.specs.Stops.{IsHidden, IsOldHiddenOrFormatted}
+use Rattle.format_ops.specs.Crashes.{IsHidden, IsOldHiddenOrFormatted}
 
 -- a mix of the words before and after a change of word 0 alone is one of the two
 mix_first : (old image : List ℕ) (value : ℕ) → 0 < length old → Mix old (slice_set old 0 value) image → (image ≡ old) ⊎ (image ≡ slice_set old 0 value)
