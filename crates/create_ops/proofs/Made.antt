@@ -1,13 +1,17 @@
 -- An entry that is made leaves a volume that stands for what its command leaves.
-use Rattle.std.proofs.Common.{◌≡◌, ℕ, ◌+◌, List, Option, Some, None, refl, sym, ap, subst, ◌∙◌, arith}
+use Rattle.std.proofs.Common.{◌≡◌, ℕ, ◌+◌, ◌*◌, List, Option, Some, None, refl, sym, ap, subst, ◌∙◌, arith}
 use Rattle.std.specs.Prelude.{Result, Ok, Err}
 use Rattle.pm_trait.specs.DeviceView.{DeviceView, MakesIntervals, IsSettledView}
 use Rattle.pm_trait.proofs.DeviceViewLaws.{intervals_as, intervals_failed}
 use Rattle.layout.specs.Name.{IsName, IsBytes}
+use Rattle.layout.specs.declared.kinds.NodeKind.{NodeKind}
+use Rattle.layout.specs.declared.kinds.NodeKind.TheVariants.{File, Directory}
 use Rattle.tree_model.specs.PathText.{Route}
 use Rattle.tree_model.specs.Tree.{Tree, IsRoom}
-use Rattle.tree_model.specs.Step.{Done, step, least_free_id, with_new}
+use Rattle.tree_model.specs.Step.{Done, step, need, least_free_id, with_new}
 use Rattle.tree_model.specs.Run.{State, Steps}
+use Rattle.tree_model.specs.Fences.{fences_of}
+use Rattle.tree_model.proofs.FenceLaws.{fences_of-create, fences_of-mkdir}
 use Rattle.tree_model.specs.declared.command.Command.{Command}
 use Rattle.tree_model.specs.declared.reply.Reply.{Reply}
 use Rattle.image_reading.specs.Reading.{Reads, HasRoom, ReadsAs}
@@ -20,8 +24,8 @@ use Rattle.volume.specs.declared.plan.Action.TheVariants.{Make}
 use Rattle.volume.specs.Volume.{VolumeView}
 use Rattle.volume.specs.Entered.{HasEntered}
 use Rattle.volume.specs.Planned.{fences_for}
-use Rattle.volume.specs.Stands.{Knows, StandsFor}
-use Rattle.volume.specs.Carried.{IsPlanFor, Follows}
+use Rattle.volume.specs.Stands.{Knows}
+use Rattle.volume.specs.Carried.{IsPlanFor, LeavesState, Follows}
 use Rattle.volume.specs.Prepared.{making}
 use Rattle.image_counts.proofs.States.{state_law}
 use Rattle.create_ops.specs.Making.{node_of, room_of, page_fences, IsMade, IsPlannedAt, HasStored}
@@ -30,9 +34,14 @@ use Rattle.create_ops.proofs.Knowing
 use Rattle.create_ops.proofs.Plans
 use Rattle.create_ops.proofs.Rooms
 
-pub fences_are : (new_page : Option ℕ) → page_fences new_page + 2 ≡ fences_for new_page
+fences_are : (new_page : Option ℕ) → page_fences new_page + 2 ≡ fences_for new_page
 fences_are None = refl
 fences_are (Some page) = refl
+
+-- what makes a node takes two fences, and two more for a page that it needs
+making_fences : (kind : NodeKind) (path : Route) (old later : State) → fences_of old (Ok (making kind path)) Done later ≡ 2 + 2 * need old.tree old.room (making kind path)
+making_fences File path old later = fences_of-create old path later
+making_fences Directory path old later = fences_of-mkdir old path later
 
 -- the intervals of an entry are those of its command
 pub made_ok : {T U E F : Type 0} {a b : DeviceView} {events : ℕ} {done : U} (value : T) (new_page : Option ℕ) → MakesIntervals {E = F} a b events (page_fences new_page + 2) (Ok done) → MakesIntervals {E = E} a b events (fences_for new_page) (Ok value)
@@ -83,16 +92,20 @@ module _ (P : ℕ) (W : List ℕ) (state : State) (path : Route) (entry : NewEnt
     room = Rooms.room_follows P W state path entry at fits;
   }
 
-  pub stands_after : (volume new : VolumeView) → P ≡ volume.size → Knows volume W → HasEntered volume new entry → IsSettledView after
-      → (later : State) × StandsFor new after later × Steps volume.size state (making entry.kind path) Done later
-  stands_after volume new size knows entered settled = (
-    record { tree = (step P state.tree state.room (making entry.kind path)).tree; room = room_of entry entry.new_page state.room },
-    record {
+  pub leaves_state : (volume new : VolumeView) (before : DeviceView) → P ≡ volume.size → Knows volume W → HasEntered volume new entry → IsSettledView after
+      → after.fences ≡ before.fences + (page_fences entry.new_page + 2) → LeavesState volume new before after state (making entry.kind path)
+  leaves_state volume new before size knows entered settled counted = record {
+    later = record { tree = (step P state.tree state.room (making entry.kind path)).tree; room = room_of entry entry.new_page state.room };
+    stands = record {
       settled = settled;
       tidy = subst (λ (p : ℕ). Tidy p after.words) (size ∙ sym entered.same_size) tidy_after;
       reads = subst (λ (p : ℕ). ReadsAs p after.words (record { tree = (step P state.tree state.room (making entry.kind path)).tree; room = room_of entry entry.new_page state.room })) (size ∙ sym entered.same_size) reads_after;
       knows = Knowing.knows_after P W state path entry at volume (sym size) knows made.opened made.placed.written after.words made.page made.placed.node made.placed.commit
           (record { tree = (step P state.tree state.room (making entry.kind path)).tree; room = room_of entry entry.new_page state.room }) tidy_after reads_after is_name of_bytes new entered;
-    },
-    subst (λ (p : ℕ). Steps p state (making entry.kind path) Done (record { tree = (step P state.tree state.room (making entry.kind path)).tree; room = room_of entry entry.new_page state.room })) size steps,
-  )
+    };
+    steps = subst (λ (p : ℕ). Steps p state (making entry.kind path) Done (record { tree = (step P state.tree state.room (making entry.kind path)).tree; room = room_of entry entry.new_page state.room })) size steps;
+    fences = counted ∙ ap (λ (n : ℕ). before.fences + n) fences;
+  }
+    where
+      fences : page_fences entry.new_page + 2 ≡ fences_of state (Ok (making entry.kind path)) Done (record { tree = (step P state.tree state.room (making entry.kind path)).tree; room = room_of entry entry.new_page state.room })
+      fences = fences_are entry.new_page ∙ Rooms.fences_needed P W state path entry at ∙ sym (making_fences entry.kind path state (record { tree = (step P state.tree state.room (making entry.kind path)).tree; room = room_of entry entry.new_page state.room }))

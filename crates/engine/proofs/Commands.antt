@@ -1,5 +1,5 @@
 -- What a line leaves by what was done for it: nothing, or an entry that was made.
-use Rattle.std.proofs.Common.{◌≡◌, ◌≢◌, inl, inr, ℕ, ◌+◌, ◌*◌, ◌≤◌, true, false, List, Option, Some, None, is_none, ◌&&◌, refl, sym, ap, subst, ◌∙◌, arith}
+use Rattle.std.proofs.Common.{◌≡◌, ◌≢◌, inl, inr, ℕ, ◌≤◌, true, false, List, Option, Some, None, is_none, ◌&&◌, refl, sym, ap, subst, ◌∙◌, arith}
 use Rattle.std.specs.Prelude.{IsTrue, Result, Ok, Err, OnOk, OnErr, IfOk}
 use Rattle.pm_trait.specs.Trail.{Trail}
 use Rattle.pm_trait.specs.DeviceView.{DeviceView, MakesIntervals}
@@ -9,7 +9,7 @@ use Rattle.pm_trait.proofs.DeviceLaws.{leaves_here}
 use Rattle.pm_trait.specs.declared.event.PmFault.{PmFault}
 use Rattle.tree_model.specs.PathText.{Route}
 use Rattle.tree_model.specs.Capacity.{untaken}
-use Rattle.tree_model.specs.Step.{Answer, Done, Refused, Fault, need, least_free_id, refusal_of, outcome_of, step, RoomAfterWith}
+use Rattle.tree_model.specs.Step.{Answer, Done, Refused, Fault, least_free_id, refusal_of, outcome_of, step, RoomAfterWith}
 use Rattle.tree_model.specs.Run.{Line, State, Steps, LineStep, LineFails, is_changing, may_fail}
 use Rattle.tree_model.specs.Fences.{fences_of as fences_of_line}
 use Rattle.tree_model.proofs.FenceLaws.{no_fences-reading}
@@ -17,14 +17,13 @@ use Rattle.tree_model.specs.Replies.{reply_of}
 use Rattle.tree_model.specs.declared.command.Command.{Command}
 use Rattle.tree_model.specs.declared.command.Command.TheVariants.{Create, Mkdir, Link, Unlink, Rmdir, Rename, Write, Truncate, Read, Stat as Tell, List as Show, Df}
 use Rattle.tree_model.specs.declared.reply.Refusal.{Refusal}
-use Rattle.tree_model.specs.declared.reply.Refusal.TheVariants.{NoMemory}
 use Rattle.tree_model.specs.declared.reply.Reply.{Reply}
 use Rattle.tree_model.specs.declared.reply.Reply.TheVariants as reply
 use Rattle.image_reading.specs.Reading.{Reads}
 use Rattle.volume.specs.Volume.{VolumeView}
 use Rattle.volume.specs.Stands.{StandsFor}
 use Rattle.volume.specs.Crashes.{MayReadAs}
-use Rattle.volume.specs.Carried.{Follows, Answers}
+use Rattle.volume.specs.Carried.{LeavesState, Follows, Answers}
 use Rattle.volume.specs.Prepared.{IsRefusal, IsMaking, IsSameButPlaces, IsSameButRoom, Prepares, making}
 use Rattle.volume.specs.Planned.{IsPlanOf, fences_for, fences_of_plan}
 use Rattle.volume.specs.declared.plan.Action.{Action}
@@ -90,21 +89,17 @@ module _ (old new : VolumeView) (before after : DeviceView) (size : new.size ≡
 accepted_change : (P : ℕ) (state : State) (c : Command) → is_changing c ≡ true → refusal_of P state.tree state.room c ≡ None → IsTrue (may_fail P state c)
 accepted_change P state c changes accepted = let none = ap is_none accepted in ap (λ b. b && is_none (refusal_of P state.tree state.room c)) changes ∙ none
 
--- what is made by a command that makes a node changes the tree, and takes the fences of the plan
+-- what makes a node changes the tree
 making_changes : (kind : NodeKind) (path : Route) → is_changing (making kind path) ≡ true
 making_changes File path = refl
 making_changes Directory path = refl
-
-making_fences : (kind : NodeKind) (path : Route) (old later : State) → fences_of_line old (Ok (making kind path)) Done later ≡ 2 + 2 * need old.tree old.room (making kind path)
-making_fences File path old later = refl
-making_fences Directory path old later = refl
 
 module _ (old new : VolumeView) (before after : DeviceView) where
   pub does_made : {events made : ℕ} (state : State) (c : Command) (kind : NodeKind) (path : Route) (result : Result Reply PmFault) → c ≡ making kind path → refusal_of old.size state.tree state.room c ≡ None
       → Follows old new before after state c result → Answers old new result → MakesIntervals before after events made result
       → Does old new before after state (Ok c) result
   does_made state c kind path result is accepted follows answers device = record {
-    executed = executed result follows.made answers.reply follows.counted;
+    executed = executed result follows.made answers.reply;
     failed = failed result device.halts;
     stays = follows.stays;
   }
@@ -112,23 +107,19 @@ module _ (old new : VolumeView) (before after : DeviceView) where
       changes : is_changing c ≡ true
       changes = ap is_changing is ∙ making_changes kind path
 
-      fences : (later : State) → fences_of_line state (Ok c) Done later ≡ 2 + 2 * need state.tree state.room c
-      fences later = subst (λ (command : Command). fences_of_line state (Ok command) Done later ≡ 2 + 2 * need state.tree state.room command) (sym is) (making_fences kind path state later)
-
-      executed : (result : Result Reply PmFault) → OnOk result ((later : State) × StandsFor new after later × Steps old.size state c Done later)
-          → IfOk result (λ replied. replied ≡ reply_of Done) → OnOk result (after.fences ≡ before.fences + 2 + 2 * need state.tree state.room c)
-          → IfOk result (λ replied. Executed old.size state (Ok c) new replied before after)
-      executed (Ok replied) (later, stands, steps) is_done counted = record {
+      executed : (result : Result Reply PmFault) → OnOk result (LeavesState old new before after state c)
+          → IfOk result (λ replied. replied ≡ reply_of Done) → IfOk result (λ replied. Executed old.size state (Ok c) new replied before after)
+      executed (Ok replied) left is_done = record {
         answer = Done;
-        new = later;
+        new = left.later;
         replied = record { reply_is = is_done; told = tt };
-        step = inl steps;
-        stands = stands;
+        step = inl left.steps;
+        stands = left.stands;
         any_moment = follows.any_moment;
         no_ack = device.no_ack;
-        fences = let all = fences later in omega (arith, counted, all);
+        fences = left.fences;
       }
-      executed (Err fault) made is_done counted = tt
+      executed (Err fault) left is_done = tt
 
       failed : (result : Result Reply PmFault) → OnErr result (EndsInFault after.trail) → OnErr result (HasFailed old.size state (Ok c) before after)
       failed (Ok replied) last = tt
