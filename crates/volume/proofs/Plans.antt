@@ -1,71 +1,172 @@
--- What a plan says of its entry.
-use Rattle.std.proofs.Common.{◌≡◌, ℕ, ◌≤◌, List, Option, Some, None, sym, ap, ◌∙◌, arith}
+-- What a plan says of its command.
+use Rattle.std.proofs.Common.{◌≡◌, ◌⊎◌, inl, inr, ℕ, ◌≤◌, Bool, true, false, ◌&&◌, List, Option, Some, None, is_none, refl, sym, ap, subst, ◌∙◌, arith}
+use Rattle.std.specs.Prelude.{IsTrue}
 use Rattle.pm_trait.specs.DeviceView.{DeviceView}
 use Rattle.tree_model.specs.PathText.{Route}
 use Rattle.tree_model.specs.Tree.{parent, id_at}
-use Rattle.tree_model.specs.Run.{State}
+use Rattle.tree_model.specs.Step.{refusal_of}
+use Rattle.tree_model.specs.Run.{State, is_changing, may_fail}
+use Rattle.tree_model.specs.Places.{takes_places, needs_places}
 use Rattle.tree_model.specs.declared.command.Command.{Command}
 use Rattle.tree_model.specs.declared.command.Command.TheVariants.{Create, Mkdir, Link, Unlink, Rmdir, Rename, Write, Truncate, Read, Stat as Tell, List as Show, Df}
+use Rattle.tree_model.specs.declared.reply.Refusal.{Refusal}
+use Rattle.tree_model.specs.declared.reply.Refusal.TheVariants.{NoMemory}
 use Rattle.volatile_index.specs.Index.{inodes_of_index}
 use Rattle.volume.specs.Volume.{VolumeView}
 use Rattle.volume.specs.Stands.{StandsFor}
-use Rattle.volume.specs.Planned.{IsPlanOf, IsPlanned, fences_for, fences_of_plan}
-use Rattle.volume.specs.Prepared.{making, IsMadeIn}
+use Rattle.volume.specs.Deed.{Deed, MakesNode, AddsName, RemovesName, MovesName, WritesBytes, SetsSize, ChangesNothing, ReadsBytes, TellsNode, ListsNames, TellsSpace, deed_of}
+use Rattle.volume.specs.Planned.{IsMovingFor, IsWritingFor, IsResizingFor, IsNothingOr, IsPlanOf, IsPlanned}
+use Rattle.volume.specs.Costs.{events_of, fences_of_plan}
+use Rattle.volume.specs.Prepared.{making, LacksRoom, IsMaking, IsMadeIn}
 use Rattle.layout.specs.declared.kinds.NodeKind.{NodeKind}
+use Rattle.layout.specs.declared.kinds.NodeKind.TheVariants.{File, Directory}
 use Rattle.volume.specs.declared.plan.NewEntry.{NewEntry}
 use Rattle.volume.specs.declared.plan.Action.{Action}
 use Rattle.volume.specs.declared.plan.Action.TheVariants.{Make, Status, Names, Space}
 use Rattle.volume.proofs.Walked.{reached_at, in_table}
 
-same_directory : (entry other : NewEntry) → Make entry ≡ Make other → other.directory ≡ entry.directory
-same_directory entry other is = let same : entry ≡ other = cc in ap (λ (e : NewEntry). e.directory) (sym same)
+-- ---- by the deed
 
--- the directory of the entry has a path
-directory_named : (P : ℕ) (I : List ℕ) (state : State) (entry : NewEntry) (command : Command) → IsPlanOf P I state command (Make entry) → (path : Route) × (id_at state.tree path ≡ Some entry.directory)
-directory_named P I state entry (Create path) (other, is, made) = (parent path, made.directory_is ∙ ap Some (same_directory entry other is))
-directory_named P I state entry (Mkdir path) (other, is, made) = (parent path, made.directory_is ∙ ap Some (same_directory entry other is))
-directory_named P I state entry (Link from to) plan = absurd plan
-directory_named P I state entry (Unlink path) plan = absurd plan
-directory_named P I state entry (Rmdir path) plan = absurd plan
-directory_named P I state entry (Rename from to) plan = absurd plan
-directory_named P I state entry (Write path offset bytes) plan = absurd plan
-directory_named P I state entry (Truncate path size) plan = absurd plan
-directory_named P I state entry (Read path offset count) plan = absurd plan
-directory_named P I state entry (Tell path) plan = cc
-directory_named P I state entry (Show path) plan = cc
-directory_named P I state entry Df plan = cc
+abbrev pub is_change : Deed → Bool
+is_change (MakesNode entry) = true
+is_change (AddsName link) = true
+is_change (RemovesName removal) = true
+is_change (MovesName moving) = true
+is_change (WritesBytes writing) = true
+is_change (SetsSize resizing) = true
+is_change ChangesNothing = true
+is_change (ReadsBytes reading) = false
+is_change (TellsNode inode) = false
+is_change (ListsNames inode) = false
+is_change TellsSpace = false
 
-same_kind : (entry other : NewEntry) → Make entry ≡ Make other → entry.kind ≡ other.kind
-same_kind entry other is = let same : entry ≡ other = cc in ap (λ (e : NewEntry). e.kind) same
+abbrev pub makes_node : Deed → Bool
+makes_node (MakesNode entry) = true
+makes_node (AddsName link) = false
+makes_node (RemovesName removal) = false
+makes_node (MovesName moving) = false
+makes_node (WritesBytes writing) = false
+makes_node (SetsSize resizing) = false
+makes_node ChangesNothing = false
+makes_node (ReadsBytes reading) = false
+makes_node (TellsNode inode) = false
+makes_node (ListsNames inode) = false
+makes_node TellsSpace = false
+
+-- where nothing is to be done, or what is made of some x
+module _ (R : Type 0) {A : Type 0} (make : A → Deed) (For : A → Type 0) (deed : Deed) where
+  nothing_or : (nothing : Bool) → IsNothingOr nothing (λ deed. (x : A) × (deed ≡ make x) × For x) deed → (deed ≡ ChangesNothing → R) → ((x : A) → deed ≡ make x → R) → R
+  nothing_or true plan none some = none plan
+  nothing_or false (x, is, made) none some = some x is
+
+-- the plan of a command changes something where the command may
+pub change_is : (P : ℕ) (I : List ℕ) (state : State) (command : Command) (deed : Deed) → IsPlanOf P I state command deed → is_changing command ≡ is_change deed
+change_is P I state (Create path) deed (entry, is, made) = sym (ap is_change is)
+change_is P I state (Mkdir path) deed (entry, is, made) = sym (ap is_change is)
+change_is P I state (Link from to) deed (link, is, made) = sym (ap is_change is)
+change_is P I state (Unlink path) deed (removal, is, made) = sym (ap is_change is)
+change_is P I state (Rmdir path) deed (removal, is, made) = sym (ap is_change is)
+change_is P I state (Rename from to) deed plan = nothing_or (true ≡ is_change deed) MovesName (IsMovingFor P I state from to) deed _ plan (λ is. sym (ap is_change is)) (λ moving is. sym (ap is_change is))
+change_is P I state (Write path offset bytes) deed plan = nothing_or (true ≡ is_change deed) WritesBytes (IsWritingFor P I state path offset bytes) deed _ plan (λ is. sym (ap is_change is)) (λ writing is. sym (ap is_change is))
+change_is P I state (Truncate path size) deed plan = nothing_or (true ≡ is_change deed) SetsSize (IsResizingFor P I state path size) deed _ plan (λ is. sym (ap is_change is)) (λ resizing is. sym (ap is_change is))
+change_is P I state (Read path offset count) deed (reading, is, made) = sym (ap is_change is)
+change_is P I state (Tell path) deed is = sym (ap is_change is)
+change_is P I state (Show path) deed is = sym (ap is_change is)
+change_is P I state Df deed is = sym (ap is_change is)
+
+-- a plan that makes nothing is one of a command that reads
+pub telling_reads : (P : ℕ) (I : List ℕ) (state : State) (command : Command) (action : Action) → IsPlanOf P I state command (deed_of action) → ¬ IsMaking action → is_changing command ≡ false
+telling_reads P I state command (Make entry) plan not = absurd (not tt)
+telling_reads P I state command (Status inode) plan not = change_is P I state command (TellsNode inode) plan
+telling_reads P I state command (Names inode) plan not = change_is P I state command (ListsNames inode) plan
+telling_reads P I state command Space plan not = change_is P I state command TellsSpace plan
+
+-- ---- an entry
+
+same_entry : (entry other : NewEntry) → MakesNode entry ≡ MakesNode other → entry ≡ other
+same_entry entry other is = cc
+
+no_entry : {X : Type 0} (entry : NewEntry) (deed : Deed) → MakesNode entry ≡ deed → makes_node deed ≡ false → X
+no_entry entry deed is none = let both : true ≡ false = ap makes_node is ∙ none in absurd (cc)
 
 -- the command of an entry's plan makes a node of its kind
-pub planned_making : (P : ℕ) (I : List ℕ) (state : State) (command : Command) (entry : NewEntry) → IsPlanOf P I state command (Make entry) → (path : Route) × (command ≡ making entry.kind path)
-planned_making P I state (Create path) entry (other, is, made) = (path, ap (λ (k : NodeKind). making k path) (sym (same_kind entry other is ∙ made.kind_is)))
-planned_making P I state (Mkdir path) entry (other, is, made) = (path, ap (λ (k : NodeKind). making k path) (sym (same_kind entry other is ∙ made.kind_is)))
-planned_making P I state (Link from to) entry plan = absurd plan
-planned_making P I state (Unlink path) entry plan = absurd plan
-planned_making P I state (Rmdir path) entry plan = absurd plan
-planned_making P I state (Rename from to) entry plan = absurd plan
-planned_making P I state (Write path offset bytes) entry plan = absurd plan
-planned_making P I state (Truncate path size) entry plan = absurd plan
-planned_making P I state (Read path offset count) entry plan = absurd plan
-planned_making P I state (Tell path) entry plan = cc
-planned_making P I state (Show path) entry plan = cc
-planned_making P I state Df entry plan = cc
+pub planned_making : (P : ℕ) (I : List ℕ) (state : State) (command : Command) (entry : NewEntry) → IsPlanOf P I state command (MakesNode entry) → (path : Route) × (command ≡ making entry.kind path)
+planned_making P I state (Create path) entry (other, is, made) = (path, ap (λ (k : NodeKind). making k path) (sym (ap (λ (e : NewEntry). e.kind) (same_entry entry other is) ∙ made.kind_is)))
+planned_making P I state (Mkdir path) entry (other, is, made) = (path, ap (λ (k : NodeKind). making k path) (sym (ap (λ (e : NewEntry). e.kind) (same_entry entry other is) ∙ made.kind_is)))
+planned_making P I state (Link from to) entry (link, is, made) = no_entry entry (AddsName link) is refl
+planned_making P I state (Unlink path) entry (removal, is, made) = no_entry entry (RemovesName removal) is refl
+planned_making P I state (Rmdir path) entry (removal, is, made) = no_entry entry (RemovesName removal) is refl
+planned_making P I state (Rename from to) entry plan =
+    nothing_or ((path : Route) × (Rename from to ≡ making entry.kind path)) MovesName (IsMovingFor P I state from to) (MakesNode entry) _ plan (λ is. no_entry entry ChangesNothing is refl) (λ moving is. no_entry entry (MovesName moving) is refl)
+planned_making P I state (Write path offset bytes) entry plan =
+    nothing_or ((to : Route) × (Write path offset bytes ≡ making entry.kind to)) WritesBytes (IsWritingFor P I state path offset bytes) (MakesNode entry) _ plan (λ is. no_entry entry ChangesNothing is refl) (λ writing is. no_entry entry (WritesBytes writing) is refl)
+planned_making P I state (Truncate path size) entry plan =
+    nothing_or ((to : Route) × (Truncate path size ≡ making entry.kind to)) SetsSize (IsResizingFor P I state path size) (MakesNode entry) _ plan (λ is. no_entry entry ChangesNothing is refl) (λ resizing is. no_entry entry (SetsSize resizing) is refl)
+planned_making P I state (Read path offset count) entry (reading, is, made) = no_entry entry (ReadsBytes reading) is refl
+planned_making P I state (Tell path) entry is = no_entry entry (TellsNode _) is refl
+planned_making P I state (Show path) entry is = no_entry entry (ListsNames _) is refl
+planned_making P I state Df entry is = no_entry entry TellsSpace is refl
 
--- no plan makes more fences than an entry in a new page
-pub fences_of_plan-le : (action : Action) → fences_of_plan action ≤ 4
+-- and its directory has a path
+named_by : (P : ℕ) (I : List ℕ) (state : State) (entry : NewEntry) (kind : NodeKind) (path : Route) → IsPlanOf P I state (making kind path) (MakesNode entry) → id_at state.tree (parent path) ≡ Some entry.directory
+named_by P I state entry File path (other, is, made) = made.directory_is ∙ ap (λ (e : NewEntry). Some e.directory) (sym (same_entry entry other is))
+named_by P I state entry Directory path (other, is, made) = made.directory_is ∙ ap (λ (e : NewEntry). Some e.directory) (sym (same_entry entry other is))
+
+directory_named : (P : ℕ) (I : List ℕ) (state : State) (entry : NewEntry) (command : Command) → IsPlanOf P I state command (MakesNode entry) → (path : Route) × (id_at state.tree path ≡ Some entry.directory)
+directory_named P I state entry command plan =
+    let (path, is) = planned_making P I state command entry plan in
+    (parent path, named_by P I state entry entry.kind path (subst (λ (c : Command). IsPlanOf P I state c (MakesNode entry)) is plan))
+
+-- ---- what an entry costs
+
+-- no plan of the code makes more fences than an entry in a new page
+pub fences_of_plan-le : (action : Action) → fences_of_plan (deed_of action) ≤ 4
 fences_of_plan-le (Make entry) = few entry.new_page
   where
-    few : (new_page : Option ℕ) → fences_for new_page ≤ 4
+    few : (new_page : Option ℕ) → fences_of_plan (MakesNode (record entry { new_page = new_page })) ≤ 4
     few None = omega arith
     few (Some page) = omega arith
 fences_of_plan-le (Status inode) = omega arith
 fences_of_plan-le (Names inode) = omega arith
 fences_of_plan-le Space = omega arith
 
+pub events_of_entry-le : (entry : NewEntry) → events_of (MakesNode entry) ≤ 610
+events_of_entry-le entry = few entry.new_page entry.kind
+  where
+    few : (new_page : Option ℕ) (kind : NodeKind) → events_of (MakesNode (record entry { new_page = new_page; kind = kind })) ≤ 610
+    few None File = omega arith
+    few None Directory = omega arith
+    few (Some page) File = omega arith
+    few (Some page) Directory = omega arith
+
+-- ---- memory is short
+
+making_takes : (state : State) (kind : NodeKind) (path : Route) → takes_places state (making kind path) ≡ true
+making_takes state File path = refl
+making_takes state Directory path = refl
+
+making_changes : (kind : NodeKind) (path : Route) → is_changing (making kind path) ≡ true
+making_changes File path = refl
+making_changes Directory path = refl
+
+module _ (P : ℕ) (I : List ℕ) (state : State) (command : Command) (before after : DeviceView) where
+  made_lacks : (entry : NewEntry) (refusal : Refusal) → IsPlanned P I state command (MakesNode entry) → refusal ≡ NoMemory → LacksRoom P state command refusal before after
+  made_lacks entry refusal planned is =
+      let (path, by) = planned_making P I state command entry planned.plan_is in record {
+        answered = is;
+        accepted = (λ i. is_changing (by i) && is_none (planned.accepted i)) ∙ ap (λ b. b && true) (making_changes entry.kind path);
+        cause = inl (ap (takes_places state) by ∙ making_takes state entry.kind path);
+      }
+
+  -- for a plan that makes an entry
+  pub lacks_room : (action : Action) (refusal : Refusal) → IsPlanned P I state command (deed_of action) → (refusal ≡ NoMemory) × IsMaking action → LacksRoom P state command refusal before after
+  lacks_room (Make entry) refusal planned short = made_lacks entry refusal planned short.0
+  lacks_room (Status inode) refusal planned short = absurd short.1
+  lacks_room (Names inode) refusal planned short = absurd short.1
+  lacks_room Space refusal planned short = absurd short.1
+
 module _ (volume : VolumeView) (device : DeviceView) (state : State) (stands : StandsFor volume device state) (command : Command) where
-  pub made_within : (action : Action) → IsPlanned volume.size device.words state command action → IsMadeIn (inodes_of_index volume.index) action
+  pub made_within : (action : Action) → IsPlanned volume.size device.words state command (deed_of action) → IsMadeIn (inodes_of_index volume.index) action
   made_within (Make entry) planned =
       let (path, named) = directory_named volume.size device.words state entry command planned.plan_is in
       let within = in_table volume device entry.directory (state, stands) (reached_at volume device state path entry.directory stands named) in

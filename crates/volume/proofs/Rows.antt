@@ -28,7 +28,7 @@ use Rattle.volume.specs.Prepared.{making}
 use Rattle.layout.specs.declared.kinds.NodeKind.{NodeKind}
 use Rattle.layout.specs.declared.kinds.NodeKind.TheVariants.{File, Directory}
 use Rattle.volume.specs.declared.plan.NewEntry.{NewEntry}
-use Rattle.volume.specs.declared.plan.Action.TheVariants.{Make}
+use Rattle.volume.specs.Deed.{MakesNode}
 use Rattle.volume.proofs.Walked.{stands_tree, below_there, below_absent}
 use Rattle.volume.proofs.Places.{page_free}
 use Rattle.volume.proofs.Frees.{free_inodes_are, free_pages_are, least_inode}
@@ -160,7 +160,7 @@ module _ (volume : VolumeView) (device : DeviceView) (state : State) (stands : S
         refusal_is kind ∙ (λ i. row (fault_of (walked i)) (below i) (missing i) (inode i) (page i))
 
     pub new_planned : (k slot : ℕ) (new_page : Option ℕ) → IsAbsent (entries_of volume.index d) name → IsLowest volume.inodes k → IsPlace volume.size device.words d slot new_page
-        → IsPlanned volume.size device.words state (making kind path) (Make (record { kind = kind; directory = d; name = name; inode = k + 1; slot = slot; new_page = new_page }))
+        → IsPlanned volume.size device.words state (making kind path) (MakesNode (record { kind = kind; directory = d; name = name; inode = k + 1; slot = slot; new_page = new_page }))
     new_planned k slot new_page none lowest place =
         planned kind refl (new_accepted k slot new_page none lowest.free place)
       where
@@ -170,8 +170,8 @@ module _ (volume : VolumeView) (device : DeviceView) (state : State) (stands : S
         entry_is : (node : NodeKind) → IsEntryFor volume.size device.words state path node (entry node)
         entry_is node =
             let least = least_inode volume device state stands k lowest in
-            record { kind_is = refl; directory_is = held.0; name_is = named; inode_is = least.0; inode_within = least.1; place = place }
+            record { kind_is = refl; new_name = record { directory_is = held.0; name_is = named; place = place }; inode_is = least.0; inode_within = least.1 }
 
-        planned : (node : NodeKind) → kind ≡ node → refusal_of volume.size state.tree state.room (making node path) ≡ None → IsPlanned volume.size device.words state (making node path) (Make (entry node))
+        planned : (node : NodeKind) → kind ≡ node → refusal_of volume.size state.tree state.room (making node path) ≡ None → IsPlanned volume.size device.words state (making node path) (MakesNode (entry node))
         planned File is accepted = record { accepted = accepted; plan_is = (entry File, refl, entry_is File) }
         planned Directory is accepted = record { accepted = accepted; plan_is = (entry Directory, refl, entry_is Directory) }

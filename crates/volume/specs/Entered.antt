@@ -1,56 +1,173 @@
--- What a volume knows once an entry is made.
-use Rattle.std.specs.Prelude.{◌≡◌, ℕ, ◌-◌, ◌≤◌, Bool, false, List, [], ◌∷◌, ◌++◌, Option, Some, None, slice_set}
+-- What a volume knows once a deed is done: what its index and its sets of free numbers gained and lost.
+use Rattle.std.specs.Prelude.{◌≡◌, ℕ, ◌+◌, ◌-◌, ◌<◌, ◌≤◌, Bool, true, false, List, [], ◌∷◌, ◌++◌, length, take, Option, Some, None, slice_set}
 use Rattle.allocators.specs.Numbers.{IsFree}
-use Rattle.volatile_index.specs.Entries.{IsAbsent, IsWithEntry}
-use Rattle.volatile_index.specs.Index.{inodes_of_index, entries_of, places_of, pages_of, page_places_of, IsSameElsewhere}
+use Rattle.volatile_index.specs.Entries.{IsAbsent}
+use Rattle.volatile_index.specs.Index.{NodeView, inodes_of_index, entries_of, places_of, pages_of, page_places_of, IsWithPages, PutsEntry, RemovesEntry, ChangesNode}
 use Rattle.volume.specs.Volume.{VolumeView}
-use Rattle.volume.specs.declared.plan.NewEntry.{NewEntry}
+use Rattle.volume.specs.Deed.{Deed, Loss, Removal, Moving, Resizing, MakesNode, AddsName, RemovesName, MovesName, WritesBytes, SetsSize, ChangesNothing, ReadsBytes, TellsNode, ListsNames, TellsSpace}
+
+-- ---- pages of a plan
 
 -- the pages that a directory takes for a new entry
-abbrev pub new_pages : Option ℕ → List ℕ
-new_pages None = []
-new_pages (Some page) = page ∷ []
+abbrev pub pages_of_option : Option ℕ → List ℕ
+pages_of_option None = []
+pages_of_option (Some page) = page ∷ []
 
--- which pages are free once those are taken
-abbrev pub with_taken : List Bool → Option ℕ → List Bool
-with_taken free None = free
-with_taken free (Some page) = slice_set free page false
+-- which numbers are free once these are taken, and once these are given back
+abbrev pub with_taken : List Bool → List ℕ → List Bool
+with_taken free [] = free
+with_taken free (page ∷ pages) = with_taken (slice_set free page false) pages
+
+abbrev pub with_given : List Bool → List ℕ → List Bool
+with_given free [] = free
+with_given free (page ∷ pages) = with_given (slice_set free page true) pages
+
+-- ---- what is reserved
+
+-- the index has room for one more name of a directory, and for so many more pages of an inode
+abbrev pub HasPlace : VolumeView → ℕ → Type 0
+HasPlace volume directory = length (entries_of volume.index directory) < places_of volume.index directory
+
+abbrev pub HasPagePlaces : VolumeView → ℕ → List ℕ → Type 0
+HasPagePlaces volume inode pages = length (pages_of volume.index inode) + length pages ≤ page_places_of volume.index inode
+
+-- and for a new name with the new page that it may need
+pub record HasNamePlace (volume : VolumeView) (directory : ℕ) (new_page : Option ℕ) : Type 0 where
+  pub entry : HasPlace volume directory
+  pub page : HasPagePlaces volume directory (pages_of_option new_page)
+
+-- a name that takes another's place needs none of its own
+abbrev pub HasMovePlace : VolumeView → Moving → Option Loss → Type 0
+HasMovePlace volume moving None = HasNamePlace volume moving.to_directory moving.new_page
+HasMovePlace volume moving (Some loss) = Unit {0}
+
+-- the index has room for what the deed adds
+abbrev pub IsReserved : VolumeView → Deed → Type 0
+IsReserved volume (MakesNode entry) = HasNamePlace volume entry.directory entry.new_page
+IsReserved volume (AddsName link) = HasNamePlace volume link.directory link.new_page
+IsReserved volume (RemovesName removal) = Unit {0}
+IsReserved volume (MovesName moving) = HasMovePlace volume moving moving.replaced
+IsReserved volume (WritesBytes writing) = HasPagePlaces volume writing.inode writing.new_pages
+IsReserved volume (SetsSize resizing) = HasPagePlaces volume resizing.inode resizing.new_pages
+IsReserved volume ChangesNothing = Unit {0}
+IsReserved volume (ReadsBytes reading) = Unit {0}
+IsReserved volume (TellsNode inode) = Unit {0}
+IsReserved volume (ListsNames inode) = Unit {0}
+IsReserved volume TellsSpace = Unit {0}
+
+-- ---- what may be entered
 
 -- the new page is free, where there is one
 abbrev pub IsFreePlace : List Bool → Option ℕ → Type 0
 IsFreePlace free None = Unit {0}
 IsFreePlace free (Some page) = IsFree free page
 
--- The volume may take the entry: its directory is one of the index and has no entry of its name, and its inode and its new
--- page are free.
-pub record MayEnter (volume : VolumeView) (entry : NewEntry) : Type 0 where
-  pub least : 1 ≤ entry.directory
-  pub most : entry.directory ≤ inodes_of_index volume.index
-  pub absent : IsAbsent (entries_of volume.index entry.directory) entry.name
-  pub from_one : 1 ≤ entry.inode
-  pub inode : IsFree volume.inodes (entry.inode - 1)
-  pub page : IsFreePlace volume.data_pages entry.new_page
+-- The directory is one of the index and has no entry of the name, and its new page is free.
+pub record MayEnterName (volume : VolumeView) (directory : ℕ) (name : List ℕ) (new_page : Option ℕ) : Type 0 where
+  pub least : 1 ≤ directory
+  pub most : directory ≤ inodes_of_index volume.index
+  pub absent : IsAbsent (entries_of volume.index directory) name
+  pub page : IsFreePlace volume.data_pages new_page
 
--- The directory has its new page, in the places that were there, and the page is taken.
-pub record HasTakenPage (old new : VolumeView) (directory : ℕ) (new_page : Option ℕ) : Type 0 where
-  pub same_size : new.size ≡ old.size
-  pub same_state : new.stopped ≡ old.stopped
-  pub entries : entries_of new.index directory ≡ entries_of old.index directory
-  pub places : places_of new.index directory ≡ places_of old.index directory
-  pub pages : pages_of new.index directory ≡ pages_of old.index directory ++ new_pages new_page
-  pub page_places : page_places_of new.index directory ≡ page_places_of old.index directory
-  pub elsewhere : IsSameElsewhere directory old.index new.index
-  pub inodes : new.inodes ≡ old.inodes
-  pub data_pages : new.data_pages ≡ with_taken old.data_pages new_page
+-- ---- what is entered
 
--- The directory has the entry and its new page, in the places that were there, and the inode and the page are taken.
-pub record HasEntered (old new : VolumeView) (entry : NewEntry) : Type 0 where
-  pub same_size : new.size ≡ old.size
-  pub same_state : new.stopped ≡ old.stopped
-  pub entries : IsWithEntry (entries_of old.index entry.directory) (entries_of new.index entry.directory) (record { name = entry.name; slot = entry.slot })
-  pub places : places_of new.index entry.directory ≡ places_of old.index entry.directory
-  pub pages : pages_of new.index entry.directory ≡ pages_of old.index entry.directory ++ new_pages entry.new_page
-  pub page_places : page_places_of new.index entry.directory ≡ page_places_of old.index entry.directory
-  pub elsewhere : IsSameElsewhere entry.directory old.index new.index
-  pub inodes : new.inodes ≡ slice_set old.inodes (entry.inode - 1) false
-  pub data_pages : new.data_pages ≡ with_taken old.data_pages entry.new_page
+-- The inode gets these pages at the end of its own, in the places that were there, and they are taken.
+pub record EntersPages (old new : VolumeView) (inode : ℕ) (pages : List ℕ) : Type 0 where
+  pub index : ChangesNode inode old.index new.index (λ old new. IsWithPages (old.pages ++ pages) old new)
+  pub rest : new ≡ record old { index = new.index; data_pages = with_taken old.data_pages pages }
+
+-- The directory gets its new page, where there is one, and the name, in the places that were there.
+pub record EntersName (old new : VolumeView) (directory : ℕ) (name : List ℕ) (slot : ℕ) (new_page : Option ℕ) : Type 0 where
+  pub opened : VolumeView
+  pub page : EntersPages old opened directory (pages_of_option new_page)
+  pub index : ChangesNode directory opened.index new.index (PutsEntry (record { name = name; slot = slot }))
+  pub rest : new ≡ record opened { index = new.index }
+
+-- the inode is taken
+abbrev pub EntersInode : VolumeView → VolumeView → ℕ → Type 0
+EntersInode old new inode = new ≡ record old { inodes = slice_set old.inodes (inode - 1) false }
+
+-- ---- what leaves
+
+-- the entry of the name leaves the directory
+pub record LeavesName (old new : VolumeView) (directory : ℕ) (name : List ℕ) : Type 0 where
+  pub index : ChangesNode directory old.index new.index (RemovesEntry name)
+  pub rest : new ≡ record old { index = new.index }
+
+-- one page leaves the pages of an inode, wherever it stands
+pub record DropsPage (page : ℕ) (old new : NodeView) : Type 0 where
+  pub front : List ℕ
+  pub back : List ℕ
+  pub old_is : old.pages ≡ front ++ page ∷ back
+  pub new_is : IsWithPages (front ++ back) old new
+
+-- and it is free
+pub record LeavesPage (old new : VolumeView) (directory page : ℕ) : Type 0 where
+  pub index : ChangesNode directory old.index new.index (DropsPage page)
+  pub rest : new ≡ record old { index = new.index; data_pages = slice_set old.data_pages page true }
+
+abbrev pub LeavesPageOf : VolumeView → VolumeView → ℕ → Option ℕ → Type 0
+LeavesPageOf old new directory None = new ≡ old
+LeavesPageOf old new directory (Some page) = LeavesPage old new directory page
+
+-- the last so many pages of a file leave it, and are free
+pub record LeavesLastPages (old new : VolumeView) (inode count : ℕ) : Type 0 where
+  pub kept : List ℕ
+  pub gone : List ℕ
+  pub split : pages_of old.index inode ≡ kept ++ gone
+  pub count_is : length gone ≡ count
+  pub index : ChangesNode inode old.index new.index (λ old new. IsWithPages kept old new)
+  pub rest : new ≡ record old { index = new.index; data_pages = with_given old.data_pages gone }
+
+-- the inode leaves with all its pages, and all are free
+pub record LeavesInode (old new : VolumeView) (inode : ℕ) : Type 0 where
+  pub index : ChangesNode inode old.index new.index (λ old new. IsWithPages [] old new)
+  pub rest : new ≡ record old { index = new.index; inodes = slice_set old.inodes (inode - 1) true; data_pages = with_given old.data_pages (pages_of old.index inode) }
+
+-- where it goes
+abbrev pub LeavesInodeIf : Bool → VolumeView → VolumeView → ℕ → Type 0
+LeavesInodeIf true old new inode = LeavesInode old new inode
+LeavesInodeIf false old new inode = new ≡ old
+
+-- ---- what the deeds do
+
+pub record HasRemoved (old new : VolumeView) (removal : Removal) : Type 0 where
+  pub unnamed : VolumeView
+  pub given : VolumeView
+  pub name : LeavesName old unnamed removal.directory removal.name
+  pub page : LeavesPageOf unnamed given removal.directory removal.given_back
+  pub inode : LeavesInodeIf removal.loss.goes given new removal.loss.inode
+
+-- the node that is replaced leaves its name, and goes where that was its last one
+abbrev pub HasReplaced : VolumeView → VolumeView → Moving → Option Loss → Type 0
+HasReplaced old new moving None = new ≡ old
+HasReplaced old new moving (Some loss) = (unnamed : VolumeView) × LeavesName old unnamed moving.to_directory moving.to_name × LeavesInodeIf loss.goes unnamed new loss.inode
+
+pub record HasMoved (old new : VolumeView) (moving : Moving) : Type 0 where
+  pub unnamed : VolumeView
+  pub vacated : VolumeView
+  pub named : VolumeView
+  pub source : LeavesName old unnamed moving.from_directory moving.from_name
+  pub target : HasReplaced unnamed vacated moving moving.replaced
+  pub name : EntersName vacated named moving.to_directory moving.to_name moving.to_slot moving.new_page
+  pub page : LeavesPageOf named new moving.from_directory moving.given_back
+
+pub record HasResized (old new : VolumeView) (resizing : Resizing) : Type 0 where
+  pub grown : VolumeView
+  pub pages : EntersPages old grown resizing.inode resizing.new_pages
+  pub cut : LeavesLastPages grown new resizing.inode resizing.cut
+
+-- What the volume knows once the deed is done. Where all is said, nothing else has changed.
+abbrev pub HasDone : VolumeView → VolumeView → Deed → Type 0
+HasDone old new (MakesNode entry) =
+    (named : VolumeView) × EntersName old named entry.directory entry.name entry.slot entry.new_page × EntersInode named new entry.inode
+HasDone old new (AddsName link) = EntersName old new link.directory link.name link.slot link.new_page
+HasDone old new (RemovesName removal) = HasRemoved old new removal
+HasDone old new (MovesName moving) = HasMoved old new moving
+HasDone old new (WritesBytes writing) = EntersPages old new writing.inode writing.new_pages
+HasDone old new (SetsSize resizing) = HasResized old new resizing
+HasDone old new ChangesNothing = new ≡ old
+HasDone old new (ReadsBytes reading) = new ≡ old
+HasDone old new (TellsNode inode) = new ≡ old
+HasDone old new (ListsNames inode) = new ≡ old
+HasDone old new TellsSpace = new ≡ old

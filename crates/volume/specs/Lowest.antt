@@ -1,5 +1,6 @@
--- The lowest number of some.
-use Rattle.std.specs.Prelude.{◌≡◌, ℕ, ◌<◌, List, Contains, Option, Some, None, nat_lt, if◌then◌else◌}
+-- The lowest numbers of some.
+use Rattle.std.specs.Prelude.{◌≡◌, ℕ, ◌<◌, List, length, Contains, Option, Some, None, nat_lt, if◌then◌else◌}
+use Rattle.std.specs.List.{AllPairs}
 use Rattle.layout.specs.Geometry.{page_of_slot}
 use Rattle.layout.specs.Fields.{slot_inode}
 
@@ -7,6 +8,13 @@ use Rattle.layout.specs.Fields.{slot_inode}
 abbrev pub IsLowestOf : (ℕ → Type 0) → Option ℕ → Type 0
 IsLowestOf Q None = (k : ℕ) → ¬ Q k
 IsLowestOf Q (Some k) = Q k × ((other : ℕ) → other < k → ¬ Q other)
+
+-- the lowest numbers that have Q, so many of them, in rising order
+pub record AreLowestOf (Q : ℕ → Type 0) (count : ℕ) (numbers : List ℕ) : Type 0 where
+  pub count_is : length numbers ≡ count
+  pub rising : AllPairs (λ earlier later. earlier < later) numbers
+  pub each : (k : ℕ) → Contains numbers k → Q k
+  pub lowest : (k other : ℕ) → Contains numbers k → other < k → Q other → Contains numbers other
 
 -- the lower of two numbers, where there are two
 abbrev pub lower_of : Option ℕ → Option ℕ → Option ℕ

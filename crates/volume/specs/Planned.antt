@@ -1,21 +1,21 @@
 -- Plans of accepted commands. P is the number of pages, I the words, d a directory.
-use Rattle.std.specs.Prelude.{◌≡◌, ℕ, ◌+◌, ◌*◌, ◌<◌, ◌≤◌, List, length, Option, Some, None}
-use Rattle.layout.specs.Geometry.{inodes_of}
+use Rattle.std.specs.Prelude.{◌≡◌, ◌≢◌, ◌↔◌, ℕ, ◌+◌, ◌-◌, ◌*◌, ◌<◌, ◌≤◌, Bool, true, false, ◌&&◌, ◌||◌, not, ◌==◌, if◌then◌else◌, List, [], length, Contains, Option, Some, None, is_none, is_some}
+use Rattle.std.specs.List.{AllPairs}
+use Rattle.layout.specs.Geometry.{pieces, inodes_of, page_of_slot}
 use Rattle.layout.specs.Fields.{slot_inode}
+use Rattle.layout.specs.declared.kinds.NodeKind.{NodeKind}
+use Rattle.layout.specs.declared.kinds.NodeKind.TheVariants.{File, Directory}
 use Rattle.tree_model.specs.PathText.{Route}
-use Rattle.tree_model.specs.Tree.{parent, last_name, id_at}
-use Rattle.tree_model.specs.Step.{least_free_id, id_of, resolved, refusal_of}
+use Rattle.tree_model.specs.Tree.{Tree, parent, last_name, id_at, node_at, is_directory, bytes_of, page_bytes}
+use Rattle.tree_model.specs.Step.{least_free_id, id_of, is_same_node, need, tree_after, resolved, refusal_of}
 use Rattle.tree_model.specs.Run.{State}
 use Rattle.tree_model.specs.declared.command.Command.{Command}
 use Rattle.tree_model.specs.declared.command.Command.TheVariants.{Create, Mkdir, Link, Unlink, Rmdir, Rename, Write, Truncate, Read, Stat as Tell, List as Show, Df}
-use Rattle.image_counts.specs.Entries.{IsSlotIn, IsFreePage}
-use Rattle.volatile_index.specs.Index.{entries_of, places_of, pages_of, page_places_of}
-use Rattle.volume.specs.Volume.{VolumeView}
-use Rattle.layout.specs.declared.kinds.NodeKind.{NodeKind}
-use Rattle.layout.specs.declared.kinds.NodeKind.TheVariants.{File, Directory}
+use Rattle.image_reading.specs.Counts.{IsDistinct}
+use Rattle.image_counts.specs.Entries.{IsEntryOf, IsSlotIn, IsPageIn, IsFreePage}
+use Rattle.volume.specs.Lowest.{AreLowestOf}
+use Rattle.volume.specs.Deed.{Deed, NewName, Loss, Removal, Moving, Writing, Resizing, Reading, MakesNode, AddsName, RemovesName, MovesName, WritesBytes, SetsSize, ChangesNothing, ReadsBytes, TellsNode, ListsNames, TellsSpace}
 use Rattle.volume.specs.declared.plan.NewEntry.{NewEntry}
-use Rattle.volume.specs.declared.plan.Action.{Action}
-use Rattle.volume.specs.declared.plan.Action.TheVariants.{Make, Status, Names, Space}
 
 -- ---- the place of a new name
 
@@ -45,73 +45,149 @@ abbrev pub IsPlace : ℕ → List ℕ → ℕ → ℕ → Option ℕ → Type 0
 IsPlace P I d slot None = IsLowestSlot P I d slot
 IsPlace P I d slot (Some page) = IsNewPage P I d page slot
 
+-- The path's directory gets its last name, in the lowest place.
+pub record IsNewNameAt (P : ℕ) (I : List ℕ) (state : State) (path : Route) (directory : ℕ) (name : List ℕ) (slot : ℕ) (new_page : Option ℕ) : Type 0 where
+  pub directory_is : id_at state.tree (parent path) ≡ Some directory
+  pub name_is : name ≡ last_name path
+  pub place : IsPlace P I directory slot new_page
+
+-- ---- what is there
+
+-- The path's directory has its last name in this slot, and it names the inode.
+pub record IsNameAt (P : ℕ) (I : List ℕ) (state : State) (path : Route) (directory : ℕ) (name : List ℕ) (slot inode : ℕ) : Type 0 where
+  pub directory_is : id_at state.tree (parent path) ≡ Some directory
+  pub name_is : name ≡ last_name path
+  pub slot_is : IsEntryOf P I directory name slot
+  pub inode_is : id_at state.tree path ≡ Some inode
+
+-- all pages that the inode owns, each once
+pub record ArePagesOf (P : ℕ) (I : List ℕ) (inode : ℕ) (pages : List ℕ) : Type 0 where
+  pub each : (page : ℕ) → Contains pages page ↔ IsPageIn P I inode page
+  pub once : IsDistinct pages
+
+abbrev pub is_directory_kind : NodeKind → Bool
+is_directory_kind File = false
+is_directory_kind Directory = true
+
+-- Whether the inode of a name that is taken away goes: it is in no tree after the command. Then all its pages go with it.
+pub record IsLossOf (P : ℕ) (I : List ℕ) (state : State) (command : Command) (loss : Loss) : Type 0 where
+  pub kind_is : is_directory state.tree loss.inode ≡ is_directory_kind loss.kind
+  pub goes_is : loss.goes ≡ is_none (node_at (tree_after (least_free_id state.tree) state.tree command) loss.inode)
+  pub pages : loss.goes ≡ true → ArePagesOf P I loss.inode loss.pages
+  pub no_pages : loss.goes ≡ false → loss.pages ≡ []
+
+-- no other slot of its page names anything
+abbrev pub IsAlone : ℕ → List ℕ → ℕ → Type 0
+IsAlone P I slot = (other : ℕ) → page_of_slot other ≡ page_of_slot slot → other ≢ slot → slot_inode P I other ≡ 0
+
+-- the page of a slot that is cleared is given back exactly where no name is left in it
+abbrev pub IsGivenBack : Type 0 → ℕ → Option ℕ → Type 0
+IsGivenBack IsEmptied slot None = ¬ IsEmptied
+IsGivenBack IsEmptied slot (Some page) = IsEmptied × (page ≡ page_of_slot slot)
+
 -- ---- plans
 
--- The entry is the one that the path asks for: in its directory, with its last name, the least free inode and the lowest place.
+-- The entry is the one that the path asks for, and its inode the least free one.
 pub record IsEntryFor (P : ℕ) (I : List ℕ) (state : State) (path : Route) (kind : NodeKind) (entry : NewEntry) : Type 0 where
   pub kind_is : entry.kind ≡ kind
-  pub directory_is : id_at state.tree (parent path) ≡ Some entry.directory
-  pub name_is : entry.name ≡ last_name path
+  pub new_name : IsNewNameAt P I state path entry.directory entry.name entry.slot entry.new_page
+  pub open new_name use *
   pub inode_is : entry.inode ≡ least_free_id state.tree
   pub inode_within : entry.inode ≤ inodes_of P
-  pub place : IsPlace P I entry.directory entry.slot entry.new_page
 
--- What the plan of an accepted command does, at the paths that its walks reach. No plan is one of a command that isn't supported.
-abbrev pub IsPlanOf : ℕ → List ℕ → State → Command → Action → Type 0
-IsPlanOf P I state (Create path) plan = (entry : NewEntry) × (plan ≡ Make entry) × IsEntryFor P I state path File entry
-IsPlanOf P I state (Mkdir path) plan = (entry : NewEntry) × (plan ≡ Make entry) × IsEntryFor P I state path Directory entry
-IsPlanOf P I state (Link from to) plan = ⊥
-IsPlanOf P I state (Unlink path) plan = ⊥
-IsPlanOf P I state (Rmdir path) plan = ⊥
-IsPlanOf P I state (Rename from to) plan = ⊥
-IsPlanOf P I state (Write path offset bytes) plan = ⊥
-IsPlanOf P I state (Truncate path size) plan = ⊥
-IsPlanOf P I state (Read path offset count) plan = ⊥
-IsPlanOf P I state (Tell path) plan = plan ≡ Status (id_of state.tree path)
-IsPlanOf P I state (Show path) plan = plan ≡ Names (id_of state.tree path)
-IsPlanOf P I state Df plan = plan ≡ Space
+pub record IsLinkFor (P : ℕ) (I : List ℕ) (state : State) (from to : Route) (link : NewName) : Type 0 where
+  pub new_name : IsNewNameAt P I state to link.directory link.name link.slot link.new_page
+  pub inode_is : id_at state.tree from ≡ Some link.inode
 
--- the command is accepted, and this is its plan
-pub record IsPlanned (P : ℕ) (I : List ℕ) (state : State) (command : Command) (plan : Action) : Type 0 where
+pub record IsRemovalFor (P : ℕ) (I : List ℕ) (state : State) (command : Command) (path : Route) (removal : Removal) : Type 0 where
+  pub named : IsNameAt P I state path removal.directory removal.name removal.slot removal.loss.inode
+  pub loss : IsLossOf P I state command removal.loss
+  pub given_back : IsGivenBack (IsAlone P I removal.slot) removal.slot removal.given_back
+
+-- where the name that a move goes to stands: in a new place, or in that of the node that it replaces
+abbrev pub IsTargetOf : ℕ → List ℕ → State → Route → Route → Moving → Option Loss → Type 0
+IsTargetOf P I state from to moving None = (id_at state.tree to ≡ None) × IsNewNameAt P I state to moving.to_directory moving.to_name moving.to_slot moving.new_page
+IsTargetOf P I state from to moving (Some loss) =
+    IsNameAt P I state to moving.to_directory moving.to_name moving.to_slot loss.inode × IsLossOf P I state (Rename from to) loss × (moving.new_page ≡ None)
+
+abbrev pub inode_of_loss : Option Loss → Option ℕ
+inode_of_loss None = None
+inode_of_loss (Some loss) = Some loss.inode
+
+-- A directory that gets another parent, and replaces none, raises the links of the new one.
+abbrev pub rising_of : Tree → Moving → Option ℕ
+rising_of T moving =
+    if is_directory T moving.inode && not (moving.from_directory == moving.to_directory) && is_none moving.replaced
+    then Some moving.to_directory else None
+
+-- A directory that gets another parent, or replaces a directory, lowers those of the old one; a file that is replaced lowers its own.
+abbrev pub falling_of : Tree → Moving → Option ℕ
+falling_of T moving =
+    if is_directory T moving.inode
+    then (if not (moving.from_directory == moving.to_directory) || is_some moving.replaced then Some moving.from_directory else None)
+    else inode_of_loss moving.replaced
+
+-- The source's page is emptied where no name is left in it, the new one neither.
+abbrev pub IsEmptiedBy : ℕ → List ℕ → Moving → Type 0
+IsEmptiedBy P I moving = IsAlone P I moving.from_slot × (page_of_slot moving.to_slot ≢ page_of_slot moving.from_slot)
+
+pub record IsMovingFor (P : ℕ) (I : List ℕ) (state : State) (from to : Route) (moving : Moving) : Type 0 where
+  pub source : IsNameAt P I state from moving.from_directory moving.from_name moving.from_slot moving.inode
+  pub target : IsTargetOf P I state from to moving moving.replaced
+  pub given_back : IsGivenBack (IsEmptiedBy P I moving) moving.from_slot moving.given_back
+  pub rises_is : moving.rises ≡ rising_of state.tree moving
+  pub falls_is : moving.falls ≡ falling_of state.tree moving
+
+-- the new pages of a file: the lowest free ones, as many as the command needs
+abbrev pub AreNewPages : ℕ → List ℕ → State → Command → List ℕ → Type 0
+AreNewPages P I state command pages = AreLowestOf (IsFreePage P I) (need state.tree state.room command) pages
+
+pub record IsWritingFor (P : ℕ) (I : List ℕ) (state : State) (path : Route) (offset : ℕ) (bytes : List ℕ) (writing : Writing) : Type 0 where
+  pub inode_is : id_at state.tree path ≡ Some writing.inode
+  pub offset_is : writing.offset ≡ offset
+  pub count_is : writing.count ≡ length bytes
+  pub size_is : writing.old_size ≡ length (bytes_of state.tree writing.inode)
+  pub new_pages : AreNewPages P I state (Write path offset bytes) writing.new_pages
+
+pub record IsResizingFor (P : ℕ) (I : List ℕ) (state : State) (path : Route) (size : ℕ) (resizing : Resizing) : Type 0 where
+  pub inode_is : id_at state.tree path ≡ Some resizing.inode
+  pub old_is : resizing.old_size ≡ length (bytes_of state.tree resizing.inode)
+  pub new_is : resizing.new_size ≡ size
+  pub new_pages : AreNewPages P I state (Truncate path size) resizing.new_pages
+  pub cut_is : resizing.cut ≡ pieces resizing.old_size page_bytes - pieces size page_bytes
+
+pub record IsReadingFor (state : State) (path : Route) (offset count : ℕ) (reading : Reading) : Type 0 where
+  pub inode_is : id_at state.tree path ≡ Some reading.inode
+  pub offset_is : reading.offset ≡ offset
+  pub count_is : reading.count ≡ count
+
+-- nothing is to be done, or a deed that has Q is
+abbrev pub IsNothingOr : Bool → (Deed → Type 0) → Deed → Type 0
+IsNothingOr true Q deed = deed ≡ ChangesNothing
+IsNothingOr false Q deed = Q deed
+
+abbrev pub is_size_of : State → Route → ℕ → Bool
+is_size_of state path size = size == length (bytes_of state.tree (id_of state.tree path))
+
+-- What the plan of an accepted command does, at the paths that its walks reach.
+abbrev pub IsPlanOf : ℕ → List ℕ → State → Command → Deed → Type 0
+IsPlanOf P I state (Create path) deed = (entry : NewEntry) × (deed ≡ MakesNode entry) × IsEntryFor P I state path File entry
+IsPlanOf P I state (Mkdir path) deed = (entry : NewEntry) × (deed ≡ MakesNode entry) × IsEntryFor P I state path Directory entry
+IsPlanOf P I state (Link from to) deed = (link : NewName) × (deed ≡ AddsName link) × IsLinkFor P I state from to link
+IsPlanOf P I state (Unlink path) deed = (removal : Removal) × (deed ≡ RemovesName removal) × IsRemovalFor P I state (Unlink path) path removal
+IsPlanOf P I state (Rmdir path) deed = (removal : Removal) × (deed ≡ RemovesName removal) × IsRemovalFor P I state (Rmdir path) path removal
+IsPlanOf P I state (Rename from to) deed =
+    IsNothingOr (is_same_node state.tree from to) (λ deed. (moving : Moving) × (deed ≡ MovesName moving) × IsMovingFor P I state from to moving) deed
+IsPlanOf P I state (Write path offset bytes) deed =
+    IsNothingOr (length bytes == 0) (λ deed. (writing : Writing) × (deed ≡ WritesBytes writing) × IsWritingFor P I state path offset bytes writing) deed
+IsPlanOf P I state (Truncate path size) deed =
+    IsNothingOr (is_size_of state path size) (λ deed. (resizing : Resizing) × (deed ≡ SetsSize resizing) × IsResizingFor P I state path size resizing) deed
+IsPlanOf P I state (Read path offset count) deed = (reading : Reading) × (deed ≡ ReadsBytes reading) × IsReadingFor state path offset count reading
+IsPlanOf P I state (Tell path) deed = deed ≡ TellsNode (id_of state.tree path)
+IsPlanOf P I state (Show path) deed = deed ≡ ListsNames (id_of state.tree path)
+IsPlanOf P I state Df deed = deed ≡ TellsSpace
+
+-- the command is accepted, and this is what its plan does
+pub record IsPlanned (P : ℕ) (I : List ℕ) (state : State) (command : Command) (deed : Deed) : Type 0 where
   pub accepted : refusal_of P state.tree state.room command ≡ None
-  pub plan_is : IsPlanOf P I state (resolved state.tree command) plan
-
--- ---- what a plan has reserved
-
--- stores, flushes and fences of a new page's two steps: its 512 words, two words and the owner of its descriptor
-abbrev pub page_events : ℕ
-page_events = 512 + 2 + 65 + 1 + 3
-
--- and of an entry's two steps: an inode, a name and a parent's links, then the slot's inode number
-abbrev pub entry_events : ℕ
-entry_events = 4 + 14 + 1 + 1 + 2 + 1 + 1 + 1 + 1 + 1
-
--- how many events its call makes at most
-abbrev pub events_of : Action → ℕ
-events_of (Make entry) = page_events + entry_events
-events_of (Status inode) = 0
-events_of (Names inode) = 0
-events_of Space = 0
-
--- how many fences its call makes: two, and two more for a new page
-abbrev pub fences_for : Option ℕ → ℕ
-fences_for None = 2
-fences_for (Some page) = 4
-
-abbrev pub fences_of_plan : Action → ℕ
-fences_of_plan (Make entry) = fences_for entry.new_page
-fences_of_plan (Status inode) = 0
-fences_of_plan (Names inode) = 0
-fences_of_plan Space = 0
-
--- one more page of an inode fits, where there is one
-abbrev pub HasPagePlace : VolumeView → ℕ → Option ℕ → Type 0
-HasPagePlace volume inode None = Unit {0}
-HasPagePlace volume inode (Some page) = length (pages_of volume.index inode) < page_places_of volume.index inode
-
--- the index has room for what the plan adds
-abbrev pub IsReserved : VolumeView → Action → Type 0
-IsReserved volume (Make entry) = (length (entries_of volume.index entry.directory) < places_of volume.index entry.directory) × HasPagePlace volume entry.directory entry.new_page
-IsReserved volume (Status inode) = Unit {0}
-IsReserved volume (Names inode) = Unit {0}
-IsReserved volume Space = Unit {0}
+  pub plan_is : IsPlanOf P I state (resolved state.tree command) deed

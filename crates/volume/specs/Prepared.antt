@@ -1,15 +1,18 @@
 -- What preparing a command answers and leaves.
 use Rattle.std.specs.Prelude.{◌≡◌, ◌≢◌, ◌⊎◌, ℕ, ◌≤◌, false, List, IsTrue, Some, Result, Ok, Err, OnOk, IfOk, IfErr}
+use Rattle.pm_trait.specs.Device.{HasRisen}
 use Rattle.pm_trait.specs.DeviceView.{DeviceView}
 use Rattle.tree_model.specs.PathText.{Route}
 use Rattle.tree_model.specs.Step.{refusal_of}
 use Rattle.tree_model.specs.Run.{State, is_changing, may_fail}
+use Rattle.tree_model.specs.Places.{needs_places}
 use Rattle.tree_model.specs.declared.command.Command.{Command}
 use Rattle.tree_model.specs.declared.command.Command.TheVariants.{Create, Mkdir}
 use Rattle.tree_model.specs.declared.reply.Refusal.{Refusal}
 use Rattle.tree_model.specs.declared.reply.Refusal.TheVariants.{NoMemory}
 use Rattle.volatile_index.specs.Index.{NodeView, inodes_of_index, entries_of, places_of, pages_of, page_places_of}
 use Rattle.volume.specs.Volume.{VolumeView}
+use Rattle.volume.specs.Deed.{deed_of}
 use Rattle.volume.specs.Stands.{StandsFor}
 use Rattle.volume.specs.Planned.{IsPlanned}
 use Rattle.volume.specs.Carried.{HasReserved}
@@ -23,13 +26,21 @@ abbrev pub making : NodeKind → Route → Command
 making File path = Create path
 making Directory path = Mkdir path
 
--- the tree and the room refuse the command, or they don't and memory is short for a change
-abbrev pub IsRefusal : ℕ → State → Command → Refusal → Type 0
-IsRefusal P state command refusal = (refusal_of P state.tree state.room command ≡ Some refusal) ⊎ ((refusal ≡ NoMemory) × IsTrue (may_fail P state command))
+-- Memory is short for a change that the tree and the room accept: for one that needs no place in a table only where the device
+-- refused room.
+pub record LacksRoom (P : ℕ) (state : State) (command : Command) (refusal : Refusal) (before after : DeviceView) : Type 0 where
+  pub answered : refusal ≡ NoMemory
+  pub accepted : IsTrue (may_fail P state command)
+  pub cause : IsTrue (needs_places state command) ⊎ HasRisen before.refused after.refused
+
+-- the tree and the room refuse the command, or they don't and memory is short
+abbrev pub IsRefusal : ℕ → State → Command → Refusal → DeviceView → DeviceView → Type 0
+IsRefusal P state command refusal before after =
+    (refusal_of P state.tree state.room command ≡ Some refusal) ⊎ LacksRoom P state command refusal before after
 
 -- The command's plan, or the first refusal of its row.
 abbrev pub IsPlanOrRefusal : VolumeView → DeviceView → Command → Result Action Refusal → Type 0
-IsPlanOrRefusal volume device command (Ok action) = (state : State) → StandsFor volume device state → IsPlanned volume.size device.words state command action
+IsPlanOrRefusal volume device command (Ok action) = (state : State) → StandsFor volume device state → IsPlanned volume.size device.words state command (deed_of action)
 IsPlanOrRefusal volume device command (Err refusal) = (state : State) → StandsFor volume device state → refusal_of volume.size state.tree state.room command ≡ Some refusal
 
 -- ---- what is reserved

@@ -1,6 +1,7 @@
 //! A mounted volume: what it stands for, and the plans of commands on it.
 #![tactic(auto)]
 
+mod costs;
 mod names;
 mod place;
 mod plan;
@@ -9,8 +10,11 @@ mod resolve;
 mod stat;
 mod volume;
 
+pub use costs::{
+    COMMIT_EVENTS, FENCE_EVENTS, INODE_EVENTS, KEPT_EVENTS, NAME_EVENTS, NEW_PAGE_EVENTS, PAGE_EVENTS,
+    WORD_EVENTS,
+};
 pub use plan::{Action, NewEntry, Plan};
-pub use prepare::{ENTRY_EVENTS, PAGE_EVENTS};
 pub use resolve::Walk;
 pub use volume::Volume;
 

@@ -1,6 +1,9 @@
 // Plans of accepted commands. A plan can't be copied, and none is made but by `prepare`.
 ghost use Rattle.std.specs.Prelude.{◌≡◌};
 
+use crate::costs::{
+    COMMIT_EVENTS, FENCE_EVENTS, INODE_EVENTS, NAME_EVENTS, NEW_PAGE_EVENTS, WORD_EVENTS,
+};
 use layout::{Name, NodeKind};
 use std::marker::Model;
 
@@ -19,6 +22,26 @@ pub struct NewEntry {
     pub slot: u64,
     /// The data page that the directory takes for the slot, where its pages are full. They are numbered from 0.
     pub new_page: Option<u64>,
+}
+
+impl NewEntry {
+    ghost use Rattle.volume.specs.Costs.{events_of};
+    ghost use Rattle.volume.specs.Deed.{MakesNode};
+
+    /// How many stores, flushes and fences the making takes.
+    pub fn events(&self) -> u64
+        ensures { result ≡ events_of (MakesNode self.now) }
+    {
+        let page = match self.new_page {
+            None => 0,
+            Some(_) => NEW_PAGE_EVENTS,
+        };
+        let links = match self.kind {
+            NodeKind::File => 0,
+            NodeKind::Directory => WORD_EVENTS,
+        };
+        page + (INODE_EVENTS + NAME_EVENTS + links + FENCE_EVENTS) + COMMIT_EVENTS
+    }
 }
 
 /// What an accepted command does.

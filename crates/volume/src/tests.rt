@@ -1,13 +1,13 @@
 // Calls on a volume made by hand. Those that read a device are called where a volume is mounted.
-use crate::{NewEntry, Volume, Walk};
+use crate::{Volume, Walk};
 use allocators::Numbers;
-use layout::{Geometry, Name, NodeKind};
+use layout::{Geometry, Name};
 use std::test::Fail;
 use tree_model::Refusal;
 use volatile_index::Index;
 
 #[test]
-fn takes_in_an_entry(rt: HostRuntime) -> Result<(), Fail> {
+fn takes_in_a_name_and_a_node(rt: HostRuntime) -> Result<(), Fail> {
     let geometry = Geometry::of(16).ok_or("no volume")?;
     if geometry.inodes != 4 {
         return Err("another number of inodes".into());
@@ -21,16 +21,10 @@ fn takes_in_an_entry(rt: HostRuntime) -> Result<(), Fail> {
     let mut inodes = Numbers::new(rt.alloc(), 4)?;
     inodes.take(0);
     let data_pages = Numbers::new(rt.alloc(), geometry.data_pages)?;
-    let mut volume = Volume::from_parts(geometry, index, inodes, data_pages);
+    let mut volume = Volume::from_parts(rt.alloc(), geometry, index, inodes, data_pages);
     assert_eq!(rt; volume.inodes.free_count(), 3);
-    volume.enter(NewEntry {
-        kind: NodeKind::File,
-        directory: 1,
-        name,
-        inode: 2,
-        slot: 7,
-        new_page: None,
-    });
+    volume.enter_name(1, name, 7, None);
+    volume.enter_inode(2);
     assert_eq!(rt; volume.inodes.free_count(), 2);
     assert_eq!(rt; volume.index.count(1), 1);
     let entry = volume.index.nth(1, 0);
@@ -46,7 +40,7 @@ fn stops(rt: HostRuntime) -> Result<(), Fail> {
     let index = Index::new(rt.alloc(), &geometry)?;
     let inodes = Numbers::new(rt.alloc(), geometry.inodes)?;
     let data_pages = Numbers::new(rt.alloc(), geometry.data_pages)?;
-    let mut volume = Volume::from_parts(geometry, index, inodes, data_pages);
+    let mut volume = Volume::from_parts(rt.alloc(), geometry, index, inodes, data_pages);
     assert!(rt; !volume.stopped());
     volume.stop();
     assert!(rt; volume.stopped());

@@ -1,18 +1,18 @@
-ghost use Rattle.std.specs.Prelude.{◌≡◌, ◌≤◌, false, true};
+ghost use Rattle.std.specs.Prelude.{◌≡◌, ◌-◌, ◌≤◌, false, true};
+ghost use Rattle.allocators.specs.Numbers.{IsFree};
 ghost use Rattle.volatile_index.specs.Index.{inodes_of_index};
-ghost use Rattle.volume.specs.Planned.{HasPagePlace, IsReserved};
-ghost use Rattle.volume.specs.Entered.{IsFreePlace, MayEnter, HasTakenPage, HasEntered};
-ghost use Rattle.volume.specs.declared.plan.Action.TheVariants.{Make};
+ghost use Rattle.volume.specs.Entered.{pages_of_option, HasPagePlaces, HasNamePlace, IsFreePlace, MayEnterName, EntersPages, EntersName, EntersInode};
 
-use crate::plan::NewEntry;
 use allocators::Numbers;
-use layout::Geometry;
+use layout::{Geometry, Name};
+use std::alloc::Global;
 use std::marker::Model;
 use volatile_index::Index;
 
 /// What is known of a mounted volume without a look at the device: the entries and pages of its inodes, and what is free.
 #[derive(Drop)]
 pub struct Volume {
+    pub(crate) alloc: Global,
     pub(crate) geometry: Geometry,
     pub(crate) index: Index,
     // Inode i is number i - 1.
@@ -33,6 +33,7 @@ impl Model for Volume {
 impl Volume {
     /// A volume of what was found on a device: which entries and pages each inode has, and which inodes and data pages are free.
     pub fn from_parts(
+        alloc: Global,
         geometry: Geometry,
         index: Index,
         inodes: Numbers,
@@ -47,6 +48,7 @@ impl Volume {
         } }
     {
         Volume {
+            alloc,
             geometry,
             index,
             inodes,
@@ -76,15 +78,24 @@ impl Volume {
         &self.geometry
     }
 
-    /// Takes in an entry that was made on the device. It takes no memory: `prepare` has reserved its places.
-    pub fn enter(&mut self, entry: NewEntry)
-        requires may_enter { MayEnter self.old entry }
-        requires reserved { IsReserved self.old (Make entry) }
-        ensures { HasEntered self.old self.new entry }
+    /// Takes in a name that a directory was given, with the new page that it may have needed. It takes no memory: `prepare` has
+    /// reserved the places.
+    pub fn enter_name(&mut self, directory: u64, name: Name, slot: u64, new_page: Option<u64>)
+        requires may_enter { MayEnterName self.old directory name new_page }
+        requires reserved { HasNamePlace self.old directory new_page }
+        ensures { EntersName self.old self.new directory name slot new_page }
     {
-        self.take_page(entry.directory, entry.new_page);
-        self.inodes.take(entry.inode - 1);
-        self.index.put(entry.directory, entry.name, entry.slot);
+        self.take_page(directory, new_page);
+        self.index.put(directory, name, slot);
+    }
+
+    /// Takes in a new node: its inode is no longer free.
+    pub fn enter_inode(&mut self, inode: u64)
+        requires from_one { 1 ≤ inode }
+        requires free { IsFree self.old.inodes (inode - 1) }
+        ensures { EntersInode self.old self.new inode }
+    {
+        self.inodes.take(inode - 1);
     }
 
     // Gives a directory its new page, where there is one.
@@ -92,8 +103,8 @@ impl Volume {
         requires least { 1 ≤ directory }
         requires most { directory ≤ inodes_of_index self.old.index }
         requires free { IsFreePlace self.old.data_pages new_page }
-        requires place { HasPagePlace self.old directory new_page }
-        ensures { HasTakenPage self.old self.new directory new_page }
+        requires places { HasPagePlaces self.old directory (pages_of_option new_page) }
+        ensures { EntersPages self.old self.new directory (pages_of_option new_page) }
     {
         if let Some(page) = new_page {
             self.data_pages.take(page);

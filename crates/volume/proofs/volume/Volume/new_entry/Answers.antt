@@ -13,56 +13,56 @@ use Rattle.volume.proofs.volume.Volume.new_entry.Goals as goal
 
 pub returns-then-has_name : goal.returns-then-has_name
 returns-then-has_name g c = λ state stands.
-    let walked = c.in-Ok-Some.ensures.directory state stands ∙ ap (λ (last : Option LastName). place_of_parent c.args.path.now (Ok last)) c.in-Ok-Some.field-0-is in
-    let last = subst (IsLastName c.args.path.now) c.in-Ok-Some.field-0-is c.in-Ok-Some.ensures.name in
-    new_exists c.args.self.now (g.P.Pm.view c.args.pm.now) state stands c.args.kind c.args.path.now c.in-Ok-Some.last.directory c.in-Ok-Some.last.name walked last.0 last.1
+    let walked = c.in_ok-last.ensures.directory state stands ∙ ap (λ (last : Option LastName). place_of_parent c.args.path.now (Ok last)) c.in-Some.is in
+    let last = subst (IsLastName c.args.path.now) c.in-Some.is c.in_ok-last.ensures.name in
+    new_exists c.args.self.now (g.P.Pm.view c.args.pm.now) state stands c.args.kind c.args.path.now c.in-Some.last.directory c.in-Some.last.name walked last.0 last.1
     (c.if-has_name.ensures.present refl)
 
-pub returns-in_default : goal.returns-in_default
-returns-in_default g c = λ state stands.
-    let walked = c.in-Ok-Some.ensures.directory state stands ∙ ap (λ (last : Option LastName). place_of_parent c.args.path.now (Ok last)) c.in-Ok-Some.field-0-is in
-    let last = subst (IsLastName c.args.path.now) c.in-Ok-Some.field-0-is c.in-Ok-Some.ensures.name in
-    let none = subst (λ (volume : VolumeView). (k : ℕ) → ¬ IsFree volume.inodes k) c.self.view_is c.in_default.ensures in
-    new_no_inode c.args.self.now (g.P.Pm.view c.args.pm.now) state stands c.args.kind c.args.path.now c.in-Ok-Some.last.directory c.in-Ok-Some.last.name walked last.0 last.1
+pub returns-in_default-lowest : goal.returns-in_default-lowest
+returns-in_default-lowest g c = λ state stands.
+    let walked = c.in_ok-last.ensures.directory state stands ∙ ap (λ (last : Option LastName). place_of_parent c.args.path.now (Ok last)) c.in-Some.is in
+    let last = subst (IsLastName c.args.path.now) c.in-Some.is c.in_ok-last.ensures.name in
+    let none = subst (λ (volume : VolumeView). (k : ℕ) → ¬ IsFree volume.inodes k) c.self.view_is c.in_default-lowest.ensures in
+    new_no_inode c.args.self.now (g.P.Pm.view c.args.pm.now) state stands c.args.kind c.args.path.now c.in-Some.last.directory c.in-Some.last.name walked last.0 last.1
     (c.if-has_name.ensures.absent refl) none
 
 pub returns-in_default-place_for_name : goal.returns-in_default-place_for_name
 returns-in_default-place_for_name g c = λ state stands.
-    let walked = c.in-Ok-Some.ensures.directory state stands ∙ ap (λ (last : Option LastName). place_of_parent c.args.path.now (Ok last)) c.in-Ok-Some.field-0-is in
-    let last = subst (IsLastName c.args.path.now) c.in-Ok-Some.field-0-is c.in-Ok-Some.ensures.name in
-    let lowest = subst (λ (volume : VolumeView). IsLowest volume.inodes c.in-Some.number) c.self.view_is c.in-Some.ensures in
-    new_no_page c.args.self.now (g.P.Pm.view c.args.pm.now) state stands c.args.kind c.args.path.now c.in-Ok-Some.last.directory c.in-Ok-Some.last.name walked last.0 last.1
-    c.in-Some.number (c.if-has_name.ensures.absent refl) lowest.free c.in_default-place_for_name.ensures.0 c.in_default-place_for_name.ensures.1
+    let walked = c.in_ok-last.ensures.directory state stands ∙ ap (λ (last : Option LastName). place_of_parent c.args.path.now (Ok last)) c.in-Some.is in
+    let last = subst (IsLastName c.args.path.now) c.in-Some.is c.in_ok-last.ensures.name in
+    let lowest = subst (λ (volume : VolumeView). IsLowest volume.inodes c.in-Some-lowest.number) c.self.view_is c.in-Some-lowest.ensures in
+    new_no_page c.args.self.now (g.P.Pm.view c.args.pm.now) state stands c.args.kind c.args.path.now c.in-Some.last.directory c.in-Some.last.name walked last.0 last.1
+    c.in-Some-lowest.number (c.if-has_name.ensures.absent refl) lowest.free c.in_default-place_for_name.ensures.0 c.in_default-place_for_name.ensures.1
 
 pub returns : goal.returns
 returns g c = λ state stands.
-    let walked = c.in-Ok-Some.ensures.directory state stands ∙ ap (λ (last : Option LastName). place_of_parent c.args.path.now (Ok last)) c.in-Ok-Some.field-0-is in
-    let last = subst (IsLastName c.args.path.now) c.in-Ok-Some.field-0-is c.in-Ok-Some.ensures.name in
-    let lowest = subst (λ (volume : VolumeView). IsLowest volume.inodes c.in-Some.number) c.self.view_is c.in-Some.ensures in
-    new_planned c.args.self.now (g.P.Pm.view c.args.pm.now) state stands c.args.kind c.args.path.now c.in-Ok-Some.last.directory c.in-Ok-Some.last.name walked last.0 last.1
-    c.in-Some.number c.in-Some-place_for_name.place.slot c.in-Some-place_for_name.place.new_page (c.if-has_name.ensures.absent refl) lowest c.in-Some-place_for_name.ensures
+    let walked = c.in_ok-last.ensures.directory state stands ∙ ap (λ (last : Option LastName). place_of_parent c.args.path.now (Ok last)) c.in-Some.is in
+    let last = subst (IsLastName c.args.path.now) c.in-Some.is c.in_ok-last.ensures.name in
+    let lowest = subst (λ (volume : VolumeView). IsLowest volume.inodes c.in-Some-lowest.number) c.self.view_is c.in-Some-lowest.ensures in
+    new_planned c.args.self.now (g.P.Pm.view c.args.pm.now) state stands c.args.kind c.args.path.now c.in-Some.last.directory c.in-Some.last.name walked last.0 last.1
+    c.in-Some-lowest.number c.in-Some-place_for_name.place.slot c.in-Some-place_for_name.place.new_page (c.if-has_name.ensures.absent refl) lowest c.in-Some-place_for_name.ensures
 
 pub place_for_name-requires-clause-least : goal.place_for_name-requires-clause-least
 place_for_name-requires-clause-least g c =
     let (state, stands) = c.requires.stands in
-    let walked = c.in-Ok-Some.ensures.directory state stands ∙ ap (λ (last : Option LastName). place_of_parent c.args.path.now (Ok last)) c.in-Ok-Some.field-0-is in
+    let walked = c.in_ok-last.ensures.directory state stands ∙ ap (λ (last : Option LastName). place_of_parent c.args.path.now (Ok last)) c.in-Some.is in
     let held = holder-from_walk state.tree c.args.path.now _ (stands_tree c.args.self.now (g.P.Pm.view c.args.pm.now) state stands) walked in
-    let reached = reached_at c.args.self.now (g.P.Pm.view c.args.pm.now) state _ c.in-Ok-Some.last.directory stands held.0 in
-    (in_table c.args.self.now (g.P.Pm.view c.args.pm.now) c.in-Ok-Some.last.directory c.requires.stands reached).0
+    let reached = reached_at c.args.self.now (g.P.Pm.view c.args.pm.now) state _ c.in-Some.last.directory stands held.0 in
+    (in_table c.args.self.now (g.P.Pm.view c.args.pm.now) c.in-Some.last.directory c.requires.stands reached).0
 
 pub place_for_name-requires-clause-most : goal.place_for_name-requires-clause-most
 place_for_name-requires-clause-most g c =
     let (state, stands) = c.requires.stands in
-    let walked = c.in-Ok-Some.ensures.directory state stands ∙ ap (λ (last : Option LastName). place_of_parent c.args.path.now (Ok last)) c.in-Ok-Some.field-0-is in
+    let walked = c.in_ok-last.ensures.directory state stands ∙ ap (λ (last : Option LastName). place_of_parent c.args.path.now (Ok last)) c.in-Some.is in
     let held = holder-from_walk state.tree c.args.path.now _ (stands_tree c.args.self.now (g.P.Pm.view c.args.pm.now) state stands) walked in
-    let reached = reached_at c.args.self.now (g.P.Pm.view c.args.pm.now) state _ c.in-Ok-Some.last.directory stands held.0 in
-    (in_table c.args.self.now (g.P.Pm.view c.args.pm.now) c.in-Ok-Some.last.directory c.requires.stands reached).1
+    let reached = reached_at c.args.self.now (g.P.Pm.view c.args.pm.now) state _ c.in-Some.last.directory stands held.0 in
+    (in_table c.args.self.now (g.P.Pm.view c.args.pm.now) c.in-Some.last.directory c.requires.stands reached).1
 
 pub overflow_add-result : goal.overflow_add-result
 overflow_add-result g c =
     let (state, stands) = c.requires.stands in
-    let lowest = subst (λ (volume : VolumeView). IsLowest volume.inodes c.in-Some.number) c.self.view_is c.in-Some.ensures in
-    let most = (least_inode c.args.self.now (g.P.Pm.view c.args.pm.now) state stands c.in-Some.number lowest).1 in
+    let lowest = subst (λ (volume : VolumeView). IsLowest volume.inodes c.in-Some-lowest.number) c.self.view_is c.in-Some-lowest.ensures in
+    let most = (least_inode c.args.self.now (g.P.Pm.view c.args.pm.now) state stands c.in-Some-lowest.number lowest).1 in
     let geometry = c.self.inside.geometry in
     let below = inodes_below geometry.pages geometry.volume_size in
     let same = ap (λ (volume : VolumeView). inodes_of volume.size) c.self.view_is in
@@ -71,16 +71,16 @@ overflow_add-result g c =
 pub has_name-requires-clause-least : goal.has_name-requires-clause-least
 has_name-requires-clause-least g c =
     let (state, stands) = c.requires.stands in
-    let walked = c.in-Ok-Some.ensures.directory state stands ∙ ap (λ (last : Option LastName). place_of_parent c.args.path.now (Ok last)) c.in-Ok-Some.field-0-is in
+    let walked = c.in_ok-last.ensures.directory state stands ∙ ap (λ (last : Option LastName). place_of_parent c.args.path.now (Ok last)) c.in-Some.is in
     let held = holder-from_walk state.tree c.args.path.now _ (stands_tree c.args.self.now (g.P.Pm.view c.args.pm.now) state stands) walked in
-    let reached = reached_at c.args.self.now (g.P.Pm.view c.args.pm.now) state _ c.in-Ok-Some.last.directory stands held.0 in
-    (in_table c.args.self.now (g.P.Pm.view c.args.pm.now) c.in-Ok-Some.last.directory c.requires.stands reached).0
+    let reached = reached_at c.args.self.now (g.P.Pm.view c.args.pm.now) state _ c.in-Some.last.directory stands held.0 in
+    (in_table c.args.self.now (g.P.Pm.view c.args.pm.now) c.in-Some.last.directory c.requires.stands reached).0
 
 pub has_name-requires-clause-most : goal.has_name-requires-clause-most
 has_name-requires-clause-most g c =
     let (state, stands) = c.requires.stands in
-    let walked = c.in-Ok-Some.ensures.directory state stands ∙ ap (λ (last : Option LastName). place_of_parent c.args.path.now (Ok last)) c.in-Ok-Some.field-0-is in
+    let walked = c.in_ok-last.ensures.directory state stands ∙ ap (λ (last : Option LastName). place_of_parent c.args.path.now (Ok last)) c.in-Some.is in
     let held = holder-from_walk state.tree c.args.path.now _ (stands_tree c.args.self.now (g.P.Pm.view c.args.pm.now) state stands) walked in
-    let reached = reached_at c.args.self.now (g.P.Pm.view c.args.pm.now) state _ c.in-Ok-Some.last.directory stands held.0 in
-    let most = (in_table c.args.self.now (g.P.Pm.view c.args.pm.now) c.in-Ok-Some.last.directory c.requires.stands reached).1 in
+    let reached = reached_at c.args.self.now (g.P.Pm.view c.args.pm.now) state _ c.in-Some.last.directory stands held.0 in
+    let most = (in_table c.args.self.now (g.P.Pm.view c.args.pm.now) c.in-Some.last.directory c.requires.stands reached).1 in
     omega (arith, most, stands.knows.nodes.each_inode)

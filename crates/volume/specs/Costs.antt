@@ -1,0 +1,179 @@
+-- What a plan costs on the device: its events, which are reserved before, and its fences.
+use Rattle.std.specs.Prelude.{ℕ, ◌+◌, ◌-◌, ◌*◌, ◌/◌, Bool, false, true, not, ◌&&◌, ◌||◌, ◌==◌, nat_lt, nat_le, if◌then◌else◌, min, List, [], ◌∷◌, length, Option, Some, None, is_some}
+use Rattle.layout.specs.Geometry.{pieces}
+use Rattle.layout.specs.declared.kinds.NodeKind.{NodeKind}
+use Rattle.layout.specs.declared.kinds.NodeKind.TheVariants.{File, Directory}
+use Rattle.tree_model.specs.Tree.{page_bytes}
+use Rattle.volume.specs.Deed.{Deed, Loss, Removal, Moving, Writing, Resizing, MakesNode, AddsName, RemovesName, MovesName, WritesBytes, SetsSize, ChangesNothing, ReadsBytes, TellsNode, ListsNames, TellsSpace}
+
+-- ---- parts
+
+abbrev pub count_of : {T : Type 0} → Option T → ℕ
+count_of None = 0
+count_of (Some x) = 1
+
+abbrev pub where_true : Bool → ℕ → ℕ
+where_true holds n = if holds then n else 0
+
+-- A fence. A word with the flush of its line: a slot's number or pointer, a link count, an owner, a size.
+abbrev pub fence_events : ℕ
+fence_events = 1
+
+abbrev pub word_events : ℕ
+word_events = 1 + 1
+
+-- the words of an inode, in one line
+abbrev pub inode_events : ℕ
+inode_events = 4 + 1
+
+-- the words of a name, and all words of a slot but its number, in two lines
+abbrev pub name_events : ℕ
+name_events = 14 + 2
+
+abbrev pub slot_rest_events : ℕ
+slot_rest_events = 15 + 2
+
+-- a page's 512 words in 64 lines, with the kind and the offset in its descriptor
+abbrev pub page_events : ℕ
+page_events = 512 + 64 + 2 + 1
+
+-- the kind and the offset of a descriptor
+abbrev pub descriptor_rest_events : ℕ
+descriptor_rest_events = 2 + 1
+
+-- a directory's new page: its words, then its owner
+abbrev pub new_page_events : Option ℕ → ℕ
+new_page_events page = where_true (is_some page) (page_events + fence_events + (word_events + fence_events))
+
+-- so many pages lose their owners, and then these the rest of their descriptors, with an inode that goes
+abbrev pub loss_events : ℕ → Bool → ℕ
+loss_events pages goes =
+    where_true (nat_lt 0 pages) (pages * word_events + fence_events)
+    + where_true (nat_lt 0 pages || goes) (pages * descriptor_rest_events + where_true goes inode_events + fence_events)
+
+-- a name's slot is cleared after its number, and so many link counts fall with it
+abbrev pub clearing_events : ℕ → ℕ
+clearing_events falls = slot_rest_events + falls * word_events + fence_events
+
+abbrev pub commit_events : ℕ
+commit_events = word_events + fence_events
+
+-- how many pieces of a size the bytes from first to before end touch
+abbrev pub touched_pieces : ℕ → ℕ → ℕ → ℕ
+touched_pieces size first end = if nat_lt first end then pieces end size - first / size else 0
+
+-- the words of these bytes, with the flushes of their lines
+abbrev pub span_events : ℕ → ℕ → ℕ
+span_events first end = touched_pieces 8 first end + touched_pieces 64 first end
+
+-- ---- the pages that a removal and a move take away
+
+abbrev pub goes_of : Option Loss → Bool
+goes_of None = false
+goes_of (Some loss) = loss.goes
+
+abbrev pub pages_of_loss : Option Loss → ℕ
+pages_of_loss None = 0
+pages_of_loss (Some loss) = length loss.pages
+
+abbrev pub pages_removed : Removal → ℕ
+pages_removed removal = length removal.loss.pages + count_of removal.given_back
+
+abbrev pub pages_replaced : Moving → ℕ
+pages_replaced moving = pages_of_loss moving.replaced + count_of moving.given_back
+
+-- ---- events
+
+abbrev pub links_events : NodeKind → ℕ
+links_events File = 0
+links_events Directory = word_events
+
+-- in the pages that were there from the first byte that is written, or from the old end, to their end; then so many new pages
+abbrev pub growth_events : ℕ → ℕ → ℕ → ℕ
+growth_events old_size offset pages =
+    span_events (min offset old_size) (pieces old_size page_bytes * page_bytes) + pages * page_events + fence_events
+    + where_true (nat_lt 0 pages) (pages * word_events + fence_events)
+    + commit_events
+
+abbrev pub events_of_write : Writing → ℕ
+events_of_write writing =
+    if nat_le (writing.offset + writing.count) writing.old_size
+    then span_events writing.offset (writing.offset + writing.count) + fence_events
+    else growth_events writing.old_size writing.offset (length writing.new_pages)
+
+abbrev pub events_of_resize : Resizing → ℕ
+events_of_resize resizing =
+    if nat_lt resizing.old_size resizing.new_size
+    then growth_events resizing.old_size resizing.old_size (length resizing.new_pages)
+    else commit_events + loss_events resizing.cut false
+
+-- the name in a new place; the pointer, the two numbers and the pointer again; the old slot; what the replaced node leaves
+abbrev pub events_of_move : Moving → ℕ
+events_of_move moving =
+    new_page_events moving.new_page
+    + where_true (not (is_some moving.replaced)) (name_events + count_of moving.rises * word_events + fence_events)
+    + 4 * commit_events
+    + clearing_events (count_of moving.falls)
+    + loss_events (pages_replaced moving) (goes_of moving.replaced)
+
+-- the stores, flushes and fences of a plan
+abbrev pub events_of : Deed → ℕ
+events_of (MakesNode entry) = new_page_events entry.new_page + (inode_events + name_events + links_events entry.kind + fence_events) + commit_events
+events_of (AddsName link) = new_page_events link.new_page + (word_events + name_events + fence_events) + commit_events
+events_of (RemovesName removal) = commit_events + clearing_events 1 + loss_events (pages_removed removal) removal.loss.goes
+events_of (MovesName moving) = events_of_move moving
+events_of (WritesBytes writing) = events_of_write writing
+events_of (SetsSize resizing) = events_of_resize resizing
+events_of ChangesNothing = 0
+events_of (ReadsBytes reading) = 0
+events_of (TellsNode inode) = 0
+events_of (ListsNames inode) = 0
+events_of TellsSpace = 0
+
+-- the events for which a volume keeps room beside those of its plans
+abbrev pub kept_events : ℕ
+kept_events = 0
+
+-- what a plan has reserved: one that stores nothing needs no room
+abbrev pub reserved_events : Deed → ℕ
+reserved_events deed = events_of deed + kept_events
+
+-- ---- fences
+
+abbrev pub fences_for_page : Option ℕ → ℕ
+fences_for_page page = where_true (is_some page) 2
+
+-- one for owners, and one for the rest of descriptors and for an inode that goes
+abbrev pub fences_for_loss : ℕ → Bool → ℕ
+fences_for_loss pages goes = where_true (nat_lt 0 pages) 1 + where_true (nat_lt 0 pages || goes) 1
+
+abbrev pub fences_for_growth : List ℕ → ℕ
+fences_for_growth [] = 2
+fences_for_growth (page ∷ pages) = 3
+
+abbrev pub fences_of_write : Writing → ℕ
+fences_of_write writing = if nat_le (writing.offset + writing.count) writing.old_size then 1 else fences_for_growth writing.new_pages
+
+abbrev pub fences_of_resize : Resizing → ℕ
+fences_of_resize resizing =
+    if nat_lt resizing.old_size resizing.new_size then fences_for_growth resizing.new_pages
+    else 1 + fences_for_loss resizing.cut false
+
+abbrev pub fences_of_move : Moving → ℕ
+fences_of_move moving =
+    fences_for_page moving.new_page + (if is_some moving.replaced then 5 else 6)
+    + fences_for_loss (pages_replaced moving) (goes_of moving.replaced)
+
+-- how many fences the call of a plan makes
+abbrev pub fences_of_plan : Deed → ℕ
+fences_of_plan (MakesNode entry) = 2 + fences_for_page entry.new_page
+fences_of_plan (AddsName link) = 2 + fences_for_page link.new_page
+fences_of_plan (RemovesName removal) = 2 + fences_for_loss (pages_removed removal) removal.loss.goes
+fences_of_plan (MovesName moving) = fences_of_move moving
+fences_of_plan (WritesBytes writing) = fences_of_write writing
+fences_of_plan (SetsSize resizing) = fences_of_resize resizing
+fences_of_plan ChangesNothing = 0
+fences_of_plan (ReadsBytes reading) = 0
+fences_of_plan (TellsNode inode) = 0
+fences_of_plan (ListsNames inode) = 0
+fences_of_plan TellsSpace = 0

@@ -1,0 +1,25 @@
+// What plans cost on the device: the parts of their stores, flushes and fences.
+
+/// A fence.
+pub const FENCE_EVENTS: u64 = 1;
+
+/// One word, and the flush of its line.
+pub const WORD_EVENTS: u64 = 1 + 1;
+
+/// The four words of an inode, in one line.
+pub const INODE_EVENTS: u64 = 4 + 1;
+
+/// The fourteen words of a name, in two lines.
+pub const NAME_EVENTS: u64 = 14 + 2;
+
+/// The 512 words of a page in 64 lines, and the kind and the offset in its descriptor.
+pub const PAGE_EVENTS: u64 = 512 + 64 + 2 + 1;
+
+/// A word that is settled by a fence of its own.
+pub const COMMIT_EVENTS: u64 = WORD_EVENTS + FENCE_EVENTS;
+
+/// A page that is filled and then gets its owner, each settled by a fence.
+pub const NEW_PAGE_EVENTS: u64 = PAGE_EVENTS + FENCE_EVENTS + COMMIT_EVENTS;
+
+/// The events for which a volume keeps room beside those of its plans.
+pub const KEPT_EVENTS: u64 = 0;
