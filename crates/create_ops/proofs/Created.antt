@@ -67,7 +67,7 @@ module _ (P : ℕ) (W : List ℕ) (state : State) (path : Route) (entry : NewEnt
   differ same =
       let may = Plans.may P W state path entry at in
       let there = ap (λ (tree : Tree). id_at tree path) (same ∙ tree_is) ∙ id_at-with_new_here state.tree path entry.inode (node_of entry.kind) in
-      let clash : ◌≡◌ {A = Option ℕ} None (Some entry.inode) = sym may.absent ∙ there in
+      let clash : ◌≡◌ {A = Option ℕ} None (Some entry.inode) = sym may.place.absent ∙ there in
       cc
 
   -- what means the same may be left

@@ -22,19 +22,20 @@ use Rattle.volatile_index.proofs.EntryLaws.{contains_entry, contains_still, cont
 use Rattle.volatile_index.specs.declared.entry.Entry.{Entry}
 use Rattle.volume.specs.declared.plan.NewEntry.{NewEntry}
 use Rattle.volume.specs.Volume.{VolumeView}
-use Rattle.volume.specs.Entered.{HasEntered, MayEnter, IsFreePlace, new_pages, with_taken}
+use Rattle.volume.specs.Entered.{MayEnterName, IsFreePlace, pages_of_option, with_taken}
 use Rattle.volume.specs.Planned.{IsPlace}
 use Rattle.volume.specs.Stands.{Knows, KnowsNodes}
 use Rattle.image_counts.proofs.Inodes.{inode_count_law}
 use Rattle.create_ops.specs.Making.{node_of, IsOpened, IsPlannedAt}
 use Rattle.create_ops.proofs.Lists.{contains_at, contains_last, contains_before, contains_either, distinct_with}
 use Rattle.create_ops.proofs.After
+use Rattle.create_ops.proofs.Entering.{HasEntered}
 use Rattle.create_ops.proofs.Opened
 use Rattle.create_ops.proofs.Plans
 
 -- ---- lists of pages
 
-pages_with : (xs : List ℕ) (new_page : Option ℕ) (x : ℕ) → Contains (xs ++ new_pages new_page) x ↔ (Contains xs x ⊎ (new_page ≡ Some x))
+pages_with : (xs : List ℕ) (new_page : Option ℕ) (x : ℕ) → Contains (xs ++ pages_of_option new_page) x ↔ (Contains xs x ⊎ (new_page ≡ Some x))
 pages_with xs None x = (
   (λ has. inl (subst (λ (l : List ℕ). Contains l x) (append-nil xs) has)),
   (λ either. elim either [
@@ -50,7 +51,7 @@ pages_with xs (Some page) x = (
   ]),
 )
 
-distinct_pages : (xs : List ℕ) (new_page : Option ℕ) → IsDistinct xs → ((x : ℕ) → new_page ≡ Some x → Contains xs x → ⊥) → IsDistinct (xs ++ new_pages new_page)
+distinct_pages : (xs : List ℕ) (new_page : Option ℕ) → IsDistinct xs → ((x : ℕ) → new_page ≡ Some x → Contains xs x → ⊥) → IsDistinct (xs ++ pages_of_option new_page)
 distinct_pages xs None distinct new = subst IsDistinct (sym (append-nil xs)) distinct
 distinct_pages xs (Some page) distinct new = distinct_with xs page distinct (new page refl)
 
@@ -88,28 +89,26 @@ module _ (P : ℕ) (W : List ℕ) (state : State) (path : Route) (entry : NewEnt
   d_most : entry.directory ≤ inodes_of P
   d_most = Plans.within P W state path entry at
 
-  i_least : 1 ≤ entry.inode
+  pub i_least : 1 ≤ entry.inode
   i_least = After.i_least P W state path entry at
 
   i_most : entry.inode ≤ inodes_of P
   i_most = (After.plan P W state path entry at).inode_within
 
-  free_inode : IsFree volume.inodes (entry.inode - 1)
+  pub free_inode : IsFree volume.inodes (entry.inode - 1)
   free_inode = (inodes entry.inode i_least i_most).1 (After.kind_free P W state path entry at)
 
   free_place : (new_page : Option ℕ) → IsPlace P W entry.directory entry.slot new_page → IsFreePlace volume.data_pages new_page
   free_place None place = tt
   free_place (Some page) place = (data_pages page place.page_is.free.0).1 place.page_is.free.1
 
-  pub may_enter : IsName entry.name → IsBytes entry.name → MayEnter volume entry
+  pub may_enter : IsName entry.name → IsBytes entry.name → MayEnterName volume entry.directory entry.name entry.new_page
   may_enter is_name of_bytes = record {
     least = d_least;
     most = let within = d_most in omega (arith, within, nodes.each_inode);
     absent = λ old has same. Plans.absent P W state path entry at is_name of_bytes old.slot
         (subst (λ (bytes : List ℕ). IsEntryOf P W entry.directory bytes old.slot) (same ∙ (After.plan P W state path entry at).name_is)
         ((nodes.entries entry.directory old.slot old.name d_least d_most).0 has));
-    from_one = i_least;
-    inode = free_inode;
     page = free_place entry.new_page (After.plan P W state path entry at).place;
   }
 
@@ -251,7 +250,7 @@ module _ (P : ℕ) (W : List ℕ) (state : State) (path : Route) (entry : NewEnt
           ((λ is. same.0 (old.0 (free_before volume.inodes (entry.inode - 1) (x - 1) false apart is))), (λ r. free_still volume.inodes (entry.inode - 1) (x - 1) false apart (old.1 (same.1 r))))
     ])
 
-    pages_free : (new_page : Option ℕ) → entry.new_page ≡ new_page → IsFreePlace volume.data_pages new_page → (j : ℕ) → j < data_pages_of P → IsFree (with_taken volume.data_pages new_page) j ↔ (page_owner P J j ≡ 0)
+    pages_free : (new_page : Option ℕ) → entry.new_page ≡ new_page → IsFreePlace volume.data_pages new_page → (j : ℕ) → j < data_pages_of P → IsFree (with_taken volume.data_pages (pages_of_option new_page)) j ↔ (page_owner P J j ≡ 0)
     pages_free None is free j low =
         let old = data_pages j low in
         let same = zero_through (page_owner P J j) (page_owner P W j) (After.after_owner P W state path entry at B I J opened made commit j low (λ e. After.not_none j (sym is ∙ e))) in
@@ -269,7 +268,7 @@ module _ (P : ℕ) (W : List ℕ) (state : State) (path : Route) (entry : NewEnt
           ((λ r. same.0 (old.0 (free_before volume.data_pages page j false other r))), (λ r. free_still volume.data_pages page j false other (old.1 (same.1 r))))
     ]
 
-    taken_length : (free : List Bool) (new_page : Option ℕ) → length (with_taken free new_page) ≡ length free
+    taken_length : (free : List Bool) (new_page : Option ℕ) → length (with_taken free (pages_of_option new_page)) ≡ length free
     taken_length free None = refl
     taken_length free (Some page) = length-set free page false
 

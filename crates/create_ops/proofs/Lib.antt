@@ -11,7 +11,9 @@ pub mod Rooms
 pub mod Placed
 pub mod Lists
 pub mod After
+pub mod Entering
 pub mod Knowing
 pub mod Made
 pub mod Called
 pub mod Zeros
+pub mod Intervals

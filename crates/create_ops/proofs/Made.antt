@@ -2,7 +2,7 @@
 use Rattle.std.proofs.Common.{◌≡◌, ℕ, ◌+◌, ◌*◌, List, Option, Some, None, refl, sym, ap, subst, ◌∙◌, arith}
 use Rattle.std.specs.Prelude.{Result, Ok, Err}
 use Rattle.pm_trait.specs.DeviceView.{DeviceView, MakesIntervals, IsSettledView}
-use Rattle.pm_trait.proofs.DeviceViewLaws.{intervals_as, intervals_failed}
+use Rattle.pm_trait.proofs.DeviceViewLaws.{intervals_failed}
 use Rattle.layout.specs.Name.{IsName, IsBytes}
 use Rattle.layout.specs.declared.kinds.NodeKind.{NodeKind}
 use Rattle.layout.specs.declared.kinds.NodeKind.TheVariants.{File, Directory}
@@ -20,39 +20,33 @@ use Rattle.image_reading.proofs.Tidied.{as_tidy}
 use Rattle.image_laws.specs.Commits.{Commits}
 use Rattle.image_laws.specs.Create.{committed}
 use Rattle.volume.specs.declared.plan.NewEntry.{NewEntry}
+use Rattle.volume.specs.Costs.{events_of, fences_for_page, fences_of_plan}
+use Rattle.volume.specs.Deed.{MakesNode}
 use Rattle.volume.specs.declared.plan.Action.TheVariants.{Make}
 use Rattle.volume.specs.Volume.{VolumeView}
-use Rattle.volume.specs.Entered.{HasEntered}
-use Rattle.volume.specs.Planned.{fences_for}
 use Rattle.volume.specs.Stands.{Knows}
 use Rattle.volume.specs.Carried.{IsPlanFor, LeavesState, Follows}
 use Rattle.volume.specs.Prepared.{making}
 use Rattle.image_counts.proofs.States.{state_law}
-use Rattle.create_ops.specs.Making.{node_of, room_of, page_fences, IsMade, IsPlannedAt, HasStored}
+use Rattle.create_ops.specs.Making.{node_of, room_of, IsMade, IsPlannedAt, HasStored}
 use Rattle.create_ops.proofs.Created
+use Rattle.create_ops.proofs.Entering.{HasEntered}
 use Rattle.create_ops.proofs.Knowing
 use Rattle.create_ops.proofs.Plans
 use Rattle.create_ops.proofs.Rooms
-
-fences_are : (new_page : Option ℕ) → page_fences new_page + 2 ≡ fences_for new_page
-fences_are None = refl
-fences_are (Some page) = refl
 
 -- what makes a node takes two fences, and two more for a page that it needs
 making_fences : (kind : NodeKind) (path : Route) (old later : State) → fences_of old (Ok (making kind path)) Done later ≡ 2 + 2 * need old.tree old.room (making kind path)
 making_fences File path old later = fences_of-create old path later
 making_fences Directory path old later = fences_of-mkdir old path later
 
--- the intervals of an entry are those of its command
-pub made_ok : {T U E F : Type 0} {a b : DeviceView} {events : ℕ} {done : U} (value : T) (new_page : Option ℕ) → MakesIntervals {E = F} a b events (page_fences new_page + 2) (Ok done) → MakesIntervals {E = E} a b events (fences_for new_page) (Ok value)
-made_ok {E = E} {a = a} {b} {events} value new_page made = subst (λ (fences : ℕ). MakesIntervals {E = E} a b events fences (Ok value)) (fences_are new_page) (intervals_as value made)
-
-pub made_err : {T U E F : Type 0} {a b : DeviceView} {events : ℕ} {failed : F} (fault : E) (new_page : Option ℕ) → MakesIntervals {T = U} a b events (page_fences new_page + 2) (Err failed) → MakesIntervals {T = T} a b events (fences_for new_page) (Err fault)
-made_err {T = T} {a = a} {b} {events} fault new_page made = subst (λ (fences : ℕ). MakesIntervals {T = T} a b events fences (Err fault)) (fences_are new_page) (intervals_failed events (page_fences new_page + 2) (Err fault) refl (omega arith) (omega arith) made)
+-- another fault is told
+pub failed_as : {T U E F : Type 0} {a b : DeviceView} {events made : ℕ} {failed : F} (fault : E) → MakesIntervals {T = U} a b events made (Err failed) → MakesIntervals {T = T} a b events made (Err fault)
+failed_as {events = events} {made = made} fault intervals = intervals_failed events made (Err fault) refl (omega arith) (omega arith) intervals
 
 -- by another name of the command
-pub follows_as : {E : Type 0} {old new : VolumeView} {before after : DeviceView} {state : State} {result : Result Reply E} (one other : Command) → other ≡ one → Follows old new before after state one result → Follows old new before after state other result
-follows_as {old = old} {new} {before} {after} {state} {result} one other is follows = subst (λ (c : Command). Follows old new before after state c result) (sym is) follows
+pub follows_as : {E : Type 0} {old new : VolumeView} {before after : DeviceView} {state : State} {result : Result Reply E} (one other : Command) → other ≡ one → Follows old new before after state one Done result → Follows old new before after state other Done result
+follows_as {old = old} {new} {before} {after} {state} {result} one other is follows = subst (λ (c : Command). Follows old new before after state c Done result) (sym is) follows
 
 -- and of the number of pages
 pub stored_as : {T E : Type 0} {before after : DeviceView} {entry : NewEntry} {result : Result T E} (P Q : ℕ) → P ≡ Q → HasStored P before after entry result → HasStored Q before after entry result
@@ -93,7 +87,7 @@ module _ (P : ℕ) (W : List ℕ) (state : State) (path : Route) (entry : NewEnt
   }
 
   pub leaves_state : (volume new : VolumeView) (before : DeviceView) → P ≡ volume.size → Knows volume W → HasEntered volume new entry → IsSettledView after
-      → after.fences ≡ before.fences + (page_fences entry.new_page + 2) → LeavesState volume new before after state (making entry.kind path)
+      → after.fences ≡ before.fences + fences_of_plan (MakesNode entry) → LeavesState volume new before after state (making entry.kind path) Done
   leaves_state volume new before size knows entered settled counted = record {
     later = record { tree = (step P state.tree state.room (making entry.kind path)).tree; room = room_of entry entry.new_page state.room };
     stands = record {
@@ -107,5 +101,5 @@ module _ (P : ℕ) (W : List ℕ) (state : State) (path : Route) (entry : NewEnt
     fences = counted ∙ ap (λ (n : ℕ). before.fences + n) fences;
   }
     where
-      fences : page_fences entry.new_page + 2 ≡ fences_of state (Ok (making entry.kind path)) Done (record { tree = (step P state.tree state.room (making entry.kind path)).tree; room = room_of entry entry.new_page state.room })
-      fences = fences_are entry.new_page ∙ Rooms.fences_needed P W state path entry at ∙ sym (making_fences entry.kind path state (record { tree = (step P state.tree state.room (making entry.kind path)).tree; room = room_of entry entry.new_page state.room }))
+      fences : fences_of_plan (MakesNode entry) ≡ fences_of state (Ok (making entry.kind path)) Done (record { tree = (step P state.tree state.room (making entry.kind path)).tree; room = room_of entry entry.new_page state.room })
+      fences = Rooms.fences_needed P W state path entry at ∙ sym (making_fences entry.kind path state (record { tree = (step P state.tree state.room (making entry.kind path)).tree; room = room_of entry entry.new_page state.room }))

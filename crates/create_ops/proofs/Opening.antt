@@ -24,7 +24,7 @@ module _ (P : ℕ) (W : List ℕ) (d page : ℕ) (holder : IsHolder P W d) (may 
   free = (may.0, ap (λ (f : DescriptorFields). f.owner) may.1)
 
   quiet : IsPageQuiet P W A (owned P A page d)
-  quiet = page_quiet_law P W A holder.path d page holder.sound holder.named holder.is_directory free made.empty
+  quiet = page_quiet_law P W A holder.path d page holder.coherent holder.named holder.is_directory free made.empty
 
   pub filling : (image : List ℕ) → Mix W A image → SameMeaning P W image
   filling image mix = quiet.making image (is_mix W A image mix)

@@ -11,11 +11,13 @@ use Rattle.tree_model.specs.PathText.{Route}
 use Rattle.tree_model.specs.Tree.{Node, IsTree, id_at, node_at, is_directory, is_root, parent, last_name}
 use Rattle.tree_model.specs.Capacity.{untaken}
 use Rattle.tree_model.specs.Run.{State, IsVolumeState}
-use Rattle.tree_model.proofs.Accepted.{MayMake, MayMake-create, MayMake-mkdir}
+use Rattle.tree_model.specs.declared.command.Command.TheVariants.{Create, Mkdir}
+use Rattle.tree_model.specs.Accepted.{MayMake}
+use Rattle.tree_model.proofs.AcceptedLaws.{Accepted-from_row}
 use Rattle.tree_model.proofs.TreeLaws.{least_free_id-ge, least_free_id-free}
 use Rattle.image_reading.specs.Reading.{IsDirectory, slot_owner, Names, Reached, IsChildOf}
 use Rattle.image_reading.specs.Repairs.{IsLitterInode, IsLitterPage}
-use Rattle.image_reading.specs.Soundness.{Rule, Sound}
+use Rattle.image_reading.specs.Soundness.{Rule, IsCoherent}
 use Rattle.image_reading.proofs.Tidied.{tidied}
 use Rattle.image_counts.specs.Entries.{IsEntryOf, IsFreePage}
 use Rattle.image_counts.specs.Laws.{HasRoomWords, HasInodes}
@@ -31,8 +33,7 @@ use Rattle.page_state.proofs.PageLaws.{same_descriptor_fields}
 use Rattle.layout.specs.declared.kinds.NodeKind.{NodeKind}
 use Rattle.layout.specs.declared.kinds.NodeKind.TheVariants.{File as AFile, Directory as ADirectory}
 use Rattle.volume.specs.declared.plan.NewEntry.{NewEntry}
-use Rattle.volume.specs.declared.plan.Action.{Action}
-use Rattle.volume.specs.declared.plan.Action.TheVariants.{Make}
+use Rattle.volume.specs.Deed.{Deed, MakesNode as MakesEntry}
 use Rattle.volume.specs.Planned.{IsVacantSlot, IsPlace, IsEntryFor, IsPlanned, IsPlanOf}
 use Rattle.volume.specs.Prepared.{making}
 use Rattle.image_counts.proofs.Inodes.{inode_count_law}
@@ -47,16 +48,16 @@ use Rattle.create_ops.proofs.Counts.{none_of, count_below}
 some_one : (x y : ℕ) → ◌≡◌ {A = Option ℕ} (Some x) (Some y) → x ≡ y
 some_one x y e = cc
 
-same_entry : (one two : NewEntry) → ◌≡◌ {A = Action} (Make one) (Make two) → two ≡ one
+same_entry : (one two : NewEntry) → ◌≡◌ {A = Deed} (MakesEntry one) (MakesEntry two) → two ≡ one
 same_entry one two e = cc
 
-entry_by : (P : ℕ) (I : List ℕ) (state : State) (path : Route) (kind : NodeKind) (entry : NewEntry) → IsPlanOf P I state (making kind path) (Make entry) → IsEntryFor P I state path kind entry
+entry_by : (P : ℕ) (I : List ℕ) (state : State) (path : Route) (kind : NodeKind) (entry : NewEntry) → IsPlanOf P I state (making kind path) (MakesEntry entry) → IsEntryFor P I state path kind entry
 entry_by P I state path AFile entry (other, is, for) = subst (λ (e : NewEntry). IsEntryFor P I state path AFile e) (same_entry entry other is) for
 entry_by P I state path ADirectory entry (other, is, for) = subst (λ (e : NewEntry). IsEntryFor P I state path ADirectory e) (same_entry entry other is) for
 
-may_by : (P : ℕ) (I : List ℕ) (state : State) (path : Route) (kind : NodeKind) (action : Action) → IsTree state.tree → IsPlanned P I state (making kind path) action → MayMake (untaken P) state.tree state.room path
-may_by P I state path AFile action tree planned = MayMake-create (untaken P) state.tree state.room path tree planned.accepted
-may_by P I state path ADirectory action tree planned = MayMake-mkdir (untaken P) state.tree state.room path tree planned.accepted
+may_by : (P : ℕ) (I : List ℕ) (state : State) (path : Route) (kind : NodeKind) (deed : Deed) → IsTree state.tree → IsPlanned P I state (making kind path) deed → MayMake (untaken P) state.tree state.room path
+may_by P I state path AFile deed tree planned = Accepted-from_row (untaken P) state.tree state.room (Create path) tree planned.accepted
+may_by P I state path ADirectory deed tree planned = Accepted-from_row (untaken P) state.tree state.room (Mkdir path) tree planned.accepted
 
 -- a path is its parent's and its last name
 path_is : (path : Route) → is_root path ≡ false → path ≡ parent path ++ last_name path ∷ []
@@ -90,43 +91,43 @@ unfolding page_owner page_kind page_offset
 zero_descriptor P I j each = same_descriptor_fields (descriptor_of P I j) (record { owner = 0; kind = 0; offset = 0 }) (each 0 (omega arith)) (each 1 (omega arith)) (each 2 (omega arith))
 
 module _ (P : ℕ) (W : List ℕ) (state : State) (path : Route) (entry : NewEntry) (at : IsPlannedAt P W state path entry) where
-  pub sound : Sound P W
-  sound = at.tidy.sound
+  pub coherent : IsCoherent P W
+  coherent = (tidied at.tidy).coherent
 
   pub volume_state : IsVolumeState P state
-  volume_state = state_law P W state sound at.reads
+  volume_state = state_law P W state coherent at.reads
 
   pub size : IsVolumeSize P
-  size = (sound Rule.head 0).size refl
+  size = (coherent Rule.head 0).size refl
 
   pub whole : length W ≡ 512 * P
-  whole = (sound Rule.head 0).whole refl
+  whole = (coherent Rule.head 0).whole refl
 
   pub for_entry : IsEntryFor P W state path entry.kind entry
   for_entry = entry_by P W state path entry.kind entry at.planned.plan_is
 
   pub may : MayMake (untaken P) state.tree state.room path
-  may = may_by P W state path entry.kind (Make entry) volume_state.tree at.planned
+  may = may_by P W state path entry.kind (MakesEntry entry) volume_state.tree at.planned
 
-  pub holder_is : may.holder ≡ entry.directory
-  holder_is = some_one may.holder entry.directory (sym may.held ∙ for_entry.directory_is)
+  pub holder_is : may.place.holder.directory ≡ entry.directory
+  holder_is = some_one may.place.holder.directory entry.directory (sym may.place.holder.held ∙ for_entry.directory_is)
 
   -- ---- the directory
 
   pub is_holder : is_directory state.tree entry.directory ≡ true
-  is_holder = subst (λ (d : ℕ). is_directory state.tree d ≡ true) holder_is may.holds
+  is_holder = subst (λ (d : ℕ). is_directory state.tree d ≡ true) holder_is may.place.holder.holds
 
   pub holds : Reached P W entry.directory × IsDirectory W entry.directory
-  holds = ((size_law P W state sound at.reads).directories entry.directory).0 is_holder
+  holds = ((size_law P W state coherent at.reads).directories entry.directory).0 is_holder
 
   pub named : Names P W (reverse (parent path)) entry.directory
   named = (at.reads.tree.names (parent path) entry.directory).0 for_entry.directory_is
 
   pub holder : IsHolder P W entry.directory
-  holder = record { sound = sound; path = reverse (parent path); named = named; is_directory = holds.1 }
+  holder = record { coherent = coherent; path = reverse (parent path); named = named; is_directory = holds.1 }
 
   inodes : HasInodes P W state.tree
-  inodes = inode_count_law P W state sound at.reads
+  inodes = inode_count_law P W state coherent at.reads
 
   pub from_one : 1 ≤ entry.directory
   from_one = inodes.least entry.directory holds.0
@@ -136,14 +137,14 @@ module _ (P : ℕ) (W : List ℕ) (state : State) (path : Route) (entry : NewEnt
 
   few_links : inode_links W entry.directory < 2 ^ 64 - 1
   few_links =
-      let counted = ((link_law P W state sound at.reads).counted entry.directory holds.0).directory holds.1 in
+      let counted = ((link_law P W state coherent at.reads).counted entry.directory holds.0).directory holds.1 in
       let word_is = link_word_law P W state (tidied at.tidy) at.reads entry.directory holds.0 in
       let most = count_below (IsChildOf P W entry.directory) (slots_of P) counted.0 (λ s child. child.slot.live.held.in_range) counted.1 in
       let few = data_pages_below P size in
       omega (arith, counted.2, word_is, most, slots_in_pages P, few, size.1)
 
   pub parent_ready : IsParent P W entry.directory
-  parent_ready = record { least = from_one; most = within; live = (inr holds.1, (sound Rule.kinds entry.directory).own holds.0); countable = few_links }
+  parent_ready = record { least = from_one; most = within; live = (inr holds.1, (coherent Rule.kinds entry.directory).own holds.0); countable = few_links }
 
   -- ---- the inode
 
@@ -176,9 +177,9 @@ module _ (P : ℕ) (W : List ℕ) (state : State) (path : Route) (entry : NewEnt
 
     pub absent : (t : ℕ) → ¬ IsEntryOf P W entry.directory (last_name path) t
     absent =
-        let whole_path = path_is path may.below in
-        ((absence_law P W state sound at.reads).absent (parent path) entry.directory (last_name path) for_entry.directory_is).0
-        (ap (λ (p : Route). id_at state.tree p) (sym whole_path) ∙ may.absent)
+        let whole_path = path_is path may.place.holder.below in
+        ((absence_law P W state coherent at.reads).absent (parent path) entry.directory (last_name path) for_entry.directory_is).0
+        (ap (λ (p : Route). id_at state.tree p) (sym whole_path) ∙ may.place.absent)
 
     pub can : CanMake P W (reverse (parent path)) entry.directory entry.inode (words_of_name entry.name)
     can = record {
@@ -196,7 +197,7 @@ module _ (P : ℕ) (W : List ℕ) (state : State) (path : Route) (entry : NewEnt
 
     pub path_reversed : reverse path ≡ name_in_words (words_of_name entry.name) ∷ reverse (parent path)
     path_reversed =
-        ap reverse (path_is path may.below) ∙ reverse-append (parent path) (last_name path ∷ []) ∙ ap (λ (n : List ℕ). n ∷ reverse (parent path)) (sym name_is)
+        ap reverse (path_is path may.place.holder.below) ∙ reverse-append (parent path) (last_name path ∷ []) ∙ ap (λ (n : List ℕ). n ∷ reverse (parent path)) (sym name_is)
 
   -- ---- the place
 
@@ -211,7 +212,7 @@ module _ (P : ℕ) (W : List ℕ) (state : State) (path : Route) (entry : NewEnt
       record {
         held = record {
           in_range = is.page.in_range;
-          kind = (sound Rule.page_kinds (page_of_slot entry.slot)).directory page (subst (λ (d : ℕ). Reached P W d) (sym owner) holds.0) (subst (λ (d : ℕ). IsDirectory W d) (sym owner) holds.1);
+          kind = (coherent Rule.page_kinds (page_of_slot entry.slot)).directory page (subst (λ (d : ℕ). Reached P W d) (sym owner) holds.0) (subst (λ (d : ℕ). IsDirectory W d) (sym owner) holds.1);
           owned = λ none. let some = from_one in omega (arith, sym owner ∙ none, some);
         };
         owner = owner;

@@ -12,7 +12,8 @@ use Rattle.image_laws.specs.CreateStep.{making as making_node, HasRoomAfter}
 use Rattle.layout.specs.declared.kinds.NodeKind.{NodeKind}
 use Rattle.layout.specs.declared.kinds.NodeKind.TheVariants.{File as AFile, Directory as ADirectory}
 use Rattle.volume.specs.declared.plan.NewEntry.{NewEntry}
-use Rattle.volume.specs.Planned.{IsPlace, fences_for}
+use Rattle.volume.specs.Planned.{IsPlace}
+use Rattle.volume.specs.Costs.{fences_for_page}
 use Rattle.volume.specs.Prepared.{making}
 use Rattle.image_laws.proofs.RoomAfter.{room_after_law}
 use Rattle.create_ops.specs.Making.{node_of, room_of, IsPlannedAt}
@@ -48,12 +49,12 @@ module _ (P : ℕ) (W : List ℕ) (state : State) (path : Route) (entry : NewEnt
       let rooms = Plans.room_words P W state path entry at in
       is_same (name_count state.tree entry.directory) (32 * pages_in state.room entry.directory) (rooms.full.1 (λ s is none. place.full s (record { page = is; vacant = none })))
 
-  fences_by : (new_page : Option ℕ) → IsPlace P W entry.directory entry.slot new_page → fences_for new_page ≡ 2 + 2 * page_for_name state.tree state.room (Some entry.directory)
+  fences_by : (new_page : Option ℕ) → IsPlace P W entry.directory entry.slot new_page → 2 + fences_for_page new_page ≡ 2 + 2 * page_for_name state.tree state.room (Some entry.directory)
   fences_by None place = ap (λ (full : Bool). 2 + 2 * (if full then 1 else 0)) (sym (full_by None place))
   fences_by (Some page) place = ap (λ (full : Bool). 2 + 2 * (if full then 1 else 0)) (sym (full_by (Some page) place))
 
   -- two fences, and two more for a page that the command needs
-  pub fences_needed : fences_for entry.new_page ≡ 2 + 2 * need state.tree state.room (making entry.kind path)
+  pub fences_needed : 2 + fences_for_page entry.new_page ≡ 2 + 2 * need state.tree state.room (making entry.kind path)
   fences_needed =
       let for_entry = Plans.for_entry P W state path entry at in
       fences_by entry.new_page for_entry.place

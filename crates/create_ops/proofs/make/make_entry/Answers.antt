@@ -4,11 +4,13 @@ use Rattle.image_reading.specs.Reading.{Reads}
 use Rattle.std.specs.Prelude.{Err}
 use Rattle.pm_trait.proofs.DeviceLaws.{stays_then}
 use Rattle.pm_trait.proofs.DeviceViewLaws.{intervals_one, intervals_then, intervals_failed}
+use Rattle.volume.specs.Costs.{events_of, fences_of_plan}
 use Rattle.volume.specs.Crashes.{MayReadAs}
+use Rattle.volume.specs.Deed.{MakesNode}
 use Rattle.volume.specs.Prepared.{making}
 use Rattle.image_laws.specs.Frame.{SameMeaning}
-use Rattle.create_ops.specs.Making.{page_fences}
 use Rattle.create_ops.proofs.Moments.{quiet_fenced, quiet_then, quiet_weaker, no_ack_then, on_ok, on_err, reads_stay}
+use Rattle.create_ops.proofs.Intervals.{entry_intervals}
 use Rattle.create_ops.proofs.Hanging.{hangs_quiet, hangs_commit, hangs_then}
 use Rattle.create_ops.proofs.Plans
 use Rattle.create_ops.proofs.Created
@@ -149,13 +151,14 @@ returns-clause-stored g c =
     }
 
 pub returns-in_err-take_page-clause-device : goal.returns-in_err-take_page-clause-device
-returns-in_err-take_page-clause-device g c = intervals_failed 610 (page_fences c.args.entry.now.new_page + 2) c.from_residual.result c.from_residual.ensures.0 (omega arith) (omega arith) c.in_err-take_page.ensures.device
+returns-in_err-take_page-clause-device g c = intervals_failed (events_of (MakesNode c.args.entry.now)) (fences_of_plan (MakesNode c.args.entry.now)) c.from_residual.result c.from_residual.ensures.0 (omega arith) (omega arith) c.in_err-take_page.ensures.device
 
 pub returns-in_err-node-clause-device : goal.returns-in_err-node-clause-device
 returns-in_err-node-clause-device g c =
-    intervals_failed 610 (page_fences c.args.entry.now.new_page + 2) c.from_residual-in_err-node.result c.from_residual-in_err-node.ensures.0 (omega arith) (omega arith)
+    intervals_failed (events_of (MakesNode c.args.entry.now)) (fences_of_plan (MakesNode c.args.entry.now)) c.from_residual-in_err-node.result c.from_residual-in_err-node.ensures.0 (omega arith) (omega arith)
     (intervals_then (Err c.in_err-node.field-0.0) c.in_ok-take_page.ensures.device (intervals_one c.in_err-node.ensures.device))
 
 pub returns-clause-device : goal.returns-clause-device
 returns-clause-device g c =
-    intervals_then c.commit_node.result c.in_ok-take_page.ensures.device (intervals_then c.commit_node.result (intervals_one c.in_ok-node.ensures.device) (intervals_one c.commit_node.ensures.device))
+    entry_intervals c.args.entry.now
+    (intervals_then c.commit_node.result c.in_ok-take_page.ensures.device (intervals_then c.commit_node.result (intervals_one c.in_ok-node.ensures.device) (intervals_one c.commit_node.ensures.device)))
