@@ -1,5 +1,5 @@
 -- What a volume knows once an entry's name and its inode are taken in.
-use Rattle.std.proofs.Common.{◌≡◌, ℕ, ◌-◌, Bool, false, List, ◌++◌, Option, refl, sym, ap, subst, ◌∙◌}
+use Rattle.std.proofs.Common.{◌≡◌, ℕ, ◌-◌, Bool, false, List, ◌++◌, sym, ap, subst, ◌∙◌}
 use Rattle.std.specs.Prelude.{slice_set}
 use Rattle.allocators.specs.Numbers.{IsFree}
 use Rattle.volatile_index.specs.Entries.{IsWithEntry}

@@ -18,3 +18,6 @@ pub entry_intervals : {T E : Type 0} {a b : DeviceView} {result : Result T E} (e
 entry_intervals {a = a} {b} {result} entry intervals =
     subst (λ (events : ℕ). MakesIntervals a b events (fences_of_plan (MakesNode entry)) result) (events_are entry)
     (subst (λ (fences : ℕ). MakesIntervals a b (new_page_events entry.new_page + (written_events entry.kind + commit_events)) fences result) (fences_are entry) intervals)
+
+pub some_events : (entry : NewEntry) → events_of (MakesNode entry) ≡ 0 → ⊥
+some_events entry none = omega (arith, none)

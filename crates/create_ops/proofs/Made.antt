@@ -1,5 +1,5 @@
 -- An entry that is made leaves a volume that stands for what its command leaves.
-use Rattle.std.proofs.Common.{◌≡◌, ℕ, ◌+◌, ◌*◌, List, Option, Some, None, refl, sym, ap, subst, ◌∙◌, arith}
+use Rattle.std.proofs.Common.{◌≡◌, ℕ, ◌+◌, ◌*◌, List, refl, sym, ap, subst, ◌∙◌, arith}
 use Rattle.std.specs.Prelude.{Result, Ok, Err}
 use Rattle.pm_trait.specs.DeviceView.{DeviceView, MakesIntervals, IsSettledView}
 use Rattle.pm_trait.proofs.DeviceViewLaws.{intervals_failed}
@@ -20,7 +20,7 @@ use Rattle.image_reading.proofs.Tidied.{as_tidy}
 use Rattle.image_laws.specs.Commits.{Commits}
 use Rattle.image_laws.specs.Create.{committed}
 use Rattle.volume.specs.declared.plan.NewEntry.{NewEntry}
-use Rattle.volume.specs.Costs.{events_of, fences_for_page, fences_of_plan}
+use Rattle.volume.specs.Costs.{fences_of_plan}
 use Rattle.volume.specs.Deed.{MakesNode}
 use Rattle.volume.specs.declared.plan.Action.TheVariants.{Make}
 use Rattle.volume.specs.Volume.{VolumeView}

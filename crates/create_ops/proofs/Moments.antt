@@ -3,7 +3,7 @@ use Rattle.std.proofs.Common.{◌≡◌, ◌≢◌, inr, ℕ, List, length, refl
 use Rattle.std.specs.Prelude.{Option, Result, Ok, Err, OnOk, IsErr}
 use Rattle.pm_trait.specs.Trail.{Trail}
 use Rattle.pm_trait.specs.Device.{LeavesOnly, StaysOnce, Mix, IsFenced, IsSettledAt, acks_from, moment_of}
-use Rattle.pm_trait.proofs.ContinuesLaws.{acks_from-then, continues_then}
+use Rattle.pm_trait.proofs.ContinuesLaws.{acks_from-then}
 use Rattle.pm_trait.proofs.DeviceLaws.{fenced_leaves, fenced_stays, leaves_next, leaves_weaker, interval_empty, interval_stays}
 use Rattle.layout.specs.Fields.{word}
 use Rattle.tree_model.specs.Tree.{Tree}

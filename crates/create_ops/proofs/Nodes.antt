@@ -5,7 +5,7 @@ use Rattle.pm_trait.specs.Trail.{Trail}
 use Rattle.pm_trait.specs.Device.{IsInterval, IsFlushed, IsClean, IsSettledAt}
 use Rattle.pm_trait.specs.declared.event.Event.TheVariants.{Store, Flush}
 use Rattle.pm_trait.specs.DeviceView.{DeviceView, Performs, Stores}
-use Rattle.pm_trait.proofs.DeviceViewLaws.{store_stores, flush_stores, stores_flushed, stores_weaker, stores_nothing}
+use Rattle.pm_trait.proofs.DeviceViewLaws.{store_stores, flush_stores, stores_flushed}
 use Rattle.pm_trait.proofs.DeviceLaws.{interval_keeps, interval_length, interval_joined, clean_stays, flushed_stays}
 use Rattle.layout.specs.declared.fields.InodeFields.{InodeFields}
 use Rattle.layout.specs.declared.fields.SlotFields.{SlotFields}

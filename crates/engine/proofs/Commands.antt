@@ -25,9 +25,10 @@ use Rattle.volume.specs.Stands.{StandsFor}
 use Rattle.volume.specs.Crashes.{MayReadAs}
 use Rattle.volume.specs.Carried.{LeavesState, Follows, Answers}
 use Rattle.volume.specs.Prepared.{IsRefusal, IsMaking, IsSameButPlaces, IsSameButRoom, Prepares, making}
-use Rattle.volume.specs.Planned.{IsPlanOf, fences_for, fences_of_plan}
+use Rattle.volume.specs.Costs.{fences_of_plan}
+use Rattle.volume.specs.Deed.{deed_of}
 use Rattle.volume.specs.declared.plan.Action.{Action}
-use Rattle.volume.specs.declared.plan.Action.TheVariants.{Make, Status, Names, Space}
+use Rattle.volume.proofs.Plans.{fences_of_plan-le}
 use Rattle.layout.specs.declared.kinds.NodeKind.{NodeKind}
 use Rattle.layout.specs.declared.kinds.NodeKind.TheVariants.{File, Directory}
 use Rattle.engine.specs.Exec.{Executed, HasFailed, Does, LeavesVolume}
@@ -46,9 +47,9 @@ refused_steps P state c refusal e = record {
   room = subst (λ o. RoomAfterWith o (least_free_id state.tree) state.tree state.room c state.room) (sym e) refl;
 }
 
-pub step_refused : (P : ℕ) (state : State) (c : Command) (refusal : Refusal) → IsRefusal P state c refusal → LineStep P state (Ok c) (Refused refusal) state
+pub step_refused : (P : ℕ) (state : State) (c : Command) (refusal : Refusal) → {before after : DeviceView} → IsRefusal P state c refusal before after → LineStep P state (Ok c) (Refused refusal) state
 step_refused P state c refusal (inl e) = inl (refused_steps P state c refusal e)
-step_refused P state c refusal (inr (short, may)) = inr (record { accepted = may; answered = ap Refused short; unchanged = refl })
+step_refused P state c refusal (inr lacks) = inr (record { accepted = lacks.accepted; answered = ap Refused lacks.answered; unchanged = refl })
 
 -- ---- nothing was done
 
@@ -71,7 +72,7 @@ module _ (old new : VolumeView) (before after : DeviceView) (size : new.size ≡
     stays = stays_here _ told;
   }
 
-  pub does_refused : (state : State) (c : Command) (refusal : Refusal) → StandsFor new after state → IsRefusal old.size state c refusal
+  pub does_refused : (state : State) (c : Command) (refusal : Refusal) → StandsFor new after state → IsRefusal old.size state c refusal before after
       → Does old new before after state (Ok c) (Ok (reply.Refused refusal))
   does_refused state c refusal stands refused =
       does_still state (Ok c) (Refused refusal) (reply.Refused refusal) stands (record { reply_is = refl; told = tt }) (step_refused old.size state c refusal refused) refl
@@ -95,8 +96,8 @@ making_changes File path = refl
 making_changes Directory path = refl
 
 module _ (old new : VolumeView) (before after : DeviceView) where
-  pub does_made : {events made : ℕ} (state : State) (c : Command) (kind : NodeKind) (path : Route) (result : Result Reply PmFault) → c ≡ making kind path → refusal_of old.size state.tree state.room c ≡ None
-      → Follows old new before after state c result → Answers old new result → MakesIntervals before after events made result
+  pub does_made : {events made : ℕ} {action : Action} (state : State) (c : Command) (kind : NodeKind) (path : Route) (result : Result Reply PmFault) → c ≡ making kind path → refusal_of old.size state.tree state.room c ≡ None
+      → Follows old new before after state c Done result → Answers old new action Done result → MakesIntervals before after events made result
       → Does old new before after state (Ok c) result
   does_made state c kind path result is accepted follows answers device = record {
     executed = executed result follows.made answers.reply;
@@ -107,7 +108,7 @@ module _ (old new : VolumeView) (before after : DeviceView) where
       changes : is_changing c ≡ true
       changes = ap is_changing is ∙ making_changes kind path
 
-      executed : (result : Result Reply PmFault) → OnOk result (LeavesState old new before after state c)
+      executed : (result : Result Reply PmFault) → OnOk result (LeavesState old new before after state c Done)
           → IfOk result (λ replied. replied ≡ reply_of Done) → IfOk result (λ replied. Executed old.size state (Ok c) new replied before after)
       executed (Ok replied) left is_done = record {
         answer = Done;
@@ -130,21 +131,10 @@ module _ (old new : VolumeView) (before after : DeviceView) where
         last = last;
       }
 
-  -- a plan takes at most four fences
-  few_fences : (action : Action) → fences_of_plan action ≤ 4
-  few_fences (Make entry) = few entry.new_page
-    where
-      few : (page : Option ℕ) → fences_for page ≤ 4
-      few None = omega arith
-      few (Some page) = omega arith
-  few_fences (Status inode) = omega arith
-  few_fences (Names inode) = omega arith
-  few_fences Space = omega arith
-
-  pub leaves_made : {events : ℕ} (action : Action) (result : Result Reply PmFault) → Answers old new result → MakesIntervals before after events (fences_of_plan action) result
+  pub leaves_made : {events : ℕ} (action : Action) (result : Result Reply PmFault) → Answers old new action Done result → MakesIntervals before after events (fences_of_plan (deed_of action)) result
       → LeavesVolume old new before after result
   leaves_made action (Ok replied) answers device =
-      let few = few_fences action in
+      let few = fences_of_plan-le action in
       let most = device.most_fences in
       record {
         quiet = λ not. absurd (not answers.reply);
@@ -162,7 +152,7 @@ module _ (old new : VolumeView) (before after : DeviceView) where
         acks = device.acks;
       }
   leaves_made action (Err fault) answers device =
-      let few = few_fences action in
+      let few = fences_of_plan-le action in
       let most = device.most_fences in
       record {
         quiet = tt;
@@ -297,21 +287,6 @@ leaves_refused old mid before between c refusal goes prepared = record {
   fences = let same = prepared.device.fences in omega (arith, same);
   acks = prepared.device.acks;
 }
-
--- a plan that makes nothing is one of a command that reads
-pub telling_reads : (P : ℕ) (I : List ℕ) (state : State) (c : Command) (action : Action) → IsPlanOf P I state c action → ¬ IsMaking action → is_changing c ≡ false
-telling_reads P I state (Create path) action (entry, is, made) not = absurd (not (subst IsMaking (sym is) tt))
-telling_reads P I state (Mkdir path) action (entry, is, made) not = absurd (not (subst IsMaking (sym is) tt))
-telling_reads P I state (Link from to) action plan not = absurd plan
-telling_reads P I state (Unlink path) action plan not = absurd plan
-telling_reads P I state (Rmdir path) action plan not = absurd plan
-telling_reads P I state (Rename from to) action plan not = absurd plan
-telling_reads P I state (Write path offset bytes) action plan not = absurd plan
-telling_reads P I state (Truncate path size) action plan not = absurd plan
-telling_reads P I state (Read path offset count) action plan not = absurd plan
-telling_reads P I state (Tell path) action plan not = refl
-telling_reads P I state (Show path) action plan not = refl
-telling_reads P I state Df action plan not = refl
 
 -- ---- by the reply
 

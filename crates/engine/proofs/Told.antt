@@ -22,6 +22,7 @@ use Rattle.image_counts.proofs.States.{state_law}
 use Rattle.volatile_index.specs.Index.{inodes_of_index}
 use Rattle.volume.specs.Volume.{VolumeView}
 use Rattle.volume.specs.Stands.{StandsFor, HasNode}
+use Rattle.volume.specs.Deed.{TellsNode, ListsNames, TellsSpace, deed_of}
 use Rattle.volume.specs.Planned.{IsPlanOf}
 use Rattle.volume.specs.declared.plan.NewEntry.{NewEntry}
 use Rattle.volume.specs.declared.plan.Action.{Action}
@@ -93,44 +94,44 @@ module _ (P : ℕ) (T : Tree) (room : Room) (path : Route) (t : IsTree T) where
 -- ---- the command of a plan that makes nothing
 
 module _ (P : ℕ) (I : List ℕ) (state : State) where
-  pub status_of_plan : (c : Command) (inode : ℕ) → is_changing c ≡ false → IsPlanOf P I state c (Status inode) → (path : Route) × (c ≡ Tell path) × (inode ≡ id_of state.tree path)
+  pub status_of_plan : (c : Command) (inode : ℕ) → is_changing c ≡ false → IsPlanOf P I state c (TellsNode inode) → (path : Route) × (c ≡ Tell path) × (inode ≡ id_of state.tree path)
   status_of_plan (Create path) inode reads plan = absurd (cc reads)
   status_of_plan (Mkdir path) inode reads plan = absurd (cc reads)
-  status_of_plan (Link from to) inode reads plan = absurd plan
-  status_of_plan (Unlink path) inode reads plan = absurd plan
-  status_of_plan (Rmdir path) inode reads plan = absurd plan
-  status_of_plan (Rename from to) inode reads plan = absurd plan
-  status_of_plan (Write path offset bytes) inode reads plan = absurd plan
-  status_of_plan (Truncate path size) inode reads plan = absurd plan
-  status_of_plan (Read path offset count) inode reads plan = absurd plan
+  status_of_plan (Link from to) inode reads plan = absurd (cc reads)
+  status_of_plan (Unlink path) inode reads plan = absurd (cc reads)
+  status_of_plan (Rmdir path) inode reads plan = absurd (cc reads)
+  status_of_plan (Rename from to) inode reads plan = absurd (cc reads)
+  status_of_plan (Write path offset bytes) inode reads plan = absurd (cc reads)
+  status_of_plan (Truncate path size) inode reads plan = absurd (cc reads)
+  status_of_plan (Read path offset count) inode reads (reading, is, rest) = absurd (cc is)
   status_of_plan (Tell path) inode reads plan = (path, refl, cc plan)
   status_of_plan (Show path) inode reads plan = absurd (cc plan)
   status_of_plan Df inode reads plan = absurd (cc plan)
 
-  pub names_of_plan : (c : Command) (inode : ℕ) → is_changing c ≡ false → IsPlanOf P I state c (Names inode) → (path : Route) × (c ≡ Show path) × (inode ≡ id_of state.tree path)
+  pub names_of_plan : (c : Command) (inode : ℕ) → is_changing c ≡ false → IsPlanOf P I state c (ListsNames inode) → (path : Route) × (c ≡ Show path) × (inode ≡ id_of state.tree path)
   names_of_plan (Create path) inode reads plan = absurd (cc reads)
   names_of_plan (Mkdir path) inode reads plan = absurd (cc reads)
-  names_of_plan (Link from to) inode reads plan = absurd plan
-  names_of_plan (Unlink path) inode reads plan = absurd plan
-  names_of_plan (Rmdir path) inode reads plan = absurd plan
-  names_of_plan (Rename from to) inode reads plan = absurd plan
-  names_of_plan (Write path offset bytes) inode reads plan = absurd plan
-  names_of_plan (Truncate path size) inode reads plan = absurd plan
-  names_of_plan (Read path offset count) inode reads plan = absurd plan
+  names_of_plan (Link from to) inode reads plan = absurd (cc reads)
+  names_of_plan (Unlink path) inode reads plan = absurd (cc reads)
+  names_of_plan (Rmdir path) inode reads plan = absurd (cc reads)
+  names_of_plan (Rename from to) inode reads plan = absurd (cc reads)
+  names_of_plan (Write path offset bytes) inode reads plan = absurd (cc reads)
+  names_of_plan (Truncate path size) inode reads plan = absurd (cc reads)
+  names_of_plan (Read path offset count) inode reads (reading, is, rest) = absurd (cc is)
   names_of_plan (Tell path) inode reads plan = absurd (cc plan)
   names_of_plan (Show path) inode reads plan = (path, refl, cc plan)
   names_of_plan Df inode reads plan = absurd (cc plan)
 
-  pub space_of_plan : (c : Command) → is_changing c ≡ false → IsPlanOf P I state c Space → c ≡ Df
+  pub space_of_plan : (c : Command) → is_changing c ≡ false → IsPlanOf P I state c TellsSpace → c ≡ Df
   space_of_plan (Create path) reads plan = absurd (cc reads)
   space_of_plan (Mkdir path) reads plan = absurd (cc reads)
-  space_of_plan (Link from to) reads plan = absurd plan
-  space_of_plan (Unlink path) reads plan = absurd plan
-  space_of_plan (Rmdir path) reads plan = absurd plan
-  space_of_plan (Rename from to) reads plan = absurd plan
-  space_of_plan (Write path offset bytes) reads plan = absurd plan
-  space_of_plan (Truncate path size) reads plan = absurd plan
-  space_of_plan (Read path offset count) reads plan = absurd plan
+  space_of_plan (Link from to) reads plan = absurd (cc reads)
+  space_of_plan (Unlink path) reads plan = absurd (cc reads)
+  space_of_plan (Rmdir path) reads plan = absurd (cc reads)
+  space_of_plan (Rename from to) reads plan = absurd (cc reads)
+  space_of_plan (Write path offset bytes) reads plan = absurd (cc reads)
+  space_of_plan (Truncate path size) reads plan = absurd (cc reads)
+  space_of_plan (Read path offset count) reads (reading, is, rest) = absurd (cc is)
   space_of_plan (Tell path) reads plan = absurd (cc plan)
   space_of_plan (Show path) reads plan = absurd (cc plan)
   space_of_plan Df reads plan = refl
@@ -156,14 +157,14 @@ module _ (volume : VolumeView) (device : DeviceView) where
     -- the node that is told of
     pub node_told : (inode : ℕ) → action ≡ Status inode → HasNode volume device inode
     node_told inode is =
-        let (path, c_is, inode_is) = status_of_plan volume.size device.words state c inode reads (subst (IsPlanOf volume.size device.words state c) is planned.planned.plan_is) in
+        let (path, c_is, inode_is) = status_of_plan volume.size device.words state c inode reads (subst (λ (a : Action). IsPlanOf volume.size device.words state c (deed_of a)) is planned.planned.plan_is) in
         let there = status_there volume.size state.tree state.room path (state_is planned.stands).tree (ap (refusal_of volume.size state.tree state.room) (sym c_is) ∙ planned.planned.accepted) in
         (state, planned.stands, subst (λ (id : ℕ). IsTrue (is_some (node_at state.tree id))) (sym inode_is) there)
 
     -- the directory that is listed
     pub directory_listed : (inode : ℕ) → action ≡ Names inode → is_directory state.tree inode ≡ true
     directory_listed inode is =
-        let (path, c_is, inode_is) = names_of_plan volume.size device.words state c inode reads (subst (IsPlanOf volume.size device.words state c) is planned.planned.plan_is) in
+        let (path, c_is, inode_is) = names_of_plan volume.size device.words state c inode reads (subst (λ (a : Action). IsPlanOf volume.size device.words state c (deed_of a)) is planned.planned.plan_is) in
         let there = listed_there volume.size state.tree state.room path (state_is planned.stands).tree (ap (refusal_of volume.size state.tree state.room) (sym c_is) ∙ planned.planned.accepted) in
         ap (is_directory state.tree) inode_is ∙ there
 
@@ -173,7 +174,7 @@ module _ (volume : VolumeView) (device : DeviceView) where
     pub status_replied : (inode : ℕ) (status : Stat) → action ≡ Status inode → status ≡ status_of state.tree inode
         → IsReplyOf volume device (step volume.size state.tree state.room c).answer (reply.Status status)
     status_replied inode status is told =
-        let (path, c_is, inode_is) = status_of_plan volume.size device.words state c inode reads (subst (IsPlanOf volume.size device.words state c) is planned.planned.plan_is) in
+        let (path, c_is, inode_is) = status_of_plan volume.size device.words state c inode reads (subst (λ (a : Action). IsPlanOf volume.size device.words state c (deed_of a)) is planned.planned.plan_is) in
         subst (λ (answer : Answer). IsReplyOf volume device answer (reply.Status status))
         (answered_by (StatusAnswer status) (ap (answer_of (untaken volume.size) state.tree state.room) c_is ∙ ap (λ (id : ℕ). StatusAnswer (status_of state.tree id)) (sym inode_is) ∙ ap StatusAnswer (sym told)))
         (record { reply_is = refl; told = tt })
@@ -181,7 +182,7 @@ module _ (volume : VolumeView) (device : DeviceView) where
     pub names_replied : (inode count : ℕ) → action ≡ Names inode → volume.stopped ≡ false → count ≡ length (names_in state.tree inode)
         → IsReplyOf volume device (step volume.size state.tree state.room c).answer (reply.Names inode count)
     names_replied inode count is going counted =
-        let (path, c_is, inode_is) = names_of_plan volume.size device.words state c inode reads (subst (IsPlanOf volume.size device.words state c) is planned.planned.plan_is) in
+        let (path, c_is, inode_is) = names_of_plan volume.size device.words state c inode reads (subst (λ (a : Action). IsPlanOf volume.size device.words state c (deed_of a)) is planned.planned.plan_is) in
         subst (λ (answer : Answer). IsReplyOf volume device answer (reply.Names inode count))
         (answered_by (Listed inode (names_in state.tree inode)) (ap (answer_of (untaken volume.size) state.tree state.room) c_is ∙ ap (λ (id : ℕ). Listed id (names_in state.tree id)) (sym inode_is)))
         (record {
@@ -192,7 +193,7 @@ module _ (volume : VolumeView) (device : DeviceView) where
     pub space_replied : (free : Free) → action ≡ Space → free ≡ space_of (untaken volume.size) state.tree state.room
         → IsReplyOf volume device (step volume.size state.tree state.room c).answer (reply.Space free)
     space_replied free is told =
-        let c_is = space_of_plan volume.size device.words state c reads (subst (IsPlanOf volume.size device.words state c) is planned.planned.plan_is) in
+        let c_is = space_of_plan volume.size device.words state c reads (subst (λ (a : Action). IsPlanOf volume.size device.words state c (deed_of a)) is planned.planned.plan_is) in
         subst (λ (answer : Answer). IsReplyOf volume device answer (reply.Space free))
         (answered_by (SpaceAnswer free) (ap (answer_of (untaken volume.size) state.tree state.room) c_is ∙ ap SpaceAnswer (sym told)))
         (record { reply_is = refl; told = tt })

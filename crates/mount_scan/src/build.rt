@@ -28,7 +28,7 @@ pub(crate) fn volume_of_words(
     let index = index_of_words(alloc, &geometry, words)?;
     let inodes = free_inodes(alloc, &geometry, words)?;
     let data_pages = free_pages(alloc, &geometry, words)?;
-    Ok(Volume::from_parts(geometry, index, inodes, data_pages))
+    Ok(Volume::from_parts(alloc, geometry, index, inodes, data_pages))
 }
 
 // Which inodes are free, inode i as number i - 1.

@@ -1,5 +1,5 @@
 -- How far a walk has come.
-use Rattle.std.proofs.Common.{◌≡◌, ℕ, Bool, true, false, cond, List, [], ◌∷◌, ◌++◌, Option, Some, None, Result, Ok, Err, refl, sym, ap, ◌∙◌, append_assoc, append-nil}
+use Rattle.std.proofs.Common.{◌≡◌, ℕ, Bool, true, false, cond, List, [], ◌∷◌, ◌++◌, Option, Some, None, Result, Ok, Err, refl, ap, ◌∙◌, append_assoc}
 use Rattle.tree_model.specs.PathText.{Route}
 use Rattle.tree_model.specs.Tree.{Tree, Node, IsTree, is_directory_node, root_id, id_at, is_directory, parent}
 use Rattle.tree_model.specs.Walk.{Place, root_place, place_at, walk, walk_on, walk_to_parent, step_into, only_directory}

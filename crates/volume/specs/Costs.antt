@@ -1,10 +1,10 @@
 -- What a plan costs on the device: its events, which are reserved before, and its fences.
-use Rattle.std.specs.Prelude.{ℕ, ◌+◌, ◌-◌, ◌*◌, ◌/◌, Bool, false, true, not, ◌&&◌, ◌||◌, ◌==◌, nat_lt, nat_le, if◌then◌else◌, min, List, [], ◌∷◌, length, Option, Some, None, is_some}
+use Rattle.std.specs.Prelude.{ℕ, ◌+◌, ◌-◌, ◌*◌, ◌/◌, Bool, false, not, ◌||◌, nat_lt, nat_le, if◌then◌else◌, min, List, [], ◌∷◌, length, Option, Some, None, is_some}
 use Rattle.layout.specs.Geometry.{pieces}
 use Rattle.layout.specs.declared.kinds.NodeKind.{NodeKind}
 use Rattle.layout.specs.declared.kinds.NodeKind.TheVariants.{File, Directory}
 use Rattle.tree_model.specs.Tree.{page_bytes}
-use Rattle.volume.specs.Deed.{Deed, Loss, Removal, Moving, Writing, Resizing, MakesNode, AddsName, RemovesName, MovesName, WritesBytes, SetsSize, ChangesNothing, ReadsBytes, TellsNode, ListsNames, TellsSpace}
+use Rattle.volume.specs.Deed.{rising_of, falling_of, Deed, Loss, Removal, Moving, Writing, Resizing, MakesNode, AddsName, RemovesName, MovesName, WritesBytes, SetsSize, ChangesNothing, ReadsBytes, TellsNode, ListsNames, TellsSpace}
 
 -- ---- parts
 
@@ -74,10 +74,10 @@ goes_of (Some loss) = loss.goes
 
 abbrev pub pages_of_loss : Option Loss → ℕ
 pages_of_loss None = 0
-pages_of_loss (Some loss) = length loss.pages
+pages_of_loss (Some loss) = loss.pages
 
 abbrev pub pages_removed : Removal → ℕ
-pages_removed removal = length removal.loss.pages + count_of removal.given_back
+pages_removed removal = removal.loss.pages + count_of removal.given_back
 
 abbrev pub pages_replaced : Moving → ℕ
 pages_replaced moving = pages_of_loss moving.replaced + count_of moving.given_back
@@ -111,9 +111,9 @@ events_of_resize resizing =
 abbrev pub events_of_move : Moving → ℕ
 events_of_move moving =
     new_page_events moving.new_page
-    + where_true (not (is_some moving.replaced)) (name_events + count_of moving.rises * word_events + fence_events)
+    + where_true (not (is_some moving.replaced)) (name_events + count_of (rising_of moving) * word_events + fence_events)
     + 4 * commit_events
-    + clearing_events (count_of moving.falls)
+    + clearing_events (count_of (falling_of moving))
     + loss_events (pages_replaced moving) (goes_of moving.replaced)
 
 -- the stores, flushes and fences of a plan
@@ -136,7 +136,7 @@ kept_events = 0
 
 -- what a plan has reserved: one that stores nothing needs no room
 abbrev pub reserved_events : Deed → ℕ
-reserved_events deed = events_of deed + kept_events
+reserved_events deed = where_true (nat_lt 0 (events_of deed)) (events_of deed + kept_events)
 
 -- ---- fences
 

@@ -1,6 +1,7 @@
 -- What the plan of an accepted command does, for every command. Inodes are numbered from 1, slots and data pages from 0.
-use Rattle.std.specs.Prelude.{ℕ, Bool, List, Option}
+use Rattle.std.specs.Prelude.{ℕ, Bool, false, true, not, ◌&&◌, ◌||◌, ◌==◌, if◌then◌else◌, List, Option, Some, None, is_some, is_none}
 use Rattle.layout.specs.declared.kinds.NodeKind.{NodeKind}
+use Rattle.layout.specs.declared.kinds.NodeKind.TheVariants.{File, Directory}
 use Rattle.volume.specs.declared.plan.NewEntry.{NewEntry}
 use Rattle.volume.specs.declared.plan.Action.{Action}
 use Rattle.volume.specs.declared.plan.Action.TheVariants as actions
@@ -13,12 +14,12 @@ pub record NewName : Type 0 where
   pub slot : ℕ
   pub new_page : Option ℕ
 
--- A node whose name is taken away: whether that was its last one, and then all its pages.
+-- A node whose name is taken away: whether that was its last one, and how many pages it gives up then.
 pub record Loss : Type 0 where
   pub inode : ℕ
   pub kind : NodeKind
   pub goes : Bool
-  pub pages : List ℕ
+  pub pages : ℕ
 
 -- a directory loses a name, and may give back the page of its slot
 pub record Removal : Type 0 where
@@ -28,10 +29,10 @@ pub record Removal : Type 0 where
   pub loss : Loss
   pub given_back : Option ℕ
 
--- A name moves: from one slot to another, which named another node or none. The links of one directory may rise, and those of
--- one inode fall.
+-- The name of a node of this kind moves: from one slot to another, which named another node or none.
 pub record Moving : Type 0 where
   pub inode : ℕ
+  pub kind : NodeKind
   pub from_directory : ℕ
   pub from_name : List ℕ
   pub from_slot : ℕ
@@ -41,8 +42,27 @@ pub record Moving : Type 0 where
   pub new_page : Option ℕ
   pub replaced : Option Loss
   pub given_back : Option ℕ
-  pub rises : Option ℕ
-  pub falls : Option ℕ
+
+abbrev pub is_directory_kind : NodeKind → Bool
+is_directory_kind File = false
+is_directory_kind Directory = true
+
+abbrev pub inode_of_loss : Option Loss → Option ℕ
+inode_of_loss None = None
+inode_of_loss (Some loss) = Some loss.inode
+
+-- A directory that gets another parent, and replaces none, raises the links of the new one.
+abbrev pub rising_of : Moving → Option ℕ
+rising_of moving =
+    if is_directory_kind moving.kind && not (moving.from_directory == moving.to_directory) && is_none moving.replaced
+    then Some moving.to_directory else None
+
+-- A directory that gets another parent, or replaces a directory, lowers those of the old one; a file that is replaced lowers its own.
+abbrev pub falling_of : Moving → Option ℕ
+falling_of moving =
+    if is_directory_kind moving.kind
+    then (if not (moving.from_directory == moving.to_directory) || is_some moving.replaced then Some moving.from_directory else None)
+    else inode_of_loss moving.replaced
 
 -- so many bytes are written from an offset on, and the file grows by the new pages
 pub record Writing : Type 0 where

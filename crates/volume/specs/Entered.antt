@@ -1,5 +1,5 @@
 -- What a volume knows once a deed is done: what its index and its sets of free numbers gained and lost.
-use Rattle.std.specs.Prelude.{◌≡◌, ℕ, ◌+◌, ◌-◌, ◌<◌, ◌≤◌, Bool, true, false, List, [], ◌∷◌, ◌++◌, length, take, Option, Some, None, slice_set}
+use Rattle.std.specs.Prelude.{◌≡◌, ℕ, ◌+◌, ◌-◌, ◌<◌, ◌≤◌, Bool, true, false, List, [], ◌∷◌, ◌++◌, length, Option, Some, None, slice_set}
 use Rattle.allocators.specs.Numbers.{IsFree}
 use Rattle.volatile_index.specs.Entries.{IsAbsent}
 use Rattle.volatile_index.specs.Index.{NodeView, inodes_of_index, entries_of, places_of, pages_of, page_places_of, IsWithPages, PutsEntry, RemovesEntry, ChangesNode}
@@ -29,7 +29,8 @@ abbrev pub HasPlace : VolumeView → ℕ → Type 0
 HasPlace volume directory = length (entries_of volume.index directory) < places_of volume.index directory
 
 abbrev pub HasPagePlaces : VolumeView → ℕ → List ℕ → Type 0
-HasPagePlaces volume inode pages = length (pages_of volume.index inode) + length pages ≤ page_places_of volume.index inode
+HasPagePlaces volume inode [] = Unit {0}
+HasPagePlaces volume inode (page ∷ pages) = length (pages_of volume.index inode) + length (page ∷ pages) ≤ page_places_of volume.index inode
 
 -- and for a new name with the new page that it may need
 pub record HasNamePlace (volume : VolumeView) (directory : ℕ) (new_page : Option ℕ) : Type 0 where
@@ -138,18 +139,16 @@ pub record HasRemoved (old new : VolumeView) (removal : Removal) : Type 0 where
   pub page : LeavesPageOf unnamed given removal.directory removal.given_back
   pub inode : LeavesInodeIf removal.loss.goes given new removal.loss.inode
 
--- the node that is replaced leaves its name, and goes where that was its last one
-abbrev pub HasReplaced : VolumeView → VolumeView → Moving → Option Loss → Type 0
-HasReplaced old new moving None = new ≡ old
-HasReplaced old new moving (Some loss) = (unnamed : VolumeView) × LeavesName old unnamed moving.to_directory moving.to_name × LeavesInodeIf loss.goes unnamed new loss.inode
+-- the new name: an entry of its own, or that of the node that is replaced, which goes where this was its last name
+abbrev pub TakesName : VolumeView → VolumeView → Moving → Option Loss → Type 0
+TakesName old new moving None = EntersName old new moving.to_directory moving.to_name moving.to_slot moving.new_page
+TakesName old new moving (Some loss) = LeavesInodeIf loss.goes old new loss.inode
 
 pub record HasMoved (old new : VolumeView) (moving : Moving) : Type 0 where
   pub unnamed : VolumeView
-  pub vacated : VolumeView
   pub named : VolumeView
   pub source : LeavesName old unnamed moving.from_directory moving.from_name
-  pub target : HasReplaced unnamed vacated moving moving.replaced
-  pub name : EntersName vacated named moving.to_directory moving.to_name moving.to_slot moving.new_page
+  pub target : TakesName unnamed named moving moving.replaced
   pub page : LeavesPageOf named new moving.from_directory moving.given_back
 
 pub record HasResized (old new : VolumeView) (resizing : Resizing) : Type 0 where

@@ -1,20 +1,19 @@
 -- Plans of accepted commands. P is the number of pages, I the words, d a directory.
-use Rattle.std.specs.Prelude.{◌≡◌, ◌≢◌, ◌↔◌, ℕ, ◌+◌, ◌-◌, ◌*◌, ◌<◌, ◌≤◌, Bool, true, false, ◌&&◌, ◌||◌, not, ◌==◌, if◌then◌else◌, List, [], length, Contains, Option, Some, None, is_none, is_some}
-use Rattle.std.specs.List.{AllPairs}
+use Rattle.std.specs.Prelude.{◌≡◌, ◌≢◌, ℕ, ◌-◌, ◌*◌, ◌<◌, ◌≤◌, Bool, true, false, ◌==◌, List, length, Option, Some, None, is_none}
 use Rattle.layout.specs.Geometry.{pieces, inodes_of, page_of_slot}
 use Rattle.layout.specs.Fields.{slot_inode}
 use Rattle.layout.specs.declared.kinds.NodeKind.{NodeKind}
 use Rattle.layout.specs.declared.kinds.NodeKind.TheVariants.{File, Directory}
 use Rattle.tree_model.specs.PathText.{Route}
-use Rattle.tree_model.specs.Tree.{Tree, parent, last_name, id_at, node_at, is_directory, bytes_of, page_bytes}
+use Rattle.tree_model.specs.Tree.{parent, last_name, id_at, node_at, is_directory, bytes_of, page_bytes}
 use Rattle.tree_model.specs.Step.{least_free_id, id_of, is_same_node, need, tree_after, resolved, refusal_of}
 use Rattle.tree_model.specs.Run.{State}
 use Rattle.tree_model.specs.declared.command.Command.{Command}
 use Rattle.tree_model.specs.declared.command.Command.TheVariants.{Create, Mkdir, Link, Unlink, Rmdir, Rename, Write, Truncate, Read, Stat as Tell, List as Show, Df}
-use Rattle.image_reading.specs.Counts.{IsDistinct}
+use Rattle.image_reading.specs.Counts.{Count}
 use Rattle.image_counts.specs.Entries.{IsEntryOf, IsSlotIn, IsPageIn, IsFreePage}
 use Rattle.volume.specs.Lowest.{AreLowestOf}
-use Rattle.volume.specs.Deed.{Deed, NewName, Loss, Removal, Moving, Writing, Resizing, Reading, MakesNode, AddsName, RemovesName, MovesName, WritesBytes, SetsSize, ChangesNothing, ReadsBytes, TellsNode, ListsNames, TellsSpace}
+use Rattle.volume.specs.Deed.{Deed, is_directory_kind, NewName, Loss, Removal, Moving, Writing, Resizing, Reading, MakesNode, AddsName, RemovesName, MovesName, WritesBytes, SetsSize, ChangesNothing, ReadsBytes, TellsNode, ListsNames, TellsSpace}
 use Rattle.volume.specs.declared.plan.NewEntry.{NewEntry}
 
 -- ---- the place of a new name
@@ -60,21 +59,12 @@ pub record IsNameAt (P : ℕ) (I : List ℕ) (state : State) (path : Route) (dir
   pub slot_is : IsEntryOf P I directory name slot
   pub inode_is : id_at state.tree path ≡ Some inode
 
--- all pages that the inode owns, each once
-pub record ArePagesOf (P : ℕ) (I : List ℕ) (inode : ℕ) (pages : List ℕ) : Type 0 where
-  pub each : (page : ℕ) → Contains pages page ↔ IsPageIn P I inode page
-  pub once : IsDistinct pages
-
-abbrev pub is_directory_kind : NodeKind → Bool
-is_directory_kind File = false
-is_directory_kind Directory = true
-
 -- Whether the inode of a name that is taken away goes: it is in no tree after the command. Then all its pages go with it.
 pub record IsLossOf (P : ℕ) (I : List ℕ) (state : State) (command : Command) (loss : Loss) : Type 0 where
   pub kind_is : is_directory state.tree loss.inode ≡ is_directory_kind loss.kind
   pub goes_is : loss.goes ≡ is_none (node_at (tree_after (least_free_id state.tree) state.tree command) loss.inode)
-  pub pages : loss.goes ≡ true → ArePagesOf P I loss.inode loss.pages
-  pub no_pages : loss.goes ≡ false → loss.pages ≡ []
+  pub pages : loss.goes ≡ true → Count (IsPageIn P I loss.inode) loss.pages
+  pub no_pages : loss.goes ≡ false → loss.pages ≡ 0
 
 -- no other slot of its page names anything
 abbrev pub IsAlone : ℕ → List ℕ → ℕ → Type 0
@@ -110,33 +100,15 @@ IsTargetOf P I state from to moving None = (id_at state.tree to ≡ None) × IsN
 IsTargetOf P I state from to moving (Some loss) =
     IsNameAt P I state to moving.to_directory moving.to_name moving.to_slot loss.inode × IsLossOf P I state (Rename from to) loss × (moving.new_page ≡ None)
 
-abbrev pub inode_of_loss : Option Loss → Option ℕ
-inode_of_loss None = None
-inode_of_loss (Some loss) = Some loss.inode
-
--- A directory that gets another parent, and replaces none, raises the links of the new one.
-abbrev pub rising_of : Tree → Moving → Option ℕ
-rising_of T moving =
-    if is_directory T moving.inode && not (moving.from_directory == moving.to_directory) && is_none moving.replaced
-    then Some moving.to_directory else None
-
--- A directory that gets another parent, or replaces a directory, lowers those of the old one; a file that is replaced lowers its own.
-abbrev pub falling_of : Tree → Moving → Option ℕ
-falling_of T moving =
-    if is_directory T moving.inode
-    then (if not (moving.from_directory == moving.to_directory) || is_some moving.replaced then Some moving.from_directory else None)
-    else inode_of_loss moving.replaced
-
 -- The source's page is emptied where no name is left in it, the new one neither.
 abbrev pub IsEmptiedBy : ℕ → List ℕ → Moving → Type 0
 IsEmptiedBy P I moving = IsAlone P I moving.from_slot × (page_of_slot moving.to_slot ≢ page_of_slot moving.from_slot)
 
 pub record IsMovingFor (P : ℕ) (I : List ℕ) (state : State) (from to : Route) (moving : Moving) : Type 0 where
+  pub kind_is : is_directory state.tree moving.inode ≡ is_directory_kind moving.kind
   pub source : IsNameAt P I state from moving.from_directory moving.from_name moving.from_slot moving.inode
   pub target : IsTargetOf P I state from to moving moving.replaced
   pub given_back : IsGivenBack (IsEmptiedBy P I moving) moving.from_slot moving.given_back
-  pub rises_is : moving.rises ≡ rising_of state.tree moving
-  pub falls_is : moving.falls ≡ falling_of state.tree moving
 
 -- the new pages of a file: the lowest free ones, as many as the command needs
 abbrev pub AreNewPages : ℕ → List ℕ → State → Command → List ℕ → Type 0

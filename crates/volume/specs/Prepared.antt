@@ -12,6 +12,7 @@ use Rattle.tree_model.specs.declared.reply.Refusal.{Refusal}
 use Rattle.tree_model.specs.declared.reply.Refusal.TheVariants.{NoMemory}
 use Rattle.volatile_index.specs.Index.{NodeView, inodes_of_index, entries_of, places_of, pages_of, page_places_of}
 use Rattle.volume.specs.Volume.{VolumeView}
+use Rattle.volume.specs.Costs.{events_of}
 use Rattle.volume.specs.Deed.{deed_of}
 use Rattle.volume.specs.Stands.{StandsFor}
 use Rattle.volume.specs.Planned.{IsPlanned}
@@ -85,17 +86,19 @@ pub record IsSameButRoom (before after : DeviceView) : Type 0 where
   pub fences : after.fences ≡ before.fences
   pub acks : after.acks ≡ before.acks
 
--- What the action adds has its room, or memory was short. One that makes nothing takes nothing.
+-- What the action adds has its room, or memory was short. One without an event takes nothing.
 pub record TakesRoom {E : Type 0} (old new : VolumeView) (before after : DeviceView) (action : Action) (result : Result (Unit {0}) E) : Type 0 where
   pub view : IsSameButPlaces old new
   pub device : IsSameButRoom before after
   pub accepted : OnOk result (HasReserved new after action × (after.refused ≡ before.refused))
-  pub reading : ¬ IsMaking action → (new ≡ old) × (after ≡ before)
+  pub idle : events_of (deed_of action) ≡ 0 → (new ≡ old) × (after ≡ before)
 
--- A plan has its room. A refusal takes no memory unless memory is what was short, nor does a command that reads.
+-- A plan has its room. A refusal takes no memory unless memory is what was short, nor does a plan without an event, nor a command
+-- that reads.
 pub record Prepares (old new : VolumeView) (before after : DeviceView) (command : Command) (result : Result Action Refusal) : Type 0 where
   pub view : IsSameButPlaces old new
   pub device : IsSameButRoom before after
   pub accepted : IfOk result (λ plan. HasReserved new after plan × (after.refused ≡ before.refused))
   pub refused : IfErr result (λ refusal. refusal ≢ NoMemory → (new ≡ old) × (after ≡ before))
+  pub idle : IfOk result (λ plan. events_of (deed_of plan) ≡ 0 → (new ≡ old) × (after ≡ before))
   pub reading : is_changing command ≡ false → (new ≡ old) × (after ≡ before)

@@ -11,8 +11,8 @@ mod stat;
 mod volume;
 
 pub use costs::{
-    COMMIT_EVENTS, FENCE_EVENTS, INODE_EVENTS, KEPT_EVENTS, NAME_EVENTS, NEW_PAGE_EVENTS, PAGE_EVENTS,
-    WORD_EVENTS,
+    COMMIT_EVENTS, FENCE_EVENTS, INODE_EVENTS, KEPT_EVENTS, NAME_EVENTS, NEW_PAGE_EVENTS,
+    PAGE_EVENTS, WORD_EVENTS,
 };
 pub use plan::{Action, NewEntry, Plan};
 pub use resolve::Walk;

@@ -1,4 +1,4 @@
-use Rattle.std.proofs.Common.{ℕ, ◌+◌, List, Some, arith}
+use Rattle.std.proofs.Common.{ℕ, List, Some, arith}
 use Rattle.layout.specs.Geometry.{slot_word_of}
 use Rattle.image_reading.specs.Reading.{Reads}
 use Rattle.std.specs.Prelude.{Err}

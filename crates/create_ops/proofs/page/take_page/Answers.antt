@@ -1,5 +1,5 @@
-use Rattle.std.proofs.Common.{refl, sym, ap, subst, ℕ, ◌+◌, arith}
-use Rattle.std.specs.Prelude.{Option, Some, Ok, OnOk}
+use Rattle.std.proofs.Common.{refl, sym, ap, subst, ℕ, arith}
+use Rattle.std.specs.Prelude.{Option, Ok, OnOk}
 use Rattle.pm_trait.specs.declared.event.PmFault.{PmFault}
 use Rattle.pm_trait.specs.DeviceView.{MakesIntervals}
 use Rattle.pm_trait.proofs.DeviceViewLaws.{intervals_none, intervals_one, intervals_then, intervals_failed}

@@ -2,11 +2,13 @@ use Rattle.std.proofs.Common.{refl, sym, ap, subst, ◌∙◌}
 use Rattle.tree_model.specs.declared.command.Command.{Command}
 use Rattle.tree_model.specs.declared.reply.Reply.TheVariants as reply
 use Rattle.volume.specs.Carried.{IsPlanFor}
+use Rattle.volume.specs.Deed.{deed_of}
 use Rattle.volume.specs.Planned.{IsPlanOf}
+use Rattle.volume.specs.declared.plan.Action.{Action}
 use Rattle.volume.specs.Prepared.{IsMaking, making}
 use Rattle.layout.specs.declared.kinds.NodeKind.{NodeKind}
-use Rattle.volume.proofs.Plans.{planned_making}
-use Rattle.engine.proofs.Commands.{does_told, does_made, leaves_made, leaves_still, made_reads, telling_reads}
+use Rattle.volume.proofs.Plans.{planned_making, telling_reads}
+use Rattle.engine.proofs.Commands.{does_told, does_made, leaves_made, leaves_still, made_reads}
 use Rattle.engine.proofs.Told.{node_told, directory_listed, directory_within, status_replied, names_replied, space_replied}
 use Rattle.engine.proofs.command.carry_out.Goals as goal
 
@@ -17,48 +19,48 @@ apply_create-requires-clause-planned g c =
     let volume = c.args.volume.now in
     let device = g.P.Pm.view c.args.pm.now in
     let (state, command, plan_for) = c.requires.planned in
-    let (path, is) = planned_making volume.size device.words state command c.in-Make.entry (subst (IsPlanOf volume.size device.words state command) (sym c.action.ensures ∙ c.in-Make.is) plan_for.planned.plan_is) in
+    let (path, is) = planned_making volume.size device.words state command c.in-Make.entry (subst (λ (a : Action). IsPlanOf volume.size device.words state command (deed_of a)) (sym c.action.ensures ∙ c.in-Make.is) plan_for.planned.plan_is) in
     (state, path, subst (λ (asked : Command). IsPlanFor volume device state asked c.args.plan) (is ∙ ap (λ (kind : NodeKind). making kind path) c.in-File.is) plan_for)
 
 pub returns-in-File-clause-does : goal.returns-in-File-clause-does
 returns-in-File-clause-does g c = λ state command plan_for.
     let volume = c.args.volume.now in
     let device = g.P.Pm.view c.args.pm.now in
-    let (path, is) = planned_making volume.size device.words state command c.in-Make.entry (subst (IsPlanOf volume.size device.words state command) (sym c.action.ensures ∙ c.in-Make.is) plan_for.planned.plan_is) in
+    let (path, is) = planned_making volume.size device.words state command c.in-Make.entry (subst (λ (a : Action). IsPlanOf volume.size device.words state command (deed_of a)) (sym c.action.ensures ∙ c.in-Make.is) plan_for.planned.plan_is) in
     let done = c.apply_create.ensures.carries in
-    does_made volume c.apply_create.new.volume device (g.P.Pm.view c.apply_create.new.pm) state command c.in-Make.entry.kind path c.apply_create.result is plan_for.planned.accepted (done.meaning state command plan_for) done.answer done.device
+    does_made volume c.apply_create.new.volume device (g.P.Pm.view c.apply_create.new.pm) state command c.in-Make.entry.kind path c.apply_create.result is plan_for.planned.accepted (done.meaning state command tt plan_for) done.answered done.device
 
 pub returns-in-File-clause-leaves : goal.returns-in-File-clause-leaves
 returns-in-File-clause-leaves g c =
     let done = c.apply_create.ensures.carries in
-    leaves_made c.args.volume.now c.apply_create.new.volume (g.P.Pm.view c.args.pm.now) (g.P.Pm.view c.apply_create.new.pm) c.args.plan c.apply_create.result done.answer done.device
+    leaves_made c.args.volume.now c.apply_create.new.volume (g.P.Pm.view c.args.pm.now) (g.P.Pm.view c.apply_create.new.pm) c.args.plan c.apply_create.result done.answered done.device
 
 pub returns-in-File-clause-reads : goal.returns-in-File-clause-reads
-returns-in-File-clause-reads g c = made_reads (¬ IsMaking c.args.plan) c.apply_create.result c.apply_create.ensures.carries.answer.reply
+returns-in-File-clause-reads g c = made_reads (¬ IsMaking c.args.plan) c.apply_create.result c.apply_create.ensures.carries.answered.reply
 
 pub apply_mkdir-requires-clause-planned : goal.apply_mkdir-requires-clause-planned
 apply_mkdir-requires-clause-planned g c =
     let volume = c.args.volume.now in
     let device = g.P.Pm.view c.args.pm.now in
     let (state, command, plan_for) = c.requires.planned in
-    let (path, is) = planned_making volume.size device.words state command c.in-Make.entry (subst (IsPlanOf volume.size device.words state command) (sym c.action.ensures ∙ c.in-Make.is) plan_for.planned.plan_is) in
+    let (path, is) = planned_making volume.size device.words state command c.in-Make.entry (subst (λ (a : Action). IsPlanOf volume.size device.words state command (deed_of a)) (sym c.action.ensures ∙ c.in-Make.is) plan_for.planned.plan_is) in
     (state, path, subst (λ (asked : Command). IsPlanFor volume device state asked c.args.plan) (is ∙ ap (λ (kind : NodeKind). making kind path) c.in-Directory.is) plan_for)
 
 pub returns-in-Directory-clause-does : goal.returns-in-Directory-clause-does
 returns-in-Directory-clause-does g c = λ state command plan_for.
     let volume = c.args.volume.now in
     let device = g.P.Pm.view c.args.pm.now in
-    let (path, is) = planned_making volume.size device.words state command c.in-Make.entry (subst (IsPlanOf volume.size device.words state command) (sym c.action.ensures ∙ c.in-Make.is) plan_for.planned.plan_is) in
+    let (path, is) = planned_making volume.size device.words state command c.in-Make.entry (subst (λ (a : Action). IsPlanOf volume.size device.words state command (deed_of a)) (sym c.action.ensures ∙ c.in-Make.is) plan_for.planned.plan_is) in
     let done = c.apply_mkdir.ensures.carries in
-    does_made volume c.apply_mkdir.new.volume device (g.P.Pm.view c.apply_mkdir.new.pm) state command c.in-Make.entry.kind path c.apply_mkdir.result is plan_for.planned.accepted (done.meaning state command plan_for) done.answer done.device
+    does_made volume c.apply_mkdir.new.volume device (g.P.Pm.view c.apply_mkdir.new.pm) state command c.in-Make.entry.kind path c.apply_mkdir.result is plan_for.planned.accepted (done.meaning state command tt plan_for) done.answered done.device
 
 pub returns-in-Directory-clause-leaves : goal.returns-in-Directory-clause-leaves
 returns-in-Directory-clause-leaves g c =
     let done = c.apply_mkdir.ensures.carries in
-    leaves_made c.args.volume.now c.apply_mkdir.new.volume (g.P.Pm.view c.args.pm.now) (g.P.Pm.view c.apply_mkdir.new.pm) c.args.plan c.apply_mkdir.result done.answer done.device
+    leaves_made c.args.volume.now c.apply_mkdir.new.volume (g.P.Pm.view c.args.pm.now) (g.P.Pm.view c.apply_mkdir.new.pm) c.args.plan c.apply_mkdir.result done.answered done.device
 
 pub returns-in-Directory-clause-reads : goal.returns-in-Directory-clause-reads
-returns-in-Directory-clause-reads g c = made_reads (¬ IsMaking c.args.plan) c.apply_mkdir.result c.apply_mkdir.ensures.carries.answer.reply
+returns-in-Directory-clause-reads g c = made_reads (¬ IsMaking c.args.plan) c.apply_mkdir.result c.apply_mkdir.ensures.carries.answered.reply
 
 -- ---- what is told
 
