@@ -78,8 +78,8 @@ impl Volume {
         &self.geometry
     }
 
-    /// Takes in a name that a directory was given, with the new page that it may have needed. It takes no memory: `prepare` has
-    /// reserved the places.
+    /// Takes in a name that a directory was given, with the new page that it may have needed. It takes no memory:
+    /// `prepare` has reserved the places.
     pub fn enter_name(&mut self, directory: u64, name: Name, slot: u64, new_page: Option<u64>)
         requires may_enter { MayEnterName self.old directory name new_page }
         requires reserved { HasNamePlace self.old directory new_page }
