@@ -8,3 +8,4 @@ pub mod Rows
 pub mod Readings
 pub mod Plans
 pub mod Listed
+pub mod PlanRows
