@@ -9,3 +9,4 @@ pub mod Readings
 pub mod Plans
 pub mod Listed
 pub mod PlanRows
+pub mod Staying
