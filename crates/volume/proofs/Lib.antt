@@ -10,3 +10,4 @@ pub mod Plans
 pub mod Listed
 pub mod PlanRows
 pub mod Staying
+pub mod PlanFences

@@ -7,10 +7,9 @@ use Rattle.layout.specs.Fields.{slot_inode}
 use Rattle.layout.specs.declared.kinds.NodeKind.{NodeKind}
 use Rattle.layout.specs.declared.kinds.NodeKind.TheVariants.{File, Directory}
 use Rattle.volume.specs.Lowest.{AreLowestOf}
-use Rattle.volume.specs.Deed.{Deed, NewName, Loss, Removal, Moving, MakesNode, AddsName, RemovesName, MovesName, WritesBytes, SetsSize, ChangesNothing, TellsSpace, rising_of, falling_of}
+use Rattle.volume.specs.Deed.{Deed, Loss, Moving, MakesNode, AddsName, RemovesName, MovesName, WritesBytes, SetsSize, ChangesNothing, TellsSpace, rising_of, falling_of}
 use Rattle.volume.specs.Planned.{IsAlone, IsGivenBack}
 use Rattle.volume.specs.Costs.{events_of, reserved_events, fences_of_plan}
-use Rattle.volume.specs.declared.plan.NewEntry.{NewEntry}
 
 -- ---- deeds
 

@@ -1,9 +1,10 @@
 -- What a plan says of its command.
-use Rattle.std.proofs.Common.{◌≡◌, inl, ℕ, ◌≤◌, Bool, true, false, ◌&&◌, List, Option, Some, None, is_none, refl, sym, ap, subst, ◌∙◌, arith}
+use Rattle.std.proofs.Common.{◌≡◌, inl, ℕ, ◌+◌, ◌≤◌, Bool, true, false, cond, ◌&&◌, ◌||◌, nat_lt, nat_le, List, [], ◌∷◌, Option, Some, None, is_some, is_none, refl, sym, ap, subst, ◌∙◌, arith}
 use Rattle.pm_trait.specs.DeviceView.{DeviceView}
 use Rattle.tree_model.specs.PathText.{Route}
 use Rattle.tree_model.specs.Tree.{parent, id_at}
 use Rattle.tree_model.specs.Run.{State, is_changing}
+use Rattle.tree_model.specs.Fences.{most_fences}
 use Rattle.tree_model.specs.Places.{takes_places}
 use Rattle.tree_model.specs.declared.command.Command.{Command}
 use Rattle.tree_model.specs.declared.command.Command.TheVariants.{Create, Mkdir, Link, Unlink, Rmdir, Rename, Write, Truncate, Read, Stat as Tell, List as Show, Df}
@@ -14,7 +15,7 @@ use Rattle.volume.specs.Volume.{VolumeView}
 use Rattle.volume.specs.Stands.{StandsFor}
 use Rattle.volume.specs.Deed.{Deed, MakesNode, AddsName, RemovesName, MovesName, WritesBytes, SetsSize, ChangesNothing, ReadsBytes, TellsNode, ListsNames, TellsSpace, deed_of}
 use Rattle.volume.specs.Planned.{IsMovingFor, IsWritingFor, IsResizingFor, IsNothingOr, IsPlanOf, IsPlanned}
-use Rattle.volume.specs.Costs.{events_of, fences_of_plan}
+use Rattle.volume.specs.Costs.{pages_removed, pages_replaced, goes_of, events_of, fences_for_page, fences_for_loss, fences_for_growth, fences_of_plan}
 use Rattle.volume.specs.Prepared.{making, LacksRoom, IsMaking, IsMadeIn}
 use Rattle.layout.specs.declared.kinds.NodeKind.{NodeKind}
 use Rattle.layout.specs.declared.kinds.NodeKind.TheVariants.{File, Directory}
@@ -127,6 +128,46 @@ fences_of_plan-le (Make entry) = few entry.new_page
 fences_of_plan-le (Status inode) = omega arith
 fences_of_plan-le (Names inode) = omega arith
 fences_of_plan-le Space = omega arith
+
+-- and no plan makes more than a move with a new page that gives one back
+at_most : (b : Bool) (x y limit : ℕ) → x ≤ limit → y ≤ limit → cond b x y ≤ limit
+at_most true x y limit p q = p
+at_most false x y limit p q = q
+
+page-le : (page : Option ℕ) → fences_for_page page ≤ 2
+page-le page = at_most (is_some page) 2 0 2 (omega arith) (omega arith)
+
+loss-le : (pages : ℕ) (goes : Bool) → fences_for_loss pages goes ≤ 2
+loss-le pages goes =
+    let owners = at_most (nat_lt 0 pages) 1 0 1 (omega arith) (omega arith) in
+    let rest = at_most (nat_lt 0 pages || goes) 1 0 1 (omega arith) (omega arith) in
+    omega (arith, owners, rest)
+
+growth-le : (pages : List ℕ) → fences_for_growth pages ≤ 3
+growth-le [] = omega arith
+growth-le (page ∷ pages) = omega arith
+
+pub fences_of_deed-le : (deed : Deed) → fences_of_plan deed ≤ most_fences
+fences_of_deed-le (MakesNode entry) = let page = page-le entry.new_page in omega (arith, page)
+fences_of_deed-le (AddsName link) = let page = page-le link.new_page in omega (arith, page)
+fences_of_deed-le (RemovesName removal) = let loss = loss-le (pages_removed removal) removal.loss.goes in omega (arith, loss)
+fences_of_deed-le (MovesName moving) =
+    let page = page-le moving.new_page in
+    let steps = at_most (is_some moving.replaced) 5 6 6 (omega arith) (omega arith) in
+    let loss = loss-le (pages_replaced moving) (goes_of moving.replaced) in
+    omega (arith, page, steps, loss)
+fences_of_deed-le (WritesBytes writing) =
+    let growth = growth-le writing.new_pages in
+    at_most (nat_le (writing.offset + writing.count) writing.old_size) 1 (fences_for_growth writing.new_pages) 10 (omega arith) (omega (arith, growth))
+fences_of_deed-le (SetsSize resizing) =
+    let growth = growth-le resizing.new_pages in
+    let loss = loss-le resizing.cut false in
+    at_most (nat_lt resizing.old_size resizing.new_size) (fences_for_growth resizing.new_pages) (1 + fences_for_loss resizing.cut false) 10 (omega (arith, growth)) (omega (arith, loss))
+fences_of_deed-le ChangesNothing = omega arith
+fences_of_deed-le (ReadsBytes reading) = omega arith
+fences_of_deed-le (TellsNode inode) = omega arith
+fences_of_deed-le (ListsNames inode) = omega arith
+fences_of_deed-le TellsSpace = omega arith
 
 pub events_of_entry-le : (entry : NewEntry) → events_of (MakesNode entry) ≤ 610
 events_of_entry-le entry = few entry.new_page entry.kind

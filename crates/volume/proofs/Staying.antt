@@ -1,7 +1,7 @@
 -- The directory that loses a name stays one.
-use Rattle.std.proofs.Common.{◌≡◌, ◌≢◌, ℕ, ◌+◌, true, false, List, [], ◌∷◌, ◌++◌, length, length-append, append_assoc, Option, Some, None, is_some, refl, sym, ap, ◌∙◌, arith}
+use Rattle.std.proofs.Common.{◌≡◌, ◌≢◌, ℕ, ◌+◌, true, false, [], ◌∷◌, length, length-append, Some, None, is_some, ap, ◌∙◌, arith}
 use Rattle.tree_model.specs.PathText.{Route}
-use Rattle.tree_model.specs.Tree.{Tree, IsTree, is_directory_node, is_root, parent, last_name, rest_after, id_at, node_at, is_directory}
+use Rattle.tree_model.specs.Tree.{Tree, IsTree, is_directory_node, is_root, parent, last_name, rest_after, id_at, is_directory}
 use Rattle.tree_model.specs.Step.{without_path, without_unnamed, with_moved}
 use Rattle.tree_model.proofs.Lookups.{rest_after-some}
 use Rattle.tree_model.proofs.TreeKept.{is_some_at}

@@ -2,6 +2,7 @@
 #![tactic(auto)]
 
 mod costs;
+mod laws;
 mod names;
 mod place;
 mod plan;
@@ -14,6 +15,7 @@ pub use costs::{
     COMMIT_EVENTS, FENCE_EVENTS, INODE_EVENTS, KEPT_EVENTS, NAME_EVENTS, NEW_PAGE_EVENTS,
     PAGE_EVENTS, WORD_EVENTS,
 };
+pub use laws::plan_fences_law;
 pub use plan::{Action, NewEntry, Plan};
 pub use resolve::Walk;
 pub use volume::Volume;
