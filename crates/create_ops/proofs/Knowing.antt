@@ -20,6 +20,7 @@ use Rattle.allocators.proofs.NumbersLaws.{taken_after_take, free_before, free_st
 use Rattle.volatile_index.specs.Index.{NodeView, entries_of, pages_of}
 use Rattle.volatile_index.proofs.EntryLaws.{contains_entry, contains_still, contains_before as entry_among}
 use Rattle.volatile_index.specs.declared.entry.Entry.{Entry}
+use Rattle.image_reading.proofs.Tidied.{tidied}
 use Rattle.volume.specs.declared.plan.NewEntry.{NewEntry}
 use Rattle.volume.specs.Volume.{VolumeView}
 use Rattle.volume.specs.Entered.{MayEnterName, IsFreePlace, pages_of_option, with_taken}
@@ -219,7 +220,7 @@ module _ (P : ℕ) (W : List ℕ) (state : State) (path : Route) (entry : NewEnt
 
     offsets : (x k page : ℕ) → Reached P J x → HasBytes J x → slice_get (pages_of new.index x) k ≡ Some page → page_offset P J page ≡ k
     offsets x k page reached bytes stands =
-        let range = inode_count_law P J after tidy.sound reads in
+        let range = inode_count_law P J after (tidied tidy).coherent reads in
         elim (cases_eq x entry.directory) [
           | inl same ↦ absurd (not_file (subst (λ (y : ℕ). HasBytes J y) same bytes))
           | inr away ↦ offset_elsewhere x k page (range.least x reached) (range.most x reached) reached bytes away
@@ -273,7 +274,7 @@ module _ (P : ℕ) (W : List ℕ) (state : State) (path : Route) (entry : NewEnt
     taken_length free (Some page) = length-set free page false
 
     pub knows_after : Knows new J
-    knows_after = knows_by new P J (entered.same_size ∙ size) ((tidy.sound Rule.head 0).whole refl) nodes_known
+    knows_after = knows_by new P J (entered.same_size ∙ size) (((tidied tidy).coherent Rule.head 0).whole refl) nodes_known
         (ap length entered.inodes ∙ length-set volume.inodes (entry.inode - 1) false ∙ knows.each_inode ∙ ap inodes_of size)
         inodes_known
         (ap length entered.data_pages ∙ taken_length volume.data_pages entry.new_page ∙ knows.each_page ∙ ap data_pages_of size)

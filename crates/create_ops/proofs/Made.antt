@@ -16,7 +16,7 @@ use Rattle.tree_model.specs.declared.command.Command.{Command}
 use Rattle.tree_model.specs.declared.reply.Reply.{Reply}
 use Rattle.image_reading.specs.Reading.{Reads, HasRoom, ReadsAs}
 use Rattle.image_reading.specs.Tidy.{Tidy}
-use Rattle.image_reading.proofs.Tidied.{as_tidy}
+use Rattle.image_reading.proofs.Tidied.{tidied, as_tidy}
 use Rattle.image_laws.specs.Commits.{Commits}
 use Rattle.image_laws.specs.Create.{committed}
 use Rattle.volume.specs.declared.plan.NewEntry.{NewEntry}
@@ -77,7 +77,7 @@ module _ (P : ℕ) (W : List ℕ) (state : State) (path : Route) (entry : NewEnt
   fits : IsRoom (with_new state.tree path (least_free_id state.tree) (node_of entry.kind)) (room_of entry entry.new_page state.room)
   fits = subst (λ (tree : Tree). IsRoom tree (room_of entry entry.new_page state.room))
       (Created.tree_is P W state path entry at ∙ ap (λ (i : ℕ). with_new state.tree path i (node_of entry.kind)) (Plans.for_entry P W state path entry at).inode_is)
-      (state_law P after.words (record { tree = (step P state.tree state.room (making entry.kind path)).tree; room = room_of entry entry.new_page state.room }) tidy_after.sound reads_after).room
+      (state_law P after.words (record { tree = (step P state.tree state.room (making entry.kind path)).tree; room = room_of entry entry.new_page state.room }) (tidied tidy_after).coherent reads_after).room
 
   steps : Steps P state (making entry.kind path) Done (record { tree = (step P state.tree state.room (making entry.kind path)).tree; room = room_of entry entry.new_page state.room })
   steps = record {

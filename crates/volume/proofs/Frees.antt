@@ -142,7 +142,7 @@ module _ (volume : VolumeView) (device : DeviceView) (state : State) (stands : S
 
   -- the root's inode isn't free
   pub root_taken : IsFree volume.inodes 0 → ⊥
-  root_taken free = not_both (inode_kind device.words 1) ((stands.tidy.sound root 1).directory refl) (free_inode 0 free).2
+  root_taken free = not_both (inode_kind device.words 1) (((tidied stands.tidy).coherent root 1).directory refl) (free_inode 0 free).2
 
   pub least_inode : (k : ℕ) → IsLowest volume.inodes k → (k + 1 ≡ least_free_id state.tree) × (k + 1 ≤ inodes_of volume.size)
   least_inode zero lowest = absurd (root_taken lowest.free)

@@ -1,22 +1,19 @@
 -- What a plan says of its command.
-use Rattle.std.proofs.Common.{◌≡◌, inl, ℕ, ◌+◌, ◌≤◌, Bool, true, false, cond, ◌&&◌, ◌||◌, nat_lt, nat_le, List, [], ◌∷◌, Option, Some, None, is_some, is_none, refl, sym, ap, subst, ◌∙◌, arith}
+use Rattle.std.proofs.Common.{◌≡◌, ℕ, ◌+◌, ◌≤◌, Bool, true, false, cond, ◌||◌, nat_lt, nat_le, List, [], ◌∷◌, Option, Some, None, is_some, refl, sym, ap, subst, ◌∙◌, arith}
 use Rattle.pm_trait.specs.DeviceView.{DeviceView}
 use Rattle.tree_model.specs.PathText.{Route}
 use Rattle.tree_model.specs.Tree.{parent, id_at}
 use Rattle.tree_model.specs.Run.{State, is_changing}
 use Rattle.tree_model.specs.Fences.{most_fences}
-use Rattle.tree_model.specs.Places.{takes_places}
 use Rattle.tree_model.specs.declared.command.Command.{Command}
 use Rattle.tree_model.specs.declared.command.Command.TheVariants.{Create, Mkdir, Link, Unlink, Rmdir, Rename, Write, Truncate, Read, Stat as Tell, List as Show, Df}
-use Rattle.tree_model.specs.declared.reply.Refusal.{Refusal}
-use Rattle.tree_model.specs.declared.reply.Refusal.TheVariants.{NoMemory}
 use Rattle.volatile_index.specs.Index.{inodes_of_index}
 use Rattle.volume.specs.Volume.{VolumeView}
 use Rattle.volume.specs.Stands.{StandsFor}
 use Rattle.volume.specs.Deed.{Deed, MakesNode, AddsName, RemovesName, MovesName, WritesBytes, SetsSize, ChangesNothing, ReadsBytes, TellsNode, ListsNames, TellsSpace, deed_of}
 use Rattle.volume.specs.Planned.{IsMovingFor, IsWritingFor, IsResizingFor, IsNothingOr, IsPlanOf, IsPlanned}
-use Rattle.volume.specs.Costs.{pages_removed, pages_replaced, goes_of, events_of, fences_for_page, fences_for_loss, fences_for_growth, fences_of_plan}
-use Rattle.volume.specs.Prepared.{making, LacksRoom, IsMaking, IsMadeIn}
+use Rattle.volume.specs.Costs.{pages_removed, pages_replaced, goes_of, fences_for_page, fences_for_loss, fences_for_growth, fences_of_plan}
+use Rattle.volume.specs.Prepared.{making, IsMaking, IsMadeIn}
 use Rattle.layout.specs.declared.kinds.NodeKind.{NodeKind}
 use Rattle.layout.specs.declared.kinds.NodeKind.TheVariants.{File, Directory}
 use Rattle.volume.specs.declared.plan.NewEntry.{NewEntry}
@@ -169,40 +166,7 @@ fences_of_deed-le (TellsNode inode) = omega arith
 fences_of_deed-le (ListsNames inode) = omega arith
 fences_of_deed-le TellsSpace = omega arith
 
-pub events_of_entry-le : (entry : NewEntry) → events_of (MakesNode entry) ≤ 610
-events_of_entry-le entry = few entry.new_page entry.kind
-  where
-    few : (new_page : Option ℕ) (kind : NodeKind) → events_of (MakesNode (record entry { new_page = new_page; kind = kind })) ≤ 610
-    few None File = omega arith
-    few None Directory = omega arith
-    few (Some page) File = omega arith
-    few (Some page) Directory = omega arith
-
--- ---- memory is short
-
-making_takes : (state : State) (kind : NodeKind) (path : Route) → takes_places state (making kind path) ≡ true
-making_takes state File path = refl
-making_takes state Directory path = refl
-
-making_changes : (kind : NodeKind) (path : Route) → is_changing (making kind path) ≡ true
-making_changes File path = refl
-making_changes Directory path = refl
-
-module _ (P : ℕ) (I : List ℕ) (state : State) (command : Command) (before after : DeviceView) where
-  made_lacks : (entry : NewEntry) (refusal : Refusal) → IsPlanned P I state command (MakesNode entry) → refusal ≡ NoMemory → LacksRoom P state command refusal before after
-  made_lacks entry refusal planned is =
-      let (path, by) = planned_making P I state command entry planned.plan_is in record {
-        answered = is;
-        accepted = (λ i. is_changing (by i) && is_none (planned.accepted i)) ∙ ap (λ b. b && true) (making_changes entry.kind path);
-        cause = inl (ap (takes_places state) by ∙ making_takes state entry.kind path);
-      }
-
-  -- for a plan that makes an entry
-  pub lacks_room : (action : Action) (refusal : Refusal) → IsPlanned P I state command (deed_of action) → (refusal ≡ NoMemory) × IsMaking action → LacksRoom P state command refusal before after
-  lacks_room (Make entry) refusal planned short = made_lacks entry refusal planned short.0
-  lacks_room (Status inode) refusal planned short = absurd short.1
-  lacks_room (Names inode) refusal planned short = absurd short.1
-  lacks_room Space refusal planned short = absurd short.1
+-- ---- its directory
 
 module _ (volume : VolumeView) (device : DeviceView) (state : State) (stands : StandsFor volume device state) (command : Command) where
   pub made_within : (action : Action) → IsPlanned volume.size device.words state command (deed_of action) → IsMadeIn (inodes_of_index volume.index) action

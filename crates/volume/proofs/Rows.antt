@@ -92,7 +92,7 @@ module _ (volume : VolumeView) (device : DeviceView) (state : State) (stands : S
     held = holder-from_walk state.tree path (record { path = parent path; id = d }) (stands_tree volume device state stands) walked
 
     is_here : Reached volume.size device.words d × IsDirectory device.words d
-    is_here = ((size_law volume.size device.words state stands.tidy.sound stands.reads).directories d).0 held.1
+    is_here = ((size_law volume.size device.words state (tidied stands.tidy).coherent stands.reads).directories d).0 held.1
 
     present : IsPresent (entries_of volume.index d) name → is_there state.tree path ≡ true
     present (slot, there) = ap is_some (ap (id_at state.tree) path_is ∙ below_there volume device state (parent path) d slot name stands held.0 there)

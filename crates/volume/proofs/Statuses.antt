@@ -71,7 +71,7 @@ module _ (volume : VolumeView) (device : DeviceView) (state : State) (stands : S
       let entries = entries_of volume.index d in
       count_one (IsSlotOf volume.size device.words d) (length entries) (name_count state.tree d)
       (count_alike (IsMatched (λ (entry : Entry) s. entry.slot ≡ s) entries) (IsSlotOf volume.size device.words d) (length entries) to from (count_matched (λ (entry : Entry) s. entry.slot ≡ s) entries (matching d least most sorted)))
-      (name_count_law volume.size device.words state stands.tidy.sound stands.reads d)
+      (name_count_law volume.size device.words state (tidied stands.tidy).coherent stands.reads d)
     where
       to : (s : ℕ) → IsMatched (λ (entry : Entry) s. entry.slot ≡ s) (entries_of volume.index d) s → IsSlotOf volume.size device.words d s
       to s (entry, among, is) =
@@ -97,7 +97,7 @@ module _ (volume : VolumeView) (device : DeviceView) (state : State) (stands : S
       → record { dir = true; inode = inode; links = links; amount = names } ≡ status_of state.tree inode
   directory_status inode links names there kind links_is names_is sorted =
       let reached = node_reached inode there in
-      let directory = ((size_law volume.size device.words state stands.tidy.sound stands.reads).directories inode).1 (reached, kind) in
+      let directory = ((size_law volume.size device.words state (tidied stands.tidy).coherent stands.reads).directories inode).1 (reached, kind) in
       let within = in_table volume device inode (state, stands) reached in
       let linked = links_is ∙ sym (link_word_law volume.size device.words state (tidied stands.tidy) stands.reads inode reached) in
       let named = names_is ∙ names_counted inode within.0 within.1 sorted ∙ ap (λ b. cond b (name_count state.tree inode) (length (bytes_of state.tree inode))) (sym directory) in
@@ -114,7 +114,7 @@ module _ (volume : VolumeView) (device : DeviceView) (state : State) (stands : S
       → record { dir = false; inode = inode; links = links; amount = size } ≡ status_of state.tree inode
   file_status inode links size there kind links_is size_is =
       let reached = node_reached inode there in
-      let sizes = size_law volume.size device.words state stands.tidy.sound stands.reads in
+      let sizes = size_law volume.size device.words state (tidied stands.tidy).coherent stands.reads in
       let (other, long) = file_size (node_at state.tree inode) there (λ is. kind ((sizes.directories inode).0 is).1) (inode_size device.words inode) (sizes.sizes inode) in
       let linked = links_is ∙ sym (link_word_law volume.size device.words state (tidied stands.tidy) stands.reads inode reached) in
       let told = size_is ∙ sym long ∙ ap (λ b. cond b (name_count state.tree inode) (length (bytes_of state.tree inode))) (sym other) in

@@ -18,6 +18,7 @@ use Rattle.image_counts.proofs.Slots.{absence_law}
 use Rattle.image_counts.proofs.States.{state_law}
 use Rattle.volatile_index.specs.Entries.{IsAbsent}
 use Rattle.volatile_index.specs.Index.{inodes_of_index, entries_of}
+use Rattle.image_reading.proofs.Tidied.{tidied}
 use Rattle.volume.specs.Volume.{VolumeView}
 use Rattle.volume.specs.Stands.{StandsFor, IsStanding}
 
@@ -34,7 +35,7 @@ same_test false false to from = refl
 
 module _ (volume : VolumeView) (device : DeviceView) where
   pub stands_tree : (state : State) → StandsFor volume device state → IsTree state.tree
-  stands_tree state stands = (state_law volume.size device.words state stands.tidy.sound stands.reads).tree
+  stands_tree state stands = (state_law volume.size device.words state (tidied stands.tidy).coherent stands.reads).tree
 
   -- what a path names is reached
   pub reached_at : (state : State) (path : Route) (i : ℕ) → StandsFor volume device state → id_at state.tree path ≡ Some i → Reached volume.size device.words i
@@ -43,7 +44,7 @@ module _ (volume : VolumeView) (device : DeviceView) where
   -- what is reached is in the inode table
   pub in_table : (i : ℕ) → IsStanding volume device → Reached volume.size device.words i → (1 ≤ i) × (i ≤ inodes_of volume.size)
   in_table i (state, stands) reached =
-      let counted = inode_count_law volume.size device.words state stands.tidy.sound stands.reads in (counted.least i reached, counted.most i reached)
+      let counted = inode_count_law volume.size device.words state (tidied stands.tidy).coherent stands.reads in (counted.least i reached, counted.most i reached)
 
   -- and so it is in the index
   pub in_index : (i : ℕ) → IsStanding volume device → Reached volume.size device.words i → (1 ≤ i) × (i ≤ inodes_of_index volume.index)
@@ -53,7 +54,7 @@ module _ (volume : VolumeView) (device : DeviceView) where
   -- the kind says whether it is a directory
   pub directory_test : (state : State) (i kind : ℕ) → StandsFor volume device state → Reached volume.size device.words i → kind ≡ inode_kind device.words i → nat_eq kind 2 ≡ is_directory state.tree i
   directory_test state i kind stands reached is =
-      let directories = (size_law volume.size device.words state stands.tidy.sound stands.reads).directories i in
+      let directories = (size_law volume.size device.words state (tidied stands.tidy).coherent stands.reads).directories i in
       same_test (nat_eq kind 2) (is_directory state.tree i) (λ two. directories.1 (reached, sym is ∙ is_two kind two)) (λ directory. two_is kind (is ∙ (directories.0 directory).1))
 
   -- ---- entries
@@ -73,14 +74,14 @@ module _ (volume : VolumeView) (device : DeviceView) where
       → Contains (entries_of volume.index d) (record { name = name; slot = slot }) → id_at state.tree (path ++ name ∷ []) ≡ Some (slot_inode volume.size device.words slot)
   below_there state path d slot name stands e there =
       let entry = entry_there d slot name (state, stands) (reached_at state path d stands e) there in
-      (entry_law volume.size device.words state stands.tidy.sound stands.reads path d (slot_inode volume.size device.words slot) name e).1 (slot, entry, refl)
+      (entry_law volume.size device.words state (tidied stands.tidy).coherent stands.reads path d (slot_inode volume.size device.words slot) name e).1 (slot, entry, refl)
 
   -- and of one that isn't
   pub below_absent : (state : State) (path : Route) (d : ℕ) (name : List ℕ) → StandsFor volume device state → id_at state.tree path ≡ Some d
       → IsAbsent (entries_of volume.index d) name → id_at state.tree (path ++ name ∷ []) ≡ None
   below_absent state path d name stands e absent =
       let within = in_table d (state, stands) (reached_at state path d stands e) in
-      ((absence_law volume.size device.words state stands.tidy.sound stands.reads).absent path d name e).1
+      ((absence_law volume.size device.words state (tidied stands.tidy).coherent stands.reads).absent path d name e).1
       (λ slot entry. absent (record { name = name; slot = slot }) ((stands.knows.nodes.entries d slot name within.0 within.1).1 entry) refl)
 
   -- ---- one name further
