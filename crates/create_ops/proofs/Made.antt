@@ -1,17 +1,14 @@
 -- An entry that is made leaves a volume that stands for what its command leaves.
-use Rattle.std.proofs.Common.{◌≡◌, ℕ, ◌+◌, ◌*◌, List, refl, sym, ap, subst, ◌∙◌, arith}
+use Rattle.std.proofs.Common.{◌≡◌, ℕ, ◌+◌, List, refl, sym, ap, subst, ◌∙◌, arith}
 use Rattle.std.specs.Prelude.{Result, Ok, Err}
 use Rattle.pm_trait.specs.DeviceView.{DeviceView, MakesIntervals, IsSettledView}
 use Rattle.pm_trait.proofs.DeviceViewLaws.{intervals_failed}
 use Rattle.layout.specs.Name.{IsName, IsBytes}
-use Rattle.layout.specs.declared.kinds.NodeKind.{NodeKind}
-use Rattle.layout.specs.declared.kinds.NodeKind.TheVariants.{File, Directory}
 use Rattle.tree_model.specs.PathText.{Route}
 use Rattle.tree_model.specs.Tree.{Tree, IsRoom}
-use Rattle.tree_model.specs.Step.{Done, step, need, least_free_id, with_new}
+use Rattle.tree_model.specs.Step.{Answer, Done, step, least_free_id, with_new}
 use Rattle.tree_model.specs.Run.{State, Steps}
 use Rattle.tree_model.specs.Fences.{fences_of}
-use Rattle.tree_model.proofs.FenceLaws.{fences_of-create, fences_of-mkdir}
 use Rattle.tree_model.specs.declared.command.Command.{Command}
 use Rattle.tree_model.specs.declared.reply.Reply.{Reply}
 use Rattle.image_reading.specs.Reading.{Reads, HasRoom, ReadsAs}
@@ -27,6 +24,7 @@ use Rattle.volume.specs.Volume.{VolumeView}
 use Rattle.volume.specs.Stands.{Knows}
 use Rattle.volume.specs.Carried.{IsPlanFor, LeavesState, Follows}
 use Rattle.volume.specs.Prepared.{making}
+use Rattle.volume.proofs.PlanFences.{plan_fences_law}
 use Rattle.image_counts.proofs.States.{state_law}
 use Rattle.create_ops.specs.Making.{node_of, room_of, IsMade, IsPlannedAt, HasStored}
 use Rattle.create_ops.proofs.Created
@@ -34,11 +32,6 @@ use Rattle.create_ops.proofs.Entering.{HasEntered}
 use Rattle.create_ops.proofs.Knowing
 use Rattle.create_ops.proofs.Plans
 use Rattle.create_ops.proofs.Rooms
-
--- what makes a node takes two fences, and two more for a page that it needs
-making_fences : (kind : NodeKind) (path : Route) (old later : State) → fences_of old (Ok (making kind path)) Done later ≡ 2 + 2 * need old.tree old.room (making kind path)
-making_fences File path old later = fences_of-create old path later
-making_fences Directory path old later = fences_of-mkdir old path later
 
 -- another fault is told
 pub failed_as : {T U E F : Type 0} {a b : DeviceView} {events made : ℕ} {failed : F} (fault : E) → MakesIntervals {T = U} a b events made (Err failed) → MakesIntervals {T = T} a b events made (Err fault)
@@ -74,16 +67,19 @@ module _ (P : ℕ) (W : List ℕ) (state : State) (path : Route) (entry : NewEnt
     room = subst (λ (l : List ℕ). HasRoom P l (room_of entry entry.new_page state.room)) back (created.room state.room at.reads.room);
   }
 
-  fits : IsRoom (with_new state.tree path (least_free_id state.tree) (node_of entry.kind)) (room_of entry entry.new_page state.room)
-  fits = subst (λ (tree : Tree). IsRoom tree (room_of entry entry.new_page state.room))
+  fits : IsRoom (step P state.tree state.room (making entry.kind path)).tree (room_of entry entry.new_page state.room)
+  fits = (state_law P after.words (record { tree = (step P state.tree state.room (making entry.kind path)).tree; room = room_of entry entry.new_page state.room }) (tidied tidy_after).coherent reads_after).room
+
+  fits_new : IsRoom (with_new state.tree path (least_free_id state.tree) (node_of entry.kind)) (room_of entry entry.new_page state.room)
+  fits_new = subst (λ (tree : Tree). IsRoom tree (room_of entry entry.new_page state.room))
       (Created.tree_is P W state path entry at ∙ ap (λ (i : ℕ). with_new state.tree path i (node_of entry.kind)) (Plans.for_entry P W state path entry at).inode_is)
-      (state_law P after.words (record { tree = (step P state.tree state.room (making entry.kind path)).tree; room = room_of entry entry.new_page state.room }) (tidied tidy_after).coherent reads_after).room
+      fits
 
   steps : Steps P state (making entry.kind path) Done (record { tree = (step P state.tree state.room (making entry.kind path)).tree; room = room_of entry entry.new_page state.room })
   steps = record {
     answered = sym (Created.answer_is P W state path entry at);
     tree = refl;
-    room = Rooms.room_follows P W state path entry at fits;
+    room = Rooms.room_follows P W state path entry at fits_new;
   }
 
   pub leaves_state : (volume new : VolumeView) (before : DeviceView) → P ≡ volume.size → Knows volume W → HasEntered volume new entry → IsSettledView after
@@ -102,4 +98,7 @@ module _ (P : ℕ) (W : List ℕ) (state : State) (path : Route) (entry : NewEnt
   }
     where
       fences : fences_of_plan (MakesNode entry) ≡ fences_of state (Ok (making entry.kind path)) Done (record { tree = (step P state.tree state.room (making entry.kind path)).tree; room = room_of entry entry.new_page state.room })
-      fences = Rooms.fences_needed P W state path entry at ∙ sym (making_fences entry.kind path state (record { tree = (step P state.tree state.room (making entry.kind path)).tree; room = room_of entry entry.new_page state.room }))
+      fences =
+          plan_fences_law P W state (record { tree = (step P state.tree state.room (making entry.kind path)).tree; room = room_of entry entry.new_page state.room }) (making entry.kind path) (MakesNode entry) (tidied at.tidy) at.reads at.planned
+          (record { tree = refl; room = Rooms.room_is P W state path entry at; fits = fits })
+          ∙ ap (λ (answer : Answer). fences_of state (Ok (making entry.kind path)) answer (record { tree = (step P state.tree state.room (making entry.kind path)).tree; room = room_of entry entry.new_page state.room })) (Created.answer_is P W state path entry at)

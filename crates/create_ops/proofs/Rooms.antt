@@ -1,10 +1,9 @@
 -- The room after an entry is the one that the step of its command leaves.
-use Rattle.std.proofs.Common.{◌≡◌, ◌≢◌, ℕ, ◌+◌, ◌*◌, ◌==◌, Bool, true, false, Option, Some, None, is_some, unwrap_or, refl, sym, ap, subst, ◌∙◌, List, arith}
-use Rattle.std.specs.Prelude.{if◌then◌else◌}
+use Rattle.std.proofs.Common.{◌≡◌, ◌≢◌, ℕ, ◌*◌, ◌==◌, true, false, Option, Some, None, is_some, refl, sym, ap, subst, ◌∙◌, List, arith}
 use Rattle.std.proofs.lemmas.Bool.Decides.{nat_tests}
 use Rattle.tree_model.specs.PathText.{Route}
-use Rattle.tree_model.specs.Tree.{Tree, Room, IsRoom, root_id, parent, id_at, name_count, pages_in}
-use Rattle.tree_model.specs.Step.{is_full, page_for_name, need, room_after, tree_after, with_new, least_free_id, refusal_of, RoomAfter}
+use Rattle.tree_model.specs.Tree.{Tree, IsRoom, name_count, pages_in}
+use Rattle.tree_model.specs.Step.{is_full, room_after, tree_after, with_new, least_free_id, refusal_of, RoomAfter}
 use Rattle.tree_model.specs.Run.{State}
 use Rattle.tree_model.specs.declared.command.Command.{Command}
 use Rattle.tree_model.specs.declared.reply.Refusal.{Refusal}
@@ -13,7 +12,6 @@ use Rattle.layout.specs.declared.kinds.NodeKind.{NodeKind}
 use Rattle.layout.specs.declared.kinds.NodeKind.TheVariants.{File as AFile, Directory as ADirectory}
 use Rattle.volume.specs.declared.plan.NewEntry.{NewEntry}
 use Rattle.volume.specs.Planned.{IsPlace}
-use Rattle.volume.specs.Costs.{fences_for_page}
 use Rattle.volume.specs.Prepared.{making}
 use Rattle.image_laws.proofs.RoomAfter.{room_after_law}
 use Rattle.create_ops.specs.Making.{node_of, room_of, IsPlannedAt}
@@ -27,11 +25,6 @@ after_is ADirectory id T path = refl
 command_is : (kind : NodeKind) (path : Route) → making_node (node_of kind) path ≡ making kind path
 command_is AFile path = refl
 command_is ADirectory path = refl
-
--- what it needs is what its directory's new name needs
-need_is : (kind : NodeKind) (T : Tree) (room : Room) (path : Route) (directory : ℕ) → id_at T (parent path) ≡ Some directory → need T room (making kind path) ≡ page_for_name T room (Some directory)
-need_is AFile T room path directory is = ap (λ (o : Option ℕ). page_for_name T room (Some (unwrap_or o root_id))) is
-need_is ADirectory T room path directory is = ap (λ (o : Option ℕ). page_for_name T room (Some (unwrap_or o root_id))) is
 
 is_same : (n m : ℕ) → n ≡ m → n == m ≡ true
 is_same n m e = grind (arith, nat_tests)
@@ -48,17 +41,6 @@ module _ (P : ℕ) (W : List ℕ) (state : State) (path : Route) (entry : NewEnt
   full_by (Some page) place =
       let rooms = Plans.room_words P W state path entry at in
       is_same (name_count state.tree entry.directory) (32 * pages_in state.room entry.directory) (rooms.full.1 (λ s is none. place.full s (record { page = is; vacant = none })))
-
-  fences_by : (new_page : Option ℕ) → IsPlace P W entry.directory entry.slot new_page → 2 + fences_for_page new_page ≡ 2 + 2 * page_for_name state.tree state.room (Some entry.directory)
-  fences_by None place = ap (λ (full : Bool). 2 + 2 * (if full then 1 else 0)) (sym (full_by None place))
-  fences_by (Some page) place = ap (λ (full : Bool). 2 + 2 * (if full then 1 else 0)) (sym (full_by (Some page) place))
-
-  -- two fences, and two more for a page that the command needs
-  pub fences_needed : 2 + fences_for_page entry.new_page ≡ 2 + 2 * need state.tree state.room (making entry.kind path)
-  fences_needed =
-      let for_entry = Plans.for_entry P W state path entry at in
-      fences_by entry.new_page for_entry.place
-      ∙ ap (λ (pages : ℕ). 2 + 2 * pages) (sym (need_is entry.kind state.tree state.room path entry.directory for_entry.directory_is))
 
   after_command : HasRoomAfter state.tree state.room (node_of entry.kind) path entry.directory entry.inode
   after_command = room_after_law state.tree state.room (node_of entry.kind) path entry.directory entry.inode (record {
