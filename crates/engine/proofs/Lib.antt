@@ -1,13 +1,16 @@
+pub mod Lists
 pub mod Runs
 pub mod PlainRuns
 pub mod Faults
 pub mod After
 pub mod Quiet
+pub mod Fences
+pub mod Memory
 pub mod Stays
 pub mod Acknowledged
 pub mod Told
-pub mod Commands
 pub mod Causes
+pub mod Commands
 pub mod Sessions
 pub mod TurnLaws
 pub mod RunStarts
