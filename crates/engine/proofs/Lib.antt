@@ -5,6 +5,7 @@ pub mod Faults
 pub mod After
 pub mod Quiet
 pub mod Fences
+pub mod Rows
 pub mod Memory
 pub mod Stays
 pub mod Acknowledged
