@@ -1,18 +1,16 @@
 -- A line that was executed, and then acknowledged.
-use Rattle.std.proofs.Common.{◌≡◌, ◌≢◌, inl, inr, ℕ, List, [], ◌∷◌, refl, sym, ap, subst, ◌∙◌}
-use Rattle.std.specs.Prelude.{Option, Some, None, Ok, Err}
+use Rattle.std.proofs.Common.{◌≡◌, ◌⊎◌, inl, inr, ℕ, List, [], ◌∷◌, refl, sym, ap, subst, ◌∙◌}
+use Rattle.std.specs.Prelude.{Option, Some, None, Ok, Err, IsTrue}
 use Rattle.pm_trait.specs.declared.event.Event.TheVariants.{Ack}
 use Rattle.pm_trait.specs.Trail.{Trail}
-use Rattle.pm_trait.specs.Device.{with_event, acks_from, moment_of}
+use Rattle.pm_trait.specs.Device.{HasRisen, with_event, acks_from, moment_of}
 use Rattle.pm_trait.specs.DeviceView.{DeviceView}
 use Rattle.pm_trait.proofs.ContinuesLaws.{acks_from-all, continues_by}
 use Rattle.pm_trait.proofs.DeviceLaws.{leaves_weaker, leaves_next}
 use Rattle.pm_trait.proofs.AckLaws.{leaves_ack, acks_none, acks_next, acks_ack, settled_ack}
 use Rattle.tree_model.specs.Step.{Answer, Done, Count, Status, Bytes, Listed, Space, Refused, Unread, Fault, Stopped}
 use Rattle.tree_model.specs.Run.{Line, State, LineStep}
-use Rattle.tree_model.specs.Replies.{reply_of}
 use Rattle.tree_model.specs.declared.reply.Reply.{Reply}
-use Rattle.tree_model.specs.declared.reply.Reply.TheVariants as reply
 use Rattle.volume.specs.Volume.{VolumeView}
 use Rattle.volume.specs.Stands.{StandsFor, Knows}
 use Rattle.image_reading.specs.Reading.{ReadsAs}
@@ -20,9 +18,11 @@ use Rattle.image_reading.specs.Tidy.{Tidy}
 use Rattle.pm_trait.specs.DeviceView.{Acknowledges}
 use Rattle.volume.specs.Crashes.{MayReadAs}
 use Rattle.engine.specs.Exec.{Executed, HasAnswered}
-use Rattle.engine.specs.Quiet.{MayStore}
 use Rattle.engine.specs.Replies.{IsTold}
 use Rattle.engine.specs.Run.{command_of, IsAt}
+use Rattle.engine.specs.Session.{SessionView}
+use Rattle.tree_model.specs.Fences.{fences_of}
+use Rattle.tree_model.specs.Places.{line_needs_places}
 use Rattle.engine.proofs.After.{Acked, acked_then}
 use Rattle.engine.proofs.Quiet.{acts_answered}
 
@@ -56,18 +56,18 @@ may_be_there P state words is = record { sound = is.tidy.sound; tree = state.tre
 
 -- ---- what an acknowledgement leaves
 
-module _ (volume : VolumeView) (device acked : DeviceView) (same : acked.words ≡ device.words) (appended : acked.trail ≡ with_event device.trail Ack) where
+module _ (session : SessionView) (device acked : DeviceView) (same : acked.words ≡ device.words) (appended : acked.trail ≡ with_event device.trail Ack) where
   -- a volume stands for a state whatever was acknowledged
-  pub stands_acked : {state : State} → StandsFor volume device state → StandsFor volume acked state
+  pub stands_acked : {state : State} → StandsFor session.volume device state → StandsFor session.volume acked state
   stands_acked {state} stands = record {
     settled = settled_ack same appended stands.settled;
-    tidy = subst (λ (w : List ℕ). Tidy volume.size w) (sym same) stands.tidy;
-    reads = subst (λ (w : List ℕ). ReadsAs volume.size w state) (sym same) stands.reads;
-    knows = subst (λ (w : List ℕ). Knows volume w) (sym same) stands.knows;
+    tidy = subst (λ (w : List ℕ). Tidy session.volume.size w) (sym same) stands.tidy;
+    reads = subst (λ (w : List ℕ). ReadsAs session.volume.size w state) (sym same) stands.reads;
+    knows = subst (λ (w : List ℕ). Knows session.volume w) (sym same) stands.knows;
   }
 
-  -- and has what is written of an answer
-  pub told_acked : (answer : Answer) → IsTold volume device answer → IsTold volume acked answer
+  -- and the session has what is written of an answer
+  pub told_acked : (answer : Answer) → IsTold session device answer → IsTold session acked answer
   told_acked Done told = told
   told_acked (Count n) told = told
   told_acked (Status s) told = told
@@ -78,6 +78,7 @@ module _ (volume : VolumeView) (device acked : DeviceView) (same : acked.words �
     going = told.going;
     directory = told.directory;
     names_are = told.names_are;
+    all = told.all;
   }
   told_acked (Space free) told = told
   told_acked (Refused refusal) told = told
@@ -85,37 +86,25 @@ module _ (volume : VolumeView) (device acked : DeviceView) (same : acked.words �
   told_acked Fault told = told
   told_acked Stopped told = told
 
-module _ {P : ℕ} {old : State} {line : Line} {volume : VolumeView} {replied : Reply} (before after acked : DeviceView)
-    (size : volume.size ≡ P) (done : Executed P old line volume replied before after) (still : replied ≢ reply.Done → after.trail ≡ before.trail) (acks : Acknowledges after acked) where
+module _ {P : ℕ} {old : State} {line : Line} {session : SessionView} {replied : Reply} (before after acked : DeviceView)
+    (size : session.volume.size ≡ P) (done : Executed P old line session replied before after) (acks : Acknowledges after acked) where
   is_there : IsAt P done.new after.words
-  is_there = subst (λ (p : ℕ). IsAt p done.new after.words) size (stands_at volume after done.stands)
+  is_there = subst (λ (p : ℕ). IsAt p done.new after.words) size (stands_at session.volume after done.stands)
 
-  pub acknowledged : HasAnswered P old line volume replied before acked
+  pub acknowledged : HasAnswered P old line session replied before acked
   acknowledged = record {
     answer = done.answer;
     new = done.new;
-    replied = record { reply_is = done.replied.reply_is; told = told_acked volume after acked acks.words acks.trail done.answer done.replied.told };
+    replied = record { reply_is = done.replied.reply_is; told = told_acked session after acked acks.words acks.trail done.answer done.replied.told };
     step = done.step;
-    stands = stands_acked volume after acked acks.words acks.trail done.stands;
+    stands = stands_acked session after acked acks.words acks.trail done.stands;
     acks = acks_next done.no_ack (acks_none _ done.any_moment.continues done.no_ack) (acks_ack _ done.stands.settled acks.trail (refl, is_there));
     any_moment = leaves_next done.no_ack (leaves_weaker (λ k image may. inl may) done.any_moment)
         (leaves_ack _ done.stands.settled acks.trail
         (inl (refl, may_be_after P old line done.answer done.new after.words done.step is_there))
         (inr (refl, may_be_there P done.new after.words is_there)));
-    quiet = acts_answered done.answer done.any_moment.continues (continues_by Ack acks.trail) done.no_ack
-        (λ may_not. still (λ is_done. may_not (may_store done.answer done.replied.reply_is is_done))) acks.trail;
+    quiet = acts_answered (fences_of old line done.answer done.new) done.any_moment.continues (continues_by Ack acks.trail) done.no_ack (λ none. (done.quiet none).1) acks.trail;
     one_ack = λ told is_told. acked_then 0 1 done.any_moment.continues (leaves_ack (λ k image. Unit {0}) done.stands.settled acks.trail tt tt).continues (λ t i. done.no_ack) (ack_counts after.trail acks.trail) told is_told;
     fences = acks.fences ∙ done.fences;
+    no_memory = λ is. subst (λ (refused : ℕ). IsTrue (line_needs_places old line) ⊎ HasRisen before.refused refused) (sym acks.refused) (done.no_memory is);
   }
-    where
-      may_store : (answer : Answer) → replied ≡ reply_of answer → replied ≡ reply.Done → MayStore (Some answer)
-      may_store Done is is_done = tt
-      may_store (Count n) is is_done = tt
-      may_store (Status s) is is_done = absurd (cc (is, is_done))
-      may_store (Bytes bytes) is is_done = absurd (cc (is, is_done))
-      may_store (Listed inode names) is is_done = absurd (cc (is, is_done))
-      may_store (Space free) is is_done = absurd (cc (is, is_done))
-      may_store (Refused refusal) is is_done = absurd (cc (is, is_done))
-      may_store (Unread fault) is is_done = absurd (cc (is, is_done))
-      may_store Fault is is_done = tt
-      may_store Stopped is is_done = absurd (cc (is, is_done))

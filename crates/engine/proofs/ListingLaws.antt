@@ -1,29 +1,15 @@
 -- The line that lists a directory, as it is written piece by piece.
-use Rattle.std.proofs.Common.{◌≡◌, ℕ, ◌+◌, List, [], ◌∷◌, ◌++◌, length, take, drop, codes, decimal, Option, Some, Result, Ok, Err, sym, ap, subst, ◌∙◌, arith}
-use Rattle.std.specs.Prelude.{IsErr, slice_get}
+use Rattle.std.proofs.Common.{◌≡◌, ℕ, ◌+◌, List, [], ◌∷◌, ◌++◌, length, take, drop, codes, decimal, Some, sym, ap, ◌∙◌}
+use Rattle.std.specs.Prelude.{slice_get}
 use Rattle.std.proofs.lemmas.List.{take_more, take-append-drop}
 use Rattle.std.proofs.lemmas.List.Concat.{flat_map-append}
 use Rattle.std.proofs.lemmas.List.{append-nil}
 use Rattle.std.proofs.lemmas.Option.{slice_get_within, get_or_from_slice_get}
-use Rattle.io_edge.specs.Bytes.{Writes}
-use Rattle.io_edge.proofs.BytesLaws.{prefix_before}
 use Rattle.tree_model.specs.Step.{Listed}
 use Rattle.script.specs.Lines.{newline}
 use Rattle.script.specs.Texts.{answer_text}
 use Rattle.script.proofs.TextLaws.{answer_text-listed}
 use Rattle.engine.specs.Listing.{entry_text, entries_text}
-
--- a text that was cut, and more behind it: a call that ends there has written a prefix of the two
-pub writes_broken : {T U E F : Type 0} {took now : List ℕ → Type 0} {faults_before faults_after : ℕ} {fault : E} (first second : List ℕ) (broken : Result U F) → IsErr broken
-    → Writes {T = T} took now faults_before faults_after first (Err fault) → Writes took now faults_before faults_after (first ++ second) broken
-writes_broken first second (Ok done) err writes = absurd (cc err)
-writes_broken {took = took} {now = now} first second (Err fault) err writes = record {
-  whole = tt;
-  cut = prefix_before took now first second writes.cut;
-  no_fault = tt;
-  faults = writes.faults;
-  cause = writes.cause;
-}
 
 -- ---- one name more
 

@@ -7,10 +7,9 @@ use Rattle.pm_trait.specs.declared.event.Event.TheVariants.{Ack}
 use Rattle.pm_trait.specs.Trail.{Trail}
 use Rattle.pm_trait.specs.Device.{with_events, with_event, acks_from, moment_of, IsAckAt, Continues}
 use Rattle.pm_trait.proofs.ContinuesLaws.{acks_from-earlier, acks_from-joined, acks_from-quiet}
-use Rattle.tree_model.specs.Step.{Answer, Done, Count, Status, Bytes, Listed, Space, Refused, Unread, Fault, Stopped}
-use Rattle.engine.specs.Quiet.{MayStore, ActsOnly}
+use Rattle.engine.specs.Quiet.{ActsOnly}
 use Rattle.engine.proofs.After.{Acked, untold}
-use Rattle.engine.proofs.Runs.{get_front, get_last}
+use Rattle.engine.proofs.Lists.{get_front, get_last}
 
 -- ---- calls
 
@@ -54,42 +53,19 @@ acts_after {F} {a} {b} {c} n acked one two first second = record {
     known None two acked moment upto = absurd (let none = ap moment_of (untold two) in omega (arith, none, upto))
     known (Some trail) two acked moment upto = acked trail refl
 
--- ---- lines
-
--- what stands of the answers stays
-pub may_store_more : (answers more : List Answer) (k : ℕ) → MayStore (slice_get answers k) → MayStore (slice_get (answers ++ more) k)
-may_store_more [] more k may = absurd may
-may_store_more (answer ∷ answers) more zero may = may
-may_store_more (answer ∷ answers) more (suc k) may = may_store_more answers more k may
-
--- the line that is running has the next answer
-pub may_store_now : (answers : List Answer) (answer : Answer) (n k : ℕ) → n ≡ length answers → (k ≡ 0) × MayStore (Some answer) → MayStore (slice_get (answers ++ answer ∷ []) (n + k))
-may_store_now answers answer n k many (none, may) =
-    let last : n + k ≡ length answers = omega (arith, many, none) in
-    subst MayStore (sym (ap (slice_get (answers ++ answer ∷ [])) last ∙ get_last answers answer)) may
+-- ---- one line
 
 -- a call that acknowledged nothing
-acts_unacknowledged : {a b : Option Trail} {F : ℕ → Type 0} → Continues a b → acks_from a b (moment_of b) ≡ 0 → F 0 → ActsOnly a b F
+pub acts_unacknowledged : {a b : Option Trail} {F : ℕ → Type 0} → Continues a b → acks_from a b (moment_of b) ≡ 0 → F 0 → ActsOnly a b F
 acts_unacknowledged {F = F} continues none may = record { each = λ moment from upto no_ack. subst F (sym (acks_from-quiet moment continues none from)) may }
 
-pub acts_failed : {a b : Option Trail} → Continues a b → acks_from a b (moment_of b) ≡ 0 → ActsOnly a b (λ k. (k ≡ 0) × MayStore (Some Fault))
-acts_failed continues none = acts_unacknowledged continues none (refl, tt)
-
--- a line that makes no change does nothing
-acts_executed : {a b : Option Trail} (answer : Answer) → Continues a b → acks_from a b (moment_of b) ≡ 0 → (¬ MayStore (Some answer) → b ≡ a) → ActsOnly a b (λ k. (k ≡ 0) × MayStore (Some answer))
-acts_executed Done continues none still = acts_unacknowledged continues none (refl, tt)
-acts_executed (Count n) continues none still = acts_unacknowledged continues none (refl, tt)
-acts_executed (Status s) continues none still = acts_here _ (still (λ may. may))
-acts_executed (Bytes bytes) continues none still = acts_here _ (still (λ may. may))
-acts_executed (Listed inode names) continues none still = acts_here _ (still (λ may. may))
-acts_executed (Space free) continues none still = acts_here _ (still (λ may. may))
-acts_executed (Refused refusal) continues none still = acts_here _ (still (λ may. may))
-acts_executed (Unread fault) continues none still = acts_here _ (still (λ may. may))
-acts_executed Fault continues none still = acts_unacknowledged continues none (refl, tt)
-acts_executed Stopped continues none still = acts_here _ (still (λ may. may))
+-- a line that takes no fence does nothing
+acts_executed : {a b : Option Trail} (fences : ℕ) → Continues a b → acks_from a b (moment_of b) ≡ 0 → (fences ≡ 0 → b ≡ a) → ActsOnly a b (λ k. (k ≡ 0) × (0 < fences))
+acts_executed zero continues none still = acts_here _ (still refl)
+acts_executed (suc fences) continues none still = acts_unacknowledged continues none (refl, omega arith)
 
 -- and then it is acknowledged
-pub acts_answered : {a b c : Option Trail} (answer : Answer) → Continues a b → Continues b c → acks_from a b (moment_of b) ≡ 0 → (¬ MayStore (Some answer) → b ≡ a) → c ≡ with_event b Ack
-    → ActsOnly a c (λ k. (k ≡ 0) × MayStore (Some answer))
-acts_answered {b = b} answer one two none still appended =
-    acts_after 0 (λ told is. none) one two (acts_executed answer one none still) (acts_ack b _ appended)
+pub acts_answered : {a b c : Option Trail} (fences : ℕ) → Continues a b → Continues b c → acks_from a b (moment_of b) ≡ 0 → (fences ≡ 0 → b ≡ a) → c ≡ with_event b Ack
+    → ActsOnly a c (λ k. (k ≡ 0) × (0 < fences))
+acts_answered {b = b} fences one two none still appended =
+    acts_after 0 (λ told is. none) one two (acts_executed fences one none still) (acts_ack b _ appended)

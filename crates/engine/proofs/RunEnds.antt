@@ -1,5 +1,5 @@
 -- How a run of a script ends.
-use Rattle.std.proofs.Common.{◌≡◌, ℕ, ◌+◌, Bool, true, false, ◌<◌, List, [], ◌∷◌, ◌++◌, length, take, refl, subst, arith}
+use Rattle.std.proofs.Common.{◌≡◌, ℕ, Bool, true, false, ◌<◌, List, [], ◌∷◌, ◌++◌, length, take, refl, subst, arith}
 use Rattle.std.specs.Prelude.{Option}
 use Rattle.pm_trait.specs.DeviceView.{DeviceView}
 use Rattle.io_edge.specs.Bytes.{Takes, TakesPrefix}
@@ -48,6 +48,8 @@ run_ends {start = start} {now = now} so_far end left written ends executes write
       (stands_at now.volume now.device (so_far.going (going same)).stands);
   fences = λ same. so_far.fences (going same);
   any_moment = so_far.any_moment;
+  no_memory = so_far.no_memory;
+  refused = so_far.refused;
   quiet = so_far.quiet;
   halts = λ fewer. so_far.halts (halted fewer);
 }

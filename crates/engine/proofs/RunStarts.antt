@@ -1,5 +1,5 @@
 -- How a run of a script begins.
-use Rattle.std.proofs.Common.{◌≡◌, ℕ, Bool, false, List, [], refl, sym, ap, subst, arith}
+use Rattle.std.proofs.Common.{◌≡◌, ℕ, Bool, false, List, [], refl, sym, subst, arith}
 use Rattle.std.specs.Prelude.{Option, Some, None}
 use Rattle.script.specs.declared.lines.Lines.{Lines}
 use Rattle.script.specs.Reader.{pending, read_count, has_ended}

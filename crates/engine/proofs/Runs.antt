@@ -1,11 +1,12 @@
 -- A run goes on by one more line.
-use Rattle.std.proofs.Common.{◌≡◌, ℕ, zero, suc, ◌+◌, ◌<◌, List, [], ◌∷◌, ◌++◌, length, map, refl, ap, ◌∙◌, arith}
+use Rattle.std.proofs.Common.{◌≡◌, ℕ, ◌+◌, ◌<◌, List, [], ◌∷◌, ◌++◌, length, map, refl, ap, ◌∙◌, arith}
 use Rattle.std.specs.Prelude.{Some, slice_get}
 use Rattle.tree_model.specs.Step.{Answer, Stopped}
 use Rattle.tree_model.specs.Run.{Line, State, LineStep, LineFails}
 use Rattle.tree_model.specs.Fences.{fences_of, fences_of_run}
 use Rattle.tree_model.proofs.FenceLaws.{last_left, fences_of_run-more}
 use Rattle.engine.specs.Run.{Run, state_after, last_state}
+use Rattle.engine.proofs.Lists.{get_front}
 
 -- a run in which no line failed has as many states as answers, and as many answers as lines
 pub answers_as_lines : (P : ℕ) (start : State) (lines : List Line) (answers : List Answer) (states : List State) → Run P start lines answers states → length states ≡ length answers → length lines ≡ length states
@@ -62,15 +63,6 @@ state_after_last start (s ∷ states) = grind (arith, state_after_last s states)
 pub last_state-append : (start : State) (states : List State) (new : State) → last_state start (states ++ new ∷ []) ≡ new
 last_state-append start [] new = refl
 last_state-append start (s ∷ states) new = last_state-append s states new
-
-pub get_front : {A : Type 0} (xs more : List A) (k : ℕ) (found : A) → slice_get xs k ≡ Some found → slice_get (xs ++ more) k ≡ Some found
-get_front [] more k found is = absurd (cc is)
-get_front (y ∷ xs) more zero found is = is
-get_front (y ∷ xs) more (suc k) found is = get_front xs more k found is
-
-pub get_last : {A : Type 0} (xs : List A) (x : A) → slice_get (xs ++ x ∷ []) (length xs) ≡ Some x
-get_last [] x = refl
-get_last (y ∷ xs) x = grind (arith, get_last xs x)
 
 -- a state that was reached stays with its number
 pub state_stays : (start : State) (states : List State) (new : State) (k : ℕ) (state : State) → state_after start states k ≡ Some state → state_after start (states ++ new ∷ []) k ≡ Some state

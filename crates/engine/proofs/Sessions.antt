@@ -1,14 +1,14 @@
 -- A line on a session: executed and acknowledged, or failed.
-use Rattle.std.proofs.Common.{◌≡◌, inl, inr, ℕ, ◌+◌, List, Option, ap, true, false, refl, sym, subst, ◌∙◌, arith}
-use Rattle.std.specs.Prelude.{Ok}
+use Rattle.std.proofs.Common.{◌≡◌, inl, inr, ℕ, ◌+◌, Option, ap, true, false, refl, sym, subst, ◌∙◌, arith}
+use Rattle.std.specs.Prelude.{Ok, Err}
 use Rattle.pm_trait.specs.declared.event.Event.TheVariants.{Ack}
+use Rattle.pm_trait.specs.declared.event.PmFault.{PmFault}
 use Rattle.pm_trait.specs.Trail.{Trail}
 use Rattle.pm_trait.specs.Device.{with_event}
 use Rattle.pm_trait.specs.DeviceView.{DeviceView, Acknowledges}
 use Rattle.pm_trait.proofs.DeviceLaws.{stays_then}
 use Rattle.tree_model.specs.Run.{Line, State}
 use Rattle.tree_model.specs.declared.reply.Reply.{Reply}
-use Rattle.volume.specs.Volume.{VolumeView}
 use Rattle.volume.specs.Stands.{IsStanding}
 use Rattle.engine.specs.Session.{SessionView, Mounted, on}
 use Rattle.engine.specs.Exec.{Does, LeavesVolume, Executes, LeavesSession}
@@ -20,19 +20,23 @@ use Rattle.engine.proofs.Stays.{stays_ack}
 
 module _ {old new : SessionView} {before between after : DeviceView} {state : State} {line : Line} where
   pub executes_ok : (reply : Reply) → LeavesVolume old.volume new.volume before between (Ok reply) → Acknowledges between after
-      → Does old.volume new.volume before between state line (Ok reply) → Executes old new before after state line reply
+      → Does old new before between state line (Ok reply) → Executes old new before after state line reply
   executes_ok reply leaves acks does = record {
-    answered = λ is. acknowledged before between after leaves.size does.executed (λ not. (leaves.quiet not).trail) acks;
+    answered = λ is. acknowledged before between after leaves.size does.executed acks;
     failed = λ is. absurd (apart is leaves.going);
     stays = stays_then does.stays (stays_ack _ does.executed.stands.settled acks.trail);
   }
 
--- ---- what a line leaves of a session and its device
+module _ {old new : SessionView} {before after : DeviceView} {state : State} {line : Line} where
+  -- a fence failed
+  pub executes_err : {fault : PmFault} (reply : Reply) → LeavesVolume old.volume new.volume before after (Err fault) → Does old new before after state line (Err fault) → Executes old new before after state line reply
+  executes_err reply leaves does = record {
+    answered = λ is. absurd (apart leaves.stopped is);
+    failed = λ is. does.failed;
+    stays = does.stays;
+  }
 
-same_session : (old new : SessionView) → new.volume ≡ old.volume → new.bytes ≡ old.bytes → new ≡ old
-same_session old new volume bytes =
-    ap (λ (v : VolumeView). (let s : SessionView = record { volume = v; bytes = new.bytes } in s)) volume
-    ∙ ap (λ (b : List ℕ). (let s : SessionView = record { volume = old.volume; bytes = b } in s)) bytes
+-- ---- what a line leaves of a session and its device
 
 pub leaves_ok : (old new : SessionView) (before between after : DeviceView) (reply : Reply) → new.bytes ≡ old.bytes → GoesOn reply
     → LeavesVolume old.volume new.volume before between (Ok reply) → Acknowledges between after → LeavesSession old new before after reply
@@ -44,13 +48,13 @@ leaves_ok old new before between after reply bytes goes leaves acks = record {
         let left = leaves.quiet not in
         record { words = acks.words ∙ left.words; trail = acks.trail ∙ ap (λ (t : Option Trail). with_event t Ack) left.trail; kept = left.kept };
     same = λ not not_memory.
-        let left = leaves.same not not_memory in (same_session old new left.0 bytes, acks.room ∙ left.1);
+        let left = leaves.same not not_memory in (left.0, acks.room ∙ left.1);
     no_fault = acks.faults ∙ leaves.no_fault;
     one_ack = acks.acks ∙ ap (λ (n : ℕ). n + 1) leaves.acks;
   };
   failed = λ is. absurd (apart is leaves.going);
   size = leaves.size;
-  bytes = bytes;
+  bytes = λ not. bytes;
   faults = let one = leaves.faults in let two = acks.faults in omega (arith, one, two);
   refused = let one = leaves.refused in let two = acks.refused in omega (arith, one, two);
   not_refused = λ not. acks.refused ∙ leaves.not_refused not;
@@ -65,18 +69,19 @@ still_moves now was = record {
   cause = λ is. inl was;
   no_fault = λ is. refl;
   faults = omega arith;
+  refused = omega arith;
   fences = omega arith;
   acks = omega arith;
 }
 
 pub moves_on : (old new : SessionView) (before after : DeviceView) (reply : Reply) → (old.volume.stopped ≡ true → (new ≡ old) × (after ≡ before))
     → (old.volume.stopped ≡ false → LeavesSession old new before after reply) → (new.volume.stopped ≡ false → IsStanding new.volume after)
-    → MovesOn (on old.volume before) (on new.volume after)
+    → MovesOn (on old before) (on new after)
 moves_on old new before after reply still leaves stands = elim (cases_of old.volume.stopped) [
   | inl was ↦
       let same = still was in
-      subst (λ (session : SessionView). MovesOn (on old.volume before) (on session.volume after)) (sym same.0)
-      (subst (λ (device : DeviceView). MovesOn (on old.volume before) (on old.volume device)) (sym same.1) (still_moves (on old.volume before) was))
+      subst (λ (session : SessionView). MovesOn (on old before) (on session after)) (sym same.0)
+      (subst (λ (device : DeviceView). MovesOn (on old before) (on old device)) (sym same.1) (still_moves (on old before) was))
   | inr was ↦
       let left = leaves was in
       record {
@@ -86,6 +91,7 @@ moves_on old new before after reply still leaves stands = elim (cases_of old.vol
         cause = λ is. inr (left.failed is).cause;
         no_fault = λ is. (left.answered is).no_fault;
         faults = left.faults;
+        refused = left.refused;
         fences = left.fences;
         acks = elim (cases_of new.volume.stopped) [
           | inl is ↦ let none = (left.failed is).no_ack in omega (arith, none)

@@ -1,5 +1,5 @@
 -- What is told of an accepted command that changes nothing.
-use Rattle.std.proofs.Common.{◌≡◌, ◌≢◌, ℕ, ◌≤◌, true, false, List, [], ◌∷◌, length, Option, Some, None, is_some, unwrap_or, refl, sym, ap, subst, ◌∙◌}
+use Rattle.std.proofs.Common.{◌≡◌, ℕ, ◌≤◌, true, false, List, [], ◌∷◌, length, Option, Some, None, is_some, unwrap_or, refl, sym, ap, subst, ◌∙◌}
 use Rattle.std.specs.Prelude.{IsTrue}
 use Rattle.pm_trait.specs.DeviceView.{DeviceView}
 use Rattle.tree_model.specs.PathText.{Route}
@@ -9,7 +9,7 @@ use Rattle.tree_model.specs.Walk.{walk}
 use Rattle.tree_model.proofs.WalkLaws.{id_at-from_walk}
 use Rattle.tree_model.proofs.Accepted.{first-none, at-none, fault_of-none}
 use Rattle.tree_model.proofs.RoomLaws.{room_after-same}
-use Rattle.tree_model.specs.Step.{Answer, Done, Status as StatusAnswer, Listed, Space as SpaceAnswer, at, fault_of, id_of, gaining, losing, names_in, status_of, space_of, answer_of, tree_after, least_free_id, refusal_of, outcome_of, step, RoomAfter}
+use Rattle.tree_model.specs.Step.{Answer, Status as StatusAnswer, Listed, Space as SpaceAnswer, at, fault_of, id_of, gaining, losing, names_in, status_of, space_of, answer_of, tree_after, least_free_id, refusal_of, outcome_of, step, RoomAfter}
 use Rattle.tree_model.specs.Run.{State, IsVolumeState, Steps, is_changing}
 use Rattle.tree_model.specs.declared.command.Command.{Command}
 use Rattle.tree_model.specs.declared.command.Command.TheVariants.{Create, Mkdir, Link, Unlink, Rmdir, Rename, Write, Truncate, Read, Stat as Tell, List as Show, Df}
@@ -19,16 +19,16 @@ use Rattle.tree_model.specs.declared.reply.Stat.{Stat}
 use Rattle.tree_model.specs.declared.reply.Free.{Free}
 use Rattle.image_reading.proofs.Tidied.{tidied}
 use Rattle.image_counts.proofs.States.{state_law}
-use Rattle.volatile_index.specs.Index.{inodes_of_index}
+use Rattle.volatile_index.specs.Index.{inodes_of_index, entries_of}
 use Rattle.volume.specs.Volume.{VolumeView}
 use Rattle.volume.specs.Stands.{StandsFor, HasNode}
 use Rattle.volume.specs.Deed.{TellsNode, ListsNames, TellsSpace, deed_of}
 use Rattle.volume.specs.Planned.{IsPlanOf}
-use Rattle.volume.specs.declared.plan.NewEntry.{NewEntry}
 use Rattle.volume.specs.declared.plan.Action.{Action}
-use Rattle.volume.specs.declared.plan.Action.TheVariants.{Make, Status, Names, Space}
+use Rattle.volume.specs.declared.plan.Action.TheVariants.{Status, Names, Space}
 use Rattle.volume.specs.Carried.{IsPlanFor}
 use Rattle.engine.specs.Replies.{IsReplyOf}
+use Rattle.engine.specs.Session.{session_of}
 
 -- ---- the step of an accepted command
 
@@ -171,29 +171,29 @@ module _ (volume : VolumeView) (device : DeviceView) where
     answered_by : (answer : Answer) → answer_of (untaken volume.size) state.tree state.room c ≡ answer → answer ≡ (step volume.size state.tree state.room c).answer
     answered_by answer is = sym (accepted_answer volume.size state.tree state.room c planned.planned.accepted ∙ is)
 
-    pub status_replied : (inode : ℕ) (status : Stat) → action ≡ Status inode → status ≡ status_of state.tree inode
-        → IsReplyOf volume device (step volume.size state.tree state.room c).answer (reply.Status status)
-    status_replied inode status is told =
+    pub status_replied : (bytes : List ℕ) (inode : ℕ) (status : Stat) → action ≡ Status inode → status ≡ status_of state.tree inode
+        → IsReplyOf (session_of volume bytes) device (step volume.size state.tree state.room c).answer (reply.Status status)
+    status_replied bytes inode status is told =
         let (path, c_is, inode_is) = status_of_plan volume.size device.words state c inode reads (subst (λ (a : Action). IsPlanOf volume.size device.words state c (deed_of a)) is planned.planned.plan_is) in
-        subst (λ (answer : Answer). IsReplyOf volume device answer (reply.Status status))
+        subst (λ (answer : Answer). IsReplyOf (session_of volume bytes) device answer (reply.Status status))
         (answered_by (StatusAnswer status) (ap (answer_of (untaken volume.size) state.tree state.room) c_is ∙ ap (λ (id : ℕ). StatusAnswer (status_of state.tree id)) (sym inode_is) ∙ ap StatusAnswer (sym told)))
         (record { reply_is = refl; told = tt })
 
-    pub names_replied : (inode count : ℕ) → action ≡ Names inode → volume.stopped ≡ false → count ≡ length (names_in state.tree inode)
-        → IsReplyOf volume device (step volume.size state.tree state.room c).answer (reply.Names inode count)
-    names_replied inode count is going counted =
+    pub names_replied : (bytes : List ℕ) (inode count : ℕ) → action ≡ Names inode → volume.stopped ≡ false → count ≡ length (entries_of volume.index inode) → count ≡ length (names_in state.tree inode)
+        → IsReplyOf (session_of volume bytes) device (step volume.size state.tree state.room c).answer (reply.Names inode count)
+    names_replied bytes inode count is going indexed counted =
         let (path, c_is, inode_is) = names_of_plan volume.size device.words state c inode reads (subst (λ (a : Action). IsPlanOf volume.size device.words state c (deed_of a)) is planned.planned.plan_is) in
-        subst (λ (answer : Answer). IsReplyOf volume device answer (reply.Names inode count))
+        subst (λ (answer : Answer). IsReplyOf (session_of volume bytes) device answer (reply.Names inode count))
         (answered_by (Listed inode (names_in state.tree inode)) (ap (answer_of (untaken volume.size) state.tree state.room) c_is ∙ ap (λ (id : ℕ). Listed id (names_in state.tree id)) (sym inode_is)))
         (record {
           reply_is = ap (λ (n : ℕ). reply.Names inode n) counted;
-          told = record { state = state; stands = planned.stands; going = going; directory = directory_listed inode is; names_are = refl };
+          told = record { state = state; stands = planned.stands; going = going; directory = directory_listed inode is; names_are = refl; all = sym indexed ∙ counted };
         })
 
-    pub space_replied : (free : Free) → action ≡ Space → free ≡ space_of (untaken volume.size) state.tree state.room
-        → IsReplyOf volume device (step volume.size state.tree state.room c).answer (reply.Space free)
-    space_replied free is told =
+    pub space_replied : (bytes : List ℕ) (free : Free) → action ≡ Space → free ≡ space_of (untaken volume.size) state.tree state.room
+        → IsReplyOf (session_of volume bytes) device (step volume.size state.tree state.room c).answer (reply.Space free)
+    space_replied bytes free is told =
         let c_is = space_of_plan volume.size device.words state c reads (subst (λ (a : Action). IsPlanOf volume.size device.words state c (deed_of a)) is planned.planned.plan_is) in
-        subst (λ (answer : Answer). IsReplyOf volume device answer (reply.Space free))
+        subst (λ (answer : Answer). IsReplyOf (session_of volume bytes) device answer (reply.Space free))
         (answered_by (SpaceAnswer free) (ap (answer_of (untaken volume.size) state.tree state.room) c_is ∙ ap SpaceAnswer (sym told)))
         (record { reply_is = refl; told = tt })

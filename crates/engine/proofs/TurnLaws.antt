@@ -1,10 +1,8 @@
 -- A run goes on by one line.
-use Rattle.std.proofs.Common.{◌≡◌, ◌⊎◌, inl, inr, ℕ, zero, suc, ◌+◌, ◌≤◌, Bool, true, false, List, [], ◌∷◌, ◌++◌, length, refl, sym, ap, subst, ◌∙◌, arith, length-append, append_assoc}
+use Rattle.std.proofs.Common.{◌≡◌, ◌⊎◌, inl, inr, ℕ, zero, suc, ◌+◌, ◌≤◌, true, false, List, [], ◌∷◌, ◌++◌, length, refl, sym, ap, subst, ◌∙◌, arith, length-append, append_assoc}
 use Rattle.std.proofs.lemmas.List.{append-nil}
 use Rattle.std.specs.Prelude.{Option, Some, None, slice_get}
-use Rattle.pm_trait.specs.Trail.{Trail}
 use Rattle.pm_trait.specs.DeviceView.{DeviceView}
-use Rattle.pm_trait.specs.Device.{LeavesOnly, AcksSettled, EndsInFault}
 use Rattle.pm_trait.proofs.ContinuesLaws.{continues_here, acks_from-here}
 use Rattle.pm_trait.proofs.DeviceLaws.{leaves_weaker, leaves_here}
 use Rattle.pm_trait.proofs.AckLaws.{acks_here, acks_weaker, acks_none}
@@ -16,18 +14,20 @@ use Rattle.tree_model.specs.declared.reply.Reply.{Reply}
 use Rattle.script.specs.Texts.{answer_text}
 use Rattle.volume.specs.Crashes.{MayReadAs}
 use Rattle.engine.specs.Run.{state_after, last_state, command_of, IsAt, IsBetween, IsStateAfter}
-use Rattle.engine.specs.Quiet.{MayStore, ActsOnly}
 use Rattle.engine.specs.Script.{texts_of}
 use Rattle.engine.specs.Exec.{HasAnswered, HasFailed}
 use Rattle.engine.specs.Session.{Mounted}
 use Rattle.volume.specs.Stands.{StandsFor}
-use Rattle.engine.specs.Turns.{Input, IsGoing, AreTakenTold, HasTaken, CountsFaults, MovesOn, RanSoFar}
+use Rattle.engine.specs.Turns.{Input, IsGoing, HasTaken, CountsFaults, MovesOn, RanSoFar}
 use Rattle.engine.proofs.Acknowledged.{may_more, may_be_there, stands_at}
 use Rattle.engine.proofs.Faults.{apart, counts_on}
 use Rattle.engine.proofs.Runs.{fences_more}
-use Rattle.engine.proofs.After.{Acked, leaves_after, acks_after, acked_then}
-use Rattle.engine.proofs.Quiet.{acts_weaker, acts_here, acts_after, acts_failed, may_store_more, may_store_now}
-use Rattle.engine.proofs.Runs.{answers_as_lines, run_step, run_fails, run_stopped, state_after_last, last_state-append, state_stays, get_last}
+use Rattle.engine.proofs.After.{leaves_after, acks_after, acked_then}
+use Rattle.engine.proofs.Fences.{may_store_more, may_store_still, may_store_now, may_store_failed}
+use Rattle.engine.proofs.Lists.{get_last}
+use Rattle.engine.proofs.Memory.{fault_is_none, stopped_is_none, one_answer, other_answer}
+use Rattle.engine.proofs.Quiet.{acts_weaker, acts_here, acts_after, acts_unacknowledged}
+use Rattle.engine.proofs.Runs.{answers_as_lines, run_step, run_fails, run_stopped, state_after_last, last_state-append, state_stays}
 
 -- ---- what may be read between lines
 
@@ -74,16 +74,14 @@ pub state_after_more : (P : ℕ) (start : State) (states : List State) (new : St
 state_after_more P start states new k words is = record {
   state = is.state;
   after = state_stays start states new k is.state is.after;
-  tidy = is.tidy;
-  reads = is.reads;
+  there = is.there;
 }
 
 state_after_all : (P : ℕ) (start : State) (states : List State) (n : ℕ) (words : List ℕ) → length states ≡ n → IsAt P (last_state start states) words → IsStateAfter P start states n words
 state_after_all P start states n words many is = record {
   state = last_state start states;
   after = ap (λ (k : ℕ). state_after start states k) (sym many) ∙ state_after_last start states;
-  tidy = is.tidy;
-  reads = is.reads;
+  there = is;
 }
 
 pub one_more : {A : Type 0} (xs : List A) (x : A) → length (xs ++ x ∷ []) ≡ length xs + 1
@@ -112,6 +110,9 @@ module _ {P : ℕ} {start : State} {first : DeviceView} {script : Option (List �
   pub faults_order : first.faults ≤ new.device.faults
   faults_order = let one = so_far.order in let two = moves.faults in omega (arith, one, two)
 
+  pub refused_order : first.refused ≤ new.device.refused
+  refused_order = let one = so_far.refused in let two = moves.refused in omega (arith, one, two)
+
   module _ (was : old.volume.stopped ≡ false) where
     pub going : IsGoing start so_far.answers so_far.states old
     going = so_far.going was
@@ -119,7 +120,7 @@ module _ {P : ℕ} {start : State} {first : DeviceView} {script : Option (List �
     pub many : length so_far.lines ≡ length so_far.states
     many = answers_as_lines P start so_far.lines so_far.answers so_far.states so_far.run going.each
 
-    module _ (is : new.volume.stopped ≡ false) {reply : Reply} (done : HasAnswered P (last_state start so_far.states) line new.volume reply old.device new.device) where
+    module _ (is : new.volume.stopped ≡ false) {reply : Reply} (done : HasAnswered P (last_state start so_far.states) line new.session reply old.device new.device) where
       pub new_is : last_state start (so_far.states ++ done.new ∷ []) ≡ done.new
       new_is = last_state-append start so_far.states done.new
 
@@ -164,8 +165,10 @@ module _ {P : ℕ} {start : State} {first : DeviceView} {script : Option (List �
             (leaves_weaker (λ k image may. between_state P start so_far.states done.new (so_far.lines ++ line ∷ []) k image (between_line P start so_far.states so_far.lines line k image may)) so_far.any_moment)
             (leaves_weaker while_running done.any_moment);
         quiet = acts_after (length so_far.states) so_far.counted so_far.any_moment.continues done.any_moment.continues
-            (acts_weaker (λ k may. may_store_more so_far.answers (done.answer ∷ []) k may) so_far.quiet)
-            (acts_weaker (λ k may. may_store_now so_far.answers done.answer (length so_far.states) k going.each may) done.quiet);
+            (acts_weaker (λ k may. may_store_more start so_far.lines (line ∷ []) so_far.answers (done.answer ∷ []) so_far.states (done.new ∷ []) k may) so_far.quiet)
+            (acts_weaker (λ k may. may_store_now start so_far.lines so_far.answers so_far.states line done.answer done.new k many going.each may) done.quiet);
+        no_memory = one_answer start so_far.lines so_far.answers so_far.states line done.answer done.new first.refused old.device.refused new.device.refused many going.each so_far.refused moves.refused done.no_memory so_far.no_memory;
+        refused = refused_order;
         halts = λ halts. absurd (apart halts is);
         counted = λ told is_told. acked_then (length so_far.states) 1 so_far.any_moment.continues done.any_moment.continues so_far.counted done.one_ack told is_told ∙ sym (one_more so_far.states done.new);
         fences = λ goes. fences_more start so_far.lines so_far.answers so_far.states line done.answer done.new first.fences old.device.fences _ many going.each (so_far.fences was) done.fences;
@@ -198,8 +201,10 @@ module _ {P : ℕ} {start : State} {first : DeviceView} {script : Option (List �
             (leaves_weaker (λ k image may. between_line P start so_far.states so_far.lines line k image may) so_far.any_moment)
             (leaves_weaker while_failing failed.any_moment);
         quiet = acts_after (length so_far.states) so_far.counted so_far.any_moment.continues failed.any_moment.continues
-            (acts_weaker (λ k may. may_store_more so_far.answers (Fault ∷ []) k may) so_far.quiet)
-            (acts_weaker (λ k may. may_store_now so_far.answers Fault (length so_far.states) k going.each may) (acts_failed failed.any_moment.continues failed.no_ack));
+            (acts_weaker (λ k may. may_store_still start so_far.lines (line ∷ []) so_far.answers (Fault ∷ []) so_far.states k may) so_far.quiet)
+            (acts_unacknowledged failed.any_moment.continues failed.no_ack (may_store_failed start so_far.lines so_far.answers so_far.states line 0 going.each refl));
+        no_memory = other_answer start so_far.lines (line ∷ []) so_far.answers so_far.states Fault first.refused old.device.refused new.device.refused fault_is_none moves.refused so_far.no_memory;
+        refused = refused_order;
         halts = λ halts. failed.last;
         counted = λ told is_told. acked_then (length so_far.states) 0 so_far.any_moment.continues failed.any_moment.continues so_far.counted (λ t i. failed.no_ack) told is_told ∙ omega arith;
         fences = λ goes. absurd (apart is goes);
@@ -212,7 +217,7 @@ abbrev pub ran_stopped : {P : ℕ} {start : State} {first : DeviceView} {script 
     (so_far : RanSoFar P start first script taken old input before) (line : Line) → old.volume.stopped ≡ true → {input_after : Input} {after : List ℕ → Type 0}
     → HasTaken (so_far.lines ++ line ∷ []) script input_after → Takes before (answer_text Stopped) after
     → RanSoFar P start first script taken old input_after after
-ran_stopped {P = P} {start = start} {taken = taken} {before = before} so_far line is {after = after} has_taken written = record {
+ran_stopped {P = P} {start = start} {first = first} {taken = taken} {old = old} {before = before} so_far line is {after = after} has_taken written = record {
   reads = so_far.reads;
   size = so_far.size;
   lines = so_far.lines ++ line ∷ [];
@@ -227,7 +232,9 @@ ran_stopped {P = P} {start = start} {taken = taken} {before = before} so_far lin
   texts = texts_more taken so_far.answers Stopped before after so_far.texts written;
   acks = so_far.acks;
   any_moment = leaves_weaker (λ k image may. between_line P start so_far.states so_far.lines line k image may) so_far.any_moment;
-  quiet = acts_weaker (λ k may. may_store_more so_far.answers (Stopped ∷ []) k may) so_far.quiet;
+  quiet = acts_weaker (λ k may. may_store_still start so_far.lines (line ∷ []) so_far.answers (Stopped ∷ []) so_far.states k may) so_far.quiet;
+  no_memory = other_answer start so_far.lines (line ∷ []) so_far.answers so_far.states Stopped first.refused old.device.refused old.device.refused stopped_is_none (omega arith) so_far.no_memory;
+  refused = so_far.refused;
   halts = so_far.halts;
   counted = so_far.counted;
   fences = λ goes. absurd (apart is goes);
@@ -254,6 +261,8 @@ ran_none {start = start} now script taken goes stands has_taken = record {
   acks = acks_here now.device.trail _;
   any_moment = leaves_here _ stands.settled (start, refl, may_be_there now.volume.size start now.device.words (stands_at now.volume now.device stands));
   quiet = acts_here _ refl;
+  no_memory = λ k is. absurd (cc is);
+  refused = omega arith;
   halts = λ is. absurd (apart is goes);
   counted = λ told is. acks_from-here (continues_here now.device.trail);
   fences = λ is. omega arith;

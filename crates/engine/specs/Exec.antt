@@ -1,11 +1,11 @@
 -- What one line of a script does to a volume and its device.
-use Rattle.std.specs.Prelude.{◌≡◌, ◌≢◌, ◌⊎◌, ℕ, ◌+◌, ◌≤◌, List, true, false, Option, Some, None, Result, IfOk, OnOk, OnErr}
+use Rattle.std.specs.Prelude.{◌≡◌, ◌≢◌, ◌⊎◌, ℕ, ◌+◌, ◌<◌, ◌≤◌, true, false, IsTrue, Some, None, Result, IfOk, OnOk, OnErr}
 use Rattle.pm_trait.specs.declared.event.Event.TheVariants.{Ack}
 use Rattle.pm_trait.specs.declared.event.PmFault.{PmFault}
 use Rattle.pm_trait.specs.Trail.{Trail}
 use Rattle.pm_trait.specs.Device.{HasRisen, LeavesOnly, AcksSettled, StaysOnce, EndsInFault, acks_from, moment_of, with_event}
 use Rattle.pm_trait.specs.DeviceView.{DeviceView}
-use Rattle.tree_model.specs.Step.{Answer, Fault}
+use Rattle.tree_model.specs.Step.{Answer, Refused, Fault}
 use Rattle.tree_model.specs.Run.{Line, State, LineStep, LineFails}
 use Rattle.tree_model.specs.declared.reply.Refusal.TheVariants.{NoMemory}
 use Rattle.tree_model.specs.declared.reply.Reply.{Reply}
@@ -14,26 +14,31 @@ use Rattle.image_reading.specs.Reading.{Reads}
 use Rattle.volume.specs.Volume.{VolumeView}
 use Rattle.volume.specs.Prepared.{IsSameButPlaces}
 use Rattle.volume.specs.Crashes.{MayReadAs}
-use Rattle.tree_model.specs.Fences.{fences_of}
-use Rattle.engine.specs.Quiet.{MayStore, ActsOnly}
-use Rattle.engine.specs.Replies.{IsReplyOf}
+use Rattle.tree_model.specs.Fences.{fences_of, most_fences}
+use Rattle.tree_model.specs.Places.{line_needs_places}
+use Rattle.engine.specs.Quiet.{ActsOnly}
+use Rattle.engine.specs.Replies.{IsReplyOf, IsChangeReply}
 use Rattle.engine.specs.Run.{command_of, tree_after_line, IsAt}
 use Rattle.engine.specs.Session.{SessionView}
 use Rattle.volume.specs.Stands.{StandsFor}
 
--- ---- on a volume
+-- ---- before the acknowledgement
 
 -- The line was executed and not acknowledged yet: the volume stands for a state that the line may leave, and a crash at any
 -- moment leaves a tree that it may leave.
-pub record Executed (P : ℕ) (old : State) (line : Line) (volume : VolumeView) (reply : Reply) (before after : DeviceView) : Type 0 where
+pub record Executed (P : ℕ) (old : State) (line : Line) (session : SessionView) (reply : Reply) (before after : DeviceView) : Type 0 where
   pub answer : Answer
   pub new : State
-  pub replied : IsReplyOf volume after answer reply
+  pub replied : IsReplyOf session after answer reply
   pub step : LineStep P old line answer new
-  pub stands : StandsFor volume after new
+  pub stands : StandsFor session.volume after new
   pub any_moment : LeavesOnly before.trail after.trail (λ acks image. (acks ≡ 0) × MayReadAs P old (command_of (Some line)) image)
   pub no_ack : acks_from before.trail after.trail (moment_of after.trail) ≡ 0
   pub fences : after.fences ≡ before.fences + fences_of old line answer new
+  -- a line that takes no fence does nothing to the device
+  pub quiet : fences_of old line answer new ≡ 0 → (after.words ≡ before.words) × (after.trail ≡ before.trail)
+  -- one that needs no place of a table is answered NoMemory only where the device refused room
+  pub no_memory : answer ≡ Refused NoMemory → IsTrue (line_needs_places old line) ⊎ HasRisen before.refused after.refused
 
 -- A fence failed in it, and nothing was done after that.
 pub record HasFailed (P : ℕ) (old : State) (line : Line) (before after : DeviceView) : Type 0 where
@@ -47,10 +52,10 @@ abbrev pub StaysAsAfter : ℕ → State → Line → DeviceView → DeviceView �
 StaysAsAfter P old line before after = StaysOnce before.trail after.trail (λ image. Reads P image (tree_after_line P old line))
 
 -- It was executed, or a fence failed in it.
-pub record Does (old new : VolumeView) (before after : DeviceView) (state : State) (line : Line) (result : Result Reply PmFault) : Type 0 where
-  pub executed : IfOk result (λ reply. Executed old.size state line new reply before after)
-  pub failed : OnErr result (HasFailed old.size state line before after)
-  pub stays : StaysAsAfter old.size state line before after
+pub record Does (old new : SessionView) (before after : DeviceView) (state : State) (line : Line) (result : Result Reply PmFault) : Type 0 where
+  pub executed : IfOk result (λ reply. Executed old.volume.size state line new reply before after)
+  pub failed : OnErr result (HasFailed old.volume.size state line before after)
+  pub stays : StaysAsAfter old.volume.size state line before after
 
 -- nothing is on the device, and all that the volume knows is as before, but for places in its index
 pub record LeavesAll (old new : VolumeView) (before after : DeviceView) : Type 0 where
@@ -58,11 +63,11 @@ pub record LeavesAll (old new : VolumeView) (before after : DeviceView) : Type 0
   pub trail : after.trail ≡ before.trail
   pub kept : IsSameButPlaces old new
 
--- What it leaves whatever the tree. A line that is not answered Done stores nothing, and takes no memory unless memory is what was
--- short. The volume is stopped exactly where a fence failed.
+-- What it leaves of the volume whatever the tree. A line that is not answered by a change's reply stores nothing, and takes no memory
+-- unless memory is what was short. The volume is stopped exactly where a fence failed.
 pub record LeavesVolume (old new : VolumeView) (before after : DeviceView) (result : Result Reply PmFault) : Type 0 where
-  pub quiet : IfOk result (λ reply. reply ≢ replies.Done → LeavesAll old new before after)
-  pub same : IfOk result (λ reply. reply ≢ replies.Done → reply ≢ replies.Refused NoMemory → (new ≡ old) × (after.spare ≡ before.spare))
+  pub quiet : IfOk result (λ reply. ¬ IsChangeReply reply → LeavesAll old new before after)
+  pub same : IfOk result (λ reply. ¬ IsChangeReply reply → reply ≢ replies.Refused NoMemory → (new ≡ old) × (after.spare ≡ before.spare))
   pub size : new.size ≡ old.size
   pub going : OnOk result (new.stopped ≡ false)
   pub stopped : OnErr result (new.stopped ≡ true)
@@ -72,44 +77,46 @@ pub record LeavesVolume (old new : VolumeView) (before after : DeviceView) (resu
   pub refused : before.refused ≤ after.refused
   pub not_refused : IfOk result (λ reply. reply ≢ replies.Refused NoMemory → after.refused ≡ before.refused)
   pub fault_not_refused : OnErr result (after.refused ≡ before.refused)
-  pub fences : after.fences ≤ before.fences + 4
+  pub fences : after.fences ≤ before.fences + most_fences
   pub acks : after.acks ≡ before.acks
 
--- ---- on a session
+-- ---- with the acknowledgement
 
 -- The line was executed and acknowledged.
-pub record HasAnswered (P : ℕ) (old : State) (line : Line) (volume : VolumeView) (reply : Reply) (before after : DeviceView) : Type 0 where
+pub record HasAnswered (P : ℕ) (old : State) (line : Line) (session : SessionView) (reply : Reply) (before after : DeviceView) : Type 0 where
   pub answer : Answer
   pub new : State
-  pub replied : IsReplyOf volume after answer reply
+  pub replied : IsReplyOf session after answer reply
   pub step : LineStep P old line answer new
-  pub stands : StandsFor volume after new
+  pub stands : StandsFor session.volume after new
   pub acks : AcksSettled before.trail after.trail (λ acks image. (acks ≡ 1) × IsAt P new image)
   pub any_moment : LeavesOnly before.trail after.trail (λ acks image. ((acks ≡ 0) × MayReadAs P old (command_of (Some line)) image) ⊎ ((acks ≡ 1) × MayReadAs P new None image))
-  -- nothing is done to the device after the acknowledgement, and before it only where the answer allows it
-  pub quiet : ActsOnly before.trail after.trail (λ acks. (acks ≡ 0) × MayStore (Some answer))
+  -- nothing is done to the device after the acknowledgement, and before it only where the change takes a fence
+  pub quiet : ActsOnly before.trail after.trail (λ acks. (acks ≡ 0) × (0 < fences_of old line answer new))
   pub one_ack : (trail : Trail) → after.trail ≡ Some trail → acks_from before.trail after.trail (moment_of after.trail) ≡ 1
   pub fences : after.fences ≡ before.fences + fences_of old line answer new
+  -- a line that needs no place of a table is answered NoMemory only where the device refused room
+  pub no_memory : answer ≡ Refused NoMemory → IsTrue (line_needs_places old line) ⊎ HasRisen before.refused after.refused
 
 -- The session goes on exactly where the line was answered and acknowledged; else a fence failed in it.
 pub record Executes (old new : SessionView) (before after : DeviceView) (state : State) (line : Line) (reply : Reply) : Type 0 where
-  pub answered : new.volume.stopped ≡ false → HasAnswered old.volume.size state line new.volume reply before after
+  pub answered : new.volume.stopped ≡ false → HasAnswered old.volume.size state line new reply before after
   pub failed : new.volume.stopped ≡ true → HasFailed old.volume.size state line before after
   pub stays : StaysAsAfter old.volume.size state line before after
 
--- nothing but an acknowledgement is on the device, and all that the session knows is as before, but for places in its index
+-- nothing but an acknowledgement is on the device, and all that the volume knows is as before, but for places in its index
 pub record LeavesAllAcked (old new : SessionView) (before after : DeviceView) : Type 0 where
   pub words : after.words ≡ before.words
   pub trail : after.trail ≡ with_event before.trail Ack
   pub kept : IsSameButPlaces old.volume new.volume
 
--- What an answered line leaves whatever the tree. One that is not answered Done stores nothing, and takes no memory unless memory is
--- what was short.
+-- What an answered line leaves whatever the tree. One that is not answered by a change's reply stores nothing, and takes no memory
+-- unless memory is what was short.
 pub record LeavesAnswered (old new : SessionView) (before after : DeviceView) (reply : Reply) : Type 0 where
   pub no_fault_told : reply ≢ replies.Fault
   pub not_stopped_told : reply ≢ replies.Stopped
-  pub quiet : reply ≢ replies.Done → LeavesAllAcked old new before after
-  pub same : reply ≢ replies.Done → reply ≢ replies.Refused NoMemory → (new ≡ old) × (after.spare ≡ before.spare)
+  pub quiet : ¬ IsChangeReply reply → LeavesAllAcked old new before after
+  pub same : ¬ IsChangeReply reply → reply ≢ replies.Refused NoMemory → (new.volume ≡ old.volume) × (after.spare ≡ before.spare)
   pub no_fault : after.faults ≡ before.faults
   pub one_ack : after.acks ≡ before.acks + 1
 
@@ -124,8 +131,9 @@ pub record LeavesSession (old new : SessionView) (before after : DeviceView) (re
   pub answered : new.volume.stopped ≡ false → LeavesAnswered old new before after reply
   pub failed : new.volume.stopped ≡ true → LeavesFailed before after reply
   pub size : new.volume.size ≡ old.volume.size
-  pub bytes : new.bytes ≡ old.bytes
+  -- only a read changes the bytes of the last one
+  pub bytes : ((count : ℕ) → reply ≢ replies.Bytes count) → new.bytes ≡ old.bytes
   pub faults : before.faults ≤ after.faults
   pub refused : before.refused ≤ after.refused
   pub not_refused : reply ≢ replies.Refused NoMemory → after.refused ≡ before.refused
-  pub fences : after.fences ≤ before.fences + 4
+  pub fences : after.fences ≤ before.fences + most_fences

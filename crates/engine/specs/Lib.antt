@@ -1,6 +1,7 @@
 pub mod Session
 pub mod Run
 pub mod Quiet
+pub mod Memory
 pub mod Replies
 pub mod Exec
 pub mod Listing

@@ -49,9 +49,9 @@ abbrev pub IsBetween : ℕ → State → List State → List Line → ℕ → Li
 IsBetween P start states lines k image =
     (state : State) × (state_after start states k ≡ Some state) × MayReadAs P state (command_of (slice_get lines k)) image
 
--- The words are tidy and read as the tree and the room after k lines.
+-- the words are tidy and read as the state after k lines
 pub record IsStateAfter (P : ℕ) (start : State) (states : List State) (k : ℕ) (words : List ℕ) : Type 0 where
   pub state : State
   pub after : state_after start states k ≡ Some state
-  pub tidy : Tidy P words
-  pub reads : ReadsAs P words state
+  pub there : IsAt P state words
+  pub open there use *

@@ -8,10 +8,14 @@ pub record SessionView : Type 0 where
   pub volume : VolumeView
   pub bytes : List ℕ
 
--- a volume and the device that it is on
+abbrev pub session_of : VolumeView → List ℕ → SessionView
+session_of volume bytes = record { volume = volume; bytes = bytes }
+
+-- a session and the device that its volume is on
 pub record Mounted : Type 0 where
-  pub volume : VolumeView
+  pub session : SessionView
+  pub open session use *
   pub device : DeviceView
 
-abbrev pub on : VolumeView → DeviceView → Mounted
-on volume device = record { volume = volume; device = device }
+abbrev pub on : SessionView → DeviceView → Mounted
+on session device = record { session = session; device = device }

@@ -1,5 +1,5 @@
 -- What stands between two lines of a run.
-use Rattle.std.specs.Prelude.{◌≡◌, ◌⊎◌, ℕ, ◌+◌, ◌<◌, ◌≤◌, Bool, true, false, List, ◌++◌, map, length, slice_get, Option, Some, None, Result, Ok, Err}
+use Rattle.std.specs.Prelude.{◌≡◌, ◌⊎◌, ℕ, ◌+◌, ◌<◌, ◌≤◌, Bool, true, false, IsTrue, List, ◌++◌, map, length, slice_get, Option, Some, None, Result, Ok, Err}
 use Rattle.std.specs.declared.ops.ControlFlow.{ControlFlow}
 use Rattle.std.specs.declared.ops.ControlFlow.TheVariants.{Continue, Break}
 use Rattle.pm_trait.specs.Trail.{Trail}
@@ -7,8 +7,9 @@ use Rattle.pm_trait.specs.Device.{HasRisen, LeavesOnly, AcksSettled, EndsInFault
 use Rattle.pm_trait.specs.DeviceView.{DeviceView}
 use Rattle.io_edge.specs.declared.sink.WriteFault.{WriteFault}
 use Rattle.io_edge.specs.Bytes.{Takes, TakesPrefix}
-use Rattle.tree_model.specs.Step.{Answer, Fault, Stopped}
+use Rattle.tree_model.specs.Step.{Answer, Refused, Fault, Stopped}
 use Rattle.tree_model.specs.Run.{Line, State}
+use Rattle.tree_model.specs.declared.reply.Refusal.TheVariants.{NoMemory}
 use Rattle.tree_model.specs.declared.reply.Reply.{Reply}
 use Rattle.image_reading.specs.Reading.{ReadsAs}
 use Rattle.script.specs.declared.lines.Lines.{Lines}
@@ -19,7 +20,8 @@ use Rattle.script.specs.Reader.{pending, read_count, has_ended}
 use Rattle.script.specs.Reading.{rest_of, IfTold, ReadPrefix}
 use Rattle.script.specs.Texts.{answer_text}
 use Rattle.engine.specs.Exec.{HasAnswered, HasFailed}
-use Rattle.tree_model.specs.Fences.{fences_of_run}
+use Rattle.tree_model.specs.Fences.{fences_of_run, most_fences}
+use Rattle.engine.specs.Memory.{needs_places_at}
 use Rattle.engine.specs.Quiet.{MayStore, ActsOnly}
 use Rattle.engine.specs.Run.{Run, last_state, IsBetween, IsStateAfter}
 use Rattle.engine.specs.Script.{texts_of}
@@ -59,7 +61,7 @@ Wrote (Err fault) took text now = TakesPrefix took text now
 -- the line was answered, and the answer written
 pub record IsAnswered (P : ℕ) (state : State) (line : Line) (old : DeviceView) (new : Mounted) (written : Result (Unit {0}) WriteFault) (took now : List ℕ → Type 0) : Type 0 where
   pub reply : Reply
-  pub done : HasAnswered P state line new.volume reply old new.device
+  pub done : HasAnswered P state line new.session reply old new.device
   pub wrote : Wrote written took (answer_text done.answer) now
   pub one_ack : new.device.acks ≡ old.acks + 1
 
@@ -77,7 +79,8 @@ pub record MovesOn (old new : Mounted) : Type 0 where
   pub cause : new.volume.stopped ≡ true → (old.volume.stopped ≡ true) ⊎ HasRisen old.device.faults new.device.faults
   pub no_fault : new.volume.stopped ≡ false → new.device.faults ≡ old.device.faults
   pub faults : old.device.faults ≤ new.device.faults
-  pub fences : new.device.fences ≤ old.device.fences + 4
+  pub refused : old.device.refused ≤ new.device.refused
+  pub fences : new.device.fences ≤ old.device.fences + most_fences
   pub acks : new.device.acks ≤ old.device.acks + 1
 
 -- ---- a run so far
@@ -142,8 +145,10 @@ pub record RanSoFar (P : ℕ) (start : State) (first : DeviceView) (script : Opt
   pub texts : Takes taken (texts_of answers) took
   pub acks : AcksSettled first.trail now.device.trail (IsStateAfter P start states)
   pub any_moment : LeavesOnly first.trail now.device.trail (IsBetween P start states lines)
-  pub quiet : ActsOnly first.trail now.device.trail (λ k. MayStore (slice_get answers k))
+  pub quiet : ActsOnly first.trail now.device.trail (MayStore start lines answers states)
   pub halts : now.volume.stopped ≡ true → EndsInFault now.device.trail
   pub counted : (told : Trail) → now.device.trail ≡ Some told → acks_from first.trail now.device.trail (moment_of now.device.trail) ≡ length states
+  pub no_memory : (k : ℕ) → slice_get answers k ≡ Some (Refused NoMemory) → IsTrue (needs_places_at start lines states k) ⊎ HasRisen first.refused now.device.refused
+  pub refused : first.refused ≤ now.device.refused
   pub fences : now.volume.stopped ≡ false → now.device.fences ≡ first.fences + fences_of_run start lines answers states
   pub ack_count : now.device.acks ≡ first.acks + length states

@@ -1,5 +1,5 @@
 -- Texts that are written one after another.
-use Rattle.std.specs.Prelude.{◌≡◌, ℕ, ◌+◌, ◌<◌, ◌≤◌, List, [], ◌++◌, length, take, drop, Result, Ok, Err, refl}
+use Rattle.std.specs.Prelude.{◌≡◌, ℕ, ◌+◌, ◌<◌, ◌≤◌, List, [], ◌++◌, length, take, drop, Result, Ok, Err, IsErr, refl}
 use Rattle.std.proofs.Common.{sym, subst, ◌∙◌, arith, append_assoc, length-append}
 use Rattle.std.proofs.lemmas.List.{append-nil, take-append-le}
 use Rattle.std.proofs.Math.Seq.{take-append-add, take-add}
@@ -98,3 +98,15 @@ writes_cut took now faults_before faults_after first second fault writes =
       faults = writes.faults;
       cause = writes.cause;
     }
+
+-- a text that was cut, and more behind it: a call that ends there has written a prefix of the two
+pub writes_broken : {T U E F : Type 0} {took now : List ℕ → Type 0} {faults_before faults_after : ℕ} {fault : E} (first second : List ℕ) (broken : Result U F) → IsErr broken
+    → Writes {T = T} took now faults_before faults_after first (Err fault) → Writes took now faults_before faults_after (first ++ second) broken
+writes_broken first second (Ok done) err writes = absurd (cc err)
+writes_broken {took = took} {now = now} first second (Err fault) err writes = record {
+  whole = tt;
+  cut = prefix_before took now first second writes.cut;
+  no_fault = tt;
+  faults = writes.faults;
+  cause = writes.cause;
+}

@@ -1,7 +1,8 @@
 ghost use Rattle.std.specs.Prelude.{◌≡◌, ◌≤◌};
 
 use crate::{
-    Buffers, Call, Lines, Step, write_count, write_name, write_newline, write_plain, write_space,
+    Buffers, Call, Lines, Step, write_bytes, write_count, write_name, write_newline, write_plain,
+    write_space,
 };
 use io_edge::{MemSink, MemSource, ReadFault, Source};
 use layout::Name;
@@ -252,6 +253,15 @@ fn listing_in_pieces(rt: HostRuntime) -> Result<(), Fail> {
     write_name(&name, &mut sink)?;
     write_newline(&mut sink)?;
     assert_eq!(rt; sink.bytes(), b"ok 1 a%20b\n".as_slice());
+    Ok(())
+}
+
+#[test]
+fn bytes_in_digits(rt: HostRuntime) -> Result<(), Fail> {
+    let mut sink = MemSink::new(rt.alloc(), 100, Vec::new(rt.alloc()))?;
+    write_bytes(&[0, 161, 255], &mut sink)?;
+    write_bytes(&[], &mut sink)?;
+    assert_eq!(rt; sink.bytes(), b"ok 3 00a1ff\nok 0 -\n".as_slice());
     Ok(())
 }
 

@@ -1,7 +1,7 @@
 -- Which commands take a place of a table in memory.
-use Rattle.std.specs.Prelude.{Bool, true, false}
+use Rattle.std.specs.Prelude.{Bool, true, false, Ok, Err}
 use Rattle.tree_model.specs.Step.{resolved}
-use Rattle.tree_model.specs.Run.{State}
+use Rattle.tree_model.specs.Run.{State, Line}
 use Rattle.tree_model.specs.Fences.{needs_pages}
 use Rattle.tree_model.specs.declared.command.Command.{Command}
 use Rattle.tree_model.specs.declared.command.Command.TheVariants.{Create, Mkdir, Link, Unlink, Rmdir, Rename, Write, Truncate, Read, Stat as Tell, List as Show, Df}
@@ -24,3 +24,8 @@ takes_places old Df = false
 -- answered NoMemory only where the device refused to reserve room for its events.
 abbrev pub needs_places : State → Command → Bool
 needs_places old c = takes_places old (resolved old.tree c)
+
+-- a line that is no command needs none
+abbrev pub line_needs_places : State → Line → Bool
+line_needs_places old (Ok c) = needs_places old c
+line_needs_places old (Err fault) = false

@@ -7,6 +7,7 @@ use Rattle.volume.specs.Planned.{IsPlanOf}
 use Rattle.volume.specs.declared.plan.Action.{Action}
 use Rattle.volume.specs.Prepared.{IsMaking, making}
 use Rattle.layout.specs.declared.kinds.NodeKind.{NodeKind}
+use Rattle.engine.specs.Session.{session_of}
 use Rattle.volume.proofs.Plans.{planned_making, telling_reads}
 use Rattle.engine.proofs.Commands.{does_told, does_made, leaves_made, leaves_still, made_reads}
 use Rattle.engine.proofs.Told.{node_told, directory_listed, directory_within, status_replied, names_replied, space_replied}
@@ -23,12 +24,12 @@ apply_create-requires-clause-planned g c =
     (state, path, subst (λ (asked : Command). IsPlanFor volume device state asked c.args.plan) (is ∙ ap (λ (kind : NodeKind). making kind path) c.in-File.is) plan_for)
 
 pub returns-in-File-clause-does : goal.returns-in-File-clause-does
-returns-in-File-clause-does g c = λ state command plan_for.
+returns-in-File-clause-does g c = λ state command bytes plan_for.
     let volume = c.args.volume.now in
     let device = g.P.Pm.view c.args.pm.now in
     let (path, is) = planned_making volume.size device.words state command c.in-Make.entry (subst (λ (a : Action). IsPlanOf volume.size device.words state command (deed_of a)) (sym c.action.ensures ∙ c.in-Make.is) plan_for.planned.plan_is) in
     let done = c.apply_create.ensures.carries in
-    does_made volume c.apply_create.new.volume device (g.P.Pm.view c.apply_create.new.pm) state command c.in-Make.entry.kind path c.apply_create.result is plan_for.planned.accepted (done.meaning state command tt plan_for) done.answered done.device
+    does_made (session_of volume bytes) (session_of c.apply_create.new.volume bytes) device (g.P.Pm.view c.apply_create.new.pm) state command c.in-Make.entry.kind path c.apply_create.result is plan_for.planned.accepted (done.meaning state command tt plan_for) done.answered done.device
 
 pub returns-in-File-clause-leaves : goal.returns-in-File-clause-leaves
 returns-in-File-clause-leaves g c =
@@ -47,12 +48,12 @@ apply_mkdir-requires-clause-planned g c =
     (state, path, subst (λ (asked : Command). IsPlanFor volume device state asked c.args.plan) (is ∙ ap (λ (kind : NodeKind). making kind path) c.in-Directory.is) plan_for)
 
 pub returns-in-Directory-clause-does : goal.returns-in-Directory-clause-does
-returns-in-Directory-clause-does g c = λ state command plan_for.
+returns-in-Directory-clause-does g c = λ state command bytes plan_for.
     let volume = c.args.volume.now in
     let device = g.P.Pm.view c.args.pm.now in
     let (path, is) = planned_making volume.size device.words state command c.in-Make.entry (subst (λ (a : Action). IsPlanOf volume.size device.words state command (deed_of a)) (sym c.action.ensures ∙ c.in-Make.is) plan_for.planned.plan_is) in
     let done = c.apply_mkdir.ensures.carries in
-    does_made volume c.apply_mkdir.new.volume device (g.P.Pm.view c.apply_mkdir.new.pm) state command c.in-Make.entry.kind path c.apply_mkdir.result is plan_for.planned.accepted (done.meaning state command tt plan_for) done.answered done.device
+    does_made (session_of volume bytes) (session_of c.apply_mkdir.new.volume bytes) device (g.P.Pm.view c.apply_mkdir.new.pm) state command c.in-Make.entry.kind path c.apply_mkdir.result is plan_for.planned.accepted (done.meaning state command tt plan_for) done.answered done.device
 
 pub returns-in-Directory-clause-leaves : goal.returns-in-Directory-clause-leaves
 returns-in-Directory-clause-leaves g c =
@@ -72,13 +73,13 @@ stat-requires-clause-there g c =
     node_told c.args.volume.now (g.P.Pm.view c.args.pm.now) state command c.args.plan reads plan_for c.in-Status.inode is
 
 pub returns-in-Status-clause-does : goal.returns-in-Status-clause-does
-returns-in-Status-clause-does g c = λ state command plan_for.
+returns-in-Status-clause-does g c = λ state command bytes plan_for.
     let volume = c.args.volume.now in
     let device = g.P.Pm.view c.args.pm.now in
     let is = sym c.action.ensures ∙ c.in-Status.is in
     let reads = telling_reads volume.size device.words state command c.args.plan plan_for.planned.plan_is (λ making. subst IsMaking is making) in
-    does_told volume volume device device refl refl refl state command (reply.Status c.stat.result) plan_for.stands reads plan_for.planned.accepted
-    (status_replied volume device state command c.args.plan reads plan_for c.in-Status.inode c.stat.result is (c.stat.ensures state plan_for.stands))
+    does_told (session_of volume bytes) (session_of volume bytes) device device refl refl refl refl state command (reply.Status c.stat.result) plan_for.stands reads plan_for.planned.accepted
+    (status_replied volume device state command c.args.plan reads plan_for bytes c.in-Status.inode c.stat.result is (c.stat.ensures state plan_for.stands))
 
 pub returns-in-Status-clause-leaves : goal.returns-in-Status-clause-leaves
 returns-in-Status-clause-leaves g c = leaves_still c.args.volume.now (g.P.Pm.view c.args.pm.now) (reply.Status c.stat.result) c.requires.ready.going
@@ -101,13 +102,13 @@ count-requires-clause-in_range g c =
     (directory_within c.args.volume.now (g.P.Pm.view c.args.pm.now) c.in-Names.inode plan_for.stands (directory_listed c.args.volume.now (g.P.Pm.view c.args.pm.now) state command c.args.plan reads plan_for c.in-Names.inode is)).1
 
 pub returns-in-Names-clause-does : goal.returns-in-Names-clause-does
-returns-in-Names-clause-does g c = λ state command plan_for.
+returns-in-Names-clause-does g c = λ state command bytes plan_for.
     let volume = c.args.volume.now in
     let device = g.P.Pm.view c.args.pm.now in
     let is = sym c.action.ensures ∙ c.in-Names.is in
     let reads = telling_reads volume.size device.words state command c.args.plan plan_for.planned.plan_is (λ making. subst IsMaking is making) in
-    does_told volume volume device device refl refl refl state command (reply.Names c.in-Names.inode c.count.result) plan_for.stands reads plan_for.planned.accepted
-    (names_replied volume device state command c.args.plan reads plan_for c.in-Names.inode c.count.result is c.requires.ready.going
+    does_told (session_of volume bytes) (session_of volume bytes) device device refl refl refl refl state command (reply.Names c.in-Names.inode c.count.result) plan_for.stands reads plan_for.planned.accepted
+    (names_replied volume device state command c.args.plan reads plan_for bytes c.in-Names.inode c.count.result is c.requires.ready.going c.count.ensures.entries
     (c.count.ensures.names device state plan_for.stands (directory_listed volume device state command c.args.plan reads plan_for c.in-Names.inode is)))
 
 pub returns-in-Names-clause-leaves : goal.returns-in-Names-clause-leaves
@@ -117,13 +118,13 @@ pub returns-in-Names-clause-reads : goal.returns-in-Names-clause-reads
 returns-in-Names-clause-reads g c not making = subst IsMaking (sym c.action.ensures ∙ c.in-Names.is) making
 
 pub returns-in-Space-clause-does : goal.returns-in-Space-clause-does
-returns-in-Space-clause-does g c = λ state command plan_for.
+returns-in-Space-clause-does g c = λ state command bytes plan_for.
     let volume = c.args.volume.now in
     let device = g.P.Pm.view c.args.pm.now in
     let is = sym c.action.ensures ∙ c.in-Space.is in
     let reads = telling_reads volume.size device.words state command c.args.plan plan_for.planned.plan_is (λ making. subst IsMaking is making) in
-    does_told volume volume device device refl refl refl state command (reply.Space c.free.result) plan_for.stands reads plan_for.planned.accepted
-    (space_replied volume device state command c.args.plan reads plan_for c.free.result is (c.free.ensures state plan_for.stands))
+    does_told (session_of volume bytes) (session_of volume bytes) device device refl refl refl refl state command (reply.Space c.free.result) plan_for.stands reads plan_for.planned.accepted
+    (space_replied volume device state command c.args.plan reads plan_for bytes c.free.result is (c.free.ensures state plan_for.stands))
 
 pub returns-in-Space-clause-leaves : goal.returns-in-Space-clause-leaves
 returns-in-Space-clause-leaves g c = leaves_still c.args.volume.now (g.P.Pm.view c.args.pm.now) (reply.Space c.free.result) c.requires.ready.going

@@ -1,10 +1,8 @@
-use Rattle.std.proofs.Common.{◌≡◌, ◌≤◌, ◌+◌, ◌++◌, ℕ, List, length, take, drop, Ok, Err, sym, ap, ◌∙◌, arith, take_all}
+use Rattle.std.proofs.Common.{◌<◌, ◌≤◌, ◌+◌, ◌++◌, ℕ, List, take, drop, Ok, sym, ap, ◌∙◌, arith, take_all}
 use Rattle.std.specs.Prelude.{slice_get}
-use Rattle.pm_trait.specs.DeviceView.{DeviceView}
-use Rattle.io_edge.proofs.BytesLaws.{writes_none, writes_then, writes_as}
+use Rattle.io_edge.proofs.BytesLaws.{writes_none, writes_then, writes_as, writes_broken}
 use Rattle.engine.specs.Listing.{entry_text, entries_text}
-use Rattle.engine.specs.Replies.{IsListing}
-use Rattle.engine.proofs.ListingLaws.{writes_broken, entries_more, entries_split}
+use Rattle.engine.proofs.ListingLaws.{entries_more, entries_split}
 use Rattle.engine.proofs.Told.{directory_within}
 use Rattle.engine.proofs.listing.write_entries.Goals as goal
 
@@ -12,10 +10,17 @@ pub loop-k-init : goal.loop-k-init
 loop-k-init g c = record { writes = λ device names lists counted. writes_none _ _ tt }
 
 pub nth-requires-clause-from_one : goal.nth-requires-clause-from_one
-nth-requires-clause-from_one g c = let (device, names, lists) = c.requires.lists in (directory_within c.args.volume.now device c.args.directory lists.stands lists.directory).0
+nth-requires-clause-from_one g c = let (device, names, lists, counted) = c.requires in (directory_within c.args.volume.now device c.args.directory lists.stands lists.directory).0
 
 pub nth-requires-clause-in_range : goal.nth-requires-clause-in_range
-nth-requires-clause-in_range g c = let (device, names, lists) = c.requires.lists in (directory_within c.args.volume.now device c.args.directory lists.stands lists.directory).1
+nth-requires-clause-in_range g c = let (device, names, lists, counted) = c.requires in (directory_within c.args.volume.now device c.args.directory lists.stands lists.directory).1
+
+pub nth-requires-clause-place : goal.nth-requires-clause-place
+nth-requires-clause-place g c =
+    let (device, names, lists, counted) = c.requires in
+    let all = lists.all in
+    let within : c.loop-k.k < c.args.count = c.loop-k-test.true in
+    omega (arith, all, counted, within)
 
 pub returns-in_err-write_entry : goal.returns-in_err-write_entry
 returns-in_err-write_entry g c = λ device names lists counted.

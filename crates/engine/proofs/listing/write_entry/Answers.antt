@@ -1,8 +1,7 @@
 use Rattle.std.proofs.Common.{[], ◌∷◌}
-use Rattle.io_edge.proofs.BytesLaws.{writes_then}
+use Rattle.io_edge.proofs.BytesLaws.{writes_then, writes_broken}
 use Rattle.script.specs.Lines.{space}
 use Rattle.script.specs.Texts.{name_text}
-use Rattle.engine.proofs.ListingLaws.{writes_broken}
 use Rattle.engine.proofs.listing.write_entry.Goals as goal
 
 pub returns-in_err-write_space : goal.returns-in_err-write_space

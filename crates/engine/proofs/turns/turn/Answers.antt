@@ -1,7 +1,5 @@
-use Rattle.std.proofs.Common.{◌≡◌, false, refl, subst, sym, ap, ◌∙◌}
+use Rattle.std.proofs.Common.{◌≡◌, false, subst, sym, ap, ◌∙◌}
 use Rattle.std.specs.Prelude.{Err, IfOk}
-use Rattle.std.specs.ControlFlow.{MatchControlFlow}
-use Rattle.std.specs.declared.ops.ControlFlow.{ControlFlow}
 use Rattle.tree_model.specs.Run.{Line}
 use Rattle.tree_model.specs.declared.reply.LineFault.TheVariants.{BadLine}
 use Rattle.script.specs.Lines.{call_of}
@@ -16,7 +14,7 @@ use Rattle.volume.specs.Volume.{VolumeView}
 use Rattle.engine.specs.Run.{last_state}
 use Rattle.engine.specs.Session.{on}
 use Rattle.engine.specs.Script.{RunsScript}
-use Rattle.engine.specs.Turns.{Turned, end_at, flow_of, input_of}
+use Rattle.engine.specs.Turns.{Turned, end_at, input_of}
 use Rattle.engine.proofs.Faults.{not_true}
 use Rattle.engine.proofs.Taken.{executes_read_fault, executes_limit}
 use Rattle.engine.proofs.Turned.{line_goes, GoesOrEnds}
@@ -58,7 +56,7 @@ returns-in-Ok-TooLong-clause-goes g c pages start first script began so_far =
     let stays = λ (new : has_ended c.next.new.self ≡ false). not_true (has_ended c.args.lines.now) (λ old. let e = (c.in-Ok-TooLong.ensures.end_seen old).0 in cc (e, c.in-Ok-TooLong.field-0-is)) in
     let input = input_of c.next.new.self (g.S.Source.left c.next.new.source) in
     let has_taken = takes_long_line c.args.lines.now c.next.new.self so_far.has_taken stays c.in-Ok-TooLong.ensures.counted takes in
-    let new = on c.answer.new.session.volume (g.P.Pm.view c.answer.new.pm) in
+    let new = on c.answer.new.session (g.P.Pm.view c.answer.new.pm) in
     subst (GoesOrEnds so_far (Err BadLine) input has_taken (g.K.Sink.took c.answer.new.sink) new) (sym c.flow_of_write.ensures)
     (line_goes so_far (Err BadLine) input has_taken (g.K.Sink.took c.answer.new.sink) new c.answer.ensures.moves c.answer.result
     (c.answer.ensures.turned (last_state start so_far.states) (λ was. (so_far.going was).stands)))
@@ -72,8 +70,8 @@ returns-in-Ok-Line-clause-goes g c pages start first script began so_far =
     let input = input_of c.next.new.self (g.S.Source.left c.next.new.source) in
     let has_taken = takes_line c.args.lines.now c.next.new.self so_far.has_taken stays c.in-Ok-Line.ensures.counted (current c.next.new.self) step.1 in
     let done = c.answer-in-Ok-Line in
-    let old = on c.args.session.now.volume (g.P.Pm.view c.args.pm.now) in
-    let new = on done.new.session.volume (g.P.Pm.view done.new.pm) in
+    let old = on c.args.session.now (g.P.Pm.view c.args.pm.now) in
+    let new = on done.new.session (g.P.Pm.view done.new.pm) in
     subst (GoesOrEnds so_far line input has_taken (g.K.Sink.took done.new.sink) new) (sym c.flow_of_write-in-Ok-Line.ensures)
     (line_goes so_far line input has_taken (g.K.Sink.took done.new.sink) new done.ensures.moves done.result
     (subst (λ (l : Line). Turned old.volume.size (last_state start so_far.states) l old new done.result (g.K.Sink.took c.args.sink.now) (g.K.Sink.took done.new.sink)) asked

@@ -1,13 +1,14 @@
-use Rattle.std.proofs.Common.{◌≡◌, false, refl, sym, ap, subst, ◌∙◌}
-use Rattle.std.specs.Prelude.{Ok}
+use Rattle.std.proofs.Common.{refl, sym, ap, subst, ◌∙◌}
+use Rattle.std.specs.Prelude.{Ok, Err}
 use Rattle.tree_model.specs.Step.{Fault, Stopped}
 use Rattle.script.specs.Calls.{line_of_call}
+use Rattle.tree_model.specs.declared.reply.Reply.TheVariants as reply
 use Rattle.volume.specs.Volume.{VolumeView}
 use Rattle.volume.specs.Stands.{StandsFor}
-use Rattle.engine.specs.Session.{SessionView}
+use Rattle.engine.specs.Session.{SessionView, session_of}
 use Rattle.engine.specs.Exec.{Does, LeavesVolume}
 use Rattle.engine.proofs.Causes.{goes_on}
-use Rattle.engine.proofs.Sessions.{executes_ok, leaves_ok}
+use Rattle.engine.proofs.Sessions.{executes_ok, executes_err, leaves_ok}
 use Rattle.engine.proofs.session.Session.exec.Goals as goal
 
 pub returns-then-stopped-clause-told : goal.returns-then-stopped-clause-told
@@ -23,15 +24,28 @@ line_reply-requires-clause-stands g c =
 pub returns-in_default-clause-told : goal.returns-in_default-clause-told
 returns-in_default-clause-told g c = (Fault, record { reply_is = refl; told = tt })
 
+pub returns-in_default-clause-executes : goal.returns-in_default-clause-executes
+returns-in_default-clause-executes g c = λ state stands was.
+    let volume = ap (λ (v : SessionView). v.volume) c.self.view_is in
+    let before = g.P.Pm.view c.args.pm.now in
+    let after = g.P.Pm.view c.line_reply.new.pm in
+    let bytes = c.self.inside.bytes.items in
+    let fault = Err c.in_default.field-0 in
+    executes_err reply.Fault
+    (subst (λ (v : VolumeView). LeavesVolume v c.line_reply.new.volume before after fault) volume c.in_default.ensures.leaves)
+    (subst (λ (s : SessionView). Does s (session_of c.line_reply.new.volume bytes) before after state (line_of_call c.args.call.now) fault) c.self.view_is
+    (c.in_default.ensures.does state bytes (subst (λ (v : VolumeView). StandsFor v before state) (sym volume) stands)))
+
 pub returns-clause-executes : goal.returns-clause-executes
 returns-clause-executes g c = λ state stands was.
     let volume = ap (λ (v : SessionView). v.volume) c.self.view_is in
     let before = g.P.Pm.view c.args.pm.now in
     let between = g.P.Pm.view c.line_reply.new.pm in
     let inside = subst (λ (v : VolumeView). StandsFor v before state) (sym volume) stands in
+    let bytes = c.self.inside.bytes.items in
     executes_ok c.in-Ok.reply
     (subst (λ (v : VolumeView). LeavesVolume v c.line_reply.new.volume before between (Ok c.in-Ok.reply)) volume c.in-Ok.ensures.leaves) c.ack.ensures
-    (subst (λ (v : VolumeView). Does v c.line_reply.new.volume before between state (line_of_call c.args.call.now) (Ok c.in-Ok.reply)) volume (c.in-Ok.ensures.does state inside))
+    (subst (λ (s : SessionView). Does s (session_of c.line_reply.new.volume bytes) before between state (line_of_call c.args.call.now) (Ok c.in-Ok.reply)) c.self.view_is (c.in-Ok.ensures.does state bytes inside))
 
 pub returns-clause-leaves : goal.returns-clause-leaves
 returns-clause-leaves g c = λ was.
