@@ -1,10 +1,11 @@
 -- A volume that needs no recovery is left alone by its mount, so that each clause on a mount says the same of the device at entry.
-use Rattle.std.proofs.Common.{◌⊎◌, inl, inr, ℕ, List, ap, subst, ◌∙◌, arith}
+use Rattle.std.proofs.Common.{◌≡◌, ◌⊎◌, inl, inr, ℕ, List, ap, subst, ◌∙◌, arith}
 use Rattle.std.specs.Prelude.{Option, Some}
 use Rattle.pm_trait.specs.Device.{HasRisen, moment_of}
 use Rattle.pm_trait.specs.DeviceView.{DeviceView}
 use Rattle.image_reading.specs.Tidy.{Tidy}
 use Rattle.script.specs.declared.run_end.RunEnd.{RunEnd}
+use Rattle.script.specs.declared.run_end.RunEnd.TheVariants.{Faulted}
 use Rattle.mount_scan.specs.Mounting.{IsTidy}
 use Rattle.engine.specs.Script.{RunsScript}
 use Rattle.squirrel_cli.specs.declared.job.Job.TheVariants.{Mkfs}
@@ -12,7 +13,7 @@ use Rattle.squirrel_cli.specs.declared.job.Job.{Job}
 use Rattle.squirrel_cli.specs.Answers.{IsShortOfMemory}
 use Rattle.squirrel_cli.specs.Causes.{IsUntouched}
 use Rattle.squirrel_cli.specs.Ends.{IsMountable}
-use Rattle.squirrel_cli.specs.Mounts.{MountsAndRuns}
+use Rattle.squirrel_cli.specs.Mounts.{MountsAndRuns, MountFails}
 
 -- where memory was short nothing was read, written or stored: by `run` on such a volume, or on one that it refuses
 pub short_untouched : {S K : Type 0} {job : Option Job} {before after : DeviceView} {old_script new_script : S} {old_out new_out : K} → IsShortOfMemory job before after old_script new_script old_out new_out
@@ -74,3 +75,10 @@ runs_at_entry {before = before} {after = after} runs tidy =
       };
       halts = runs.halts;
     }
+
+-- so is each job that ends there, since its mount can't fail
+pub ends_at_entry : {S K : Type 0} {P : ℕ} {before after : DeviceView} {end : RunEnd} {script rest : Option (List ℕ)} {took now : List ℕ → Type 0} {old_script new_script : S} {old_out new_out : K}
+    → MountsAndRuns P before after end script rest took now ⊎ (end ≡ Faulted) × MountFails P before after old_script new_script old_out new_out → Tidy P before.words
+    → RunsScript P before after end script rest took now
+ends_at_entry (inl runs) tidy = runs_at_entry runs tidy
+ends_at_entry (inr (faulted, fails)) tidy = absurd (fails.recovers tidy)

@@ -56,11 +56,12 @@ mounts_nothing {P} {state} device settled tidy reads = record {
     any_moment = leaves_here (λ k image. (k ≡ 0) × MeansState P state image) settled (refl, record { sound = tidy.sound; reads = reads });
     no_ack = acks_from-here (continues_here device.trail);
     acks = refl;
-    least_fences = omega arith;
-    most_fences = omega arith;
   };
   faults = refl;
   refused = refl;
+  made = 0;
+  fences = omega arith;
+  few = omega arith;
   alone = λ is. left_alone refl;
 }
 
@@ -92,7 +93,7 @@ mounts_and_runs {P} {before} {mounted} {after} run reads mount = record {
   ack_count = let was = mount.acks in let more = run.ack_count in omega (arith, was, more);
   quiet = acts_after_mount mount.any_moment.continues mount.no_ack run.any_moment.continues run.quiet;
   halts = run.halts;
-  fences = λ each. let was = mount.least_fences in let more = run.fences each in omega (arith, was, more);
+  fences = λ each. let was = mount.fences in let more = run.fences each in omega (arith, was, more);
 }
 
 -- so of a run on a volume that was left as it was

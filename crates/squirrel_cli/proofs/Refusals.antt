@@ -121,6 +121,10 @@ module _ {took now : List ℕ → Type 0} {faults_before faults_after : ℕ} {te
       by_write (Ok done) whole = inl (refl, whole.whole)
       by_write (Err fault) cut = inr (refl, cut.cut)
 
+  -- so it is told by each status that is this one
+  pub told_as : {is : Status} → is ≡ status_of_write written wanted → IsToldOrCut wanted text is took now
+  told_as same = subst (λ (is : Status). IsToldOrCut wanted text is took now) (sym same) told_by
+
   pub cause_by : wanted ≢ status.WriteFault → status_of_write written wanted ≡ status.WriteFault → HasRisen faults_before faults_after
   cause_by not is = by_write written writes is
     where

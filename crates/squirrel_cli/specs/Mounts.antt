@@ -1,5 +1,5 @@
 -- What a mount does to the device, and the run of the script after it.
-use Rattle.std.specs.Prelude.{◌≡◌, ◌⊎◌, ℕ, ◌+◌, ◌-◌, ◌<◌, ◌≤◌, List, length, slice_get, Option, Some}
+use Rattle.std.specs.Prelude.{◌≡◌, ◌⊎◌, ℕ, ◌+◌, ◌<◌, ◌≤◌, List, length, slice_get, Option, Some}
 use Rattle.pm_trait.specs.Trail.{Trail}
 use Rattle.pm_trait.specs.Device.{HasRisen, LeavesOnly, AcksSettled, EndsInFault, IsAckAt, acks_from, moment_of}
 use Rattle.pm_trait.specs.DeviceView.{DeviceView, IsSettledView}
@@ -23,17 +23,11 @@ pub record MeansState (P : ℕ) (state : State) (image : List ℕ) : Type 0 wher
 abbrev pub mount_fences : ℕ
 mount_fences = 4
 
--- the fences that succeeded between two views of a device
-abbrev pub fences_between : DeviceView → DeviceView → ℕ
-fences_between before after = after.fences - before.fences
-
--- A crash at any moment leaves this state. Nothing was acknowledged, and no more fences were made than a mount makes.
+-- A crash at any moment leaves this state, and nothing was acknowledged.
 pub record KeepsState (P : ℕ) (state : State) (before after : DeviceView) : Type 0 where
   pub any_moment : LeavesOnly before.trail after.trail (λ acks image. (acks ≡ 0) × MeansState P state image)
   pub no_ack : acks_from before.trail after.trail (moment_of after.trail) ≡ 0
   pub acks : after.acks ≡ before.acks
-  pub least_fences : before.fences ≤ after.fences
-  pub most_fences : after.fences ≤ before.fences + mount_fences
 
 -- What a mount of words that read as this state leaves: the device before and after it.
 pub record Mounts (P : ℕ) (state : State) (before mounted : DeviceView) : Type 0 where
@@ -44,6 +38,10 @@ pub record Mounts (P : ℕ) (state : State) (before mounted : DeviceView) : Type
   pub open keeps use *
   pub faults : mounted.faults ≡ before.faults
   pub refused : mounted.refused ≡ before.refused
+  -- the fences that it made
+  pub made : ℕ
+  pub fences : mounted.fences ≡ before.fences + made
+  pub few : made ≤ mount_fences
   -- words that need no recovery are left alone
   pub alone : Tidy P before.words → IsLeftAlone before mounted
 
@@ -53,14 +51,20 @@ pub record IsOnlyMounted (P : ℕ) (before after : DeviceView) : Type 0 where
   pub reads : ReadsAs P before.words start
   pub mount : Mounts P start before after
 
--- A fence failed in the mount, and was the last event: a crash leaves the state of the words at entry, and neither the script nor the
--- output was touched.
+-- A fence failed in the mount of words that need recovery, and was the last event: a crash leaves the state of the words at entry, and
+-- neither the script nor the output was touched.
 pub record MountFails {S K : Type 0} (P : ℕ) (before after : DeviceView) (old_script new_script : S) (old_out new_out : K) : Type 0 where
+  pub recovers : ¬ Tidy P before.words
   pub start : State
   pub reads : ReadsAs P before.words start
   pub keeps : KeepsState P start before after
+  pub open keeps use *
   pub cause : HasRisen before.faults after.faults
   pub halts : EndsInFault after.trail
+  -- the fences that it made before that one
+  pub made : ℕ
+  pub fences : after.fences ≡ before.fences + made
+  pub few : made < mount_fences
   pub script : new_script ≡ old_script
   pub output : new_out ≡ old_out
 
@@ -90,4 +94,4 @@ pub record MountsAndRuns (P : ℕ) (before after : DeviceView) (end : RunEnd) (s
   pub halts : length run.states < length run.answers → EndsInFault after.trail
   -- where none was, the fences are those of the mount and those of the lines
   pub fences : length run.states ≡ length run.answers
-      → after.fences ≡ before.fences + fences_between before mounted + fences_of_run run.start run.lines run.answers run.states
+      → after.fences ≡ before.fences + mount.made + fences_of_run run.start run.lines run.answers run.states

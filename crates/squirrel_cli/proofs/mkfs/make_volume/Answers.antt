@@ -1,4 +1,4 @@
-use Rattle.std.proofs.Common.{rules, ◌≡◌, ℕ, ◌*◌, ◌/◌, List, length, sym, ap, subst, arith}
+use Rattle.std.proofs.Common.{rules, ◌≡◌, ℕ, ◌*◌, ◌/◌, List, length, ap, subst, arith}
 use Rattle.std.specs.Prelude.{Option}
 use Rattle.pm_trait.specs.Trail.{Trail}
 use Rattle.pm_trait.specs.Device.{LeavesOnly, IsHonest}
@@ -7,10 +7,9 @@ use Rattle.format_ops.specs.Crashes.{IsOldHiddenOrFormatted}
 use Rattle.layout.specs.Format.{IsFormattedFrom}
 use Rattle.image_reading.specs.Laws.{IsFresh}
 use Rattle.script.specs.Texts.{formatted_text}
-use Rattle.squirrel_cli.specs.declared.status.Status.{Status}
 use Rattle.squirrel_cli.specs.declared.status.Status.TheVariants.{Done}
 use Rattle.squirrel_cli.specs.Told.{IsToldOrCut}
-use Rattle.squirrel_cli.proofs.Refusals.{told_by, told_whole, told_prefix}
+use Rattle.squirrel_cli.proofs.Refusals.{told_as, told_whole, told_prefix}
 use Rattle.squirrel_cli.proofs.Unacknowledged.{leaves_unacknowledged}
 use Rattle.squirrel_cli.proofs.mkfs.make_volume.Goals as goal
 
@@ -35,8 +34,7 @@ returns-in-Ok-clause-makes g c =
     let made = pages_of old.words c.image.result.now c.args.pages c.image.ensures here.1 in
     let told : IsToldOrCut Done (formatted_text c.args.pages) c.status_of_write.result took now =
     subst (λ (p : ℕ). IsToldOrCut Done (formatted_text p) c.status_of_write.result took now) here.0
-    (subst (λ (is : Status). IsToldOrCut Done (formatted_text c.in-Some.geometry.pages) is took now) (sym c.status_of_write.ensures)
-    (told_by Done c.write_formatted.result c.write_formatted.ensures)) in
+    (told_as Done c.write_formatted.result c.write_formatted.ensures c.status_of_write.ensures) in
     record {
       formatted = λ ends. subst (λ (p : ℕ). IsFormattedFrom p old.words new.words) made c.in-Ok.ensures.formatted;
       fresh = λ ends. subst (λ (p : ℕ). IsFresh p new.words) made c.in-Ok.ensures.fresh;
