@@ -12,13 +12,13 @@ use Rattle.tree_model.specs.Run.{Line, State}
 use Rattle.image_reading.specs.Reading.{ReadsAs}
 use Rattle.image_reading.specs.Tidy.{Tidy}
 use Rattle.script.specs.declared.run_end.RunEnd.{RunEnd}
-use Rattle.volume.specs.Crashes.{MayReadAs}
+use Rattle.volume.specs.Crashes.{MayReadAs, MeansState}
 use Rattle.engine.specs.Quiet.{ActsOnly}
 use Rattle.engine.specs.Run.{command_of, IsBetween, IsStateAfter}
 use Rattle.engine.specs.Script.{RunsScript}
 use Rattle.engine.proofs.After.{acked_then}
 use Rattle.squirrel_cli.specs.Causes.{IsLeftAlone}
-use Rattle.squirrel_cli.specs.Mounts.{MeansState, Mounts, ActsAfterMount, MountsAndRuns}
+use Rattle.squirrel_cli.specs.Mounts.{Mounts, ActsAfterMount, MountsAndRuns}
 
 -- what a call left as it was it left alone
 pub left_alone : {before after : DeviceView} → after ≡ before → IsLeftAlone before after

@@ -8,16 +8,11 @@ use Rattle.tree_model.specs.Fences.{fences_of_run}
 use Rattle.image_reading.specs.Reading.{ReadsAs}
 use Rattle.image_reading.specs.Tidy.{Tidy}
 use Rattle.script.specs.declared.run_end.RunEnd.{RunEnd}
-use Rattle.image_reading.specs.Soundness.{Sound}
+use Rattle.volume.specs.Crashes.{MeansState}
 use Rattle.engine.specs.Quiet.{MayStore}
 use Rattle.engine.specs.Run.{IsBetween, IsStateAfter}
 use Rattle.engine.specs.Script.{RunsScript}
 use Rattle.squirrel_cli.specs.Causes.{IsLeftAlone}
-
--- The image is sound and reads as this state, room and all.
-pub record MeansState (P : ℕ) (state : State) (image : List ℕ) : Type 0 where
-  pub sound : Sound P image
-  pub reads : ReadsAs P image state
 
 -- a mount makes at most so many fences
 abbrev pub mount_fences : ℕ
