@@ -66,6 +66,8 @@ runs_at_entry {before = before} {after = after} runs tidy =
       settled = run.settled;
       last = run.last;
       fences = λ each. let took = run.fences each in let none = alone.fences in omega (arith, took, none);
+      no_memory = runs.no_memory;
+      refused = runs.refused;
       any_moment = runs.any_moment;
       quiet = record {
         each = λ moment from upto no_ack. elim (runs.quiet.each moment from upto no_ack) [

@@ -3,7 +3,7 @@ use Rattle.std.proofs.Common.{◌≡◌, inl, inr, ℕ, List, length, refl, sym,
 use Rattle.std.proofs.lemmas.Bool.{cases_lt}
 use Rattle.std.specs.Prelude.{Option, Some, None, IfSome, Ok, Err, slice_get}
 use Rattle.pm_trait.specs.Trail.{Trail}
-use Rattle.pm_trait.specs.Device.{Continues, acks_from, moment_of}
+use Rattle.pm_trait.specs.Device.{HasRisen, Continues, acks_from, moment_of}
 use Rattle.pm_trait.specs.DeviceView.{DeviceView, IsSettledView}
 use Rattle.pm_trait.proofs.ContinuesLaws.{continues_here, acks_from-here, acks_from-joined}
 use Rattle.pm_trait.proofs.DeviceLaws.{leaves_here, leaves_weaker, leaves_next}
@@ -93,6 +93,11 @@ mounts_and_runs {P} {before} {mounted} {after} run reads mount = record {
   ack_count = let was = mount.acks in let more = run.ack_count in omega (arith, was, more);
   quiet = acts_after_mount mount.any_moment.continues mount.no_ack run.any_moment.continues run.quiet;
   halts = run.halts;
+  refused = let was = mount.refused in let more = run.refused in omega (arith, was, more);
+  no_memory = λ k is. elim (run.no_memory k is) [
+    | inl places ↦ inl places
+    | inr risen ↦ inr (subst (λ (refused : ℕ). HasRisen refused after.refused) mount.refused risen)
+  ];
   fences = λ each. let was = mount.fences in let more = run.fences each in omega (arith, was, more);
 }
 

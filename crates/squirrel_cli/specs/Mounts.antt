@@ -1,14 +1,17 @@
 -- What a mount does to the device, and the run of the script after it.
-use Rattle.std.specs.Prelude.{◌≡◌, ◌⊎◌, ℕ, ◌+◌, ◌<◌, ◌≤◌, List, length, slice_get, Option, Some}
+use Rattle.std.specs.Prelude.{◌≡◌, ◌⊎◌, ℕ, ◌+◌, ◌<◌, ◌≤◌, IsTrue, List, length, slice_get, Option, Some}
 use Rattle.pm_trait.specs.Trail.{Trail}
 use Rattle.pm_trait.specs.Device.{HasRisen, LeavesOnly, AcksSettled, EndsInFault, IsAckAt, acks_from, moment_of}
 use Rattle.pm_trait.specs.DeviceView.{DeviceView, IsSettledView}
 use Rattle.tree_model.specs.Run.{State}
+use Rattle.tree_model.specs.Step.{Refused}
+use Rattle.tree_model.specs.declared.reply.Refusal.TheVariants.{NoMemory}
 use Rattle.tree_model.specs.Fences.{fences_of_run}
 use Rattle.image_reading.specs.Reading.{ReadsAs}
 use Rattle.image_reading.specs.Tidy.{Tidy}
 use Rattle.script.specs.declared.run_end.RunEnd.{RunEnd}
 use Rattle.volume.specs.Crashes.{MeansState}
+use Rattle.engine.specs.Memory.{needs_places_at}
 use Rattle.engine.specs.Quiet.{MayStore}
 use Rattle.engine.specs.Run.{IsBetween, IsStateAfter}
 use Rattle.engine.specs.Script.{RunsScript}
@@ -84,9 +87,13 @@ pub record MountsAndRuns (P : ℕ) (before after : DeviceView) (end : RunEnd) (s
   pub acked : (trail : Trail) → after.trail ≡ Some trail → acks_from before.trail after.trail (moment_of after.trail) ≡ length run.states
   pub ack_count : after.acks ≡ before.acks + length run.states
   -- every store, flush and fence was one of the mount, or made for a line that may store
-  pub quiet : ActsAfterMount before.trail mounted.trail after.trail (λ k. MayStore (slice_get run.answers k))
+  pub quiet : ActsAfterMount before.trail mounted.trail after.trail (MayStore run.start run.lines run.answers run.states)
   -- where a line was answered Fault, nothing was done to the device after the fence that failed
   pub halts : length run.states < length run.answers → EndsInFault after.trail
   -- where none was, the fences are those of the mount and those of the lines
   pub fences : length run.states ≡ length run.answers
       → after.fences ≡ before.fences + mount.made + fences_of_run run.start run.lines run.answers run.states
+  -- a line that needs no place of a table was answered NoMemory only where the device refused room
+  pub refused : before.refused ≤ after.refused
+  pub no_memory : (k : ℕ) → slice_get run.answers k ≡ Some (Refused NoMemory)
+      → IsTrue (needs_places_at run.start run.lines run.states k) ⊎ HasRisen before.refused after.refused
