@@ -1,3 +1,5 @@
 pub mod Unacknowledged
 pub mod StatusEnds
 pub mod Refusals
+pub mod Mounted
+pub mod AtEntry

@@ -7,8 +7,8 @@ use Rattle.script.specs.declared.run_end.RunEnd.TheVariants as run_end
 use Rattle.squirrel_cli.specs.declared.status.Status.{Status}
 use Rattle.squirrel_cli.specs.declared.status.Status.TheVariants as status
 use Rattle.engine.specs.Session.{Mounted}
-use Rattle.engine.specs.Script.{HasCause as RunHasCause, LeavesRun}
-use Rattle.squirrel_cli.specs.Causes.{HasCause}
+use Rattle.engine.specs.Script.{HasCause, LeavesRun}
+use Rattle.squirrel_cli.specs.Causes.{TellsFaults}
 use Rattle.squirrel_cli.specs.Ends.{end_of, GaveAll, IsShortScript}
 
 pub ends_as : {is other : Status} {end wanted : RunEnd} → end_of is ≡ Some end → is ≡ other → end_of other ≡ Some wanted → end ≡ wanted
@@ -80,8 +80,8 @@ tells_write_fault status.WriteFault e = refl
 tells_write_fault status.ScriptLimit e = absurd (cc e)
 
 -- a status tells the causes of the end of the run
-pub status_cause : (is : Status) (end : RunEnd) {old new : Mounted} {reads_before reads writes_before writes : ℕ} → end_of is ≡ Some end → RunHasCause end reads_before reads writes_before writes → LeavesRun end old new
-    → HasCause is old.device new.device reads_before reads writes_before writes
+pub status_cause : (is : Status) (end : RunEnd) {old new : Mounted} {reads_before reads writes_before writes : ℕ} → end_of is ≡ Some end → HasCause end reads_before reads writes_before writes → LeavesRun end old new
+    → TellsFaults is old.device new.device reads_before reads writes_before writes
 status_cause is end ended cause leaves = record {
   device = λ same. leaves.faulted (ends_as ended same refl);
   done = λ same. (leaves.done (ends_as ended same refl)).0;

@@ -6,23 +6,26 @@ use Rattle.io_edge.specs.Bytes.{Takes, TakesPrefix}
 use Rattle.layout.specs.Format.{IsFormattedFrom}
 use Rattle.script.specs.Texts.{formatted_text, not_a_volume_text, damaged_text}
 use Rattle.image_reading.specs.Laws.{IsFresh}
+use Rattle.image_reading.specs.Soundness.{pages_in_image}
 use Rattle.image_reading.specs.declared.Violation.{Violation}
 use Rattle.format_ops.specs.Crashes.{IsOldHiddenOrFormatted}
-use Rattle.mount_scan.specs.Mounting.{HoldsVolume, IsTidy, IsDamage}
+use Rattle.mount_scan.specs.Mounting.{HoldsVolume, IsDamage}
 use Rattle.squirrel_cli.specs.declared.job.Job.{Job}
 use Rattle.squirrel_cli.specs.declared.job.Job.TheVariants.{Run}
 use Rattle.squirrel_cli.specs.declared.status.Status.{Status}
 use Rattle.squirrel_cli.specs.declared.status.Status.TheVariants.{Done, NoMemory, NotVolume, Damaged, WriteFault}
-use Rattle.squirrel_cli.specs.Ends.{end_of}
-use Rattle.squirrel_cli.specs.Told.{IsTold}
+use Rattle.squirrel_cli.specs.Causes.{IsLeftAlone}
+use Rattle.squirrel_cli.specs.Ends.{IsMountable, end_of}
+use Rattle.squirrel_cli.specs.Mounts.{IsOnlyMounted}
+use Rattle.squirrel_cli.specs.Told.{IsToldOrCut}
 
 -- What a status tells of a device with these words, and what was written of it. Only `run` is answered so.
-pub record Tells (result : Status) (job : Option Job) (words : List ℕ) (took now : List ℕ → Type 0) : Type 0 where
+pub record StatusTells (result : Status) (job : Option Job) (words : List ℕ) (took now : List ℕ → Type 0) : Type 0 where
   pub not_volume : result ≡ NotVolume → (job ≡ Some Run) × ¬ HoldsVolume words × Takes took not_a_volume_text now
   pub damaged : (violation : Violation) → result ≡ Damaged violation
       → (job ≡ Some Run) × HoldsVolume words × IsDamage words violation × Takes took (damaged_text violation.rule violation.place) now
-  -- a run has ended on a volume that needs no recovery, or the text of a refusal was cut
-  pub answered : job ≡ Some Run → IsSome (end_of result) → IsTidy words ⊎ (result ≡ WriteFault) × ¬ IsTidy words
+  -- a job has ended on a volume that is mounted, or the text of a refusal was cut
+  pub answered : job ≡ Some Run → IsSome (end_of result) → IsMountable words ⊎ (result ≡ WriteFault) × ¬ IsMountable words
 
 -- `mkfs` makes the device a fresh volume of so many pages, and tells its numbers. It leaves the root alone, and every word of the
 -- data pages as it was; a crash in it leaves the old words, no volume, or the fresh one. It acknowledges nothing.
@@ -36,10 +39,16 @@ pub record Makes (pages : ℕ) (result : Status) (before after : DeviceView) (to
   pub fences : after.fences ≤ before.fences + 3
   pub acks : after.acks ≡ before.acks
 
--- `run` tells that the device is no volume, or which rule it breaks first and where, or that it needs recovery, and leaves it alone.
+-- `run` tells that the device is no volume, or what is damaged in it first and where, and leaves it alone.
 pub record Refuses (result : Status) (before after : DeviceView) (took now : List ℕ → Type 0) : Type 0 where
-  pub not_volume : ¬ HoldsVolume before.words → IsTold NotVolume not_a_volume_text result took now
+  pub not_volume : ¬ HoldsVolume before.words → IsToldOrCut NotVolume not_a_volume_text result took now
   pub damaged : HoldsVolume before.words → (result ≡ NoMemory)
-      ⊎ (violation : Violation) × IsDamage before.words violation × IsTold (Damaged violation) (damaged_text violation.rule violation.place) result took now
-  pub words : after.words ≡ before.words
-  pub trail : after.trail ≡ before.trail
+      ⊎ (violation : Violation) × IsDamage before.words violation × IsToldOrCut (Damaged violation) (damaged_text violation.rule violation.place) result took now
+  pub alone : IsLeftAlone before after
+
+-- Memory was short: nothing was read of the script, written or acknowledged. The device is as before, or `run` had mounted it.
+pub record IsShortOfMemory {S K : Type 0} (job : Option Job) (before after : DeviceView) (old_script new_script : S) (old_out new_out : K) : Type 0 where
+  pub script : new_script ≡ old_script
+  pub output : new_out ≡ old_out
+  pub device : IsLeftAlone before after
+      ⊎ (job ≡ Some Run) × IsMountable before.words × IsOnlyMounted (pages_in_image before.words) before after

@@ -5,15 +5,22 @@ use Rattle.pm_trait.specs.DeviceView.{DeviceView}
 use Rattle.squirrel_cli.specs.declared.status.Status.{Status}
 use Rattle.squirrel_cli.specs.declared.status.Status.TheVariants.{Done, DeviceFault, ReadFault, WriteFault}
 
--- nothing was read, written or stored
-pub record IsUntouched {S K : Type 0} (before after : DeviceView) (old_script new_script : S) (old_out new_out : K) : Type 0 where
+-- Nothing was done to the device, but that it may have made room, or refused to.
+pub record IsLeftAlone (before after : DeviceView) : Type 0 where
   pub words : after.words ≡ before.words
   pub trail : after.trail ≡ before.trail
+  pub faults : after.faults ≡ before.faults
+  pub fences : after.fences ≡ before.fences
+  pub acks : after.acks ≡ before.acks
+
+-- nothing was read, written or stored
+pub record IsUntouched {S K : Type 0} (before after : DeviceView) (old_script new_script : S) (old_out new_out : K) : Type 0 where
+  pub device : IsLeftAlone before after
   pub script : new_script ≡ old_script
   pub output : new_out ≡ old_out
 
 -- Each fault has its cause, a read or a write that failed has no other answer, and the work is not done where a fence failed.
-pub record HasCause (result : Status) (before after : DeviceView) (reads_before reads writes_before writes : ℕ) : Type 0 where
+pub record TellsFaults (result : Status) (before after : DeviceView) (reads_before reads writes_before writes : ℕ) : Type 0 where
   pub device : result ≡ DeviceFault → HasRisen before.faults after.faults
   pub done : result ≡ Done → after.faults ≡ before.faults
   pub read : result ≡ ReadFault → HasRisen reads_before reads

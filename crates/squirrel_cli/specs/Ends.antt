@@ -1,5 +1,6 @@
--- How the ends of a run are told, and which starts a job needs.
-use Rattle.std.specs.Prelude.{◌≡◌, ℕ, ◌*◌, ◌<◌, ◌++◌, List, length, Option, Some, None}
+-- How the ends of a job are told, and which starts a job needs.
+use Rattle.std.specs.Prelude.{◌≡◌, ℕ, ◌*◌, ◌^◌, ◌<◌, ◌≤◌, ◌++◌, List, length, Option, Some, None}
+use Rattle.pm_trait.specs.DeviceView.{DeviceView, IsSettledView}
 use Rattle.squirrel_cli.specs.declared.job.Job.{Job}
 use Rattle.squirrel_cli.specs.declared.job.Job.TheVariants.{Mkfs, Run}
 use Rattle.script.specs.declared.run_end.RunEnd.{RunEnd}
@@ -9,7 +10,17 @@ use Rattle.squirrel_cli.specs.declared.status.Status.TheVariants.{Done, Usage, N
 use Rattle.mount_scan.specs.Mounting.{IsTidy}
 use Rattle.script.specs.Lines.{script_limit}
 
--- the end of a run that a status tells
+-- a device that a job may begin on: it is settled, and its counts are far from the end of their range
+pub record IsStart (device : DeviceView) : Type 0 where
+  pub settled : IsSettledView device
+  pub fences : device.fences ≤ 2 ^ 32
+  pub acks : device.acks ≤ 2 ^ 32
+
+-- the words are a volume that is mounted: one that needs no recovery
+abbrev pub IsMountable : List ℕ → Type 0
+IsMountable words = IsTidy words
+
+-- how `run` ended that a status tells, where the volume was to be mounted: a device fault is one of the mount or of the run
 abbrev pub end_of : Status → Option RunEnd
 end_of Done = Some ends.Done
 end_of Usage = None
@@ -32,8 +43,8 @@ abbrev pub IsShortScript : Option (List ℕ) → Type 0
 IsShortScript None = ⊥
 IsShortScript (Some bytes) = length bytes < script_limit
 
--- the device is as the job needs it: of the right length, or a volume that needs no recovery
-abbrev pub IsReady : Option Job → List ℕ → Type 0
-IsReady None words = ⊥
-IsReady (Some (Mkfs pages)) words = length words ≡ 512 * pages
-IsReady (Some Run) words = IsTidy words
+-- the device is as the job needs it: of the right length, or a volume that is mounted
+abbrev pub IsReadyFor : Option Job → List ℕ → Type 0
+IsReadyFor None words = ⊥
+IsReadyFor (Some (Mkfs pages)) words = length words ≡ 512 * pages
+IsReadyFor (Some Run) words = IsMountable words

@@ -4,4 +4,5 @@ pub mod Status
 pub mod Ends
 pub mod Told
 pub mod Causes
+pub mod Mounts
 pub mod Answers

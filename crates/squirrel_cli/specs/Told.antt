@@ -6,7 +6,7 @@ use Rattle.mount_scan.specs.declared.error.MountError.{MountError}
 use Rattle.mount_scan.specs.declared.error.MountError.TheVariants as refused
 use Rattle.script.specs.Texts.{not_a_volume_text, damaged_text}
 use Rattle.squirrel_cli.specs.declared.status.Status.{Status}
-use Rattle.squirrel_cli.specs.declared.status.Status.TheVariants.{NoMemory, NotVolume, Damaged, WriteFault}
+use Rattle.squirrel_cli.specs.declared.status.Status.TheVariants.{NoMemory, NotVolume, Damaged, DeviceFault, WriteFault}
 
 -- this status where the text was written, and else that of a write that failed
 abbrev pub status_of_write : Result (Unit {0}) Fault → Status → Status
@@ -14,12 +14,12 @@ status_of_write (Ok done) status = status
 status_of_write (Err fault) status = WriteFault
 
 -- the text was written and this is the status, or a write failed
-abbrev pub IsTold : Status → List ℕ → Status → (List ℕ → Type 0) → (List ℕ → Type 0) → Type 0
-IsTold status text result took now = (result ≡ status) × Takes took text now ⊎ (result ≡ WriteFault) × TakesPrefix took text now
+abbrev pub IsToldOrCut : Status → List ℕ → Status → (List ℕ → Type 0) → (List ℕ → Type 0) → Type 0
+IsToldOrCut status text result took now = (result ≡ status) × Takes took text now ⊎ (result ≡ WriteFault) × TakesPrefix took text now
 
--- each refusal has its status and its text, but out of memory, of which nothing is written
+-- each refusal has its status and its text, but out of memory and a device fault, of which nothing is written
 abbrev pub IsToldOf : MountError → Status → (List ℕ → Type 0) → (List ℕ → Type 0) → Type 0
-IsToldOf refused.NotVolume result took now = IsTold NotVolume not_a_volume_text result took now
-IsToldOf (refused.Damaged violation) result took now = IsTold (Damaged violation) (damaged_text violation.rule violation.place) result took now
-IsToldOf refused.PmFault result took now = ⊥
+IsToldOf refused.NotVolume result took now = IsToldOrCut NotVolume not_a_volume_text result took now
+IsToldOf (refused.Damaged violation) result took now = IsToldOrCut (Damaged violation) (damaged_text violation.rule violation.place) result took now
+IsToldOf refused.PmFault result took now = result ≡ DeviceFault
 IsToldOf refused.NoMemory result took now = result ≡ NoMemory

@@ -6,14 +6,12 @@ use Rattle.pm_trait.proofs.ContinuesLaws.{no_acks_told}
 use Rattle.format_ops.specs.Crashes.{IsOldHiddenOrFormatted}
 use Rattle.layout.specs.Format.{IsFormattedFrom}
 use Rattle.image_reading.specs.Laws.{IsFresh}
-use Rattle.io_edge.specs.Bytes.{Takes, TakesPrefix}
 use Rattle.script.specs.Texts.{formatted_text}
+use Rattle.squirrel_cli.specs.declared.status.Status.TheVariants.{Done}
+use Rattle.squirrel_cli.specs.Told.{IsToldOrCut}
+use Rattle.squirrel_cli.proofs.Refusals.{told_as, told_whole, told_prefix}
 use Rattle.squirrel_cli.proofs.Unacknowledged.{leaves_unacknowledged}
 use Rattle.squirrel_cli.proofs.mkfs.make_volume.Goals as goal
-
--- the pages are those of the length
-pages_of : (now seen : List ℕ) (pages : ℕ) → seen ≡ now → length seen ≡ 512 * pages → length now / 512 ≡ pages
-pages_of now seen pages is long = let same = ap length is in omega (arith, same, long)
 
 -- what a crash in a format leaves, and that it acknowledges nothing
 format_leaves : {a b : Option Trail} {old new : List ℕ} {fences acks fences_after acks_after : ℕ} (pages : ℕ) → IsHonest old a fences acks → IsHonest new b fences_after acks_after → acks_after ≡ acks
@@ -22,33 +20,27 @@ format_leaves {a = a} {b = b} {old = old} pages before behind stays leaves long 
     let made : length old / 512 ≡ pages = omega (arith, long) in
     leaves_unacknowledged (subst (λ (p : ℕ). LeavesOnly a b (λ k. IsOldHiddenOrFormatted p old)) made leaves) (no_acks_told b leaves.continues before behind stays)
 
-pub returns-in-Ok-write_formatted-clause-makes : goal.returns-in-Ok-write_formatted-clause-makes
-returns-in-Ok-write_formatted-clause-makes g c =
-    let here = c.in-Some.ensures in
-    let made = pages_of (g.P.Pm.view c.args.pm.now).words c.image.result.now c.args.pages c.image.ensures here.1 in
+pub returns-in-Ok-clause-makes : goal.returns-in-Ok-clause-makes
+returns-in-Ok-clause-makes g c =
+    let old = g.P.Pm.view c.args.pm.now in
+    let new = g.P.Pm.view c.format.new.pm in
+    let took = g.K.Sink.took c.args.out.now in
+    let now = g.K.Sink.took c.write_formatted.new.sink in
+    let geometry = c.in-Ok.geometry in
+    let long : length old.words ≡ 512 * c.args.pages = omega (arith, ap length c.image.ensures) in
+    let made : length old.words / 512 ≡ c.args.pages = omega (arith, long) in
+    let same : geometry.pages ≡ c.args.pages = omega (arith, long, c.in-Ok.ensures.geometry) in
+    let told : IsToldOrCut Done (formatted_text c.args.pages) c.status_of_write.result took now =
+    subst (λ (p : ℕ). IsToldOrCut Done (formatted_text p) c.status_of_write.result took now) same
+    (told_as Done c.write_formatted.result c.write_formatted.ensures c.status_of_write.ensures) in
     record {
-      formatted = λ ends. subst (λ (p : ℕ). IsFormattedFrom p (g.P.Pm.view c.args.pm.now).words (g.P.Pm.view c.format.new.pm).words) made c.in-Ok.ensures.formatted;
-      fresh = λ ends. subst (λ (p : ℕ). IsFresh p (g.P.Pm.view c.format.new.pm).words) made c.in-Ok.ensures.fresh;
-      no_fault = search rules;
-      told = λ done. subst (λ (p : ℕ). Takes (g.K.Sink.took c.args.out.now) (formatted_text p) (g.K.Sink.took c.write_formatted.new.sink)) here.0 c.in-Ok-write_formatted.ensures.whole;
-      cut = search rules;
+      formatted = λ ends. subst (λ (p : ℕ). IsFormattedFrom p old.words new.words) made c.in-Ok.ensures.formatted;
+      fresh = λ ends. subst (λ (p : ℕ). IsFresh p new.words) made c.in-Ok.ensures.fresh;
+      no_fault = λ ends. c.in-Ok.ensures.device.no_fault;
+      told = told_whole (λ other. cc other) told;
+      cut = told_prefix (λ other. cc other) told;
       any_moment = λ long. format_leaves c.args.pages (g.met.P.Pm.honest c.args.pm.now) (g.met.P.Pm.honest c.format.new.pm) c.in-Ok.ensures.device.acks c.format.ensures.any_moment long;
-      fences = search rules;
-      acks = c.in-Ok.ensures.device.acks;
-    }
-
-pub returns-in-Err-clause-makes : goal.returns-in-Err-clause-makes
-returns-in-Err-clause-makes g c =
-    let here = c.in-Some.ensures in
-    let made = pages_of (g.P.Pm.view c.args.pm.now).words c.image.result.now c.args.pages c.image.ensures here.1 in
-    record {
-      formatted = λ ends. subst (λ (p : ℕ). IsFormattedFrom p (g.P.Pm.view c.args.pm.now).words (g.P.Pm.view c.format.new.pm).words) made c.in-Ok.ensures.formatted;
-      fresh = λ ends. subst (λ (p : ℕ). IsFresh p (g.P.Pm.view c.format.new.pm).words) made c.in-Ok.ensures.fresh;
-      no_fault = search rules;
-      told = search rules;
-      cut = λ is. subst (λ (p : ℕ). TakesPrefix (g.K.Sink.took c.args.out.now) (formatted_text p) (g.K.Sink.took c.write_formatted.new.sink)) here.0 c.in-Err.ensures.cut;
-      any_moment = λ long. format_leaves c.args.pages (g.met.P.Pm.honest c.args.pm.now) (g.met.P.Pm.honest c.format.new.pm) c.in-Ok.ensures.device.acks c.format.ensures.any_moment long;
-      fences = search rules;
+      fences = c.in-Ok.ensures.device.most_fences;
       acks = c.in-Ok.ensures.device.acks;
     }
 
