@@ -1,0 +1,90 @@
+-- Recovery makes one list of words, and changes nothing of what is tidy.
+use Rattle.std.proofs.Common.{◌≡◌, inl, inr, ℕ, List, refl, sym, subst, ◌∙◌, arith}
+use Rattle.std.proofs.lemmas.Bool.{cases_eq}
+use Rattle.layout.specs.Fields.{word, inode_links, slot_pointer}
+use Rattle.layout.specs.Geometry.{inode_word_of, descriptor_word_of, slot_word_of}
+use Rattle.image_reading.specs.Repairs.{IsPointer, IsLitterSlot, IsLitterPage, IsLitterInode, IsLitterCount}
+use Rattle.image_reading.specs.Tidy.{Tidy}
+use Rattle.image_reading.proofs.Counts.{none_counted}
+use Rattle.image_counts.proofs.Links.{only_links}
+use Rattle.image_laws.proofs.Trees.{tree_law}
+use Rattle.repair_laws.specs.Mended.{GivesUp, Unpoints, Clears, Frees, Mends, IsAfter, IsMended, IsRepair}
+use Rattle.repair_laws.specs.Laws.{OneMended, TidyLaw}
+use Rattle.repair_laws.proofs.After.{same_list, unchanged}
+use Rattle.repair_laws.proofs.Ends.{end_law}
+
+pub one_mended : OneMended
+one_mended P W K L a b = same_list L K (a.size ∙ sym b.size) (λ x. elim (b.words x) [
+  | inr has ↦ a.new x has.0 has.1 ∙ sym (b.new x has.0 has.1)
+  | inl other ↦ elim (a.words x) [ inr has ↦ a.new x has.0 has.1 ∙ sym (b.new x has.0 has.1) | inl same ↦ same ∙ sym other ]
+])
+
+-- ---- what is tidy has the words that recovery would store
+
+module _ (P : ℕ) (W : List ℕ) (tidy : Tidy P W) where
+  gives : {a v : ℕ} → GivesUp P W a v → word W a ≡ v
+  gives (GivesUp.number s d left) =
+      let points = left.points in
+      absurd (none_counted (IsPointer P W) tidy.repaired.of_pointers d (record { held = left.held; nonzero = λ none. omega (arith, points, none) }))
+
+  unpoints : {a v : ℕ} → Unpoints P W a v → word W a ≡ v
+  unfolding slot_pointer
+  unpoints (Unpoints.pointer d held) = elim (cases_eq (slot_pointer P W d) 0) [
+    | inl none ↦ none
+    | inr some ↦ absurd (none_counted (IsPointer P W) tidy.repaired.of_pointers d (record { held = held; nonzero = some }))
+  ]
+
+  clears : {a v : ℕ} → Clears P W a v → word W a ≡ v
+  unfolding inode_links
+  clears (Clears.owner j within free) = elim (cases_eq (word W (descriptor_word_of P j 0)) 0) [
+    | inl none ↦ none
+    | inr some ↦ absurd (none_counted (IsLitterPage P W) tidy.repaired.of_pages j (record { in_range = within; free = free; nonzero = (0, omega arith, some) }))
+  ]
+  clears (Clears.slot s f page dead low small) = elim (cases_eq (word W (slot_word_of P s f)) 0) [
+    | inl none ↦ none
+    | inr some ↦ absurd (none_counted (IsLitterSlot P W) tidy.repaired.of_slots s (record { page = page; dead = dead; nonzero = (f, small, some) }))
+  ]
+  clears (Clears.links i n reached count) =
+      let (T, reads, form) = tree_law P W tidy.sound in
+      let counted = only_links P W T tidy.sound reads i n reached count in
+      elim (cases_eq (inode_links W i) n) [
+        | inl same ↦ same
+        | inr other ↦ absurd (none_counted (IsLitterCount P W) tidy.repaired.of_counts i (record {
+          reached = reached;
+          other = λ links. other (sym (only_links P W T tidy.sound reads i (inode_links W i) reached links) ∙ counted);
+        }))
+      ]
+
+  frees : {a v : ℕ} → Frees P W a v → word W a ≡ v
+  frees (Frees.descriptor j f within free low small) = elim (cases_eq (word W (descriptor_word_of P j f)) 0) [
+    | inl none ↦ none
+    | inr some ↦ absurd (none_counted (IsLitterPage P W) tidy.repaired.of_pages j (record { in_range = within; free = free; nonzero = (f, small, some) }))
+  ]
+  frees (Frees.inode i f least most unreached small) = elim (cases_eq (word W (inode_word_of i f)) 0) [
+    | inl none ↦ none
+    | inr some ↦ absurd (none_counted (IsLitterInode P W) tidy.repaired.of_inodes i (record { least = least; most = most; unreached = unreached; nonzero = (f, small, some) }))
+  ]
+
+  as_they_are : {a v : ℕ} → Mends P W a v → word W a ≡ v
+  as_they_are (Mends.gives_up h) = gives h
+  as_they_are (Mends.unpoints h) = unpoints h
+  as_they_are (Mends.clears h) = clears h
+  as_they_are (Mends.frees h) = frees h
+
+-- a step that stores what is there
+still : (becomes : ℕ → ℕ → Type 0) (W : List ℕ) → ((a v : ℕ) → becomes a v → word W a ≡ v) → IsAfter becomes W W
+still becomes W same = record { size = refl; new = same; words = λ a. inl refl }
+
+no_step : (P : ℕ) (W : List ℕ) → IsMended P W W → IsRepair P W W W W W
+no_step P W mended = record {
+  first = still (GivesUp P W) W (λ a v h. mended.new a v (Mends.gives_up h));
+  second = still (Unpoints P W) W (λ a v h. mended.new a v (Mends.unpoints h));
+  third = still (Clears P W) W (λ a v h. mended.new a v (Mends.clears h));
+  fourth = still (Frees P W) W (λ a v h. mended.new a v (Mends.frees h));
+}
+
+pub tidy_law : TidyLaw
+tidy_law P W K sound mended = (
+  λ tidy. unchanged (Mends P W) W K mended (λ a v h. as_they_are P W tidy h),
+  λ same. (end_law P W W W W W sound (no_step P W (subst (IsMended P W) same mended))).tidy,
+)
