@@ -1,12 +1,11 @@
 -- Which words a step doesn't change, by their address.
 use Rattle.std.proofs.Common.{◌≡◌, ℕ, ◌<◌, ◌≤◌, List, refl, sym, subst, arith}
-use Rattle.layout.specs.Geometry.{inodes_of, data_pages_of, page_of_slot, inode_word_of, descriptor_word_of, slot_word_of}
-use Rattle.image_reading.specs.Reading.{IsHeld, IsLive, Reached, IsLinkCount}
-use Rattle.image_reading.specs.Repairs.{IsKept, IsKeptDirectoryPage}
+use Rattle.layout.specs.Geometry.{inodes_of, data_pages_of, inode_word_of, descriptor_word_of, slot_word_of}
+use Rattle.image_reading.specs.Reading.{IsHeld, Reached, IsLinkCount}
 use Rattle.image_reading.specs.Soundness.{IsCoherent}
 use Rattle.image_counts.proofs.Paths.{in_range}
 use Rattle.image_laws.proofs.Addresses.{head-ne_inode, head-ne_slot, head-ne_descriptor, descriptor-ne_inode, descriptor-ne_slot, inode-ne_slot, inode_word-one, descriptor_word-one, slot_word-one}
-use Rattle.repair_laws.specs.Mended.{WasLeft, GivesUp, Unpoints, Clears, Frees}
+use Rattle.repair_laws.specs.Mended.{WasLeft, GivesUp, Unpoints, Clears, Frees, IsDead, IsUnkept}
 
 module _ (P : ℕ) (W : List ℕ) where
   -- ---- the first step
@@ -41,34 +40,29 @@ module _ (P : ℕ) (W : List ℕ) where
 
   -- ---- the third
 
-  -- a slot of a kept directory page isn't live
-  pub record IsDead (s : ℕ) : Type 0 where
-    pub page : IsKeptDirectoryPage P W (page_of_slot s)
-    pub dead : ¬ IsLive P W s
-
   pub clears_head : {a v : ℕ} → Clears P W a v → a < 512 → ⊥
-  clears_head (Clears.owner j within free) lt = head-ne_descriptor P j 0 (descriptor_word_of P j 0) lt refl
-  clears_head (Clears.slot s f page dead low small) lt = head-ne_slot P s f (slot_word_of P s f) lt refl
+  clears_head (Clears.owner j unkept) lt = head-ne_descriptor P j 0 (descriptor_word_of P j 0) lt refl
+  clears_head (Clears.slot s f dead low small) lt = head-ne_slot P s f (slot_word_of P s f) lt refl
   clears_head (Clears.links i n reached count) lt = head-ne_inode i 1 (inode_word_of i 1) lt refl
 
-  pub clears_slot : {a v : ℕ} (t f : ℕ) → IsCoherent P W → f < 16 → Clears P W a v → a ≡ slot_word_of P t f → (1 ≤ f) × IsDead t × (v ≡ 0)
-  clears_slot t f coherent small (Clears.owner j within free) e = absurd (descriptor-ne_slot P j 0 t f within (omega arith) e)
-  clears_slot t f coherent small (Clears.slot s g page dead low lt) e =
+  pub clears_slot : {a v : ℕ} (t f : ℕ) → IsCoherent P W → f < 16 → Clears P W a v → a ≡ slot_word_of P t f → (1 ≤ f) × IsDead P W t × (v ≡ 0)
+  clears_slot t f coherent small (Clears.owner j unkept) e = absurd (descriptor-ne_slot P j 0 t f unkept.in_range (omega arith) e)
+  clears_slot t f coherent small (Clears.slot s g dead low lt) e =
       let (slots, fields) = slot_word-one P s g t f lt small e in
-      (subst (λ z. 1 ≤ z) fields low, subst IsDead slots (record { page = page; dead = dead }), refl)
+      (subst (λ z. 1 ≤ z) fields low, subst (IsDead P W) slots dead, refl)
   clears_slot t f coherent small (Clears.links i n reached count) e =
       let (least, most) = in_range P W coherent i reached in absurd (inode-ne_slot P i 1 t f least most (omega arith) e)
 
-  pub clears_descriptor : {a v : ℕ} (j f : ℕ) → IsCoherent P W → j < data_pages_of P → f < 8 → Clears P W a v → a ≡ descriptor_word_of P j f → (f ≡ 0) × ¬ IsKept P W j × (v ≡ 0)
-  clears_descriptor j f coherent lt small (Clears.owner k within free) e =
-      let (pages, fields) = descriptor_word-one P k 0 j f (omega arith) small e in (sym fields, subst (λ z. ¬ IsKept P W z) pages free, refl)
-  clears_descriptor j f coherent lt small (Clears.slot s g page dead low high) e = absurd (descriptor-ne_slot P j f s g lt small (sym e))
+  pub clears_descriptor : {a v : ℕ} (j f : ℕ) → IsCoherent P W → j < data_pages_of P → f < 8 → Clears P W a v → a ≡ descriptor_word_of P j f → (f ≡ 0) × IsUnkept P W j × (v ≡ 0)
+  clears_descriptor j f coherent lt small (Clears.owner k unkept) e =
+      let (pages, fields) = descriptor_word-one P k 0 j f (omega arith) small e in (sym fields, subst (IsUnkept P W) pages unkept, refl)
+  clears_descriptor j f coherent lt small (Clears.slot s g dead low high) e = absurd (descriptor-ne_slot P j f s g lt small (sym e))
   clears_descriptor j f coherent lt small (Clears.links i n reached count) e =
       let (least, most) = in_range P W coherent i reached in absurd (descriptor-ne_inode P j f i 1 least most (omega arith) (sym e))
 
   pub clears_inode : {a v : ℕ} (i f : ℕ) → 1 ≤ i → i ≤ inodes_of P → IsCoherent P W → f < 16 → Clears P W a v → a ≡ inode_word_of i f → (f ≡ 1) × IsLinkCount P W i v
-  clears_inode i f least most coherent small (Clears.owner k within free) e = absurd (descriptor-ne_inode P k 0 i f least most small e)
-  clears_inode i f least most coherent small (Clears.slot s g page dead low high) e = absurd (inode-ne_slot P i f s g least most small (sym e))
+  clears_inode i f least most coherent small (Clears.owner k unkept) e = absurd (descriptor-ne_inode P k 0 i f least most small e)
+  clears_inode i f least most coherent small (Clears.slot s g dead low high) e = absurd (inode-ne_slot P i f s g least most small (sym e))
   clears_inode i f least most coherent small (Clears.links k n reached count) e =
       let (inodes, fields) = inode_word-one k 1 i f (in_range P W coherent k reached).0 least (omega arith) small e in
       (sym fields, subst (λ z. IsLinkCount P W z n) inodes count)
@@ -76,20 +70,20 @@ module _ (P : ℕ) (W : List ℕ) where
   -- ---- the fourth
 
   pub frees_head : {a v : ℕ} → Frees P W a v → a < 512 → ⊥
-  frees_head (Frees.descriptor j f within free low small) lt = head-ne_descriptor P j f (descriptor_word_of P j f) lt refl
-  frees_head (Frees.inode i f least most unreached small) lt = head-ne_inode i f (inode_word_of i f) lt refl
+  frees_head (Frees.descriptor j f unkept low small) lt = head-ne_descriptor P j f (descriptor_word_of P j f) lt refl
+  frees_head (Frees.inode i f unreached small) lt = head-ne_inode i f (inode_word_of i f) lt refl
 
   pub frees_slot : {a v : ℕ} (t f : ℕ) → f < 16 → Frees P W a v → a ≡ slot_word_of P t f → ⊥
-  frees_slot t f small (Frees.descriptor j g within free low lt) e = descriptor-ne_slot P j g t f within (omega (arith, lt)) e
-  frees_slot t f small (Frees.inode i g least most unreached lt) e = inode-ne_slot P i g t f least most (omega (arith, lt)) e
+  frees_slot t f small (Frees.descriptor j g unkept low lt) e = descriptor-ne_slot P j g t f unkept.in_range (omega (arith, lt)) e
+  frees_slot t f small (Frees.inode i g unreached lt) e = inode-ne_slot P i g t f unreached.least unreached.most (omega (arith, lt)) e
 
-  pub frees_descriptor : {a v : ℕ} (j f : ℕ) → j < data_pages_of P → f < 8 → Frees P W a v → a ≡ descriptor_word_of P j f → (1 ≤ f) × ¬ IsKept P W j
-  frees_descriptor j f lt small (Frees.descriptor k g within free low high) e =
+  pub frees_descriptor : {a v : ℕ} (j f : ℕ) → j < data_pages_of P → f < 8 → Frees P W a v → a ≡ descriptor_word_of P j f → (1 ≤ f) × IsUnkept P W j
+  frees_descriptor j f lt small (Frees.descriptor k g unkept low high) e =
       let (pages, fields) = descriptor_word-one P k g j f (omega (arith, high)) small e in
-      (subst (λ z. 1 ≤ z) fields low, subst (λ z. ¬ IsKept P W z) pages free)
-  frees_descriptor j f lt small (Frees.inode i g least most unreached high) e = absurd (descriptor-ne_inode P j f i g least most (omega (arith, high)) (sym e))
+      (subst (λ z. 1 ≤ z) fields low, subst (IsUnkept P W) pages unkept)
+  frees_descriptor j f lt small (Frees.inode i g unreached high) e = absurd (descriptor-ne_inode P j f i g unreached.least unreached.most (omega (arith, high)) (sym e))
 
   pub frees_inode : {a v : ℕ} (i f : ℕ) → 1 ≤ i → i ≤ inodes_of P → f < 16 → Frees P W a v → a ≡ inode_word_of i f → ¬ Reached P W i
-  frees_inode i f least most small (Frees.descriptor k g within free low high) e = absurd (descriptor-ne_inode P k g i f least most small e)
-  frees_inode i f least most small (Frees.inode k g low more unreached high) e =
-      let (inodes, fields) = inode_word-one k g i f low least (omega (arith, high)) small e in subst (λ z. ¬ Reached P W z) inodes unreached
+  frees_inode i f least most small (Frees.descriptor k g unkept low high) e = absurd (descriptor-ne_inode P k g i f least most small e)
+  frees_inode i f least most small (Frees.inode k g unreached high) e =
+      let (inodes, fields) = inode_word-one k g i f unreached.least least (omega (arith, high)) small e in subst (λ z. ¬ Reached P W z) inodes unreached.unreached

@@ -14,7 +14,7 @@ use Rattle.image_laws.specs.Free.{IsFree, Stores}
 use Rattle.image_laws.specs.Quiet.{IsMix}
 use Rattle.image_laws.proofs.Free.{stores_law}
 use Rattle.image_laws.proofs.Meaning.{same_chained}
-use Rattle.repair_laws.specs.Mended.{Clears, IsRepair}
+use Rattle.repair_laws.specs.Mended.{Clears, IsRepair, IsUnkept}
 use Rattle.repair_laws.specs.Laws.{SameUse}
 use Rattle.repair_laws.proofs.After.{stays}
 use Rattle.repair_laws.proofs.Apart.{clears_slot, clears_descriptor, clears_inode}
@@ -42,18 +42,18 @@ module _ (P : ℕ) (W A B C K : List ℕ) (coherent : IsCoherent P W) (repair : 
   third_rest j f lt small some = stays (Clears P W) B C repair.third (descriptor_word_of P j f) (λ v clears.
       let (zero, free, none) = clears_descriptor P W j f coherent lt small clears refl in omega (arith, zero, some))
 
-  pub third_owner : (j : ℕ) → j < data_pages_of P → (page_owner P C j ≡ page_owner P B j) ⊎ ((¬ IsKept P W j) × (page_owner P C j ≡ 0))
+  pub third_owner : (j : ℕ) → j < data_pages_of P → (page_owner P C j ≡ page_owner P B j) ⊎ (IsUnkept P W j × (page_owner P C j ≡ 0))
   unfolding page_owner
   third_owner j lt = elim (repair.third.words (descriptor_word_of P j 0)) [
     | inl same ↦ inl same
     | inr has ↦
         let (zero, free, none) = clears_descriptor P W j 0 coherent lt (omega arith) has.1 refl in
-        inr (free, repair.third.new (descriptor_word_of P j 0) 0 (Clears.owner j lt free))
+        inr (free, repair.third.new (descriptor_word_of P j 0) 0 (Clears.owner j free))
   ]
 
-  pub third_free : (j : ℕ) → j < data_pages_of P → ¬ IsKept P W j → page_owner P C j ≡ 0
+  pub third_free : (j : ℕ) → IsUnkept P W j → page_owner P C j ≡ 0
   unfolding page_owner
-  third_free j lt free = repair.third.new (descriptor_word_of P j 0) 0 (Clears.owner j lt free)
+  third_free j unkept = repair.third.new (descriptor_word_of P j 0) 0 (Clears.owner j unkept)
 
   pub third_number : (s : ℕ) → slot_inode P C s ≡ slot_inode P B s
   unfolding slot_inode
@@ -69,9 +69,12 @@ module _ (P : ℕ) (W A B C K : List ℕ) (coherent : IsCoherent P W) (repair : 
 
   -- ---- a page that isn't kept
 
-  module _ (j : ℕ) (lt : j < data_pages_of P) (free : ¬ IsKept P W j) (owned : page_owner P B j ≢ 0) where
+  module _ (j : ℕ) (unkept : IsUnkept P W j) (owned : page_owner P B j ≢ 0) where
+    lt : j < data_pages_of P
+    lt = unkept.in_range
+
     not_kept : ¬ IsKept P B j
-    not_kept kept = free ((use_same.kept j).1 kept)
+    not_kept kept = unkept.free ((use_same.kept j).1 kept)
 
     slot_held : page_kind P B j ≡ 2 → (s : ℕ) → page_of_slot s ≡ j → IsHeld P W s
     unfolding slot_owner
@@ -112,7 +115,7 @@ module _ (P : ℕ) (W A B C K : List ℕ) (coherent : IsCoherent P W) (repair : 
     unfolding page_kind page_offset
     exempt = record {
       before = inr refl;
-      after = inl (third_free j lt free);
+      after = inl (third_free j unkept);
       same_kind = third_rest j 1 lt (omega arith) (omega arith);
       same_offset = third_rest j 2 lt (omega arith) (omega arith);
       file = is_past;
@@ -126,21 +129,21 @@ module _ (P : ℕ) (W A B C K : List ℕ) (coherent : IsCoherent P W) (repair : 
 
   free_word : {a v : ℕ} → Clears P W a v → (word C a ≡ word B a) ⊎ IsFree P B a
   unfolding slot_pointer
-  free_word (Clears.owner j within free) = inr (IsFree.owner j within)
+  free_word (Clears.owner j unkept) = inr (IsFree.owner j unkept.in_range)
   free_word (Clears.links i n reached count) = let (least, most) = in_range P W coherent i reached in inr (IsFree.link i least most)
-  free_word (Clears.slot s f page dead low small) = elim (cases_eq f 1) [
-    | inr more ↦ inr (IsFree.name s f (omega (arith, low, more)) small ((use_same.held s).0 (kept_held P W coherent s page)) (λ slot. dead ((use_same.live s).1 slot.live)))
+  free_word (Clears.slot s f dead low small) = elim (cases_eq f 1) [
+    | inr more ↦ inr (IsFree.name s f (omega (arith, low, more)) small ((use_same.held s).0 (kept_held P W coherent s dead.page)) (λ slot. dead.dead ((use_same.live s).1 slot.live)))
     | inl one ↦
-        let held = kept_held P W coherent s page in
+        let held = kept_held P W coherent s dead.page in
         inl (ap (λ g. word C (slot_word_of P s g)) one ∙ third_pointer s held ∙ sym (none_points s held) ∙ ap (λ g. word B (slot_word_of P s g)) (sym one))
   ]
 
   owners : (j : ℕ) → j < data_pages_of P → (page_owner P C j ≡ page_owner P B j) ⊎ ((g : ℕ) × IsExempt P B C j g)
   owners j lt = elim (third_owner j lt) [
     | inl same ↦ inl same
-    | inr (free, none) ↦ elim (cases_eq (page_owner P B j) 0) [
+    | inr (unkept, none) ↦ elim (cases_eq (page_owner P B j) 0) [
       | inl unowned ↦ inl (none ∙ sym unowned)
-      | inr owned ↦ inr (page_owner P B j, exempt j lt free owned)
+      | inr owned ↦ inr (page_owner P B j, exempt j unkept owned)
     ]
   ]
 

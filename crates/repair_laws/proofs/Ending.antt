@@ -32,8 +32,8 @@ module _ (P : ℕ) (W A B C K : List ℕ) (coherent : IsCoherent P W) (repair : 
   pub kept_word : (j f : ℕ) → IsKept P W j → f < 8 → word K (descriptor_word_of P j f) ≡ word W (descriptor_word_of P j f)
   kept_word j f kept small =
       let lt = kept_below j kept in
-      stays (Frees P W) C K repair.fourth (descriptor_word_of P j f) (λ v frees. let (some, free) = frees_descriptor P W j f lt small frees refl in free kept)
-      ∙ stays (Clears P W) B C repair.third (descriptor_word_of P j f) (λ v clears. let (zero, free, none) = clears_descriptor P W j f coherent lt small clears refl in free kept)
+      stays (Frees P W) C K repair.fourth (descriptor_word_of P j f) (λ v frees. let (some, free) = frees_descriptor P W j f lt small frees refl in free.free kept)
+      ∙ stays (Clears P W) B C repair.third (descriptor_word_of P j f) (λ v clears. let (zero, free, none) = clears_descriptor P W j f coherent lt small clears refl in free.free kept)
       ∙ pointing.second_descriptor P W coherent A repair.first B repair.second j f lt small
 
   pub kept_owner : (j : ℕ) → IsKept P W j → page_owner P K j ≡ page_owner P W j
@@ -49,13 +49,13 @@ module _ (P : ℕ) (W A B C K : List ℕ) (coherent : IsCoherent P W) (repair : 
   kept_offset j kept = kept_word j 2 kept (omega arith)
 
   pub free_owner : (j : ℕ) → j < data_pages_of P → ¬ IsKept P W j → page_owner P K j ≡ 0
-  free_owner j lt free = fourth_owner P W A B C K coherent repair j lt ∙ third_free P W A B C K coherent repair j lt free
+  free_owner j lt free = fourth_owner P W A B C K coherent repair j lt ∙ third_free P W A B C K coherent repair j (record { in_range = lt; free = free })
 
   pub free_word : (j f : ℕ) → j < data_pages_of P → ¬ IsKept P W j → f < descriptor_words → word K (descriptor_word_of P j f) ≡ 0
   unfolding page_owner
   free_word j f lt free small = elim (cases_eq f 0) [
     | inl zero ↦ ap (λ g. word K (descriptor_word_of P j g)) zero ∙ free_owner j lt free
-    | inr some ↦ repair.fourth.new (descriptor_word_of P j f) 0 (Frees.descriptor j f lt free (omega (arith, some)) small)
+    | inr some ↦ repair.fourth.new (descriptor_word_of P j f) 0 (Frees.descriptor j f (record { in_range = lt; free = free }) (omega (arith, some)) small)
   ]
 
   -- a page with an owner is kept
@@ -76,7 +76,7 @@ module _ (P : ℕ) (W A B C K : List ℕ) (coherent : IsCoherent P W) (repair : 
   last_pointer s held = same_slot_word s 1 (omega arith) ∙ third_pointer P W A B C K coherent repair s held
 
   pub dead_word : (s f : ℕ) → IsKeptDirectoryPage P W (page_of_slot s) → ¬ IsLive P W s → 1 ≤ f → f < 16 → word K (slot_word_of P s f) ≡ 0
-  dead_word s f page dead some small = same_slot_word s f small ∙ repair.third.new (slot_word_of P s f) 0 (Clears.slot s f page dead some small)
+  dead_word s f page dead some small = same_slot_word s f small ∙ repair.third.new (slot_word_of P s f) 0 (Clears.slot s f (record { page = page; dead = dead }) some small)
 
   held_kept : (s : ℕ) → IsHeld P K s → IsKept P W (page_of_slot s)
   unfolding slot_owner

@@ -55,7 +55,7 @@ module _ (P : ℕ) (W A B C K : List ℕ) (coherent : IsCoherent P W) (repair : 
   no_inode i litter =
       let (f, small, some) = litter.nonzero in
       some (repair.fourth.new (inode_word_of i f) 0
-      (Frees.inode i f litter.least litter.most (λ reached. litter.unreached (reached_after P W K means i reached)) small))
+      (Frees.inode i f (record { least = litter.least; most = litter.most; unreached = λ reached. litter.unreached (reached_after P W K means i reached) }) small))
 
   no_count : (i : ℕ) → IsLitterCount P K i → ⊥
   no_count i litter =
@@ -92,8 +92,8 @@ module _ (P : ℕ) (W A B C K : List ℕ) (coherent : IsCoherent P W) (repair : 
 
   clears : {a v : ℕ} → Clears P W a v → word K a ≡ v
   unfolding page_owner inode_links
-  clears (Clears.owner j within free) = ending.free_owner P W A B C K coherent repair j within free
-  clears (Clears.slot s f page dead low small) = ending.dead_word P W A B C K coherent repair s f page dead low small
+  clears (Clears.owner j unkept) = ending.free_owner P W A B C K coherent repair j unkept.in_range unkept.free
+  clears (Clears.slot s f dead low small) = ending.dead_word P W A B C K coherent repair s f dead.page dead.dead low small
   clears (Clears.links i n reached count) = ending.counted_links P W A B C K coherent repair i n reached count
 
   new : {a v : ℕ} → Mends P W a v → word K a ≡ v

@@ -34,8 +34,8 @@ module _ (P : ℕ) (W A B C K : List ℕ) (coherent : IsCoherent P W) (repair : 
       stays (Frees P W) C K repair.fourth (inode_word_of i f) (λ v frees. frees_inode P W i f least most small frees refl reached)
 
   free_word : {a v : ℕ} → Frees P W a v → IsFree P C a
-  free_word (Frees.descriptor j f within free low small) = IsFree.descriptor j f within (omega (arith, small)) (third_free P W A B C K coherent repair j within free)
-  free_word (Frees.inode i f least most unreached small) = IsFree.inode i f least most (omega (arith, small)) (λ reached. unreached (reached_before P W C means i reached))
+  free_word (Frees.descriptor j f unkept low small) = IsFree.descriptor j f unkept.in_range (omega (arith, small)) (third_free P W A B C K coherent repair j unkept)
+  free_word (Frees.inode i f unreached small) = IsFree.inode i f unreached.least unreached.most (omega (arith, small)) (λ reached. unreached.unreached (reached_before P W C means i reached))
 
   links : (i : ℕ) → Reached P C i → HasLinks P C i (inode_links K i)
   unfolding inode_links

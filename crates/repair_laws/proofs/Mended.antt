@@ -36,13 +36,13 @@ module _ (P : ℕ) (W : List ℕ) (tidy : Tidy P W) where
 
   clears : {a v : ℕ} → Clears P W a v → word W a ≡ v
   unfolding inode_links
-  clears (Clears.owner j within free) = elim (cases_eq (word W (descriptor_word_of P j 0)) 0) [
+  clears (Clears.owner j unkept) = elim (cases_eq (word W (descriptor_word_of P j 0)) 0) [
     | inl none ↦ none
-    | inr some ↦ absurd (none_counted (IsLitterPage P W) tidy.repaired.of_pages j (record { in_range = within; free = free; nonzero = (0, omega arith, some) }))
+    | inr some ↦ absurd (none_counted (IsLitterPage P W) tidy.repaired.of_pages j (record { in_range = unkept.in_range; free = unkept.free; nonzero = (0, omega arith, some) }))
   ]
-  clears (Clears.slot s f page dead low small) = elim (cases_eq (word W (slot_word_of P s f)) 0) [
+  clears (Clears.slot s f dead low small) = elim (cases_eq (word W (slot_word_of P s f)) 0) [
     | inl none ↦ none
-    | inr some ↦ absurd (none_counted (IsLitterSlot P W) tidy.repaired.of_slots s (record { page = page; dead = dead; nonzero = (f, small, some) }))
+    | inr some ↦ absurd (none_counted (IsLitterSlot P W) tidy.repaired.of_slots s (record { page = dead.page; dead = dead.dead; nonzero = (f, small, some) }))
   ]
   clears (Clears.links i n reached count) =
       let (T, reads, form) = tree_law P W tidy.sound in
@@ -56,13 +56,13 @@ module _ (P : ℕ) (W : List ℕ) (tidy : Tidy P W) where
       ]
 
   frees : {a v : ℕ} → Frees P W a v → word W a ≡ v
-  frees (Frees.descriptor j f within free low small) = elim (cases_eq (word W (descriptor_word_of P j f)) 0) [
+  frees (Frees.descriptor j f unkept low small) = elim (cases_eq (word W (descriptor_word_of P j f)) 0) [
     | inl none ↦ none
-    | inr some ↦ absurd (none_counted (IsLitterPage P W) tidy.repaired.of_pages j (record { in_range = within; free = free; nonzero = (f, small, some) }))
+    | inr some ↦ absurd (none_counted (IsLitterPage P W) tidy.repaired.of_pages j (record { in_range = unkept.in_range; free = unkept.free; nonzero = (f, small, some) }))
   ]
-  frees (Frees.inode i f least most unreached small) = elim (cases_eq (word W (inode_word_of i f)) 0) [
+  frees (Frees.inode i f unreached small) = elim (cases_eq (word W (inode_word_of i f)) 0) [
     | inl none ↦ none
-    | inr some ↦ absurd (none_counted (IsLitterInode P W) tidy.repaired.of_inodes i (record { least = least; most = most; unreached = unreached; nonzero = (f, small, some) }))
+    | inr some ↦ absurd (none_counted (IsLitterInode P W) tidy.repaired.of_inodes i (record { least = unreached.least; most = unreached.most; unreached = unreached.unreached; nonzero = (f, small, some) }))
   ]
 
   as_they_are : {a v : ℕ} → Mends P W a v → word W a ≡ v

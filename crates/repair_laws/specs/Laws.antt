@@ -24,8 +24,8 @@ pub record KeepsUse (P : ℕ) (W A B : List ℕ) : Type 0 where
 abbrev pub UseLaw : Type 0
 UseLaw = (P : ℕ) (W A B C K : List ℕ) → Sound P W → IsRepair P W A B C K → KeepsUse P W A B
 
--- Whatever mix of old and new words a crash leaves in a step means what W means: it is sound, with the same paths, nodes,
--- tree and room.
+-- Whatever mix of old and new words a crash leaves in a step means what W means: it is sound, with the same paths,
+-- nodes, tree and room.
 pub record KeepsMeaning (P : ℕ) (W A B C K : List ℕ) : Type 0 where
   pub first : (M : List ℕ) → IsMix W A M → SameMeaning P W M
   pub second : (M : List ℕ) → IsMix A B M → SameMeaning P W M

@@ -12,6 +12,22 @@ pub record WasLeft (P : ℕ) (W : List ℕ) (s d : ℕ) : Type 0 where
   pub same : slot_inode P W d ≡ slot_inode P W s
   pub names : slot_inode P W s ≢ 0
 
+-- a slot of a kept directory page that isn't live
+pub record IsDead (P : ℕ) (W : List ℕ) (s : ℕ) : Type 0 where
+  pub page : IsKeptDirectoryPage P W (page_of_slot s)
+  pub dead : ¬ IsLive P W s
+
+-- a data page that isn't kept
+pub record IsUnkept (P : ℕ) (W : List ℕ) (j : ℕ) : Type 0 where
+  pub in_range : j < data_pages_of P
+  pub free : ¬ IsKept P W j
+
+-- an inode of the table that isn't reached
+pub record IsUnreached (P : ℕ) (W : List ℕ) (i : ℕ) : Type 0 where
+  pub least : 1 ≤ i
+  pub most : i ≤ inodes_of P
+  pub unreached : ¬ Reached P W i
+
 -- ---- which words become what, in each step
 
 -- 1: the slot that was left gives up its inode number.
@@ -22,17 +38,17 @@ pub data GivesUp (P : ℕ) (W : List ℕ) : ℕ → ℕ → Type 0 where
 pub data Unpoints (P : ℕ) (W : List ℕ) : ℕ → ℕ → Type 0 where
   pointer : (d : ℕ) → IsHeld P W d → Unpoints P W (slot_word_of P d 1) 0
 
--- 3: Pages that aren't kept lose their owner, dead slots of kept directory pages become zero, and reached inodes get the
--- links that are counted.
+-- 3: Pages that aren't kept lose their owner, dead slots their pointer and name, and reached inodes get the links that
+-- are counted.
 pub data Clears (P : ℕ) (W : List ℕ) : ℕ → ℕ → Type 0 where
-  owner : (j : ℕ) → j < data_pages_of P → ¬ IsKept P W j → Clears P W (descriptor_word_of P j 0) 0
-  slot : (s f : ℕ) → IsKeptDirectoryPage P W (page_of_slot s) → ¬ IsLive P W s → 1 ≤ f → f < 16 → Clears P W (slot_word_of P s f) 0
+  owner : (j : ℕ) → IsUnkept P W j → Clears P W (descriptor_word_of P j 0) 0
+  slot : (s f : ℕ) → IsDead P W s → 1 ≤ f → f < 16 → Clears P W (slot_word_of P s f) 0
   links : (i n : ℕ) → Reached P W i → IsLinkCount P W i n → Clears P W (inode_word_of i 1) n
 
 -- 4: The other words of those pages' descriptors become zero, and the words of inodes that aren't reached.
 pub data Frees (P : ℕ) (W : List ℕ) : ℕ → ℕ → Type 0 where
-  descriptor : (j f : ℕ) → j < data_pages_of P → ¬ IsKept P W j → 1 ≤ f → f < descriptor_words → Frees P W (descriptor_word_of P j f) 0
-  inode : (i f : ℕ) → 1 ≤ i → i ≤ inodes_of P → ¬ Reached P W i → f < inode_words → Frees P W (inode_word_of i f) 0
+  descriptor : (j f : ℕ) → IsUnkept P W j → 1 ≤ f → f < descriptor_words → Frees P W (descriptor_word_of P j f) 0
+  inode : (i f : ℕ) → IsUnreached P W i → f < inode_words → Frees P W (inode_word_of i f) 0
 
 -- any of these
 pub data Mends (P : ℕ) (W : List ℕ) (a v : ℕ) : Type 0 where
