@@ -136,7 +136,7 @@ module _ (P : ℕ) (W A B C K : List ℕ) (coherent : IsCoherent P W) (repair : 
 
   -- ---- kept pages and reached slots
 
-  slots_page : (s : ℕ) → IsReachedSlot P W s → IsKept P W (page_of_slot s)
+  pub slots_page : (s : ℕ) → IsReachedSlot P W s → IsKept P W (page_of_slot s)
   unfolding slot_owner
   slots_page s slot = inr (record { reached = slot.owner; directory = slot.directory; slot = (s, refl, refl, slot.live) })
 

@@ -65,7 +65,7 @@ module _ (P : ℕ) (W A B C K : List ℕ) (coherent : IsCoherent P W) (repair : 
       litter.other (subst (IsLinkCount P K i) (sym (ending.counted_links P W A B C K coherent repair i _ reached count))
       (ending.counted_after P W A B C K coherent repair i _ reached count))
 
-  tidy : Tidy P K
+  pub tidy : Tidy P K
   tidy = record {
     sound = means.coherent;
     repaired = record {
@@ -117,12 +117,8 @@ module _ (P : ℕ) (W A B C K : List ℕ) (coherent : IsCoherent P W) (repair : 
     ]
   ]
 
-  mended : IsMended P W K
+  pub mended : IsMended P W K
   mended = record { size = repair.fourth.size ∙ repair.third.size ∙ repair.second.size ∙ repair.first.size; new = λ a v h. new h; words = words }
 
 pub end_law : EndLaw
-end_law P W A B C K sound repair = record {
-  meaning = fourth_means P W A B C K sound repair;
-  tidy = tidy P W A B C K sound repair;
-  mended = mended P W A B C K sound repair;
-}
+end_law P W A B C K sound repair = mended P W A B C K sound repair

@@ -10,3 +10,6 @@ pub mod Freeing
 pub mod Ending
 pub mod Ends
 pub mod Mended
+pub mod Making
+pub mod Telling
+pub mod Indexed

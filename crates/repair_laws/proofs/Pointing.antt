@@ -66,12 +66,12 @@ module _ (P : ℕ) (W : List ℕ) (coherent : IsCoherent P W) where
   left_points s d left = record { held = left.held; some = λ none. let points = left.points in omega (arith, points, none) }
 
   -- the slot that was left is one
-  one_left : (s t d e : ℕ) → WasLeft P W s d → WasLeft P W t e → s ≡ t
+  pub one_left : (s t d e : ℕ) → WasLeft P W s d → WasLeft P W t e → s ≡ t
   one_left s t d e a b =
       let same = ap (slot_pointer P W) (one_points d e (left_points s d a) (left_points t e b)) in
       let first = a.points in let second = b.points in omega (arith, same, first, second)
 
-  left_held : (s d : ℕ) → WasLeft P W s d → IsHeld P W s
+  pub left_held : (s d : ℕ) → WasLeft P W s d → IsHeld P W s
   left_held s d left =
       let target = (coherent Rule.pointers d).held left.held (left_points s d left).some in
       let is : slot_pointer P W d - 1 ≡ s = let points = left.points in omega (arith, points) in
@@ -90,7 +90,7 @@ module _ (P : ℕ) (W : List ℕ) (coherent : IsCoherent P W) where
   not_left s d live left = live.stays d left.held left.points left.same
 
   -- some slot was left, or none
-  some_left : ((s : ℕ) × (d : ℕ) × WasLeft P W s d) ⊎ ((s d : ℕ) → ¬ WasLeft P W s d)
+  pub some_left : ((s : ℕ) × (d : ℕ) × WasLeft P W s d) ⊎ ((s d : ℕ) → ¬ WasLeft P W s d)
   some_left = elim (any_below Points (slots_of P) points_or_not) [
     | inr none ↦ inr (λ s d left. none d left.held.in_range (left_points s d left))
     | inl has ↦

@@ -1,12 +1,14 @@
 -- What holds while an image is repaired, and after it.
-use Rattle.std.specs.Prelude.{◌≡◌, ◌↔◌, ℕ, List}
-use Rattle.image_reading.specs.Reading.{IsHeld, IsLive, Reached, IsLinkCount}
+use Rattle.std.specs.Prelude.{◌≡◌, ◌↔◌, ℕ, ◌≤◌, List}
+use Rattle.layout.specs.Fields.{inode_kind, inode_size, page_owner, page_offset, slot_inode}
+use Rattle.image_reading.specs.Reading.{IsHeld, IsLive, Reached, IsReachedSlot, IsLinkCount}
 use Rattle.image_reading.specs.Repairs.{IsKept}
 use Rattle.image_reading.specs.Soundness.{Sound}
 use Rattle.image_reading.specs.Tidy.{Tidy}
+use Rattle.image_counts.specs.Entries.{IsEntryOf, IsPageIn, IsFreePage, IsFreeInode}
 use Rattle.image_laws.specs.Frame.{SameMeaning}
 use Rattle.image_laws.specs.Quiet.{IsMix}
-use Rattle.repair_laws.specs.Mended.{IsMended, IsRepair}
+use Rattle.repair_laws.specs.Mended.{IsUnkept, IsUnreached, IsMended, IsRepair}
 
 -- In X is held, live, reached, kept and counted what is in W.
 pub record SameUse (P : ℕ) (W X : List ℕ) : Type 0 where
@@ -35,19 +37,37 @@ pub record KeepsMeaning (P : ℕ) (W A B C K : List ℕ) : Type 0 where
 abbrev pub RepairLaw : Type 0
 RepairLaw = (P : ℕ) (W A B C K : List ℕ) → Sound P W → IsRepair P W A B C K → KeepsMeaning P W A B C K
 
--- The end means what W means, and is tidy; it is what recovery makes of W.
-pub record IsRepaired (P : ℕ) (W K : List ℕ) : Type 0 where
-  pub meaning : SameMeaning P W K
-  pub tidy : Tidy P K
-  pub mended : IsMended P W K
-
+-- The last words are what recovery makes of the first.
 abbrev pub EndLaw : Type 0
-EndLaw = (P : ℕ) (W A B C K : List ℕ) → Sound P W → IsRepair P W A B C K → IsRepaired P W K
+EndLaw = (P : ℕ) (W A B C K : List ℕ) → Sound P W → IsRepair P W A B C K → IsMended P W K
 
--- Recovery makes one list of words of an image at most,
+-- There are such steps from every sound image,
+abbrev pub SomeRepair : Type 0
+SomeRepair = (P : ℕ) (W : List ℕ) → Sound P W → (A : List ℕ) × (B : List ℕ) × (C : List ℕ) × (K : List ℕ) × IsRepair P W A B C K
+
+-- and recovery makes one list of words of an image.
 abbrev pub OneMended : Type 0
 OneMended = (P : ℕ) (W K L : List ℕ) → IsMended P W K → IsMended P W L → K ≡ L
 
--- and a sound image is tidy exactly where it makes the same words of it.
+-- It means what the image means, and is tidy.
+abbrev pub MendedLaw : Type 0
+MendedLaw = (P : ℕ) (W K : List ℕ) → Sound P W → IsMended P W K → SameMeaning P W K × Tidy P K
+
+-- A sound image is tidy exactly where recovery makes the same words of it.
 abbrev pub TidyLaw : Type 0
 TidyLaw = (P : ℕ) (W K : List ℕ) → Sound P W → IsMended P W K → Tidy P W ↔ (K ≡ W)
+
+-- What an index of K holds, read off W: the entries are the reached slots, with their names and numbers; the pages are
+-- those that are kept, with their owners and offsets; what isn't reached or kept is free.
+pub record HasIndexOf (P : ℕ) (W K : List ℕ) : Type 0 where
+  pub entries : (d s : ℕ) (bytes : List ℕ) → IsEntryOf P K d bytes s ↔ IsEntryOf P W d bytes s
+  pub numbers : (s : ℕ) → IsReachedSlot P W s → slot_inode P K s ≡ slot_inode P W s
+  pub kinds : (i : ℕ) → Reached P W i → inode_kind K i ≡ inode_kind W i
+  pub sizes : (i : ℕ) → Reached P W i → inode_size K i ≡ inode_size W i
+  pub pages : (i j : ℕ) → 1 ≤ i → IsPageIn P K i j ↔ (IsKept P W j × (page_owner P W j ≡ i))
+  pub offsets : (j : ℕ) → IsKept P W j → page_offset P K j ≡ page_offset P W j
+  pub free_inodes : (i : ℕ) → IsFreeInode P K i ↔ IsUnreached P W i
+  pub free_pages : (j : ℕ) → IsFreePage P K j ↔ IsUnkept P W j
+
+abbrev pub IndexLaw : Type 0
+IndexLaw = (P : ℕ) (W K : List ℕ) → Sound P W → IsMended P W K → HasIndexOf P W K

@@ -1,9 +1,10 @@
 //! Laws of recovery: what it makes of the words of an image, and that no crash in it changes what the image means.
 #![tactic(auto)]
 
-ghost use Rattle.repair_laws.specs.Laws.{UseLaw, RepairLaw, EndLaw, OneMended, TidyLaw};
+ghost use Rattle.repair_laws.specs.Laws.{UseLaw, RepairLaw, EndLaw};
+ghost use Rattle.repair_laws.specs.Laws.{SomeRepair, OneMended, MendedLaw, TidyLaw, IndexLaw};
 
-/// The first two steps change nothing that is live, reached, kept or counted.
+/// The first two steps change nothing that is held, live, reached, kept or counted.
 pub fn use_law()
     ensures { UseLaw }
 {}
@@ -13,13 +14,21 @@ pub fn repair_law()
     ensures { RepairLaw }
 {}
 
-/// The words after the last step mean the same and are tidy.
+/// The words after the last step are what recovery makes of the first.
 pub fn end_law()
     ensures { EndLaw }
 {}
 
-/// Recovery makes one list of words of an image, and the same list exactly where the image is tidy.
+/// Recovery makes one list of words of each sound image, which means the same and is tidy, and is the same list exactly
+/// where the image is tidy.
 pub fn mended_law()
+    ensures some { SomeRepair }
     ensures one { OneMended }
+    ensures means { MendedLaw }
     ensures tidy { TidyLaw }
+{}
+
+/// What an index of the words after a repair holds is read off the words before.
+pub fn index_law()
+    ensures { IndexLaw }
 {}
