@@ -60,12 +60,12 @@ module _ (P : ℕ) (W : List ℕ) where
   clears_descriptor j f coherent lt small (Clears.links i n reached count) e =
       let (least, most) = in_range P W coherent i reached in absurd (descriptor-ne_inode P j f i 1 least most (omega arith) (sym e))
 
-  pub clears_inode : {a v : ℕ} (i f : ℕ) → 1 ≤ i → i ≤ inodes_of P → IsCoherent P W → f < 16 → Clears P W a v → a ≡ inode_word_of i f → (f ≡ 1) × IsLinkCount P W i v
+  pub clears_inode : {a v : ℕ} (i f : ℕ) → 1 ≤ i → i ≤ inodes_of P → IsCoherent P W → f < 16 → Clears P W a v → a ≡ inode_word_of i f → (f ≡ 1) × Reached P W i × IsLinkCount P W i v
   clears_inode i f least most coherent small (Clears.owner k unkept) e = absurd (descriptor-ne_inode P k 0 i f least most small e)
   clears_inode i f least most coherent small (Clears.slot s g dead low high) e = absurd (inode-ne_slot P i f s g least most small (sym e))
   clears_inode i f least most coherent small (Clears.links k n reached count) e =
       let (inodes, fields) = inode_word-one k 1 i f (in_range P W coherent k reached).0 least (omega arith) small e in
-      (sym fields, subst (λ z. IsLinkCount P W z n) inodes count)
+      (sym fields, subst (Reached P W) inodes reached, subst (λ z. IsLinkCount P W z n) inodes count)
 
   -- ---- the fourth
 

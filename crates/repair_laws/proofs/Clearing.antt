@@ -154,7 +154,7 @@ module _ (P : ℕ) (W A B C K : List ℕ) (coherent : IsCoherent P W) (repair : 
     | inr has ↦
         let before = reached_before P W B means i reached in
         let (least, most) = in_range P W coherent i before in
-        let (one, count) = clears_inode P W i 1 least most coherent (omega arith) has.1 refl in
+        let (one, there, count) = clears_inode P W i 1 least most coherent (omega arith) has.1 refl in
         subst (HasLinks P B i) (sym (repair.third.new (inode_word_of i 1) has.0 has.1)) (counted_enough P B i has.0 ((use_same.counted i has.0 before).0 count))
   ]
 

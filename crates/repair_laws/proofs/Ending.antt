@@ -119,7 +119,7 @@ module _ (P : ℕ) (W A B C K : List ℕ) (coherent : IsCoherent P W) (repair : 
   inode_word i f reached small other =
       let (least, most) = in_range P W coherent i reached in
       fourth_inode P W A B C K coherent repair i f reached small
-      ∙ stays (Clears P W) B C repair.third (inode_word_of i f) (λ v clears. let (one, count) = clears_inode P W i f least most coherent small clears refl in other one)
+      ∙ stays (Clears P W) B C repair.third (inode_word_of i f) (λ v clears. let (one, there, count) = clears_inode P W i f least most coherent small clears refl in other one)
       ∙ pointing.second_inodes P W coherent A repair.first B repair.second i f least most small
 
   pub same_kind : (i : ℕ) → Reached P W i → inode_kind K i ≡ inode_kind W i

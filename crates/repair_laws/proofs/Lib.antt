@@ -13,3 +13,5 @@ pub mod Mended
 pub mod Making
 pub mod Telling
 pub mod Indexed
+pub mod Storing
+pub mod Rows

@@ -40,9 +40,9 @@ module _ (P : ℕ) (W : List ℕ) (coherent : IsCoherent P W) where
   within s f lt small = let below = slot_word_within P s f lt small in let whole = (coherent Rule.head 0).whole refl in omega (arith, below, whole)
 
   -- a held slot that points
-  record Points (d : ℕ) : Type 0 where
-    held : IsHeld P W d
-    some : slot_pointer P W d ≢ 0
+  pub record Points (d : ℕ) : Type 0 where
+    pub held : IsHeld P W d
+    pub some : slot_pointer P W d ≢ 0
 
   points_or_not : (d : ℕ) → IsDecided (Points d)
   points_or_not d = elim (held_or_not P W d) [
@@ -53,7 +53,7 @@ module _ (P : ℕ) (W : List ℕ) (coherent : IsCoherent P W) where
     ]
   ]
 
-  one_points : (d e : ℕ) → Points d → Points e → d ≡ e
+  pub one_points : (d e : ℕ) → Points d → Points e → d ≡ e
   one_points d e a b = elim (cases_eq d e) [
     | inl same ↦ same
     | inr differ ↦ elim (cases_lt d e) [
@@ -62,7 +62,7 @@ module _ (P : ℕ) (W : List ℕ) (coherent : IsCoherent P W) where
     ]
   ]
 
-  left_points : (s d : ℕ) → WasLeft P W s d → Points d
+  pub left_points : (s d : ℕ) → WasLeft P W s d → Points d
   left_points s d left = record { held = left.held; some = λ none. let points = left.points in omega (arith, points, none) }
 
   -- the slot that was left is one

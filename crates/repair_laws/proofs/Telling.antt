@@ -76,7 +76,7 @@ module _ (P : ℕ) (W : List ℕ) (coherent : IsCoherent P W) where
       other : {a v : ℕ} (s d : ℕ) → WasLeft P W s d → ¬ (a ≡ slot_word_of P s 0) → GivesUp P W a v → ⊥
       other s d left ne (GivesUp.number t e also) = ne (subst (λ z. slot_word_of P z 0 ≡ slot_word_of P s 0) (one_left P W coherent s t d e left also) refl)
 
-  gives_zero : {a v : ℕ} → GivesUp P W a v → v ≡ 0
+  pub gives_zero : {a v : ℕ} → GivesUp P W a v → v ≡ 0
   gives_zero (GivesUp.number s d left) = refl
 
   gives_within : {a v : ℕ} → GivesUp P W a v → a < 512 * P
@@ -93,7 +93,7 @@ module _ (P : ℕ) (W : List ℕ) (coherent : IsCoherent P W) where
       other : {a v : ℕ} → ((d : ℕ) → d < slots_of P → ¬ (IsHeld P W d × (a ≡ slot_word_of P d 1))) → Unpoints P W a v → ⊥
       other none (Unpoints.pointer d held) = none d held.in_range (held, refl)
 
-  unpoints_zero : {a v : ℕ} → Unpoints P W a v → v ≡ 0
+  pub unpoints_zero : {a v : ℕ} → Unpoints P W a v → v ≡ 0
   unpoints_zero (Unpoints.pointer d held) = refl
 
   unpoints_within : {a v : ℕ} → Unpoints P W a v → a < 512 * P
@@ -137,10 +137,10 @@ module _ (P : ℕ) (W : List ℕ) (coherent : IsCoherent P W) where
     ]
   ]
 
-  links_of : (i : ℕ) → Reached P W i → (n : ℕ) × IsLinkCount P W i n
+  pub links_of : (i : ℕ) → Reached P W i → (n : ℕ) × IsLinkCount P W i n
   links_of i reached = let (T, reads, form) = tree_law P W coherent in (_, links_counted P W T coherent reads i reached)
 
-  one_count : (i m n : ℕ) → Reached P W i → IsLinkCount P W i m → IsLinkCount P W i n → n ≡ m
+  pub one_count : (i m n : ℕ) → Reached P W i → IsLinkCount P W i m → IsLinkCount P W i n → n ≡ m
   one_count i m n reached a b = let (T, reads, form) = tree_law P W coherent in
       sym (only_links P W T coherent reads i n reached b) ∙ only_links P W T coherent reads i m reached a
 
@@ -184,12 +184,12 @@ module _ (P : ℕ) (W : List ℕ) (coherent : IsCoherent P W) where
       other no_owner no_slot no_links (Clears.slot s f dead low small) = no_slot (s, (dead, (f, record { above = low; below = small; at = refl })))
       other no_owner no_slot no_links (Clears.links i n reached count) = no_links (i, (reached, refl))
 
-  clears_one : {a v : ℕ} (w : ℕ) → Clears P W a v → Clears P W a w → w ≡ v
+  pub clears_one : {a v : ℕ} (w : ℕ) → Clears P W a v → Clears P W a w → w ≡ v
   clears_one w (Clears.owner j unkept) b = let (zero, other, none) = clears_descriptor P W j 0 coherent unkept.in_range (omega arith) b refl in none
   clears_one w (Clears.slot s f dead low small) b = let (some, other, none) = clears_slot P W s f coherent small b refl in none
   clears_one w (Clears.links i n reached count) b =
       let (least, most) = in_range P W coherent i reached in
-      let (one, other) = clears_inode P W i 1 least most coherent (omega arith) b refl in one_count i n w reached count other
+      let (one, there, other) = clears_inode P W i 1 least most coherent (omega arith) b refl in one_count i n w reached count other
 
   clears_within : {a v : ℕ} → Clears P W a v → a < 512 * P
   clears_within (Clears.owner j unkept) = descriptor_word_within P j 0 size unkept.in_range (omega arith)
@@ -229,7 +229,7 @@ module _ (P : ℕ) (W : List ℕ) (coherent : IsCoherent P W) where
       other no_descriptor no_inode (Frees.descriptor j f unkept low small) = no_descriptor (j, (unkept, (f, record { above = low; below = small; at = refl })))
       other no_descriptor no_inode (Frees.inode i f unreached small) = no_inode (i, (unreached, (f, record { above = omega arith; below = small; at = refl })))
 
-  frees_zero : {a v : ℕ} → Frees P W a v → v ≡ 0
+  pub frees_zero : {a v : ℕ} → Frees P W a v → v ≡ 0
   frees_zero (Frees.descriptor j f unkept low small) = refl
   frees_zero (Frees.inode i f unreached small) = refl
 

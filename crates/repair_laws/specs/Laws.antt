@@ -8,7 +8,8 @@ use Rattle.image_reading.specs.Tidy.{Tidy}
 use Rattle.image_counts.specs.Entries.{IsEntryOf, IsPageIn, IsFreePage, IsFreeInode}
 use Rattle.image_laws.specs.Frame.{SameMeaning}
 use Rattle.image_laws.specs.Quiet.{IsMix}
-use Rattle.repair_laws.specs.Mended.{IsUnkept, IsUnreached, IsMended, IsRepair}
+use Rattle.repair_laws.specs.Stored.{StoresPointer, StoresCleared, StoresFreed, StoresRepair, StoresNothing}
+use Rattle.repair_laws.specs.Mended.{IsUnkept, IsUnreached, GivesUp, IsMended, IsRepair}
 
 -- In X is held, live, reached, kept and counted what is in W.
 pub record SameUse (P : ℕ) (W X : List ℕ) : Type 0 where
@@ -37,13 +38,32 @@ pub record KeepsMeaning (P : ℕ) (W A B C K : List ℕ) : Type 0 where
 abbrev pub RepairLaw : Type 0
 RepairLaw = (P : ℕ) (W A B C K : List ℕ) → Sound P W → IsRepair P W A B C K → KeepsMeaning P W A B C K
 
+-- The stores of each step make the words what the step makes them,
+abbrev pub StoredLaw : Type 0
+StoredLaw = (P : ℕ) (W A B C K : List ℕ) → Sound P W → StoresRepair P W A B C K → IsRepair P W A B C K
+
+-- a step without a store leaves the list as it was,
+pub record LeavesStill (P : ℕ) (W A B C K : List ℕ) : Type 0 where
+  pub first : ((a v : ℕ) → ¬ GivesUp P W a v) → A ≡ W
+  pub second : ((a v : ℕ) → ¬ StoresPointer P W a v) → B ≡ A
+  pub third : ((a v : ℕ) → ¬ StoresCleared P W a v) → C ≡ B
+  pub fourth : ((a v : ℕ) → ¬ StoresFreed P W a v) → K ≡ C
+
+abbrev pub StillLaw : Type 0
+StillLaw = (P : ℕ) (W A B C K : List ℕ) → StoresRepair P W A B C K → LeavesStill P W A B C K
+
+-- and none has a store exactly where the image is tidy.
+abbrev pub NothingLaw : Type 0
+NothingLaw = (P : ℕ) (W : List ℕ) → Sound P W → Tidy P W ↔ StoresNothing P W
+
 -- The last words are what recovery makes of the first.
 abbrev pub EndLaw : Type 0
 EndLaw = (P : ℕ) (W A B C K : List ℕ) → Sound P W → IsRepair P W A B C K → IsMended P W K
 
 -- There are such steps from every sound image,
 abbrev pub SomeRepair : Type 0
-SomeRepair = (P : ℕ) (W : List ℕ) → Sound P W → (A : List ℕ) × (B : List ℕ) × (C : List ℕ) × (K : List ℕ) × IsRepair P W A B C K
+SomeRepair = (P : ℕ) (W : List ℕ) → Sound P W
+    → (A : List ℕ) × (B : List ℕ) × (C : List ℕ) × (K : List ℕ) × IsRepair P W A B C K
 
 -- and recovery makes one list of words of an image.
 abbrev pub OneMended : Type 0

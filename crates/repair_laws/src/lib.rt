@@ -1,7 +1,7 @@
 //! Laws of recovery: what it makes of the words of an image, and that no crash in it changes what the image means.
 #![tactic(auto)]
 
-ghost use Rattle.repair_laws.specs.Laws.{UseLaw, RepairLaw, EndLaw};
+ghost use Rattle.repair_laws.specs.Laws.{UseLaw, RepairLaw, EndLaw, StoredLaw, StillLaw, NothingLaw};
 ghost use Rattle.repair_laws.specs.Laws.{SomeRepair, OneMended, MendedLaw, TidyLaw, IndexLaw};
 
 /// The first two steps change nothing that is held, live, reached, kept or counted.
@@ -17,6 +17,14 @@ pub fn repair_law()
 /// The words after the last step are what recovery makes of the first.
 pub fn end_law()
     ensures { EndLaw }
+{}
+
+/// The stores of each step make the words what the step makes them. A step without a store leaves them as they were, and
+/// there is no store exactly where the image is tidy.
+pub fn stored_law()
+    ensures steps { StoredLaw }
+    ensures still { StillLaw }
+    ensures nothing { NothingLaw }
 {}
 
 /// Recovery makes one list of words of each sound image, which means the same and is tidy, and is the same list exactly
