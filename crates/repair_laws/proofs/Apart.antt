@@ -4,14 +4,11 @@ use Rattle.layout.specs.Geometry.{inodes_of, data_pages_of, inode_word_of, descr
 use Rattle.image_reading.specs.Reading.{IsHeld, Reached, IsLinkCount}
 use Rattle.image_reading.specs.Soundness.{IsCoherent}
 use Rattle.image_counts.proofs.Paths.{in_range}
-use Rattle.image_laws.proofs.Addresses.{head-ne_inode, head-ne_slot, head-ne_descriptor, descriptor-ne_inode, descriptor-ne_slot, inode-ne_slot, inode_word-one, descriptor_word-one, slot_word-one}
+use Rattle.image_laws.proofs.Addresses.{descriptor-ne_inode, descriptor-ne_slot, inode-ne_slot, inode_word-one, descriptor_word-one, slot_word-one}
 use Rattle.repair_laws.specs.Mended.{WasLeft, GivesUp, Unpoints, Clears, Frees, IsDead, IsUnkept}
 
 module _ (P : ℕ) (W : List ℕ) where
   -- ---- the first step
-
-  pub gives_head : {a v : ℕ} → GivesUp P W a v → a < 512 → ⊥
-  gives_head (GivesUp.number s d left) lt = head-ne_slot P s 0 (slot_word_of P s 0) lt refl
 
   pub gives_descriptor : {a v : ℕ} (j f : ℕ) → j < data_pages_of P → f < 8 → GivesUp P W a v → a ≡ descriptor_word_of P j f → ⊥
   gives_descriptor j f lt small (GivesUp.number s d left) e = descriptor-ne_slot P j f s 0 lt small (sym e)
@@ -25,9 +22,6 @@ module _ (P : ℕ) (W : List ℕ) where
 
   -- ---- the second
 
-  pub unpoints_head : {a v : ℕ} → Unpoints P W a v → a < 512 → ⊥
-  unpoints_head (Unpoints.pointer d held) lt = head-ne_slot P d 1 (slot_word_of P d 1) lt refl
-
   pub unpoints_descriptor : {a v : ℕ} (j f : ℕ) → j < data_pages_of P → f < 8 → Unpoints P W a v → a ≡ descriptor_word_of P j f → ⊥
   unpoints_descriptor j f lt small (Unpoints.pointer d held) e = descriptor-ne_slot P j f d 1 lt small (sym e)
 
@@ -39,11 +33,6 @@ module _ (P : ℕ) (W : List ℕ) where
       let (slots, fields) = slot_word-one P d 1 t f (omega arith) small e in (sym fields, subst (IsHeld P W) slots held)
 
   -- ---- the third
-
-  pub clears_head : {a v : ℕ} → Clears P W a v → a < 512 → ⊥
-  clears_head (Clears.owner j unkept) lt = head-ne_descriptor P j 0 (descriptor_word_of P j 0) lt refl
-  clears_head (Clears.slot s f dead low small) lt = head-ne_slot P s f (slot_word_of P s f) lt refl
-  clears_head (Clears.links i n reached count) lt = head-ne_inode i 1 (inode_word_of i 1) lt refl
 
   pub clears_slot : {a v : ℕ} (t f : ℕ) → IsCoherent P W → f < 16 → Clears P W a v → a ≡ slot_word_of P t f → (1 ≤ f) × IsDead P W t × (v ≡ 0)
   clears_slot t f coherent small (Clears.owner j unkept) e = absurd (descriptor-ne_slot P j 0 t f unkept.in_range (omega arith) e)
@@ -68,10 +57,6 @@ module _ (P : ℕ) (W : List ℕ) where
       (sym fields, subst (Reached P W) inodes reached, subst (λ z. IsLinkCount P W z n) inodes count)
 
   -- ---- the fourth
-
-  pub frees_head : {a v : ℕ} → Frees P W a v → a < 512 → ⊥
-  frees_head (Frees.descriptor j f unkept low small) lt = head-ne_descriptor P j f (descriptor_word_of P j f) lt refl
-  frees_head (Frees.inode i f unreached small) lt = head-ne_inode i f (inode_word_of i f) lt refl
 
   pub frees_slot : {a v : ℕ} (t f : ℕ) → f < 16 → Frees P W a v → a ≡ slot_word_of P t f → ⊥
   frees_slot t f small (Frees.descriptor j g unkept low lt) e = descriptor-ne_slot P j g t f unkept.in_range (omega (arith, lt)) e

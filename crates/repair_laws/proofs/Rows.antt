@@ -46,6 +46,17 @@ module _ (W K : List ℕ) (sound : Sound 16 W) (mended : IsMended 16 W K) where
           let is : d ≡ 1 = one_points 16 W sound d 1 (left_points 16 W sound 0 d left) (record { held = second_held owner kind; some = λ none. omega (arith, none, pointer) }) in
           left.names (sym left.same ∙ ap (slot_inode 16 W) is ∙ new)
 
+  -- A slot in a page of inode 3 points at the first slot, and has its inode number: that name goes, whoever reaches inode 3.
+  hidden : word W 1032 ≡ 3 → word W 1033 ≡ 2 → word W 1536 ≡ 2 → word W 2048 ≡ 2 → word W 2049 ≡ 1 → (word K 1536 ≡ 0) × (word K 2049 ≡ 0)
+  unfolding slot_inode slot_pointer slot_word_of slots_of data_pages_of inode_pages_of descriptor_pages_of page_kind slot_owner page_owner page_of_slot descriptor_word_of
+  hidden owner kind old new pointer = (
+    mended.new 1536 0 (Mends.gives_up (GivesUp.number 0 32 (record { held = held; points = pointer; same = new ∙ sym old; names = λ none. omega (arith, old, none) }))),
+    mended.new 2049 0 (Mends.unpoints (Unpoints.pointer 32 held)),
+  )
+    where
+      held : IsHeld 16 W 32
+      held = record { in_range = omega arith; kind = kind; owned = λ none. omega (arith, owner, none) }
+
   -- A page without an owner gives up its kind and its offset.
   unowned : word W 1024 ≡ 0 → (word K 1025 ≡ 0) × (word K 1026 ≡ 0)
   unfolding page_owner descriptor_word_of data_pages_of inode_pages_of descriptor_pages_of
