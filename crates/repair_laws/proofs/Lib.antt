@@ -1,0 +1,17 @@
+pub mod After
+pub mod Apart
+pub mod Held
+pub mod Pointing
+pub mod Using
+pub mod Uses
+pub mod Kept
+pub mod Clearing
+pub mod Freeing
+pub mod Ending
+pub mod Ends
+pub mod Mended
+pub mod Making
+pub mod Telling
+pub mod Indexed
+pub mod Storing
+pub mod Rows
