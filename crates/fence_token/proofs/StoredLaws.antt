@@ -1,9 +1,9 @@
 -- Steps of an object's call, one after another.
-use Rattle.std.proofs.Common.{◌≡◌, ◌⊎◌, ℕ, ◌+◌, ◌≤◌, List, [], ◌∷◌, ◌++◌, refl, sym, ◌∙◌, ap, arith}
+use Rattle.std.proofs.Common.{◌≡◌, ◌⊎◌, ℕ, ◌+◌, ◌≤◌, List, [], ◌∷◌, ◌++◌, length, refl, sym, ◌∙◌, ap, arith}
 use Rattle.pm_trait.specs.declared.event.Event.{Event}
 use Rattle.pm_trait.specs.declared.event.Event.TheVariants.{Store, Flush}
 use Rattle.pm_trait.specs.Trail.{after_stores}
-use Rattle.pm_trait.specs.Device.{with_events}
+use Rattle.pm_trait.specs.Device.{with_events, IsInterval}
 use Rattle.pm_trait.specs.DeviceView.{DeviceView, Performs, Stores}
 use Rattle.pm_trait.proofs.TrailLaws.{after_stores-append}
 use Rattle.pm_trait.proofs.ContinuesLaws.{with_events-nil, with_events-append}
@@ -29,6 +29,16 @@ exactly_store {word = word} {value = value} performed = record {
   trail = performed.trail;
   interval = interval_store word value performed.words performed.trail;
   room = performed.room;
+  counts = performed.counts;
+}
+
+-- events that were carried out, and are an interval
+pub exactly_performed : {W : ℕ → Type 0} {a b : DeviceView} {events : List Event} (count : ℕ) → length events ≤ count → IsInterval W a.words a.trail b.words b.trail → Performs a b events → StoresExactly W a b events count
+exactly_performed count most interval performed = record {
+  words = performed.words;
+  trail = performed.trail;
+  interval = interval;
+  room = let room = performed.room in omega (arith, room, most);
   counts = performed.counts;
 }
 

@@ -136,11 +136,14 @@ module _ (P : ℕ) (I : List ℕ) where
     ];
   }
 
-  pub tallied_all : (n : ℕ) (tally : List ℕ) → slots_of P ≤ n → AreTallied n tally → AreCounted P I tally
-  tallied_all n tally past t i le = count_same (IsEarlyCredit n i) (IsCredit P I i) _ (λ s. (
-    (λ h. h.credit),
-    (λ credit. record { early = (let lt = credit.slot.live.held.in_range in omega (arith, past, lt)); credit = credit }),
-  )) (t.counts i le)
+  pub tallied_all : (n : ℕ) (tally : List ℕ) → slots_of P ≤ n → length tally ≡ inodes_of P + 1 → AreTallied n tally → AreCounted P I tally
+  tallied_all n tally past inodes t = record {
+    inodes = inodes;
+    each = λ i le. count_same (IsEarlyCredit n i) (IsCredit P I i) _ (λ s. (
+      (λ h. h.credit),
+      (λ credit. record { early = (let lt = credit.slot.live.held.in_range in omega (arith, past, lt)); credit = credit }),
+    )) (t.counts i le);
+  }
 
   -- ---- the rule
 

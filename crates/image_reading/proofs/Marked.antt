@@ -1,10 +1,10 @@
 -- How many are marked, and what one more mark leaves.
-use Rattle.std.proofs.Common.{◌≡◌, ◌≢◌, ◌⊎◌, inl, inr, ℕ, zero, suc, ◌+◌, ◌<◌, ◌≤◌, Bool, true, false, List, [], ◌∷◌, ◌++◌, length, get_or, set, replicate, take, drop, vec_len, refl, sym, ap, subst, ◌∙◌, arith, get_or-set_other, get_or-set_same}
+use Rattle.std.proofs.Common.{◌≡◌, ◌≢◌, ◌⊎◌, inl, inr, ℕ, zero, suc, ◌+◌, ◌<◌, ◌≤◌, Bool, true, false, List, [], ◌∷◌, ◌++◌, length, get_or, set, replicate, take, drop, vec_len, refl, sym, ap, subst, ◌∙◌, arith, get_or-set_other, get_or-set_same, length-set}
 use Rattle.std.proofs.lemmas.Bool.{cases_eq}
 use Rattle.std.proofs.lemmas.List.{get_or_read}
 use Rattle.std.proofs.Math.Seq.{take-append_seam}
-use Rattle.image_reading.specs.Marks.{IsMarked, marked}
-use Rattle.image_reading.specs.Walk.{IsFound, Extends}
+use Rattle.image_reading.specs.Marks.{marked}
+use Rattle.image_reading.specs.Walk.{IsFound, Extends, Marks}
 use Rattle.image_reading.specs.declared.reach.Reach.{Reach}
 
 marked-le : (xs : List Bool) → marked xs ≤ length xs
@@ -92,19 +92,19 @@ extends_twice a b c f g = record {
 }
 
 -- a mark for i, which has none, and i at the end of the order
-module _ (before after : Reach) (i : ℕ) (seen : after.seen ≡ before.seen + 1)
+module _ (before after : Reach) (i : ℕ) (rename : after.rename ≡ before.rename) (seen : after.seen ≡ before.seen + 1)
     (reached : after.reached.items ≡ set before.reached.items i true) (order : after.order.items ≡ set before.order.items before.seen i)
     (in_marks : i < length before.reached.items) (in_order : before.seen < length before.order.items) where
   others : (j : ℕ) → j ≢ i → get_or after.reached.items j false ≡ get_or before.reached.items j false
   others j ne = ap (λ xs. get_or xs j false) reached ∙ get_or-set_other before.reached.items i j true false ne
 
-  pub mark_found : IsFound after i
+  mark_found : IsFound after i
   mark_found = ap (λ xs. get_or xs i false) reached ∙ get_or-set_same before.reached.items i true false in_marks
 
-  pub mark_keeps : (j : ℕ) → IsFound before j → IsFound after j
+  mark_keeps : (j : ℕ) → IsFound before j → IsFound after j
   mark_keeps j h = elim (cases_eq j i) [ inl e ↦ subst (IsFound after) (sym e) mark_found | inr ne ↦ others j ne ∙ h ]
 
-  pub mark_only : (j : ℕ) → IsFound after j → IsFound before j ⊎ (j ≡ i)
+  mark_only : (j : ℕ) → IsFound after j → IsFound before j ⊎ (j ≡ i)
   mark_only j h = elim (cases_eq j i) [ inl e ↦ inr e | inr ne ↦ inl (sym (others j ne) ∙ h) ]
 
   at_end : get_or after.order.items before.seen 0 ≡ i
@@ -113,7 +113,7 @@ module _ (before after : Reach) (i : ℕ) (seen : after.seen ≡ before.seen + 1
   in_front : (m : ℕ) → m < before.seen → get_or after.order.items m 0 ≡ get_or before.order.items m 0
   in_front m lt = ap (λ xs. get_or xs m 0) order ∙ get_or-set_other before.order.items before.seen m i 0 (omega arith)
 
-  pub mark_extends : Extends before after
+  mark_extends : Extends before after
   mark_extends = record {
     later = omega arith;
     keeps = mark_keeps;
@@ -121,22 +121,29 @@ module _ (before after : Reach) (i : ℕ) (seen : after.seen ≡ before.seen + 1
     more = λ j h. elim (mark_only j h) [ inl old ↦ inl old | inr e ↦ inr (before.seen, omega arith, omega arith, at_end ∙ sym e) ];
   }
 
-pub mark_ordered : (before : Reach) (i : ℕ) → i < length before.reached.items → before.seen < length before.order.items
-    → ((m : ℕ) → m < before.seen → IsFound before (get_or before.order.items m 0))
-    → (m : ℕ) → m < before.seen + 1 → IsMarked (set before.reached.items i true) (get_or (set before.order.items before.seen i) m 0)
-mark_ordered before i within room old m lt = elim (cases_eq m before.seen) [
-  | inl e ↦ subst (IsMarked marks) (sym (ap (λ z. get_or order z 0) e ∙ get_or-set_same before.order.items before.seen i 0 room)) here
-  | inr ne ↦ subst (IsMarked marks) (sym (get_or-set_other before.order.items before.seen m i 0 ne)) (kept _ (old m (omega arith)))
-]
-  where
-    marks : List Bool
-    marks = set before.reached.items i true
+  mark_ordered : ((m : ℕ) → m < before.seen → IsFound before (get_or before.order.items m 0)) → (m : ℕ) → m < after.seen → IsFound after (get_or after.order.items m 0)
+  mark_ordered old m lt = elim (cases_eq m before.seen) [
+    | inl e ↦ subst (IsFound after) (sym (ap (λ k. get_or after.order.items k 0) e ∙ at_end)) mark_found
+    | inr ne ↦ let less : m < before.seen = omega (arith, seen, lt, ne) in subst (IsFound after) (sym (in_front m less)) (mark_keeps _ (old m less))
+  ]
 
-    order : List ℕ
-    order = set before.order.items before.seen i
+  pub marks_new : Marks i before after
+  marks_new = record {
+    found = mark_found;
+    only = mark_only;
+    pointer = rename;
+    extends = mark_extends;
+    size = (let old = before.reached.ok.0 in let new = after.reached.ok.0 in let same = ap length reached ∙ length-set before.reached.items i true in omega (arith, old, new, same));
+    ordered = mark_ordered;
+  }
 
-    here : IsMarked marks i
-    here = get_or-set_same before.reached.items i true false within
-
-    kept : (j : ℕ) → IsFound before j → IsMarked marks j
-    kept j h = elim (cases_eq j i) [ inl e ↦ subst (IsMarked marks) (sym e) here | inr ne ↦ get_or-set_other before.reached.items i j true false ne ∙ h ]
+-- i has a mark already
+pub marks_old : (reach : Reach) (i : ℕ) → i < vec_len reach.reached → (b : Bool) → b ≡ get_or reach.reached.items i b → b ≡ true → Marks i reach reach
+marks_old reach i lt b read is = record {
+  found = (let size = reach.reached.ok.0 in sym (get_or_read reach.reached.items i b (omega (arith, size, lt)) read false) ∙ is);
+  only = λ j h. inl h;
+  pointer = refl;
+  extends = extends_itself reach;
+  size = refl;
+  ordered = λ old. old;
+}

@@ -1,40 +1,30 @@
 -- What the tables say of a slot and its owner.
-use Rattle.std.proofs.Common.{◌≡◌, ℕ, ◌+◌, ◌/◌, ◌<◌, ◌≤◌, List, sym, subst, arith}
-use Rattle.layout.specs.Geometry.{IsVolumeSize, inodes_of, data_pages_of, slots_of, page_of_slot}
-use Rattle.layout.specs.Fields.{page_owner, inode_kind}
+use Rattle.std.proofs.Common.{◌≡◌, ℕ, ◌+◌, ◌≤◌, List, sym, subst, arith}
+use Rattle.layout.specs.Geometry.{IsVolumeSize, inodes_of, data_pages_of, slots_of}
+use Rattle.layout.specs.Fields.{inode_kind}
 use Rattle.image_reading.specs.Reading.{IsDirectory, slot_owner, IsLive, IsReachedSlot, Reached}
 use Rattle.image_reading.specs.Walk.{IsFound, Knows}
 use Rattle.image_reading.specs.declared.reach.Reach.{Reach}
-use Rattle.image_reading.proofs.Places.{one_inode, slot_page_below, not_past}
+use Rattle.image_reading.proofs.Places.{one_inode, not_past}
 use Rattle.image_reading.specs.Soundness.{NamesInode, IsWellFormed, HasOwnersKind, IsNotTooBig}
 use Rattle.image_reading.proofs.Walked.{reached_range}
-
--- a slot's owner, as its page's descriptor says
-pub owner_is : (P : ℕ) (I : List ℕ) (s owner : ℕ) → owner ≡ page_owner P I (s / 32) → owner ≡ slot_owner P I s
-unfolding slot_owner page_of_slot
-owner_is P I s owner is = is
-
-pub live_page : (P : ℕ) (I : List ℕ) (s : ℕ) → IsLive P I s → s / 32 < data_pages_of P
-live_page P I s live = slot_page_below P I s live.held.in_range
 
 module _ (P : ℕ) (I : List ℕ) (reach : Reach) (known : Knows P I reach) where
   pub found_range : (i : ℕ) → IsVolumeSize P → IsFound reach i → (1 ≤ i) × (i ≤ inodes_of P)
   found_range i size found = reached_range P I i (one_inode P size) ((known.reached i).0 found)
 
-  pub reached_slot : (s owner : ℕ) → IsLive P I s → owner ≡ page_owner P I (s / 32) → IsFound reach owner → inode_kind I owner ≡ 2 → IsReachedSlot P I s
-  reached_slot s owner live is found kind =
-      let same = owner_is P I s owner is in
-      record {
-        owner = subst (Reached P I) same ((known.reached owner).0 found);
-        directory = subst (IsDirectory I) same kind;
-        live = live;
-      }
+  pub reached_slot : (s owner : ℕ) → IsLive P I s → owner ≡ slot_owner P I s → IsFound reach owner → inode_kind I owner ≡ 2 → IsReachedSlot P I s
+  reached_slot s owner live is found kind = record {
+    owner = subst (Reached P I) is ((known.reached owner).0 found);
+    directory = subst (IsDirectory I) is kind;
+    live = live;
+  }
 
-  pub owner_found : (s owner : ℕ) → owner ≡ page_owner P I (s / 32) → IsReachedSlot P I s → IsFound reach owner
-  owner_found s owner is slot = (known.reached owner).1 (subst (Reached P I) (sym (owner_is P I s owner is)) slot.owner)
+  pub owner_found : (s owner : ℕ) → owner ≡ slot_owner P I s → IsReachedSlot P I s → IsFound reach owner
+  owner_found s owner is slot = (known.reached owner).1 (subst (Reached P I) (sym is) slot.owner)
 
-  pub owner_directory : (s owner : ℕ) → owner ≡ page_owner P I (s / 32) → IsReachedSlot P I s → inode_kind I owner ≡ 2
-  owner_directory s owner is slot = subst (IsDirectory I) (sym (owner_is P I s owner is)) slot.directory
+  pub owner_directory : (s owner : ℕ) → owner ≡ slot_owner P I s → IsReachedSlot P I s → inode_kind I owner ≡ 2
+  owner_directory s owner is slot = subst (IsDirectory I) (sym is) slot.directory
 
 -- ---- rules at what isn't reached
 

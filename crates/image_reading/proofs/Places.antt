@@ -1,8 +1,8 @@
 -- How the tests and loops of a scan decide what they are to decide.
-use Rattle.std.proofs.Common.{◌≡◌, ◌≢◌, inl, inr, ℕ, ◌/◌, ◌<◌, ◌≤◌, not, eqb, IsTrue, List, arith, length, get_or, ◌*◌, eq-eqb, ne_eqb}
+use Rattle.std.proofs.Common.{◌≡◌, ◌≢◌, inl, inr, ℕ, ◌<◌, ◌≤◌, not, eqb, IsTrue, List, arith, length, get_or, ◌*◌, sym, ap, subst, ◌∙◌, eq-eqb, ne_eqb}
 use Rattle.std.proofs.lemmas.Bool.{cases_lt}
 use Rattle.layout.specs.Geometry.{IsVolumeSize, slots_of, page_of_slot, inodes_of, data_pages_of}
-use Rattle.layout.proofs.GeometryLaws.{some_inodes, page_of_slot_below, data_pages_below}
+use Rattle.layout.proofs.GeometryLaws.{some_inodes, data_pages_below}
 use Rattle.layout.specs.Superblock.{head_of}
 use Rattle.layout.specs.Fields.{word, page_kind, page_owner}
 use Rattle.image_reading.specs.Reading.{IsHeld, slot_owner}
@@ -28,21 +28,21 @@ module _ (P : ℕ) (I : List ℕ) (s : ℕ) where
   pub not_past : slots_of P ≤ s → IsHeld P I s → ⊥
   not_past past h = let lt = h.in_range in omega arith
 
-  pub slot_page_below : s < slots_of P → s / 32 < data_pages_of P
-  unfolding page_of_slot
-  slot_page_below lt = page_of_slot_below P s lt
+  -- as the descriptor of its page says
+  pub held : (page : ℕ) → page ≡ page_of_slot s → s < slots_of P → page_kind P I page ≡ 2 → page_owner P I page ≢ 0 → IsHeld P I s
+  unfolding slot_owner
+  held page is lt kind owner = record {
+    in_range = lt;
+    kind = subst (λ j. page_kind P I j ≡ 2) is kind;
+    owned = subst (λ j. page_owner P I j ≢ 0) is owner;
+  }
 
-  pub held : s < slots_of P → page_kind P I (s / 32) ≡ 2 → page_owner P I (s / 32) ≢ 0 → IsHeld P I s
-  unfolding page_of_slot slot_owner
-  held lt kind owner = record { in_range = lt; kind = kind; owned = owner }
+  pub held-kind : (page : ℕ) → page ≡ page_of_slot s → IsHeld P I s → page_kind P I page ≡ 2
+  held-kind page is h = ap (page_kind P I) is ∙ h.kind
 
-  pub held-kind : IsHeld P I s → page_kind P I (s / 32) ≡ 2
-  unfolding page_of_slot
-  held-kind h = h.kind
-
-  pub held-owner : IsHeld P I s → page_owner P I (s / 32) ≢ 0
-  unfolding page_of_slot slot_owner
-  held-owner h = h.owned
+  pub held-owner : (page : ℕ) → page ≡ page_of_slot s → IsHeld P I s → page_owner P I page ≢ 0
+  unfolding slot_owner
+  held-owner page is h = subst (λ j. page_owner P I j ≢ 0) (sym is) h.owned
 
 -- ---- slots that are searched for one that breaks a rule
 

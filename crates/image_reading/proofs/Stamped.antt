@@ -1,5 +1,5 @@
 -- The pages of a file are found by a walk along them, which stamps their offsets.
-use Rattle.std.proofs.Common.{◌≡◌, ◌≢◌, ◌↔◌, ◌⊎◌, inl, inr, ℕ, zero, suc, ◌+◌, ◌-◌, ◌<◌, ◌≤◌, List, [], ◌∷◌, length, get_or, replicate, min, Option, Some, None, refl, sym, ap, subst, ◌∙◌, arith}
+use Rattle.std.proofs.Common.{◌≡◌, ◌≢◌, ◌↔◌, inl, inr, ℕ, zero, suc, ◌+◌, ◌-◌, ◌<◌, ◌≤◌, Bool, List, [], ◌∷◌, length, get_or, replicate, min, Option, Some, None, refl, sym, ap, subst, ◌∙◌, arith}
 use Rattle.std.specs.Option.{unwrap_or}
 use Rattle.std.proofs.lemmas.Bool.{cases_eq, cases_lt}
 use Rattle.std.specs.Int.{div_ceil}
@@ -8,7 +8,7 @@ use Rattle.layout.specs.Fields.{page_owner, page_offset, inode_size}
 use Rattle.image_reading.specs.Counts.{IsIn, IsDistinct}
 use Rattle.image_reading.specs.Reading.{HasBytes, Reached, IsPageOf, pages_of_size}
 use Rattle.image_reading.specs.Soundness.{HasAllPages, HasOwnOffset}
-use Rattle.image_reading.specs.Scan.{Finds}
+use Rattle.image_reading.specs.Scan.{Finds, AreStamps, IsStamped, StampsPage}
 use Rattle.image_reading.proofs.Counts.{strip}
 use Rattle.image_reading.proofs.Walked.{reached_range}
 use Rattle.image_reading.proofs.Linked.{PagesDone, IsLinkedAt, pages_map, page_there, pages_step, pages_end, next_after, zeros}
@@ -55,11 +55,10 @@ pub record FileWalk (P : ℕ) (I : List ℕ) (i limit : ℕ) (Q : ℕ → Type 0
 
 module _ (P : ℕ) (I : List ℕ) (i limit : ℕ) (Q : ℕ → Type 0) where
   module _ (old new : List ℕ) (link v : ℕ) (some : link ≢ 0) (walk : FileWalk P I i limit Q old link)
-      (here : (k : ℕ) → k < limit → IsPageOf P I i k (link - 1) → get_or new k 0 ≡ i)
-      (only : (k : ℕ) → (get_or new k 0 ≡ get_or old k 0) ⊎ ((get_or new k 0 ≡ i) × IsPageOf P I i k (link - 1)))
+      (is_new : Bool) (stamp : StampsPage P I i (link - 1) limit old new is_new)
       (linked : IsLinkedAt P I (link - 1) v) (within : i ≤ inodes_of P) where
     kept : (k : ℕ) → get_or old k 0 ≡ i → get_or new k 0 ≡ i
-    kept k e = elim (only k) [ inl same ↦ same ∙ e | inr stamped ↦ stamped.0 ]
+    kept k e = elim (stamp.only k) [ inl same ↦ same ∙ e | inr stamped ↦ stamped.0 ]
 
     later : PagesDone P I i (λ j. ((k : ℕ) → k < limit → IsPageOf P I i k j → get_or new k 0 ≡ i) × Q j) link
     later =
@@ -70,12 +69,12 @@ module _ (P : ℕ) (I : List ℕ) (i limit : ℕ) (Q : ℕ → Type 0) where
     file_step q =
         let next = next_after P I i (λ j. ((k : ℕ) → k < limit → IsPageOf P I i k j → get_or new k 0 ≡ i) × Q j) link v some later linked within in
         record {
-          pages = pages_step P I i (λ j. ((k : ℕ) → k < limit → IsPageOf P I i k j → get_or new k 0 ≡ i) × Q j) link v some later (here, q) linked within;
-          only = λ k e. elim (only k) [
+          pages = pages_step P I i (λ j. ((k : ℕ) → k < limit → IsPageOf P I i k j → get_or new k 0 ≡ i) × Q j) link v some later (stamp.here, q) linked within;
+          only = λ k e. elim (stamp.only k) [
             | inl same ↦ (let (h, page, before) = walk.only k (sym same ∙ e) in (h, page, (λ more. let old_before = before some in let beyond = (next.there more).0 in omega (arith, old_before, beyond))))
             | inr (at, page) ↦ (link - 1, page, (λ more. let beyond = (next.there more).0 in omega (arith, some, beyond)))
           ];
-          earlier = λ k. elim (only k) [
+          earlier = λ k. elim (stamp.only k) [
             | inl same ↦ (let lt = walk.earlier k in omega (arith, same, lt))
             | inr (at, page) ↦ omega (arith, at)
           ];
@@ -93,20 +92,26 @@ module _ (P : ℕ) (I : List ℕ) (i : ℕ) where
   all_pages_none un reached = absurd (un reached)
 
   -- each offset below the end is stamped where the file has each page
-  pub all_pages : (stamps : List ℕ) (n pages : ℕ) → n ≡ data_pages_of P → length stamps ≡ n → pages ≡ pages_of_size (inode_size I i) → Reached P I i → HasBytes I i
-      → ((k : ℕ) → k < n → (get_or stamps k 0 ≡ i) ↔ ((j : ℕ) × IsPageOf P I i k j))
+  pub all_pages : (stamps : List ℕ) (pages : ℕ) → length stamps ≡ data_pages_of P → pages ≡ pages_of_size (inode_size I i) → Reached P I i → HasBytes I i → IsStamped P I i stamps
       → ((pages ≤ length stamps) × ((k : ℕ) → k < pages → get_or stamps k 0 ≡ i)) ↔ HasAllPages P I i
-  all_pages stamps n pages whole size is reached file stamped = (
+  all_pages stamps pages size is reached file stamped = (
     (λ (within, all) _ _ k lt. (stamped k (omega (arith, within, size, is, lt))).0 (all k (omega (arith, is, lt)))),
     (λ h.
         let there : (k : ℕ) → k < pages → (j : ℕ) × IsPageOf P I i k j = λ k lt. h reached file k (omega (arith, is, lt)) in
         let few = offsets_within P I i pages there in
-        (omega (arith, few, whole, size), (λ k lt. (stamped k (omega (arith, few, whole, lt))).1 (there k lt)))),
+        (omega (arith, few, size), (λ k lt. (stamped k (omega (arith, few, lt))).1 (there k lt)))),
   )
 
 -- no stamps
-pub unstamped : (stamps : List ℕ) (n : ℕ) → stamps ≡ replicate n 0 → (k : ℕ) → get_or stamps k 0 < 1
-unstamped stamps n is k = let none : get_or stamps k 0 ≡ 0 = ap (λ xs. get_or xs k 0) is ∙ zeros n k in omega (arith, none)
+pub unstamped : (P : ℕ) (stamps : List ℕ) (n : ℕ) → stamps ≡ replicate n 0 → length stamps ≡ data_pages_of P → AreStamps P 1 stamps
+unstamped P stamps n is room = record {
+  room = room;
+  earlier = λ k. (let none : get_or stamps k 0 ≡ 0 = ap (λ xs. get_or xs k 0) is ∙ zeros n k in omega (arith, none));
+}
+
+-- and none of the next inode
+pub stamps_later : (P i : ℕ) (stamps : List ℕ) → AreStamps P i stamps → AreStamps P (i + 1) stamps
+stamps_later P i stamps earlier = record { room = earlier.room; earlier = λ k. (let less = earlier.earlier k in omega (arith, less)) }
 
 module _ (P : ℕ) (I : List ℕ) where
   -- a page of nobody that is a reached file, or past the last page, is no second page

@@ -190,7 +190,10 @@ module _ (P : ℕ) (I : List ℕ) where
     pub unreached_litter : page_owner P I j ≢ 0 → ¬ Reached P I (page_owner P I j) → ¬ IsTidyPage P I j
     unreached_litter owned unreached tidy = tidy.page (owner_litter j within (λ kept. unreached (kept_reached j kept)) owned)
 
-    module _ (owned : page_owner P I j ≢ 0) (reached : Reached P I (page_owner P I j)) where
+    module _ (reached : Reached P I (page_owner P I j)) where
+      owned : page_owner P I j ≢ 0
+      owned free = free_unreached free reached
+
       -- ---- of a file
 
       pub file_page_tidy : IsFile I (page_owner P I j) → page_offset P I j < pages_of_size (inode_size I (page_owner P I j)) → IsTidyPage P I j

@@ -7,17 +7,13 @@ use Rattle.layout.proofs.NameLaws.{same_words}
 use Rattle.layout.specs.Fields.{page_owner, slot_name, slot_words}
 use Rattle.image_reading.specs.Reading.{slot_owner, IsReachedSlot}
 use Rattle.image_reading.specs.Soundness.{HasName, HasOwnName}
-use Rattle.image_reading.specs.Scan.{IsTwin}
+use Rattle.image_reading.specs.Scan.{IsTwin, HasTwin}
 use Rattle.image_reading.proofs.Linked.{PagesDone, pages_end, page_there}
 use Rattle.image_reading.proofs.Owners.{slot_past}
 
 -- no slot of page j is a twin of s
 abbrev pub IsTwinFree : ℕ → List ℕ → ℕ → ℕ → Type 0
 IsTwinFree P I s j = (r : ℕ) → page_of_slot r ≡ j → IsTwin P I s r → ⊥
-
--- a twin of s, of the same directory
-abbrev pub Twin : ℕ → List ℕ → ℕ → Type 0
-Twin P I s = (r : ℕ) × (slot_owner P I r ≡ slot_owner P I s) × IsTwin P I s r
 
 module _ (P : ℕ) (I : List ℕ) where
   -- none of the entries of page j is one
@@ -29,24 +25,24 @@ module _ (P : ℕ) (I : List ℕ) where
       none (r % 32) small (subst (IsTwin P I s) (sym is) twin)
 
   -- the page that the link names has one
-  pub twin_there : (s link r : ℕ) → link ≢ 0 → PagesDone P I (slot_owner P I s) (IsTwinFree P I s) link → page_of_slot r ≡ link - 1 → IsTwin P I s r → Twin P I s
+  pub twin_there : (s link r : ℕ) → link ≢ 0 → PagesDone P I (slot_owner P I s) (IsTwinFree P I s) link → page_of_slot r ≡ link - 1 → IsTwin P I s r → HasTwin P I s
   unfolding slot_owner
   twin_there s link r some pages e twin =
       let there = page_there P I (slot_owner P I s) (IsTwinFree P I s) link some pages in
       (r, ap (page_owner P I) e ∙ there.1, twin)
 
   -- no page has one
-  pub twin_nowhere : (s link : ℕ) → link ≡ 0 → PagesDone P I (slot_owner P I s) (IsTwinFree P I s) link → Twin P I s → ⊥
+  pub twin_nowhere : (s link : ℕ) → link ≡ 0 → PagesDone P I (slot_owner P I s) (IsTwinFree P I s) link → HasTwin P I s → ⊥
   unfolding slot_owner
   twin_nowhere s link none pages (r, owner, twin) =
       pages_end P I (slot_owner P I s) (IsTwinFree P I s) link none pages (page_of_slot r) (page_of_slot_below P r twin.slot.live.held.in_range) owner r refl twin
 
   module _ (named : (s : ℕ) → HasName P I s) (s : ℕ) where
-    pub own_name_not : IsReachedSlot P I s → Twin P I s → HasOwnName P I s → ⊥
+    pub own_name_not : IsReachedSlot P I s → HasTwin P I s → HasOwnName P I s → ⊥
     unfolding slot_name
     own_name_not slot (r, owner, twin) own = own r twin.earlier twin.slot slot owner (ap name_in_words twin.words)
 
-    pub own_name : (Twin P I s → ⊥) → HasOwnName P I s
+    pub own_name : (HasTwin P I s → ⊥) → HasOwnName P I s
     unfolding slot_name
     own_name none r lt first second owner same =
         none (r, owner, record { earlier = lt; slot = first; words = same_words (slot_words P I r) (slot_words P I s) (named r first) (named s second) same })

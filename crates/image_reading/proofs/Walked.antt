@@ -1,12 +1,12 @@
 -- The walk over the directories finds what is reached.
 use Rattle.std.proofs.Common.{◌≡◌, ◌↔◌, ◌⊎◌, inl, inr, ℕ, ◌+◌, ◌*◌, ◌%◌, ◌<◌, ◌≤◌, false, List, [], ◌∷◌, get_or, vec_len, refl, sym, ap, subst, ◌∙◌, arith}
 use Rattle.std.proofs.lemmas.Bool.{cases_eq}
-use Rattle.layout.specs.Geometry.{inodes_of, data_pages_of, slots_of, page_of_slot}
-use Rattle.layout.proofs.GeometryLaws.{page_of_slot_below, slot_below, page_of_entry}
+use Rattle.layout.specs.Geometry.{inodes_of, slots_of, page_of_slot}
+use Rattle.layout.proofs.GeometryLaws.{page_of_slot_below}
 use Rattle.layout.specs.Fields.{page_owner, slot_inode}
-use Rattle.image_reading.specs.Reading.{slot_owner, IsReachedSlot, Reached}
+use Rattle.image_reading.specs.Reading.{IsDirectory, slot_owner, IsReachedSlot, Reached}
 use Rattle.image_reading.specs.Scan.{IsRename}
-use Rattle.image_reading.specs.Walk.{IsFound, IsQueued, IsWalk, Extends, IsTaken, IsClosed}
+use Rattle.image_reading.specs.Walk.{IsFound, IsQueued, IsWalk, Extends, IsCleared, Marks, IsDirectorySlot, IsDirectoryPage, IsTaken, IsPageTaken, IsClosed}
 use Rattle.image_reading.specs.declared.held.Rename.{Rename}
 use Rattle.image_reading.specs.declared.reach.Reach.{Reach}
 use Rattle.image_reading.proofs.Readings.{reached_law}
@@ -26,26 +26,25 @@ module _ (P : ℕ) (I : List ℕ) where
   closed_later a b i f h directory s owner = taken_later a b s f (h directory s owner)
 
   -- a reached slot's inode, marked
-  pub walk_marks : (a b : Reach) (s inode : ℕ) → inode ≡ slot_inode P I s → inode ≤ inodes_of P → IsReachedSlot P I s → IsWalk P I a → b.rename ≡ a.rename
-      → ((i : ℕ) → IsFound b i → IsFound a i ⊎ (i ≡ inode)) → vec_len b.reached ≡ vec_len a.reached
-      → ((m : ℕ) → m < b.seen → IsFound b (get_or b.order.items m 0)) → IsWalk P I b
-  walk_marks a b s inode is within slot walk same only size ordered = record {
-    pointer = subst (λ (r : Rename). IsRename P I r.target r.inode) (sym same) walk.pointer;
-    size = size ∙ walk.size;
-    sound = λ i found. elim (only i found) [
+  pub walk_marks : (a b : Reach) (s inode : ℕ) → inode ≡ slot_inode P I s → inode ≤ inodes_of P → IsReachedSlot P I s → IsWalk P I a → Marks inode a b → IsWalk P I b
+  walk_marks a b s inode is within slot walk mark = record {
+    pointer = subst (λ (r : Rename). IsRename P I r.target r.inode) (sym mark.pointer) walk.pointer;
+    size = mark.size ∙ walk.size;
+    sound = λ i found. elim (mark.only i found) [
       | inl old ↦ walk.sound i old
       | inr e ↦ subst (Reached P I) (sym (e ∙ is)) ((reached_law P I).named s slot (subst (λ z. z ≤ inodes_of P) is within))
     ];
-    ordered = ordered;
+    ordered = mark.ordered walk.ordered;
   }
 
-  -- entry k of page j
-  pub entry_owner : (j k : ℕ) → k < 32 → slot_owner P I (32 * j + k) ≡ page_owner P I j
+  -- a slot of a directory's page
+  pub slot_of_page : (j s : ℕ) → page_of_slot s ≡ j → s < slots_of P → IsDirectoryPage P I j → IsDirectorySlot P I s
   unfolding slot_owner
-  entry_owner j k lt = ap (page_owner P I) (page_of_entry j k lt)
-
-  pub entry_below : (j k : ℕ) → k < 32 → j < data_pages_of P → 32 * j + k < slots_of P
-  entry_below j k lt within = slot_below P (32 * j + k) (subst (λ z. z < data_pages_of P) (sym (page_of_entry j k lt)) within)
+  slot_of_page j s at lt page = record {
+    in_range = lt;
+    owner = subst (λ p. Reached P I (page_owner P I p)) (sym at) page.owner;
+    directory = subst (λ p. IsDirectory I (page_owner P I p)) (sym at) page.directory;
+  }
 
   pub all_taken : (r : Reach) (j : ℕ) → ((k : ℕ) → k < 32 → IsTaken P I r (32 * j + k)) → (s : ℕ) → page_of_slot s ≡ j → IsTaken P I r s
   unfolding page_of_slot
@@ -54,34 +53,28 @@ module _ (P : ℕ) (I : List ℕ) where
       let small : s % 32 < 32 = omega arith in
       subst (IsTaken P I r) is (h (s % 32) small)
 
-  -- what the slots of page j name has been found
-  abbrev pub IsPageTaken : Reach → ℕ → Type 0
-  IsPageTaken r j = (s : ℕ) → page_of_slot s ≡ j → IsTaken P I r s
-
-  pub page_taken_later : (a b : Reach) (j : ℕ) → Extends a b → IsPageTaken a j → IsPageTaken b j
+  pub page_taken_later : (a b : Reach) (j : ℕ) → Extends a b → IsPageTaken P I a j → IsPageTaken P I b j
   page_taken_later a b j f h s e = taken_later a b s f (h s e)
 
   -- where all pages of inode i are done, it is closed
-  pub pages_closed : (r : Reach) (i link : ℕ) → link ≡ 0 → PagesDone P I i (IsPageTaken r) link → IsClosed P I r i
+  pub pages_closed : (r : Reach) (i link : ℕ) → link ≡ 0 → PagesDone P I i (IsPageTaken P I r) link → IsClosed P I r i
   unfolding slot_owner
   pages_closed r i link none pages _ s owner live =
-      pages_end P I i (IsPageTaken r) link none pages (page_of_slot s) (page_of_slot_below P s live.held.in_range) owner s refl live
+      pages_end P I i (IsPageTaken P I r) link none pages (page_of_slot s) (page_of_slot_below P s live.held.in_range) owner s refl live
 
   -- the root alone
-  pub walk_root : (rename : Rename) (a b : Reach) → IsRename P I rename.target rename.inode → a.rename ≡ rename → b.rename ≡ a.rename → 1 ≤ inodes_of P → ((i : ℕ) → IsFound a i → ⊥) → a.seen ≡ 0 → vec_len a.reached ≡ inodes_of P + 1
-      → ((i : ℕ) → IsFound b i → IsFound a i ⊎ (i ≡ 1)) → vec_len b.reached ≡ vec_len a.reached
-      → (((m : ℕ) → m < a.seen → IsFound a (get_or a.order.items m 0)) → (m : ℕ) → m < b.seen → IsFound b (get_or b.order.items m 0)) → IsWalk P I b
-  walk_root rename a b pointer taken kept some none start size only same ordered = record {
-    pointer = subst (λ (r : Rename). IsRename P I r.target r.inode) (sym (kept ∙ taken)) pointer;
-    size = same ∙ size;
-    sound = λ i found. elim (only i found) [ inl old ↦ absurd (none i old) | inr e ↦ subst (Reached P I) (sym e) (reached_law P I).root ];
-    ordered = ordered (λ m lt. absurd (omega (arith, start, lt)));
+  pub walk_root : (rename : Rename) (old a b : Reach) → IsRename P I rename.target rename.inode → vec_len old.reached ≡ inodes_of P + 1 → IsCleared rename old a → Marks 1 a b → IsWalk P I b
+  walk_root rename old a b pointer size clear mark = record {
+    pointer = subst (λ (r : Rename). IsRename P I r.target r.inode) (sym (mark.pointer ∙ clear.pointer)) pointer;
+    size = mark.size ∙ clear.size ∙ size;
+    sound = λ i found. elim (mark.only i found) [ inl none ↦ absurd (clear.none i none) | inr e ↦ subst (Reached P I) (sym e) (reached_law P I).root ];
+    ordered = mark.ordered (λ m lt. absurd (omega (arith, clear.start, lt)));
   }
 
   -- all that is found is queued at first
-  pub queued_first : (a b : Reach) → ((i : ℕ) → IsFound a i → ⊥) → a.seen ≡ 0 → Extends a b → (i : ℕ) → IsFound b i → IsClosed P I b i ⊎ IsQueued b 0 i
-  queued_first a b none start f i found = elim (f.more i found) [
-    | inl old ↦ absurd (none i old)
+  pub queued_first : (rename : Rename) (old a b : Reach) → IsCleared rename old a → Marks 1 a b → (i : ℕ) → IsFound b i → IsClosed P I b i ⊎ IsQueued b 0 i
+  queued_first rename old a b clear mark i found = elim (mark.extends.more i found) [
+    | inl none ↦ absurd (clear.none i none)
     | inr (m, le, lt, e) ↦ inr (m, omega arith, lt, e)
   ]
 

@@ -1,9 +1,14 @@
 -- What is read of a sound image to tell that it needs no recovery. P is the number of pages, I the words.
-use Rattle.std.specs.Prelude.{◌≡◌, ℕ, ◌<◌, List}
-use Rattle.layout.specs.Geometry.{page_of_slot, slot_word_of}
+use Rattle.std.specs.Prelude.{◌≡◌, ℕ, ◌<◌, ◌≤◌, List}
+use Rattle.layout.specs.Geometry.{inodes_of, page_of_slot, slot_word_of}
 use Rattle.layout.specs.Fields.{word, inode_kind, inode_links, inode_size, inode_own, page_owner, page_kind, page_offset}
 use Rattle.image_reading.specs.Reading.{IsLive}
 use Rattle.image_reading.specs.Repairs.{IsLitterSlot, IsLitterPage, IsLitterInode, IsLitterCount}
+
+-- an inode of the table
+pub record IsInode (P i : ℕ) : Type 0 where
+  pub from_one : 1 ≤ i
+  pub in_range : i ≤ inodes_of P
 
 -- the words of a free inode that are read are zero
 pub record IsZeroInode (I : List ℕ) (i : ℕ) : Type 0 where

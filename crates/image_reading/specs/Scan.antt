@@ -1,8 +1,8 @@
 -- What a scan of the words finds, and what its tables say.
-use Rattle.std.specs.Prelude.{◌≡◌, ◌≢◌, ℕ, ◌+◌, ◌-◌, ◌<◌, ◌≤◌, List, length, slice_index, Option, MatchOption, ◌==◌, if◌then◌else◌}
-use Rattle.layout.specs.Geometry.{inodes_of, data_pages_of}
+use Rattle.std.specs.Prelude.{◌≡◌, ◌≢◌, ◌↔◌, ◌⊎◌, ℕ, Bool, true, false, ◌+◌, ◌-◌, ◌<◌, ◌≤◌, List, length, slice_index, Option, MatchOption, ◌==◌, if◌then◌else◌}
+use Rattle.layout.specs.Geometry.{inodes_of, data_pages_of, slots_of}
 use Rattle.layout.specs.Fields.{inode_kind, page_owner, slot_inode, slot_pointer, slot_words}
-use Rattle.image_reading.specs.Reading.{IsDirectory, IsHeld, IsReachedSlot, slot_owner}
+use Rattle.image_reading.specs.Reading.{IsDirectory, IsHeld, IsReachedSlot, IsPageOf, slot_owner}
 use Rattle.image_reading.specs.Repairs.{IsPointer}
 use Rattle.image_reading.specs.Counts.{Count}
 use Rattle.image_reading.specs.Soundness.{Rule, number, Obeys, IsFirstFault}
@@ -40,6 +40,24 @@ pub record IsNaming (P : ℕ) (I : List ℕ) (s : ℕ) : Type 0 where
   pub slot : IsReachedSlot P I s
   pub directory : IsDirectory I (slot_inode P I s)
 
+-- ---- offsets of a file's pages
+
+-- One number for each offset that a page may have: of an inode below this one that has a page there, or 0.
+pub record AreStamps (P inode : ℕ) (stamps : List ℕ) : Type 0 where
+  pub room : length stamps ≡ data_pages_of P
+  pub earlier : (k : ℕ) → slice_index stamps k < inode
+
+-- the offsets at which the inode has a page are stamped with its number, and no others
+abbrev pub IsStamped : ℕ → List ℕ → ℕ → List ℕ → Type 0
+IsStamped P I inode stamps = (k : ℕ) → k < data_pages_of P → (slice_index stamps k ≡ inode) ↔ ((j : ℕ) × IsPageOf P I inode k j)
+
+-- The page's offset is stamped, if it is below the limit. It is new where it had no stamp of this inode.
+pub record StampsPage (P : ℕ) (I : List ℕ) (inode page limit : ℕ) (old new : List ℕ) (is_new : Bool) : Type 0 where
+  pub fresh : is_new ≡ true → (k : ℕ) → k < limit → IsPageOf P I inode k page → slice_index old k ≡ inode → ⊥
+  pub doubled : is_new ≡ false → (k : ℕ) × (k < limit) × IsPageOf P I inode k page × (slice_index old k ≡ inode)
+  pub here : (k : ℕ) → k < limit → IsPageOf P I inode k page → slice_index new k ≡ inode
+  pub only : (k : ℕ) → (slice_index new k ≡ slice_index old k) ⊎ ((slice_index new k ≡ inode) × IsPageOf P I inode k page)
+
 -- ---- links
 
 -- the inode that a reached slot counts for: the directory that it stands in where it names a directory, and else what it names
@@ -51,9 +69,16 @@ pub record IsCredit (P : ℕ) (I : List ℕ) (i s : ℕ) : Type 0 where
   pub slot : IsReachedSlot P I s
   pub inode : credited P I s ≡ i
 
+-- a slot with an inode's number
+pub record HasNumber (P : ℕ) (I : List ℕ) (s : ℕ) : Type 0 where
+  pub in_range : s < slots_of P
+  pub least : 1 ≤ slot_inode P I s
+  pub most : slot_inode P I s ≤ inodes_of P
+
 -- For each inode the number of the slots that count for it.
-abbrev pub AreCounted : ℕ → List ℕ → List ℕ → Type 0
-AreCounted P I tally = (i : ℕ) → i ≤ inodes_of P → Count (IsCredit P I i) (slice_index tally i)
+pub record AreCounted (P : ℕ) (I tally : List ℕ) : Type 0 where
+  pub inodes : length tally ≡ inodes_of P + 1
+  pub each : (i : ℕ) → i ≤ inodes_of P → Count (IsCredit P I i) (slice_index tally i)
 
 -- ---- names
 
@@ -62,6 +87,10 @@ pub record IsTwin (P : ℕ) (I : List ℕ) (s r : ℕ) : Type 0 where
   pub earlier : r < s
   pub slot : IsReachedSlot P I r
   pub words : slot_words P I r ≡ slot_words P I s
+
+-- one in a page of the same directory
+abbrev pub HasTwin : ℕ → List ℕ → ℕ → Type 0
+HasTwin P I s = (r : ℕ) × (slot_owner P I r ≡ slot_owner P I s) × IsTwin P I s r
 
 -- ---- the rules, one after another
 

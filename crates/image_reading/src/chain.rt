@@ -1,7 +1,7 @@
 // The rules, one after another.
 ghost use Rattle.std.specs.Prelude.{◌≡◌, ◌*◌, ◌+◌, length};
-ghost use Rattle.image_reading.specs.Scan.{FindsFault, IsLinked, KeepsBelow};
-ghost use Rattle.image_reading.specs.Walk.{IsWalked};
+ghost use Rattle.image_reading.specs.Scan.{FindsFault};
+ghost use Rattle.image_reading.specs.Walk.{IsWalkedBelow};
 
 use crate::Violation;
 use crate::faults::directories::own_directories_broken_at;
@@ -13,7 +13,6 @@ use crate::faults::links::links_broken_at;
 use crate::faults::names::own_names_broken_at;
 use crate::faults::pointers::{one_pointer_broken_at, pointers_broken_at};
 use crate::image::{Image, Walked};
-use crate::pages::Lists;
 
 /// Rules 1 to 4, which need no walk.
 pub fn fault_of_head(image: &Image<'_>) -> Option<Violation>
@@ -36,8 +35,7 @@ pub fn fault_of_head(image: &Image<'_>) -> Option<Violation>
 
 /// Rules 5 to 9, which are about names. `named` is overwritten.
 pub fn fault_of_names(walked: &Walked<'_>, named: &mut [bool]) -> Option<Violation>
-    requires kept { KeepsBelow walked.now.image.geometry.pages walked.now.image.words.now 5 }
-    requires walked { IsWalked walked.now }
+    requires walked { IsWalkedBelow 5 walked.now }
     requires marks { length named.old ≡ walked.now.image.geometry.inodes + 1 }
     ensures { FindsFault walked.now.image.geometry.pages walked.now.image.words.now 10 result }
 {
@@ -61,8 +59,7 @@ pub fn fault_of_names(walked: &Walked<'_>, named: &mut [bool]) -> Option<Violati
 
 /// Rules 10 to 13, which are about pages. `stamps` is overwritten.
 pub fn fault_of_pages(walked: &Walked<'_>, stamps: &mut [u64]) -> Option<Violation>
-    requires kept { KeepsBelow walked.now.image.geometry.pages walked.now.image.words.now 10 }
-    requires walked { IsWalked walked.now }
+    requires walked { IsWalkedBelow 10 walked.now }
     requires room { length stamps.old ≡ walked.now.image.geometry.data_pages }
     ensures { FindsFault walked.now.image.geometry.pages walked.now.image.words.now 14 result }
 {
@@ -83,8 +80,7 @@ pub fn fault_of_pages(walked: &Walked<'_>, stamps: &mut [u64]) -> Option<Violati
 
 /// Rule 14, which is about links. `tally` is overwritten.
 pub fn fault_of_links(walked: &Walked<'_>, tally: &mut [u64]) -> Option<Violation>
-    requires kept { KeepsBelow walked.now.image.geometry.pages walked.now.image.words.now 14 }
-    requires walked { IsWalked walked.now }
+    requires walked { IsWalkedBelow 14 walked.now }
     requires inodes { length tally.old ≡ walked.now.image.geometry.inodes + 1 }
     ensures { FindsFault walked.now.image.geometry.pages walked.now.image.words.now 15 result }
 {

@@ -1,22 +1,34 @@
 // Which slots are held, and their rename pointer.
 ghost use Rattle.std.specs.Prelude.{◌≡◌, ◌↔◌, ◌*◌, ◌<◌, ℕ, IsTrue, length};
 ghost use Rattle.layout.specs.Geometry.{slots_of};
-ghost use Rattle.image_reading.specs.Reading.{IsHeld, IsLive};
+ghost use Rattle.image_reading.specs.Images.{In};
+ghost use Rattle.image_reading.specs.Reading.{IsHeld, IsLive, slot_owner};
 ghost use Rattle.image_reading.specs.Soundness.{IsOnlyPointer};
 ghost use Rattle.image_reading.specs.Scan.{IsRename};
 ghost use Rattle.image_reading.specs.Repairs.{IsPointer};
 
 use crate::image::Image;
-use layout::{PAGE_SLOTS, SLOTS};
+use layout::SLOTS;
+
+/// The owner of the page that the slot stands in.
+#[tactic(auto, unfolding(crate::specs::Reading::slot_owner))]
+pub fn owner_of(image: &Image<'_>, slot: u64) -> u64
+    requires { slot < slots_of image.now.geometry.pages }
+    ensures { result ≡ slot_owner image.now.geometry.pages image.now.words.now slot }
+{
+    let page = image.geometry.page_of(slot);
+    image.geometry.descriptor_at(image.words, page).owner
+}
 
 /// Whether the slot stands in a page that is held as a directory page.
 pub fn is_held(image: &Image<'_>, slot: u64) -> bool
-    ensures { IsTrue result ↔ IsHeld image.now.geometry.pages image.now.words.now slot }
+    ensures { IsTrue result ↔ In image.now IsHeld slot }
 {
     if slot >= image.geometry.slots() {
         return false;
     }
-    let descriptor = image.geometry.descriptor_at(image.words, slot / PAGE_SLOTS);
+    let page = image.geometry.page_of(slot);
+    let descriptor = image.geometry.descriptor_at(image.words, page);
     if descriptor.kind != SLOTS {
         return false;
     }
@@ -25,7 +37,7 @@ pub fn is_held(image: &Image<'_>, slot: u64) -> bool
 
 /// Whether the slot is held and has a rename pointer.
 pub fn has_pointer(image: &Image<'_>, slot: u64) -> bool
-    ensures { IsTrue result ↔ IsPointer image.now.geometry.pages image.now.words.now slot }
+    ensures { IsTrue result ↔ In image.now IsPointer slot }
 {
     if !is_held(image, slot) {
         return false;
@@ -44,7 +56,7 @@ pub struct Rename {
 
 /// The rename pointer, where one held slot at most has one.
 pub fn rename_of(image: &Image<'_>) -> Rename
-    requires { (s : ℕ) → IsOnlyPointer image.now.geometry.pages image.now.words.now s }
+    requires { (s : ℕ) → In image.now IsOnlyPointer s }
     ensures { IsRename image.now.geometry.pages image.now.words.now result.target result.inode }
 {
     for slot in 0..image.geometry.slots() {
@@ -65,7 +77,7 @@ pub fn rename_of(image: &Image<'_>) -> Rename
 /// Whether the slot is live.
 pub fn is_live(image: &Image<'_>, rename: Rename, slot: u64) -> bool
     requires { IsRename image.now.geometry.pages image.now.words.now rename.target rename.inode }
-    ensures { IsTrue result ↔ IsLive image.now.geometry.pages image.now.words.now slot }
+    ensures { IsTrue result ↔ In image.now IsLive slot }
 {
     if !is_held(image, slot) {
         return false;

@@ -23,13 +23,11 @@ pub struct Walked<'a> {
 
 impl<'a> Walked<'a> {
     ghost use Rattle.std.specs.Prelude.{◌≡◌, ◌*◌, length};
-    ghost use Rattle.image_reading.specs.Scan.{IsLinked};
-    ghost use Rattle.image_reading.specs.Walk.{Knows, IsWalked};
+    ghost use Rattle.image_reading.specs.Walk.{IsWalkDone, IsWalked};
 
     /// The image of these words, with what the walk of it has found.
     pub fn new(image: Image<'a>, lists: Lists<'a>, reach: &'a Reach) -> Walked<'a>
-        requires linked { IsLinked image.geometry.pages image.words.now lists.first.now lists.next.now }
-        requires known { Knows image.geometry.pages image.words.now reach.now }
+        requires { IsWalkDone image.geometry.pages image.words.now lists.first.now lists.next.now reach.now }
         ensures walked { IsWalked result }
         ensures geometry { result.image.geometry ≡ image.entry.geometry }
         ensures words { result.image.words.now ≡ image.entry.words.now }

@@ -1,12 +1,13 @@
 // Inodes and pages in which nothing is to be repaired.
-ghost use Rattle.std.specs.Prelude.{◌≡◌, ◌≢◌, ◌↔◌, ◌*◌, ◌+◌, ◌<◌, ◌≤◌, IsTrue, length};
-ghost use Rattle.layout.specs.Geometry.{inodes_of, data_pages_of, slots_of};
+ghost use Rattle.std.specs.Prelude.{◌≡◌, ◌↔◌, ◌<◌, IsTrue};
+ghost use Rattle.layout.specs.Geometry.{data_pages_of, slots_of};
 ghost use Rattle.layout.specs.Fields.{page_owner};
+ghost use Rattle.image_reading.specs.Images.{In};
 ghost use Rattle.image_reading.specs.Reading.{Reached, IsLive};
-ghost use Rattle.image_reading.specs.Scan.{AreCounted, IsRename};
+ghost use Rattle.image_reading.specs.Scan.{AreCounted};
 ghost use Rattle.image_reading.specs.Soundness.{Sound};
-ghost use Rattle.image_reading.specs.Walk.{IsWalked};
-ghost use Rattle.image_reading.specs.Litter.{IsZeroInode, IsZeroDescriptor, IsZeroSlot, HasLiveSlot, HasZeroSlots, IsTidyPage, IsTidyInode};
+ghost use Rattle.image_reading.specs.Walk.{IsWalked, IsSoundWalk};
+ghost use Rattle.image_reading.specs.Litter.{IsInode, IsZeroInode, IsZeroDescriptor, IsZeroSlot, HasLiveSlot, HasZeroSlots, IsTidyPage, IsTidyInode};
 
 use crate::held::{Rename, is_live};
 use crate::image::{Image, Walked};
@@ -29,13 +30,10 @@ const FREE_PAGE: DescriptorFields = DescriptorFields {
 
 /// Whether the inode has the links that are counted where it is reached, and is zero elsewhere.
 pub fn is_tidy_inode(walked: &Walked<'_>, tally: &[u64], inode: u64) -> bool
-    requires sound { Sound walked.now.image.geometry.pages walked.now.image.words.now }
-    requires walked { IsWalked walked.now }
-    requires long { length tally.now ≡ inodes_of walked.now.image.geometry.pages + 1 }
+    requires walked { IsSoundWalk walked.now }
     requires counted { AreCounted walked.now.image.geometry.pages walked.now.image.words.now tally.now }
-    requires from_one { 1 ≤ inode }
-    requires in_range { inode ≤ inodes_of walked.now.image.geometry.pages }
-    ensures { IsTrue result ↔ IsTidyInode walked.now.image.geometry.pages walked.now.image.words.now inode }
+    requires inode { IsInode walked.now.image.geometry.pages inode }
+    ensures { IsTrue result ↔ In walked.now.image IsTidyInode inode }
 {
     if !walked.reach.has(inode) {
         return is_zero_inode(&walked.image, inode);
@@ -45,8 +43,7 @@ pub fn is_tidy_inode(walked: &Walked<'_>, tally: &[u64], inode: u64) -> bool
 
 // Whether the words of the inode that are read are zero.
 fn is_zero_inode(image: &Image<'_>, inode: u64) -> bool
-    requires from_one { 1 ≤ inode }
-    requires in_range { inode ≤ inodes_of image.now.geometry.pages }
+    requires { IsInode image.now.geometry.pages inode }
     ensures { IsTrue result ↔ IsZeroInode image.now.words.now inode }
 {
     image.geometry.inode_at(image.words, inode) == FREE_INODE
@@ -55,12 +52,10 @@ fn is_zero_inode(image: &Image<'_>, inode: u64) -> bool
 // Whether the reached inode has as many links as are counted.
 fn has_exact_links(image: &Image<'_>, tally: &[u64], inode: u64) -> bool
     requires sound { Sound image.now.geometry.pages image.now.words.now }
-    requires long { length tally.now ≡ inodes_of image.now.geometry.pages + 1 }
     requires counted { AreCounted image.now.geometry.pages image.now.words.now tally.now }
-    requires reached { Reached image.now.geometry.pages image.now.words.now inode }
-    requires from_one { 1 ≤ inode }
-    requires in_range { inode ≤ inodes_of image.now.geometry.pages }
-    ensures { IsTrue result ↔ IsTidyInode image.now.geometry.pages image.now.words.now inode }
+    requires reached { In image.now Reached inode }
+    requires inode { IsInode image.now.geometry.pages inode }
+    ensures { IsTrue result ↔ In image.now IsTidyInode inode }
 {
     let fields = image.geometry.inode_at(image.words, inode);
     let counted = tally[inode as usize];
@@ -72,10 +67,9 @@ fn has_exact_links(image: &Image<'_>, tally: &[u64], inode: u64) -> bool
 
 /// Whether the page is kept and its slots are live or zero, or its descriptor is zero.
 pub fn is_tidy_page(walked: &Walked<'_>, page: u64) -> bool
-    requires sound { Sound walked.now.image.geometry.pages walked.now.image.words.now }
-    requires walked { IsWalked walked.now }
+    requires walked { IsSoundWalk walked.now }
     requires in_range { page < data_pages_of walked.now.image.geometry.pages }
-    ensures { IsTrue result ↔ IsTidyPage walked.now.image.geometry.pages walked.now.image.words.now page }
+    ensures { IsTrue result ↔ In walked.now.image IsTidyPage page }
 {
     let owner = walked
         .image
@@ -94,21 +88,19 @@ pub fn is_tidy_page(walked: &Walked<'_>, page: u64) -> bool
 // Whether the words of the page's descriptor that are read are zero.
 fn is_zero_descriptor(image: &Image<'_>, page: u64) -> bool
     requires { page < data_pages_of image.now.geometry.pages }
-    ensures { IsTrue result ↔ IsZeroDescriptor image.now.geometry.pages image.now.words.now page }
+    ensures { IsTrue result ↔ In image.now IsZeroDescriptor page }
 {
     image.geometry.descriptor_at(image.words, page) == FREE_PAGE
 }
 
 // Whether the page of a reached inode is kept, and its slots are live or zero.
 fn is_tidy_owned(walked: &Walked<'_>, page: u64, owner: u64) -> bool
-    requires sound { Sound walked.now.image.geometry.pages walked.now.image.words.now }
-    requires walked { IsWalked walked.now }
+    requires walked { IsSoundWalk walked.now }
     requires in_range { page < data_pages_of walked.now.image.geometry.pages }
     requires owner { owner ≡ page_owner walked.now.image.geometry.pages walked.now.image.words.now page }
-    requires owned { page_owner walked.now.image.geometry.pages walked.now.image.words.now page ≢ 0 }
     requires reached { Reached walked.now.image.geometry.pages walked.now.image.words.now
         (page_owner walked.now.image.geometry.pages walked.now.image.words.now page) }
-    ensures { IsTrue result ↔ IsTidyPage walked.now.image.geometry.pages walked.now.image.words.now page }
+    ensures { IsTrue result ↔ In walked.now.image IsTidyPage page }
 {
     let inode = walked.image.geometry.inode_at(walked.image.words, owner);
     if inode.kind == FILE {
@@ -129,7 +121,7 @@ fn is_tidy_owned(walked: &Walked<'_>, page: u64, owner: u64) -> bool
 fn has_live_slot(walked: &Walked<'_>, page: u64) -> bool
     requires walked { IsWalked walked.now }
     requires in_range { page < data_pages_of walked.now.image.geometry.pages }
-    ensures { IsTrue result ↔ HasLiveSlot walked.now.image.geometry.pages walked.now.image.words.now page }
+    ensures { IsTrue result ↔ In walked.now.image HasLiveSlot page }
 {
     for place in 0..PAGE_SLOTS {
         if is_live(
@@ -147,7 +139,7 @@ fn has_live_slot(walked: &Walked<'_>, page: u64) -> bool
 fn has_zero_slots(walked: &Walked<'_>, page: u64) -> bool
     requires walked { IsWalked walked.now }
     requires in_range { page < data_pages_of walked.now.image.geometry.pages }
-    ensures { IsTrue result ↔ HasZeroSlots walked.now.image.geometry.pages walked.now.image.words.now page }
+    ensures { IsTrue result ↔ In walked.now.image HasZeroSlots page }
 {
     for place in 0..PAGE_SLOTS {
         if !is_live_or_zero(walked, walked.image.geometry.slot_in(page, place)) {
@@ -161,8 +153,7 @@ fn has_zero_slots(walked: &Walked<'_>, page: u64) -> bool
 fn is_live_or_zero(walked: &Walked<'_>, slot: u64) -> bool
     requires walked { IsWalked walked.now }
     requires in_range { slot < slots_of walked.now.image.geometry.pages }
-    ensures { IsTrue result ↔ (¬ IsLive walked.now.image.geometry.pages walked.now.image.words.now slot
-        → IsZeroSlot walked.now.image.geometry.pages walked.now.image.words.now slot) }
+    ensures { IsTrue result ↔ (¬ In walked.now.image IsLive slot → In walked.now.image IsZeroSlot slot) }
 {
     if is_live(&walked.image, walked.reach.rename, slot) {
         return true;
@@ -173,7 +164,7 @@ fn is_live_or_zero(walked: &Walked<'_>, slot: u64) -> bool
 // Whether all words of the slot are zero.
 fn is_zero_slot(image: &Image<'_>, slot: u64) -> bool
     requires { slot < slots_of image.now.geometry.pages }
-    ensures { IsTrue result ↔ IsZeroSlot image.now.geometry.pages image.now.words.now slot }
+    ensures { IsTrue result ↔ In image.now IsZeroSlot slot }
 {
     for field in 0..SLOT_WORDS {
         if image.words[image.geometry.slot_word(slot, field) as usize] != 0 {

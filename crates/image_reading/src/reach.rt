@@ -20,8 +20,8 @@ pub struct Reach {
 }
 
 impl Reach {
-    ghost use Rattle.std.specs.Prelude.{◌≡◌, ◌↔◌, ◌⊎◌, ℕ, ◌<◌, IsTrue, IfOk, vec_len, slice_index};
-    ghost use Rattle.image_reading.specs.Walk.{IsFound, Extends};
+    ghost use Rattle.std.specs.Prelude.{◌≡◌, ◌↔◌, ◌<◌, IsTrue, IfOk, vec_len};
+    ghost use Rattle.image_reading.specs.Walk.{IsFound, IsCleared, Marks};
 
     /// Marks for so many inode numbers.
     pub fn new(alloc: Global, numbers: usize) -> Result<Reach, NoMemory>
@@ -53,10 +53,7 @@ impl Reach {
 
     /// Forgets all, and takes this rename pointer.
     pub fn clear(&mut self, rename: Rename)
-        ensures pointer { self.new.rename ≡ rename }
-        ensures none { (i : ℕ) → IsFound self.new i → ⊥ }
-        ensures start { self.new.seen ≡ 0 }
-        ensures size { vec_len self.new.reached ≡ vec_len self.old.reached }
+        ensures { IsCleared rename self.old self.new }
     {
         self.reached.as_mut_slice().fill(false);
         self.seen = 0;
@@ -66,13 +63,7 @@ impl Reach {
     /// Adds an inode, at the end of the order if it is new.
     pub fn mark(&mut self, inode: u64)
         requires { inode < vec_len self.old.reached }
-        ensures found { IsFound self.new inode }
-        ensures only { (i : ℕ) → IsFound self.new i → IsFound self.old i ⊎ (i ≡ inode) }
-        ensures pointer { self.new.rename ≡ self.old.rename }
-        ensures extends { Extends self.old self.new }
-        ensures size { vec_len self.new.reached ≡ vec_len self.old.reached }
-        ensures ordered { ((m : ℕ) → m < self.old.seen → IsFound self.old (slice_index self.old.order.items m))
-            → (m : ℕ) → m < self.new.seen → IsFound self.new (slice_index self.new.order.items m) }
+        ensures { Marks inode self.old self.new }
     {
         let place = inode as usize;
         if self.reached[place] {

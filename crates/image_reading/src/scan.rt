@@ -39,9 +39,9 @@ pub struct Scan {
 
 impl Scan {
     ghost use Rattle.std.specs.Prelude.{◌≡◌, ◌*◌, ℕ, IfOk, length};
-    ghost use Rattle.image_reading.specs.Scan.{FindsFault, IsLinked, KeepsBelow};
+    ghost use Rattle.image_reading.specs.Scan.{FindsFault, KeepsBelow};
     ghost use Rattle.image_reading.specs.Soundness.{IsOnlyPointer};
-    ghost use Rattle.image_reading.specs.Walk.{Knows};
+    ghost use Rattle.image_reading.specs.Walk.{IsWalkDone};
 
     /// Tables for volumes of this size.
     ///
@@ -72,8 +72,8 @@ impl Scan {
     fn walk(&mut self, words: &[u64])
         requires whole { length words.now ≡ 512 * self.old.geometry.pages }
         requires one_pointer { (s : ℕ) → IsOnlyPointer self.old.geometry.pages words.now s }
-        ensures linked { IsLinked self.old.geometry.pages words.now self.new.first.items self.new.next.items }
-        ensures known { Knows self.old.geometry.pages words.now self.new.reach }
+        ensures done { IsWalkDone self.old.geometry.pages words.now self.new.first.items self.new.next.items
+            self.new.reach }
         ensures made_for { self.new.geometry ≡ self.old.geometry }
     {
         let image = Image {

@@ -1,28 +1,24 @@
 // Which slots are reached, once the walk is done.
 ghost use Rattle.std.specs.Prelude.{◌≡◌, ◌↔◌, ◌*◌, ◌+◌, ◌<◌, ℕ, IsTrue, length};
 ghost use Rattle.layout.specs.Geometry.{data_pages_of, slots_of, page_of_slot};
+ghost use Rattle.image_reading.specs.Images.{In};
 ghost use Rattle.image_reading.specs.Reading.{IsReachedSlot};
 ghost use Rattle.image_reading.specs.Scan.{IsNaming};
-ghost use Rattle.image_reading.specs.Soundness.{NamesInode};
-ghost use Rattle.image_reading.specs.Walk.{IsWalked};
+ghost use Rattle.image_reading.specs.Walk.{IsWalked, IsNumbered};
 
-use crate::held::is_live;
+use crate::held::{is_live, owner_of};
 use crate::image::Walked;
-use layout::{DIRECTORY, PAGE_SLOTS};
+use layout::DIRECTORY;
 
 /// Whether the slot is live and stands in a page of a reached directory.
 pub fn is_reached_slot(walked: &Walked<'_>, slot: u64) -> bool
     requires { IsWalked walked.now }
-    ensures { IsTrue result ↔ IsReachedSlot walked.now.image.geometry.pages walked.now.image.words.now slot }
+    ensures { IsTrue result ↔ In walked.now.image IsReachedSlot slot }
 {
     if !is_live(&walked.image, walked.reach.rename, slot) {
         return false;
     }
-    let owner = walked
-        .image
-        .geometry
-        .descriptor_at(walked.image.words, slot / PAGE_SLOTS)
-        .owner;
+    let owner = owner_of(&walked.image, slot);
     if !walked.reach.has(owner) {
         return false;
     }
@@ -36,9 +32,8 @@ pub fn is_reached_slot(walked: &Walked<'_>, slot: u64) -> bool
 
 /// Whether the slot is reached and names a directory.
 pub fn names_directory(walked: &Walked<'_>, slot: u64) -> bool
-    requires walked { IsWalked walked.now }
-    requires numbers { (s : ℕ) → NamesInode walked.now.image.geometry.pages walked.now.image.words.now s }
-    ensures { IsTrue result ↔ IsNaming walked.now.image.geometry.pages walked.now.image.words.now slot }
+    requires { IsNumbered walked.now }
+    ensures { IsTrue result ↔ In walked.now.image IsNaming slot }
 {
     if !is_reached_slot(walked, slot) {
         return false;

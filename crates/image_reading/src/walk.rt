@@ -1,10 +1,9 @@
 // The walk over the directories, from the root on.
-ghost use Rattle.std.specs.Prelude.{◌≡◌, ◌*◌, ◌+◌, ◌<◌, ◌≤◌, ℕ, length, vec_len};
-ghost use Rattle.layout.specs.Geometry.{page_of_slot, slots_of};
-ghost use Rattle.layout.specs.Fields.{page_owner};
-ghost use Rattle.image_reading.specs.Reading.{IsDirectory, Reached, slot_owner};
+ghost use Rattle.std.specs.Prelude.{◌≡◌, ◌+◌, vec_len};
+ghost use Rattle.image_reading.specs.Images.{In};
+ghost use Rattle.image_reading.specs.Reading.{Reached};
 ghost use Rattle.image_reading.specs.Scan.{IsLinked, IsRename};
-ghost use Rattle.image_reading.specs.Walk.{IsWalk, Extends, IsTaken, IsClosed, Knows};
+ghost use Rattle.image_reading.specs.Walk.{IsWalk, IsDirectorySlot, IsDirectoryPage, IsTaken, IsPageTaken, IsClosed, GoesOn, Knows};
 
 use crate::held::{Rename, is_live};
 use crate::image::Image;
@@ -14,15 +13,10 @@ use layout::{DIRECTORY, PAGE_SLOTS, ROOT};
 
 // Takes what a slot of a reached directory names.
 fn visit_slot(image: &Image<'_>, slot: u64, reach: &mut Reach)
-    requires in_range { slot < slots_of image.now.geometry.pages }
-    requires owner { Reached image.now.geometry.pages image.now.words.now
-        (slot_owner image.now.geometry.pages image.now.words.now slot) }
-    requires directory { IsDirectory image.now.words.now
-        (slot_owner image.now.geometry.pages image.now.words.now slot) }
+    requires slot { In image.now IsDirectorySlot slot }
     requires walk { IsWalk image.now.geometry.pages image.now.words.now reach.old }
-    ensures walk { IsWalk image.now.geometry.pages image.now.words.now reach.new }
-    ensures extends { Extends reach.old reach.new }
-    ensures taken { IsTaken image.now.geometry.pages image.now.words.now reach.new slot }
+    ensures { GoesOn image.now.geometry.pages image.now.words.now reach.old reach.new
+        (λ found. IsTaken image.now.geometry.pages image.now.words.now found slot) }
 {
     if !is_live(image, reach.rename, slot) {
         return;
@@ -35,30 +29,23 @@ fn visit_slot(image: &Image<'_>, slot: u64, reach: &mut Reach)
 
 // Takes what the slots of a page of a reached directory name.
 fn visit_page(image: &Image<'_>, page: u64, reach: &mut Reach)
-    requires in_range { page < image.now.geometry.data_pages }
-    requires owner { Reached image.now.geometry.pages image.now.words.now
-        (page_owner image.now.geometry.pages image.now.words.now page) }
-    requires directory { IsDirectory image.now.words.now
-        (page_owner image.now.geometry.pages image.now.words.now page) }
+    requires page { In image.now IsDirectoryPage page }
     requires walk { IsWalk image.now.geometry.pages image.now.words.now reach.old }
-    ensures walk { IsWalk image.now.geometry.pages image.now.words.now reach.new }
-    ensures extends { Extends reach.old reach.new }
-    ensures taken { (s : ℕ) → page_of_slot s ≡ page → IsTaken image.now.geometry.pages image.now.words.now reach.new s }
+    ensures { GoesOn image.now.geometry.pages image.now.words.now reach.old reach.new
+        (λ found. IsPageTaken image.now.geometry.pages image.now.words.now found page) }
 {
     for entry in 0..PAGE_SLOTS {
-        visit_slot(image, PAGE_SLOTS * page + entry, reach);
+        visit_slot(image, image.geometry.slot_in(page, entry), reach);
     }
 }
 
 // Takes what the slots of a reached directory name.
 fn visit(image: &Image<'_>, lists: Lists<'_>, inode: u64, reach: &mut Reach)
     requires linked { IsLinked image.now.geometry.pages image.now.words.now lists.first.now lists.next.now }
-    requires in_range { inode ≤ image.now.geometry.inodes }
-    requires reached { Reached image.now.geometry.pages image.now.words.now inode }
+    requires reached { In image.now Reached inode }
     requires walk { IsWalk image.now.geometry.pages image.now.words.now reach.old }
-    ensures walk { IsWalk image.now.geometry.pages image.now.words.now reach.new }
-    ensures extends { Extends reach.old reach.new }
-    ensures closed { IsClosed image.now.geometry.pages image.now.words.now reach.new inode }
+    ensures { GoesOn image.now.geometry.pages image.now.words.now reach.old reach.new
+        (λ found. IsClosed image.now.geometry.pages image.now.words.now found inode) }
 {
     if image.geometry.inode_at(image.words, inode).kind != DIRECTORY {
         return;

@@ -10,7 +10,12 @@ abbrev pub node_code : NodeKind → ℕ
 node_code File = 1
 node_code Directory = 2
 
--- and a page's descriptor
+-- what its pages hold
+abbrev pub page_kind_of : NodeKind → PageKind
+page_kind_of File = Bytes
+page_kind_of Directory = Slots
+
+-- the kind that a page's descriptor has
 abbrev pub page_code : PageKind → ℕ
 page_code Bytes = 1
 page_code Slots = 2

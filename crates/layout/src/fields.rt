@@ -3,6 +3,7 @@ ghost use Rattle.layout.specs.Geometry.{slots_of};
 ghost use Rattle.layout.specs.Fields.{word, words_from, inode_kind, inode_links, inode_size, inode_own, page_owner, page_kind, page_offset, slot_inode, slot_pointer, slot_words};
 
 use crate::geometry::Geometry;
+use crate::name::NAME_WORDS;
 use crate::units::{
     DESCRIPTOR_KIND, DESCRIPTOR_OFFSET, DESCRIPTOR_OWNER, INODE_KIND, INODE_LINKS, INODE_OWN,
     INODE_SIZE, SLOT_INODE, SLOT_NAME, SLOT_POINTER,
@@ -40,7 +41,7 @@ pub struct SlotFields {
     /// One more than the slot that this one takes over, 0 for none.
     pub pointer: u64,
     /// The name, as `name_words` writes it.
-    pub name: [u64; 14],
+    pub name: [u64; NAME_WORDS],
 }
 
 impl Geometry {
@@ -107,12 +108,12 @@ fn word_at(words: &[u64], address: u64) -> u64
 
 // The words from this address on.
 #[tactic(auto, using(crate::proofs::FieldLaws::words_from_range))]
-fn fourteen_words(words: &[u64], first: u64) -> [u64; 14]
+fn fourteen_words(words: &[u64], first: u64) -> [u64; NAME_WORDS]
     requires { first + 14 ≤ length words.now }
     ensures { result ≡ words_from words.now first 14 }
 {
     let start = first as usize;
-    let mut found = [0u64; 14];
-    found.copy_from_slice(&words[start..start + 14]);
+    let mut found = [0u64; NAME_WORDS];
+    found.copy_from_slice(&words[start..start + NAME_WORDS]);
     found
 }

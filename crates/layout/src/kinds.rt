@@ -1,6 +1,6 @@
 // What nodes and pages are, and the words that say so.
 ghost use Rattle.std.specs.Prelude.{◌≡◌, ◌≢◌, MatchOption};
-ghost use Rattle.layout.specs.Kinds.{node_code, page_code};
+ghost use Rattle.layout.specs.Kinds.{node_code, page_code, page_kind_of};
 ghost use Rattle.layout.specs.declared.kinds.NodeKind.{NodeKind};
 
 /// The kind of a file's inode.
@@ -25,16 +25,6 @@ pub enum NodeKind {
 }
 
 impl NodeKind {
-    /// The kind that the node's inode has.
-    pub fn code(self) -> u64
-        ensures { result ≡ node_code self }
-    {
-        match self {
-            NodeKind::File => FILE,
-            NodeKind::Directory => DIRECTORY,
-        }
-    }
-
     /// What the node of an inode of this kind is. `None` for a free inode, and where no node has that kind.
     pub fn of_code(code: u64) -> Option<NodeKind>
         ensures { MatchOption result ((kind : NodeKind) → node_code kind ≢ code) (λ kind. node_code kind ≡ code) }
@@ -43,6 +33,16 @@ impl NodeKind {
             FILE => Some(NodeKind::File),
             DIRECTORY => Some(NodeKind::Directory),
             _ => None,
+        }
+    }
+
+    /// What the node's pages hold.
+    pub fn page_kind(self) -> PageKind
+        ensures { result ≡ page_kind_of self }
+    {
+        match self {
+            NodeKind::File => PageKind::Bytes,
+            NodeKind::Directory => PageKind::Slots,
         }
     }
 }

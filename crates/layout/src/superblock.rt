@@ -12,21 +12,12 @@ pub const VERSION: u64 = 1;
 /// The address of the magic.
 pub const MAGIC_WORD: u64 = 0;
 
-/// The address of the version.
-pub const VERSION_WORD: u64 = 1;
-
-/// The address of the number of pages.
-pub const PAGES_WORD: u64 = 2;
-
-/// The address of the number of inodes.
-pub const INODES_WORD: u64 = 3;
-
-/// The address of the number of data pages.
-pub const DATA_PAGES_WORD: u64 = 4;
+/// The superblock's words that are read: the magic, the version, and the numbers of pages, inodes and data pages.
+pub const HEAD_WORDS: usize = 5;
 
 impl Geometry {
-    /// The superblock's words that are read, from its first on. The rest of them is zero.
-    pub fn head(&self) -> [u64; 5]
+    /// The words that are read, from the superblock's first on. The rest of it is zero.
+    pub fn head(&self) -> [u64; HEAD_WORDS]
         ensures { result ≡ head_of self.now.pages }
     {
         [MAGIC, VERSION, self.pages, self.inodes, self.data_pages]

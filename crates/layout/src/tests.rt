@@ -1,7 +1,5 @@
 use super::*;
-use crate::superblock::{
-    DATA_PAGES_WORD, INODES_WORD, MAGIC, MAGIC_WORD, PAGES_WORD, VERSION, VERSION_WORD,
-};
+use crate::superblock::{MAGIC, MAGIC_WORD, VERSION};
 use std::test::Fail;
 
 #[test]
@@ -34,16 +32,7 @@ fn first_words_of_the_regions(rt: HostRuntime) -> Result<(), Fail> {
     let geometry = Geometry::of(16).ok_or("no volume")?;
     assert_eq!(rt; geometry.head(), [0x3130_4D50_4C52_5153, 1, 16, 4, 13]);
     assert_eq!(rt; [MAGIC, VERSION], [0x3130_4D50_4C52_5153, 1]);
-    assert_eq!(rt;
-        [
-            MAGIC_WORD,
-            VERSION_WORD,
-            PAGES_WORD,
-            INODES_WORD,
-            DATA_PAGES_WORD
-        ],
-        [0, 1, 2, 3, 4]
-    );
+    assert_eq!(rt; MAGIC_WORD, 0);
     assert!(rt; geometry.inodes == 4);
     assert!(rt; geometry.data_pages == 13);
     let slots = geometry.slots();
@@ -74,8 +63,9 @@ fn lengths_and_slots_of_pages(rt: HostRuntime) -> Result<(), Fail> {
 
 #[test]
 fn kinds_and_their_codes(rt: HostRuntime) -> Result<(), Fail> {
-    assert_eq!(rt; [NodeKind::File.code(), NodeKind::Directory.code()], [1, 2]);
     assert_eq!(rt; [PageKind::Bytes.code(), PageKind::Slots.code()], [1, 2]);
+    assert_eq!(rt; NodeKind::File.page_kind(), PageKind::Bytes);
+    assert_eq!(rt; NodeKind::Directory.page_kind(), PageKind::Slots);
     assert_eq!(rt; NodeKind::of_code(0), None);
     assert_eq!(rt; NodeKind::of_code(1), Some(NodeKind::File));
     assert_eq!(rt; NodeKind::of_code(2), Some(NodeKind::Directory));

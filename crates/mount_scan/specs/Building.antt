@@ -3,9 +3,23 @@ use Rattle.std.specs.Prelude.{◌≡◌, ◌≢◌, ◌↔◌, ℕ, ◌<◌, ◌
 use Rattle.layout.specs.Geometry.{inodes_of}
 use Rattle.layout.specs.Fields.{inode_kind, inode_size, page_offset}
 use Rattle.image_reading.specs.Counts.{IsDistinct}
-use Rattle.image_reading.specs.Reading.{pages_of_size}
-use Rattle.image_counts.specs.Entries.{IsEntryOf, IsPageIn}
+use Rattle.image_reading.specs.Reading.{IsDirectory, pages_of_size}
+use Rattle.image_counts.specs.Entries.{IsEntryOf, IsPageIn, IsSlotIn}
 use Rattle.volatile_index.specs.Index.{NodeView, node_of, inodes_of_index}
+
+-- a data page that a directory owns
+pub record IsDirectorysPage (P : ℕ) (I : List ℕ) (d j : ℕ) : Type 0 where
+  pub from_one : 1 ≤ d
+  pub directory : IsDirectory I d
+  pub page : IsPageIn P I d j
+  pub open page use *
+
+-- and a slot of such a page
+pub record IsDirectorysSlot (P : ℕ) (I : List ℕ) (d s : ℕ) : Type 0 where
+  pub from_one : 1 ≤ d
+  pub directory : IsDirectory I d
+  pub slot : IsSlotIn P I d s
+  pub open slot use *
 
 -- so many pages have a place: a file's as many as its size takes, and no others
 pub record HasPlacesOf (I : List ℕ) (i : ℕ) (held : NodeView) : Type 0 where

@@ -1,12 +1,10 @@
 // The index of a volume, made from its words.
 ghost use Rattle.std.specs.Prelude.{◌≡◌, ℕ, ◌+◌, ◌*◌, ◌<◌, ◌≤◌, [], length, IfOk, OnOk};
-ghost use Rattle.layout.specs.Geometry.{data_pages_of, slots_of, page_of_slot};
-ghost use Rattle.layout.specs.Fields.{page_owner};
-ghost use Rattle.image_reading.specs.Reading.{IsDirectory, slot_owner, pages_of_size};
+ghost use Rattle.layout.specs.Geometry.{data_pages_of, page_of_slot};
 ghost use Rattle.image_reading.specs.Tidy.{Tidy};
 ghost use Rattle.volatile_index.specs.Index.{inodes_of_index, entries_of, pages_of, IsSameElsewhere};
 ghost use Rattle.volume.specs.Stands.{KnowsNodes};
-ghost use Rattle.mount_scan.specs.Building.{HasPlaces, HasPlacesOf, Holds};
+ghost use Rattle.mount_scan.specs.Building.{IsDirectorysPage, IsDirectorysSlot, HasPlaces, Holds};
 
 use layout::{BYTES, FILE, Geometry, PAGE_BYTES, PAGE_SLOTS, name_of_words};
 use pm_trait::NoMemory;
@@ -19,8 +17,7 @@ pub(crate) fn index_of_words(
     geometry: &Geometry,
     words: &[u64],
 ) -> Result<Index, NoMemory>
-    requires whole { length words.now ≡ 512 * geometry.now.pages }
-    requires tidy { Tidy geometry.now.pages words.now }
+    requires { Tidy geometry.now.pages words.now }
     ensures { IfOk result (λ index. KnowsNodes geometry.now.pages index words.now) }
 {
     let mut index = index_with_places(alloc, geometry, words)?;
@@ -32,7 +29,7 @@ pub(crate) fn index_of_words(
 
 // An index with a place for each page of a file. No page is known yet.
 fn index_with_places(alloc: Global, geometry: &Geometry, words: &[u64]) -> Result<Index, NoMemory>
-    requires whole { length words.now ≡ 512 * geometry.now.pages }
+    requires { length words.now ≡ 512 * geometry.now.pages }
     ensures { IfOk result (λ index. HasPlaces geometry.now.pages words.now geometry.now.inodes index) }
 {
     let mut index = Index::new(alloc, geometry)?;
@@ -67,7 +64,6 @@ fn add_page(
     words: &[u64],
     page: u64,
 ) -> Result<(), NoMemory>
-    requires whole { length words.now ≡ 512 * geometry.now.pages }
     requires tidy { Tidy geometry.now.pages words.now }
     requires in_range { page < data_pages_of geometry.now.pages }
     requires holds { Holds geometry.now.pages words.now page (32 * page) index.old }
@@ -94,12 +90,8 @@ fn add_entries(
     directory: u64,
     page: u64,
 ) -> Result<(), NoMemory>
-    requires whole { length words.now ≡ 512 * geometry.now.pages }
     requires tidy { Tidy geometry.now.pages words.now }
-    requires in_range { page < data_pages_of geometry.now.pages }
-    requires from_one { 1 ≤ directory }
-    requires owner { page_owner geometry.now.pages words.now page ≡ directory }
-    requires kind { IsDirectory words.now directory }
+    requires page { IsDirectorysPage geometry.now.pages words.now directory page }
     requires holds { Holds geometry.now.pages words.now (page + 1) (32 * page) index.old }
     ensures { OnOk result (Holds geometry.now.pages words.now (page + 1) (32 * (page + 1)) index.new) }
 {
@@ -123,12 +115,8 @@ fn add_entry(
     directory: u64,
     slot: u64,
 ) -> Result<(), NoMemory>
-    requires whole { length words.now ≡ 512 * geometry.now.pages }
     requires tidy { Tidy geometry.now.pages words.now }
-    requires in_range { slot < slots_of geometry.now.pages }
-    requires from_one { 1 ≤ directory }
-    requires owner { slot_owner geometry.now.pages words.now slot ≡ directory }
-    requires kind { IsDirectory words.now directory }
+    requires slot { IsDirectorysSlot geometry.now.pages words.now directory slot }
     requires holds { Holds geometry.now.pages words.now (page_of_slot slot + 1) slot index.old }
     ensures { OnOk result (Holds geometry.now.pages words.now (page_of_slot slot + 1) (slot + 1) index.new) }
 {

@@ -4,13 +4,14 @@ ghost use Rattle.pm_file.specs.Bytes.{place_of_line as line_place, place_of_page
 
 use crate::sizes::{BYTES_OF_A_LINE, BYTES_OF_A_PAGE, WORDS_OF_A_PAGE};
 use byteorder::{ByteOrder, LittleEndian};
+use layout::{LINE_BYTES, PAGE_BYTES};
 
 /// The first byte of a line.
 pub fn place_of_line(line: u64) -> u64
     requires { 64 * line < 2 ^ 63 }
     ensures { result ≡ line_place line }
 {
-    BYTES_OF_A_LINE as u64 * line
+    LINE_BYTES * line
 }
 
 /// The first byte of a page.
@@ -18,7 +19,7 @@ pub fn place_of_page(page: u64) -> u64
     requires { 4096 * page < 2 ^ 63 }
     ensures { result ≡ page_place page }
 {
-    BYTES_OF_A_PAGE as u64 * page
+    PAGE_BYTES * page
 }
 
 /// The bytes of a line's words.

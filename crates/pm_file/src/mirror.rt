@@ -1,7 +1,8 @@
 // The words of a file in memory, and which of their lines the file has still to be given.
-ghost use Rattle.std.specs.Prelude.{◌≡◌, ◌+◌, ◌-◌, ◌*◌, ◌^◌, ◌<◌, ◌≤◌, ℕ, List, [], ◌∷◌, ◌++◌, ◌==◌, length, slice_index, slice_set, vec_len, replicate, count_by, IfOk, OnOk, OnErr, true};
+ghost use Rattle.std.specs.Prelude.{◌≡◌, ◌+◌, ◌-◌, ◌*◌, ◌^◌, ◌<◌, ◌≤◌, ℕ, List, [], ◌∷◌, ◌++◌, ◌==◌, length, slice_index, slice_set, vec_len, count_by, IfOk, OnOk, OnErr, true};
 ghost use Rattle.std.specs.Vec.{vec_capacity};
 ghost use Rattle.pm_file.specs.Given.{is_listed, KeepsListed, HasLines, ReadsFrom};
+ghost use Rattle.pm_file.specs.Room.{IsRoomFor};
 
 use crate::FileFault;
 use crate::medium::Medium;
@@ -20,10 +21,7 @@ pub struct Room {
 /// Takes the memory for the words of so many pages, of which none is there yet.
 pub fn take_room(alloc: Global, pages: usize) -> Result<Room, AllocError>
     requires { 4096 * pages < 2 ^ 63 }
-    ensures words { IfOk result (λ room. room.words.items ≡ []) }
-    ensures rounds { IfOk result (λ room. room.rounds.items ≡ replicate (64 * pages) 0) }
-    ensures flushed { IfOk result (λ room. room.flushed.items ≡ []) }
-    ensures enough { IfOk result (λ room. vec_capacity room.flushed ≡ 64 * pages) }
+    ensures { IfOk result (IsRoomFor pages) }
 {
     let lines = LINES_OF_A_PAGE * pages;
     Ok(Room {
@@ -97,10 +95,7 @@ impl<F: Medium + Drop> Mirror<F> {
     /// Reads the words of so many pages from the start of a medium, for which there is room.
     pub fn read_from(mut medium: F, room: Room, pages: usize) -> Result<Mirror<F>, FileFault>
         requires in_file { 4096 * pages < 2 ^ 63 }
-        requires words { room.words.items ≡ [] }
-        requires rounds { room.rounds.items ≡ replicate (64 * pages) 0 }
-        requires flushed { room.flushed.items ≡ [] }
-        requires enough { vec_capacity room.flushed ≡ 64 * pages }
+        requires room { IsRoomFor pages room }
         ensures length { IfOk result (λ mirror. length mirror.words.items ≡ 512 * pages) }
         ensures read { IfOk result (λ mirror. ReadsFrom (F.held medium) 0 (512 * pages) mirror.words.items) }
     {

@@ -1,15 +1,12 @@
-// How many words and bytes there are in a line, a page and a volume.
+// The sizes of lines and pages as lengths of arrays and lists.
+use layout::{LINE_BYTES, LINE_WORDS, PAGE_BYTES, PAGE_LINES, PAGE_WORDS};
 
-pub const WORDS_OF_A_LINE: usize = 8;
+pub const WORDS_OF_A_LINE: usize = LINE_WORDS as usize;
 
-pub const LINES_OF_A_PAGE: usize = 64;
+pub const LINES_OF_A_PAGE: usize = PAGE_LINES as usize;
 
-pub const WORDS_OF_A_PAGE: usize = 512;
+pub const WORDS_OF_A_PAGE: usize = PAGE_WORDS as usize;
 
-pub const BYTES_OF_A_LINE: usize = 64;
+pub const BYTES_OF_A_LINE: usize = LINE_BYTES as usize;
 
-pub const BYTES_OF_A_PAGE: usize = 4096;
-
-pub const FEWEST_PAGES: u64 = 16;
-
-pub const MOST_PAGES: u64 = 65_536;
+pub const BYTES_OF_A_PAGE: usize = PAGE_BYTES as usize;

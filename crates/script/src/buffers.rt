@@ -3,7 +3,7 @@ use pm_trait::NoMemory;
 use std::alloc::Global;
 
 // How many bytes the longest line, of 65,536 bytes, gives at the most: each stands in two hexadecimal digits.
-const LINE_BYTES: usize = 32_768;
+const SCRATCH_BYTES: usize = 32_768;
 
 /// What a run reads lines with: the lines, and room for the bytes that a line gives, of 32,768 bytes.
 #[derive(Drop)]
@@ -21,7 +21,7 @@ impl Buffers {
         ensures { IfOk result AreNew }
     {
         let lines = Lines::new(alloc)?;
-        let scratch = vec![in alloc; 0; LINE_BYTES].map_err(|_| NoMemory)?;
+        let scratch = vec![in alloc; 0; SCRATCH_BYTES].map_err(|_| NoMemory)?;
         Ok(Buffers { lines, scratch })
     }
 }

@@ -1,18 +1,18 @@
 // Directories that have two names.
 ghost use Rattle.std.specs.Prelude.{◌≡◌, ◌*◌, ◌+◌, ℕ, length};
-ghost use Rattle.image_reading.specs.Soundness.{HasOwnDirectory, NamesInode};
+ghost use Rattle.image_reading.specs.Images.{In};
+ghost use Rattle.image_reading.specs.Soundness.{HasOwnDirectory};
 ghost use Rattle.image_reading.specs.Scan.{Finds};
-ghost use Rattle.image_reading.specs.Walk.{IsWalked};
+ghost use Rattle.image_reading.specs.Walk.{IsNumbered};
 
 use crate::image::Walked;
 use crate::slots::names_directory;
 
 /// Rule 9: no two reached slots name one directory. `named` is overwritten.
 pub fn own_directories_broken_at(walked: &Walked<'_>, named: &mut [bool]) -> Option<u64>
-    requires walked { IsWalked walked.now }
-    requires numbers { (s : ℕ) → NamesInode walked.now.image.geometry.pages walked.now.image.words.now s }
+    requires walked { IsNumbered walked.now }
     requires inodes { length named.old ≡ walked.now.image.geometry.inodes + 1 }
-    ensures { Finds (HasOwnDirectory walked.now.image.geometry.pages walked.now.image.words.now) result }
+    ensures { Finds (In walked.now.image HasOwnDirectory) result }
 {
     named.fill(false);
     for slot in 0..walked.image.geometry.slots() {

@@ -1,5 +1,6 @@
 // What reached slots name, and by which names.
 ghost use Rattle.std.specs.Prelude.{◌≡◌, ◌↔◌, ◌*◌, ℕ, IsTrue, length};
+ghost use Rattle.image_reading.specs.Images.{In};
 ghost use Rattle.image_reading.specs.Soundness.{NamesInode, HasName};
 ghost use Rattle.image_reading.specs.Scan.{Finds};
 ghost use Rattle.image_reading.specs.Walk.{IsWalked};
@@ -11,7 +12,7 @@ use layout::{ROOT, name_of_words};
 /// Rule 5: a reached slot names an inode, and not the root.
 pub fn inodes_broken_at(walked: &Walked<'_>) -> Option<u64>
     requires { IsWalked walked.now }
-    ensures { Finds (NamesInode walked.now.image.geometry.pages walked.now.image.words.now) result }
+    ensures { Finds (In walked.now.image NamesInode) result }
 {
     for slot in 0..walked.image.geometry.slots() {
         if !names_inode(walked, slot) {
@@ -24,7 +25,7 @@ pub fn inodes_broken_at(walked: &Walked<'_>) -> Option<u64>
 // Whether the slot, if it is reached, names an inode other than the root.
 fn names_inode(walked: &Walked<'_>, slot: u64) -> bool
     requires { IsWalked walked.now }
-    ensures { IsTrue result ↔ NamesInode walked.now.image.geometry.pages walked.now.image.words.now slot }
+    ensures { IsTrue result ↔ In walked.now.image NamesInode slot }
 {
     if !is_reached_slot(walked, slot) {
         return true;
@@ -43,7 +44,7 @@ fn names_inode(walked: &Walked<'_>, slot: u64) -> bool
 /// Rule 6: a reached slot has a name's words.
 pub fn names_broken_at(walked: &Walked<'_>) -> Option<u64>
     requires { IsWalked walked.now }
-    ensures { Finds (HasName walked.now.image.geometry.pages walked.now.image.words.now) result }
+    ensures { Finds (In walked.now.image HasName) result }
 {
     for slot in 0..walked.image.geometry.slots() {
         if !has_name(walked, slot) {
@@ -56,7 +57,7 @@ pub fn names_broken_at(walked: &Walked<'_>) -> Option<u64>
 // Whether the slot, if it is reached, has a name's words.
 fn has_name(walked: &Walked<'_>, slot: u64) -> bool
     requires { IsWalked walked.now }
-    ensures { IsTrue result ↔ HasName walked.now.image.geometry.pages walked.now.image.words.now slot }
+    ensures { IsTrue result ↔ In walked.now.image HasName slot }
 {
     if !is_reached_slot(walked, slot) {
         return true;

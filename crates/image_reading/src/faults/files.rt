@@ -1,21 +1,19 @@
 // The pages of files, by their offsets.
-ghost use Rattle.std.specs.Prelude.{◌≡◌, ◌↔◌, ◌⊎◌, ◌*◌, ◌+◌, ◌<◌, ◌≤◌, ℕ, true, false, IsTrue, length, slice_index};
-ghost use Rattle.layout.specs.Geometry.{data_pages_of};
+ghost use Rattle.std.specs.Prelude.{◌≡◌, ◌↔◌, ◌+◌, ◌<◌, ◌≤◌, ℕ, IsTrue, length, slice_index};
 ghost use Rattle.layout.specs.Fields.{page_owner};
-ghost use Rattle.image_reading.specs.Reading.{IsPageOf};
+ghost use Rattle.image_reading.specs.Images.{In};
 ghost use Rattle.image_reading.specs.Soundness.{HasAllPages, HasOwnOffset};
-ghost use Rattle.image_reading.specs.Scan.{Finds, IsLinked};
+ghost use Rattle.image_reading.specs.Scan.{Finds, AreStamps, IsStamped, StampsPage};
 ghost use Rattle.image_reading.specs.Walk.{IsWalked};
 
 use crate::image::{Image, Walked};
-use crate::pages::Lists;
 use layout::{BYTES, FILE, PAGE_BYTES};
 
 /// Rule 12: a reached file has each page below its end. `stamps` is overwritten.
 pub fn all_pages_broken_at(walked: &Walked<'_>, stamps: &mut [u64]) -> Option<u64>
     requires walked { IsWalked walked.now }
     requires room { length stamps.old ≡ walked.now.image.geometry.data_pages }
-    ensures { Finds (HasAllPages walked.now.image.geometry.pages walked.now.image.words.now) result }
+    ensures { Finds (In walked.now.image HasAllPages) result }
 {
     stamps.fill(0);
     let end = walked.image.geometry.inodes + 1;
@@ -30,10 +28,9 @@ pub fn all_pages_broken_at(walked: &Walked<'_>, stamps: &mut [u64]) -> Option<u6
 // Whether the inode, if it is a reached file, has each page below its end. The stamps are of earlier inodes, and then of this one too.
 fn has_all_pages(walked: &Walked<'_>, inode: u64, stamps: &mut [u64]) -> bool
     requires walked { IsWalked walked.now }
-    requires room { length stamps.old ≡ walked.now.image.geometry.data_pages }
-    requires fresh { (k : ℕ) → slice_index stamps.old k < inode }
-    ensures complete { IsTrue result ↔ HasAllPages walked.now.image.geometry.pages walked.now.image.words.now inode }
-    ensures earlier { (k : ℕ) → slice_index stamps.new k < inode + 1 }
+    requires stamps { AreStamps walked.now.image.geometry.pages inode stamps.old }
+    ensures complete { IsTrue result ↔ In walked.now.image HasAllPages inode }
+    ensures stamps { AreStamps walked.now.image.geometry.pages (inode + 1) stamps.new }
 {
     if !walked.reach.has(inode) {
         return true;
@@ -49,12 +46,10 @@ fn has_all_pages(walked: &Walked<'_>, inode: u64, stamps: &mut [u64]) -> bool
 // Stamps the offsets at which the file has a page.
 fn stamp_pages(walked: &Walked<'_>, inode: u64, stamps: &mut [u64])
     requires walked { IsWalked walked.now }
-    requires room { length stamps.old ≡ walked.now.image.geometry.data_pages }
     requires in_range { inode ≤ walked.now.image.geometry.inodes }
-    requires fresh { (k : ℕ) → slice_index stamps.old k < inode }
-    ensures stamped { (k : ℕ) → k < walked.now.image.geometry.data_pages → (slice_index stamps.new k ≡ inode)
-        ↔ ((j : ℕ) × IsPageOf walked.now.image.geometry.pages walked.now.image.words.now inode k j) }
-    ensures earlier { (k : ℕ) → slice_index stamps.new k < inode + 1 }
+    requires stamps { AreStamps walked.now.image.geometry.pages inode stamps.old }
+    ensures stamped { IsStamped walked.now.image.geometry.pages walked.now.image.words.now inode stamps.new }
+    ensures stamps { AreStamps walked.now.image.geometry.pages (inode + 1) stamps.new }
 {
     let mut link = walked.lists.first[inode as usize];
     while link != 0 {
@@ -74,14 +69,7 @@ fn stamp_page(image: &Image<'_>, page: u64, limit: u64, inode: u64, stamps: &mut
     requires page_in_range { page < image.now.geometry.data_pages }
     requires owner { page_owner image.now.geometry.pages image.now.words.now page ≡ inode }
     requires room { limit ≤ length stamps.old }
-    ensures fresh { result ≡ true → (k : ℕ) → k < limit
-        → IsPageOf image.now.geometry.pages image.now.words.now inode k page → slice_index stamps.old k ≡ inode → ⊥ }
-    ensures doubled { result ≡ false → (k : ℕ) × (k < limit)
-        × IsPageOf image.now.geometry.pages image.now.words.now inode k page × (slice_index stamps.old k ≡ inode) }
-    ensures here { (k : ℕ) → k < limit → IsPageOf image.now.geometry.pages image.now.words.now inode k page
-        → slice_index stamps.new k ≡ inode }
-    ensures only { (k : ℕ) → (slice_index stamps.new k ≡ slice_index stamps.old k)
-        ⊎ ((slice_index stamps.new k ≡ inode) × IsPageOf image.now.geometry.pages image.now.words.now inode k page) }
+    ensures { StampsPage image.now.geometry.pages image.now.words.now inode page limit stamps.old stamps.new result }
 {
     let descriptor = image.geometry.descriptor_at(image.words, page);
     if descriptor.kind != BYTES || descriptor.offset >= limit {
@@ -114,8 +102,8 @@ fn all_stamped(stamps: &[u64], inode: u64, pages: u64) -> bool
 pub fn own_offsets_broken_at(walked: &Walked<'_>, stamps: &mut [u64]) -> Option<u64>
     requires walked { IsWalked walked.now }
     requires room { length stamps.old ≡ walked.now.image.geometry.data_pages }
-    requires complete { (i : ℕ) → HasAllPages walked.now.image.geometry.pages walked.now.image.words.now i }
-    ensures { Finds (HasOwnOffset walked.now.image.geometry.pages walked.now.image.words.now) result }
+    requires complete { (i : ℕ) → In walked.now.image HasAllPages i }
+    ensures { Finds (In walked.now.image HasOwnOffset) result }
 {
     stamps.fill(0);
     let mut least = walked.image.geometry.data_pages;
@@ -133,12 +121,11 @@ pub fn own_offsets_broken_at(walked: &Walked<'_>, stamps: &mut [u64]) -> Option<
 // The least page of the inode, if it is a reached file, that has the offset of an earlier page of it, below its end.
 fn doubled_page_of(walked: &Walked<'_>, inode: u64, stamps: &mut [u64]) -> Option<u64>
     requires walked { IsWalked walked.now }
-    requires room { length stamps.old ≡ walked.now.image.geometry.data_pages }
-    requires fresh { (k : ℕ) → slice_index stamps.old k < inode }
-    requires complete { HasAllPages walked.now.image.geometry.pages walked.now.image.words.now inode }
+    requires stamps { AreStamps walked.now.image.geometry.pages inode stamps.old }
+    requires complete { In walked.now.image HasAllPages inode }
     ensures least { Finds (λ j. page_owner walked.now.image.geometry.pages walked.now.image.words.now j ≡ inode
-        → HasOwnOffset walked.now.image.geometry.pages walked.now.image.words.now j) result }
-    ensures earlier { (k : ℕ) → slice_index stamps.new k < inode + 1 }
+        → In walked.now.image HasOwnOffset j) result }
+    ensures stamps { AreStamps walked.now.image.geometry.pages (inode + 1) stamps.new }
 {
     if !walked.reach.has(inode) {
         return None;

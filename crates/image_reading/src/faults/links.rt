@@ -1,21 +1,20 @@
 // The links that names give an inode, against those that it has.
 ghost use Rattle.std.specs.Prelude.{◌≡◌, ◌↔◌, ◌*◌, ◌+◌, ◌<◌, ◌≤◌, ℕ, IsTrue, length};
-ghost use Rattle.layout.specs.Geometry.{slots_of, inodes_of};
-ghost use Rattle.layout.specs.Fields.{slot_inode};
-ghost use Rattle.image_reading.specs.Soundness.{HasEnoughLinks, NamesInode};
-ghost use Rattle.image_reading.specs.Scan.{Finds, credited as credited_of, AreCounted};
-ghost use Rattle.image_reading.specs.Walk.{IsWalked};
+ghost use Rattle.image_reading.specs.Images.{In};
+ghost use Rattle.image_reading.specs.Soundness.{HasEnoughLinks};
+ghost use Rattle.image_reading.specs.Scan.{Finds, HasNumber, credited as credited_of, AreCounted};
+ghost use Rattle.image_reading.specs.Walk.{IsWalked, IsNumbered};
 
+use crate::held::owner_of;
 use crate::image::{Image, Walked};
 use crate::slots::is_reached_slot;
-use layout::{DIRECTORY, FILE, PAGE_SLOTS};
+use layout::{DIRECTORY, FILE};
 
 /// Rule 14: a reached inode's link word is at least its counted links. `tally` is overwritten with them.
 pub fn links_broken_at(walked: &Walked<'_>, tally: &mut [u64]) -> Option<u64>
-    requires walked { IsWalked walked.now }
-    requires numbers { (s : ℕ) → NamesInode walked.now.image.geometry.pages walked.now.image.words.now s }
+    requires walked { IsNumbered walked.now }
     requires inodes { length tally.old ≡ walked.now.image.geometry.inodes + 1 }
-    ensures { Finds (HasEnoughLinks walked.now.image.geometry.pages walked.now.image.words.now) result }
+    ensures { Finds (In walked.now.image HasEnoughLinks) result }
 {
     count_links(walked, tally);
     let end = walked.image.geometry.inodes + 1;
@@ -30,9 +29,8 @@ pub fn links_broken_at(walked: &Walked<'_>, tally: &mut [u64]) -> Option<u64>
 // Whether the inode, if it is reached, has at least the links that are counted.
 fn has_enough_links(walked: &Walked<'_>, tally: &[u64], inode: u64) -> bool
     requires walked { IsWalked walked.now }
-    requires inodes { length tally.now ≡ walked.now.image.geometry.inodes + 1 }
     requires counted { AreCounted walked.now.image.geometry.pages walked.now.image.words.now tally.now }
-    ensures { IsTrue result ↔ HasEnoughLinks walked.now.image.geometry.pages walked.now.image.words.now inode }
+    ensures { IsTrue result ↔ In walked.now.image HasEnoughLinks inode }
 {
     if !walked.reach.has(inode) {
         return true;
@@ -53,8 +51,7 @@ fn has_enough_links(walked: &Walked<'_>, tally: &[u64], inode: u64) -> bool
 
 /// Counts the links of each inode. `tally` is overwritten with them.
 pub fn count_links(walked: &Walked<'_>, tally: &mut [u64])
-    requires walked { IsWalked walked.now }
-    requires numbers { (s : ℕ) → NamesInode walked.now.image.geometry.pages walked.now.image.words.now s }
+    requires walked { IsNumbered walked.now }
     requires inodes { length tally.old ≡ walked.now.image.geometry.inodes + 1 }
     ensures { AreCounted walked.now.image.geometry.pages walked.now.image.words.now tally.new }
 {
@@ -69,17 +66,12 @@ pub fn count_links(walked: &Walked<'_>, tally: &mut [u64])
 
 // The inode that a reached slot counts for: the directory that it stands in where it names a directory, and else what it names.
 fn credited(image: &Image<'_>, slot: u64) -> u64
-    requires slot_in_range { slot < slots_of image.now.geometry.pages }
-    requires least { 1 ≤ slot_inode image.now.geometry.pages image.now.words.now slot }
-    requires most { slot_inode image.now.geometry.pages image.now.words.now slot ≤ inodes_of image.now.geometry.pages }
+    requires { In image.now HasNumber slot }
     ensures { result ≡ credited_of image.now.geometry.pages image.now.words.now slot }
 {
     let inode = image.geometry.slot_at(image.words, slot).inode;
     if image.geometry.inode_at(image.words, inode).kind == DIRECTORY {
-        return image
-            .geometry
-            .descriptor_at(image.words, slot / PAGE_SLOTS)
-            .owner;
+        return owner_of(image, slot);
     }
     inode
 }

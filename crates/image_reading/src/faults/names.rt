@@ -1,21 +1,22 @@
 // Two names of one directory that are the same.
 ghost use Rattle.std.specs.Prelude.{◌≡◌, ◌↔◌, ◌*◌, ◌+◌, ◌<◌, ℕ, IsTrue, length};
 ghost use Rattle.layout.specs.Geometry.{slots_of, page_of_slot};
-ghost use Rattle.image_reading.specs.Reading.{IsReachedSlot, slot_owner};
+ghost use Rattle.image_reading.specs.Images.{In};
+ghost use Rattle.image_reading.specs.Reading.{IsReachedSlot};
 ghost use Rattle.image_reading.specs.Soundness.{HasOwnName, HasName};
-ghost use Rattle.image_reading.specs.Scan.{Finds, IsLinked, IsTwin};
+ghost use Rattle.image_reading.specs.Scan.{Finds, IsTwin, HasTwin};
 ghost use Rattle.image_reading.specs.Walk.{IsWalked};
 
+use crate::held::owner_of;
 use crate::image::Walked;
-use crate::pages::Lists;
 use crate::slots::is_reached_slot;
 use layout::PAGE_SLOTS;
 
 /// Rule 8: no two reached slots of one directory have one name.
 pub fn own_names_broken_at(walked: &Walked<'_>) -> Option<u64>
     requires walked { IsWalked walked.now }
-    requires named { (s : ℕ) → HasName walked.now.image.geometry.pages walked.now.image.words.now s }
-    ensures { Finds (HasOwnName walked.now.image.geometry.pages walked.now.image.words.now) result }
+    requires named { (s : ℕ) → In walked.now.image HasName s }
+    ensures { Finds (In walked.now.image HasOwnName) result }
 {
     for slot in 0..walked.image.geometry.slots() {
         if is_reached_slot(walked, slot) && has_twin(walked, slot) {
@@ -28,16 +29,10 @@ pub fn own_names_broken_at(walked: &Walked<'_>) -> Option<u64>
 // Whether an earlier slot of the same directory has the name of this one.
 fn has_twin(walked: &Walked<'_>, slot: u64) -> bool
     requires walked { IsWalked walked.now }
-    requires reached { IsReachedSlot walked.now.image.geometry.pages walked.now.image.words.now slot }
-    ensures { IsTrue result ↔ ((r : ℕ) × (slot_owner walked.now.image.geometry.pages walked.now.image.words.now r
-        ≡ slot_owner walked.now.image.geometry.pages walked.now.image.words.now slot)
-        × IsTwin walked.now.image.geometry.pages walked.now.image.words.now slot r) }
+    requires reached { In walked.now.image IsReachedSlot slot }
+    ensures { IsTrue result ↔ In walked.now.image HasTwin slot }
 {
-    let owner = walked
-        .image
-        .geometry
-        .descriptor_at(walked.image.words, slot / PAGE_SLOTS)
-        .owner;
+    let owner = owner_of(&walked.image, slot);
     let mut link = walked.lists.first[owner as usize];
     while link != 0 {
         if page_has_twin(walked, link - 1, slot) {
@@ -57,7 +52,7 @@ fn page_has_twin(walked: &Walked<'_>, page: u64, slot: u64) -> bool
         × IsTwin walked.now.image.geometry.pages walked.now.image.words.now slot r) }
 {
     for entry in 0..PAGE_SLOTS {
-        if is_twin(walked, PAGE_SLOTS * page + entry, slot) {
+        if is_twin(walked, walked.image.geometry.slot_in(page, entry), slot) {
             return true;
         }
     }

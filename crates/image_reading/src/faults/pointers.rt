@@ -1,6 +1,7 @@
 // The rename pointers of held slots.
 ghost use Rattle.std.specs.Prelude.{◌≡◌, ◌↔◌, ◌*◌, ◌<◌, ℕ, IsTrue, length};
 ghost use Rattle.layout.specs.Geometry.{slots_of};
+ghost use Rattle.image_reading.specs.Images.{In};
 ghost use Rattle.image_reading.specs.Soundness.{PointsAtHeld, IsOnlyPointer};
 ghost use Rattle.image_reading.specs.Scan.{Finds};
 
@@ -9,7 +10,7 @@ use crate::image::Image;
 
 /// Rule 3: a held slot's rename pointer is 0 or names another held slot.
 pub fn pointers_broken_at(image: &Image<'_>) -> Option<u64>
-    ensures { Finds (PointsAtHeld image.now.geometry.pages image.now.words.now) result }
+    ensures { Finds (In image.now PointsAtHeld) result }
 {
     for slot in 0..image.geometry.slots() {
         if !points_at_held(image, slot) {
@@ -22,7 +23,7 @@ pub fn pointers_broken_at(image: &Image<'_>) -> Option<u64>
 // Whether the slot's rename pointer, if it is held, is 0 or names another held slot.
 fn points_at_held(image: &Image<'_>, slot: u64) -> bool
     requires { slot < slots_of image.now.geometry.pages }
-    ensures { IsTrue result ↔ PointsAtHeld image.now.geometry.pages image.now.words.now slot }
+    ensures { IsTrue result ↔ In image.now PointsAtHeld slot }
 {
     if !is_held(image, slot) {
         return true;
@@ -39,7 +40,7 @@ fn points_at_held(image: &Image<'_>, slot: u64) -> bool
 
 /// Rule 4: one held slot at most has a rename pointer.
 pub fn one_pointer_broken_at(image: &Image<'_>) -> Option<u64>
-    ensures { Finds (IsOnlyPointer image.now.geometry.pages image.now.words.now) result }
+    ensures { Finds (In image.now IsOnlyPointer) result }
 {
     let mut found = false;
     for slot in 0..image.geometry.slots() {

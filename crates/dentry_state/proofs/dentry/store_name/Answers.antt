@@ -2,6 +2,7 @@ use Rattle.std.proofs.Common.{◌≡◌, ℕ, ◌+◌, ◌<◌, List, length, ta
 use Rattle.pm_trait.specs.DeviceView.{Performs}
 use Rattle.pm_trait.proofs.DeviceViewLaws.{performs_nothing}
 use Rattle.pm_trait.proofs.DeviceLaws.{interval_length}
+use Rattle.fence_token.proofs.StoredLaws.{exactly_performed}
 use Rattle.layout.specs.Geometry.{slot_word_of}
 use Rattle.dentry_state.specs.Dentry.{stores_from}
 use Rattle.dentry_state.proofs.DentryLaws.{next_fields, length-stores_from}
@@ -50,17 +51,9 @@ loop-k-preserved g c =
 pub returns-clause-written : goal.returns-clause-written
 returns-clause-written g c = all_held c.args.geometry.now.pages c.args.slot c.loop-k.k c.args.words.now (g.P.Pm.view c.loop-k.pm).words (omega arith) c.told-words c.loop-k.invariant.held
 
-pub returns-clause-stores : goal.returns-clause-stores
-returns-clause-stores g c =
-    let told = length-stores_from (slot_word_of c.args.geometry.now.pages c.args.slot 2) (take c.loop-k.k c.args.words.now) in
-    let performed = c.loop-k.invariant.device in
-    record {
-      stores = all_stored c.args.geometry.now.pages c.args.slot c.loop-k.k (omega arith) c.loop-k.invariant.stores;
-      room = omega (arith, told, length-take c.loop-k.k c.args.words.now, performed.room);
-      counts = performed.counts;
-    }
-
 pub returns-clause-device : goal.returns-clause-device
 returns-clause-device g c =
     let whole : take c.loop-k.k c.args.words.now ≡ c.args.words.now = take_all c.loop-k.k c.args.words.now (omega (arith, c.told-words)) in
-    subst (λ (values : List ℕ). Performs (g.P.Pm.view c.args.pm.now) (g.P.Pm.view c.loop-k.pm) (stores_from (slot_word_of c.args.geometry.now.pages c.args.slot 2) values)) whole c.loop-k.invariant.device
+    let told = length-stores_from (slot_word_of c.args.geometry.now.pages c.args.slot 2) c.args.words.now in
+    exactly_performed 14 (omega (arith, told, c.told-words)) (all_stored c.args.geometry.now.pages c.args.slot c.loop-k.k (omega arith) c.loop-k.invariant.stores)
+    (subst (λ (values : List ℕ). Performs (g.P.Pm.view c.args.pm.now) (g.P.Pm.view c.loop-k.pm) (stores_from (slot_word_of c.args.geometry.now.pages c.args.slot 2) values)) whole c.loop-k.invariant.device)

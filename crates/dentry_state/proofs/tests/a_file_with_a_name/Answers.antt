@@ -32,7 +32,7 @@ set_name-named-requires-clause-clean g c =
     let inodes = ap (λ (dentry : DentryView). inodes_of dentry.pages) c.at-slot.ensures.object in
     let some : 1 ≤ c.at-inode.result.number = omega (arith, number) in
     let in_range : c.at-inode.result.number ≤ inodes_of slot.pages = omega (arith, number, inodes, c.in_ok-geometry.geometry.inodes_exact) in
-    stands_clean_stays (dentry_is_local slot) c.init_file-inode.ensures.stores.stores (λ word. slot_word_is_no_inode_word slot.pages slot.slot c.at-inode.result.number word some in_range) c.at-slot.ensures.clean
+    stands_clean_stays (dentry_is_local slot) c.init_file-inode.ensures.device.interval (λ word. slot_word_is_no_inode_word slot.pages slot.slot c.at-inode.result.number word some in_range) c.at-slot.ensures.clean
 
 pub flush-inode-requires-clause-stands : goal.flush-inode-requires-clause-stands
 flush-inode-requires-clause-stands g c =
@@ -42,7 +42,7 @@ flush-inode-requires-clause-stands g c =
     let inodes = ap (λ (dentry : DentryView). inodes_of dentry.pages) c.at-slot.ensures.object in
     let some : 1 ≤ file.number = omega (arith, number) in
     let in_range : file.number ≤ inodes_of slot.pages = omega (arith, number, inodes, c.in_ok-geometry.geometry.inodes_exact) in
-    stands_stays (inode_is_local file) c.set_name-named.ensures.stores.stores
+    stands_stays (inode_is_local file) c.set_name-named.ensures.device.interval
     (λ word own is_name. slot_word_is_no_inode_word slot.pages slot.slot file.number word some in_range (name_word_is_slot_word slot.pages slot.slot word is_name) own) c.init_file-inode.ensures.stands
 
 pub flush-named-requires-clause-dirty : goal.flush-named-requires-clause-dirty

@@ -7,14 +7,14 @@ pub returns-in-Some : goal.returns-in-Some
 returns-in-Some c =
     let P = c.args.walked.now.image.geometry.pages in
     let I = c.args.walked.now.image.words.now in
-    lemmas.fault_at P I Rule.links _ refl c.requires.kept c.in-Some.ensures
+    lemmas.fault_at P I Rule.links _ refl c.requires.walked.kept c.in-Some.ensures
 
 pub returns : goal.returns
 returns c =
     let P = c.args.walked.now.image.geometry.pages in
     let I = c.args.walked.now.image.words.now in
-    let after_links = lemmas.keeps_more P I Rule.links c.requires.kept c.in_default.ensures in
+    let after_links = lemmas.keeps_more P I Rule.links c.requires.walked.kept c.in_default.ensures in
     after_links
 
-pub links_broken_at-requires-clause-numbers : goal.links_broken_at-requires-clause-numbers
-links_broken_at-requires-clause-numbers c = λ s. c.requires.kept Rule.inodes s (omega arith)
+pub links_broken_at-requires-clause-walked : goal.links_broken_at-requires-clause-walked
+links_broken_at-requires-clause-walked c = record { walk = c.requires.walked.walk; numbers = λ s. c.requires.walked.kept Rule.inodes s (omega arith) }

@@ -22,11 +22,14 @@ moved Q old new read I J made_for same geometry words =
       (λ q. subst (λ (n : ℕ). Q n I) (sym pages) (subst (λ (w : List ℕ). Q read.pages w) words q)),
     )
 
-pub has_no_repairs-requires-clause-sound : goal.has_no_repairs-requires-clause-sound
-has_no_repairs-requires-clause-sound c =
+pub has_no_repairs-requires-clause-walked : goal.has_no_repairs-requires-clause-walked
+has_no_repairs-requires-clause-walked c =
     let walked = c.new-walked in
-    (moved (λ n w. Sound n w) c.args.scan.now.geometry c.walk.new.self.geometry walked.result.image.geometry c.args.words.now walked.result.image.words.now
-    c.requires.made_for c.walk.ensures.made_for walked.ensures.geometry walked.ensures.words).0 c.requires.sound
+    record {
+      sound = (moved (λ n w. Sound n w) c.args.scan.now.geometry c.walk.new.self.geometry walked.result.image.geometry c.args.words.now walked.result.image.words.now
+          c.requires.made_for c.walk.ensures.made_for walked.ensures.geometry walked.ensures.words).0 c.requires.sound;
+      walk = walked.ensures.walked;
+    }
 
 pub returns-clause-tidy : goal.returns-clause-tidy
 returns-clause-tidy c =

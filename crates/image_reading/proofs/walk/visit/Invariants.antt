@@ -1,6 +1,5 @@
-use Rattle.image_reading.specs.Walk.{IsWalk, Extends}
+use Rattle.image_reading.specs.Walk.{IsWalk, Extends, IsPageTaken}
 use Rattle.image_reading.proofs.Linked.{PagesDone, pages_left}
-use Rattle.image_reading.proofs.Walked.{IsPageTaken}
 use Rattle.image_reading.proofs.walk.visit.Given as goal
 
 abbrev pub invariant-loop-link : goal.invariant-loop-link

@@ -17,11 +17,10 @@ loop-place-init c =
     let g = c.args.image.now.geometry in
     let a = c.clear.new.self in
     record {
-      walk = lemmas.walk_root g.pages c.args.image.now.words.now c.args.rename a c.mark.new.self c.requires.pointer c.clear.ensures.pointer c.mark.ensures.pointer (one_inode g.pages g.volume_size) c.clear.ensures.none c.clear.ensures.start (omega (arith, g.inodes_exact, c.clear.ensures.size, c.requires.marks))
-          c.mark.ensures.only c.mark.ensures.size c.mark.ensures.ordered;
+      walk = lemmas.walk_root g.pages c.args.image.now.words.now c.args.rename c.args.reach.now a c.mark.new.self c.requires.pointer (omega (arith, g.inodes_exact, c.requires.marks)) c.clear.ensures c.mark.ensures;
       root = c.mark.ensures.found;
       before = omega arith;
-      done = lemmas.queued_first g.pages c.args.image.now.words.now a c.mark.new.self c.clear.ensures.none c.clear.ensures.start c.mark.ensures.extends;
+      done = lemmas.queued_first g.pages c.args.image.now.words.now c.args.rename c.args.reach.now a c.mark.new.self c.clear.ensures c.mark.ensures;
     }
 
 pub index-inode-requires : goal.index-inode-requires
@@ -33,16 +32,6 @@ visit-requires-clause-reached c =
     let r = c.loop-place.reach in
     let is = in_order_at r c.loop-place.place c.index-inode.result.now c.loop-place-test.true c.index-inode.ensures in
     subst (Reached g.pages c.args.image.now.words.now) (sym is) (c.loop-place.invariant.walk.sound _ (c.loop-place.invariant.walk.ordered c.loop-place.place c.loop-place-test.true))
-
-pub visit-requires-clause-in_range : goal.visit-requires-clause-in_range
-visit-requires-clause-in_range c =
-    let g = c.args.image.now.geometry in
-    let r = c.loop-place.reach in
-    let is = in_order_at r c.loop-place.place c.index-inode.result.now c.loop-place-test.true c.index-inode.ensures in
-    let reached : Reached g.pages c.args.image.now.words.now c.index-inode.result.now =
-    subst (Reached g.pages c.args.image.now.words.now) (sym is) (c.loop-place.invariant.walk.sound _ (c.loop-place.invariant.walk.ordered c.loop-place.place c.loop-place-test.true)) in
-    let range = (lemmas.reached_range g.pages c.args.image.now.words.now c.index-inode.result.now (one_inode g.pages g.volume_size) reached).1 in
-    omega (arith, range, g.inodes_exact)
 
 pub overflow_add-place : goal.overflow_add-place
 overflow_add-place c = let within = seen_within c.loop-place.reach in search (rules, within)
@@ -67,7 +56,7 @@ loop-place-preserved c =
       root = c.visit.ensures.extends.keeps 1 c.loop-place.invariant.root;
       before = (let later = c.visit.ensures.extends.later in omega (arith, later, c.loop-place-test.true));
       done = lemmas.done_more g.pages c.args.image.now.words.now r c.visit.new.reach c.loop-place.place c.loop-place-test.true c.loop-place.invariant.done c.visit.ensures.extends
-          (subst (IsClosed g.pages c.args.image.now.words.now c.visit.new.reach) is c.visit.ensures.closed);
+          (subst (IsClosed g.pages c.args.image.now.words.now c.visit.new.reach) is c.visit.ensures.taken);
     }
 
 pub returns : goal.returns

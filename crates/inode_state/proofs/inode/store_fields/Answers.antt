@@ -1,5 +1,5 @@
 use Rattle.std.proofs.Common.{arith}
-use Rattle.pm_trait.proofs.DeviceViewLaws.{stores_of}
+use Rattle.fence_token.proofs.StoredLaws.{exactly_performed}
 use Rattle.inode_state.proofs.Stored.{word_inside, same_length, four_stores, four_fields, four_performed}
 use Rattle.inode_state.proofs.inode.store_fields.Goals as goal
 
@@ -26,15 +26,10 @@ returns-clause-stands g c =
     four_fields c.args.number c.args.fields.now _ _ _ _ _ _ _ _ _ c.inode_word.ensures.value c.inode_word-2.ensures.value c.inode_word-3.ensures.value c.inode_word-4.ensures.value
     c.store.ensures.words c.store-2.ensures.words c.store-3.ensures.words c.store-4.ensures.words c.requires.inside
 
-pub returns-clause-stores : goal.returns-clause-stores
-returns-clause-stores g c =
-    stores_of
+pub returns-clause-device : goal.returns-clause-device
+returns-clause-device g c =
+    exactly_performed 4 (omega arith)
     (four_stores c.args.number _ _ _ _ _ _ _ _ c.inode_word.ensures.value c.inode_word-2.ensures.value c.inode_word-3.ensures.value c.inode_word-4.ensures.value
     c.store.ensures.words c.store.ensures.trail c.store-2.ensures.words c.store-2.ensures.trail c.store-3.ensures.words c.store-3.ensures.trail c.store-4.ensures.words c.store-4.ensures.trail)
     (four_performed c.args.number c.args.fields.now c.inode_word.ensures.value c.inode_word-2.ensures.value c.inode_word-3.ensures.value c.inode_word-4.ensures.value
     c.store.ensures c.store-2.ensures c.store-3.ensures c.store-4.ensures)
-
-pub returns-clause-device : goal.returns-clause-device
-returns-clause-device g c =
-    four_performed c.args.number c.args.fields.now c.inode_word.ensures.value c.inode_word-2.ensures.value c.inode_word-3.ensures.value c.inode_word-4.ensures.value
-    c.store.ensures c.store-2.ensures c.store-3.ensures c.store-4.ensures

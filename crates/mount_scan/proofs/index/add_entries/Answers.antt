@@ -1,10 +1,10 @@
 use Rattle.std.proofs.Common.{◌≡◌, ℕ, ◌+◌, ◌*◌, sym, subst, ◌∙◌, arith}
 use Rattle.mount_scan.specs.Building.{Holds}
-use Rattle.mount_scan.proofs.Facts.{owner_of_slot}
+use Rattle.mount_scan.proofs.Facts.{slot_of_page}
 use Rattle.mount_scan.proofs.index.add_entries.Goals as goal
 
-pub add_entry-requires-clause-owner : goal.add_entry-requires-clause-owner
-add_entry-requires-clause-owner c = owner_of_slot _ _ c.args.page _ c.slot_in.ensures.page ∙ c.requires.owner
+pub add_entry-requires-clause-slot : goal.add_entry-requires-clause-slot
+add_entry-requires-clause-slot c = slot_of_page _ _ c.args.directory c.args.page _ c.slot_in.ensures.page c.slot_in.ensures.in_range c.requires.page
 
 pub add_entry-requires-clause-holds : goal.add_entry-requires-clause-holds
 add_entry-requires-clause-holds c =

@@ -1,8 +1,11 @@
-use Rattle.std.proofs.Common.{◌*◌, sym, subst, ◌∙◌}
+use Rattle.std.proofs.Common.{◌*◌, sym, subst, ◌∙◌, arith}
 use Rattle.image_reading.specs.Reading.{IsDirectory}
-use Rattle.mount_scan.proofs.Facts.{directory_owner}
+use Rattle.mount_scan.proofs.Facts.{whole, directory_owner}
 use Rattle.mount_scan.proofs.Holding.{page_skipped, all_kept, owner_in_index, offset_in_file, with_set_page, with_pushed_page}
 use Rattle.mount_scan.proofs.index.add_page.Goals as goal
+
+pub descriptor_at-fields-requires-clause-whole : goal.descriptor_at-fields-requires-clause-whole
+descriptor_at-fields-requires-clause-whole c = whole _ _ c.requires.tidy
 
 pub returns-then-fields-eq0 : goal.returns-then-fields-eq0
 returns-then-fields-eq0 c = page_skipped _ _ c.args.page c.args.index.now (sym c.descriptor_at-fields.ensures.owner ∙ c.if-fields-eq0.true) c.requires.holds
@@ -33,11 +36,15 @@ push_page-requires-clause-in_range c =
     owner_in_index _ _ c.args.page c.descriptor_at-fields.result.owner c.reserve_pages.new.self c.requires.tidy c.requires.in_range c.descriptor_at-fields.ensures.owner c.if-fields-eq0.false
     (c.reserve_pages.ensures.elsewhere.inodes ∙ c.requires.holds.each_inode)
 
-pub add_entries-requires-clause-kind : goal.add_entries-requires-clause-kind
-add_entries-requires-clause-kind c =
+pub add_entries-requires-clause-page : goal.add_entries-requires-clause-page
+add_entries-requires-clause-page c =
     let fields = c.descriptor_at-fields.ensures in
-    subst (IsDirectory c.args.words.now) (sym fields.owner)
-    (directory_owner _ _ c.requires.tidy c.args.page c.requires.in_range (λ zero. c.if-fields-eq0.false (fields.owner ∙ zero)) (λ file. c.if-fields-eq-BYTES.false (fields.kind ∙ file)))
+    record {
+      from_one = omega (arith, c.if-fields-eq0.false);
+      directory = subst (IsDirectory c.args.words.now) (sym fields.owner)
+          (directory_owner _ _ c.requires.tidy c.args.page c.requires.in_range (λ zero. c.if-fields-eq0.false (fields.owner ∙ zero)) (λ file. c.if-fields-eq-BYTES.false (fields.kind ∙ file)));
+      page = record { in_range = c.requires.in_range; owner = sym fields.owner };
+    }
 
 pub add_entries-requires-clause-holds : goal.add_entries-requires-clause-holds
 add_entries-requires-clause-holds c =

@@ -8,13 +8,13 @@ pub bounds-named-inode : goal.bounds-named-inode
 bounds-named-inode c =
     let g = c.args.walked.now.image.geometry in
     lemmas.naming_within g.pages c.args.walked.now.image.words.now c.loop-slot.slot c.slot_at-inode.result.inode g.inodes (length c.loop-slot.named) c.slot_at-inode.ensures.inode
-    (c.names_directory.ensures.0 c.if-names_directory.true) c.requires.numbers g.inodes_exact (omega (arith, c.loop-slot.auto.named, c.fill.ensures.len, c.requires.inodes))
+    (c.names_directory.ensures.0 c.if-names_directory.true) c.requires.walked.numbers g.inodes_exact (omega (arith, c.loop-slot.auto.named, c.fill.ensures.len, c.requires.inodes))
 
 pub bounds-named-inode-then-names_directory : goal.bounds-named-inode-then-names_directory
 bounds-named-inode-then-names_directory c =
     let g = c.args.walked.now.image.geometry in
     lemmas.naming_within g.pages c.args.walked.now.image.words.now c.loop-slot.slot c.slot_at-inode.result.inode g.inodes (length c.loop-slot.named) c.slot_at-inode.ensures.inode
-    (c.names_directory.ensures.0 c.if-names_directory.true) c.requires.numbers g.inodes_exact (omega (arith, c.loop-slot.auto.named, c.fill.ensures.len, c.requires.inodes))
+    (c.names_directory.ensures.0 c.if-names_directory.true) c.requires.walked.numbers g.inodes_exact (omega (arith, c.loop-slot.auto.named, c.fill.ensures.len, c.requires.inodes))
 
 pub returns-then-named-inode : goal.returns-then-named-inode
 returns-then-named-inode c = (
@@ -34,7 +34,7 @@ loop-slot-preserved c =
       | then-names_directory+else-named-inode w ↦
           let inode = w.slot_at-inode.result.inode in
           let naming = c.names_directory.ensures.0 w.if-names_directory.true in
-          let within = lemmas.naming_within P I s inode g.inodes (length c.loop-slot.named) w.slot_at-inode.ensures.inode naming c.requires.numbers g.inodes_exact
+          let within = lemmas.naming_within P I s inode g.inodes (length c.loop-slot.named) w.slot_at-inode.ensures.inode naming c.requires.walked.numbers g.inodes_exact
           (omega (arith, c.loop-slot.auto.named, c.fill.ensures.len, c.requires.inodes)) in
           record {
             kept = below_more _ _ c.loop-slot.invariant.kept (lemmas.own_at P I s c.loop-slot.named marks inode w.slot_at-inode.ensures.inode naming (both_ways _ w.if-named-inode.false));

@@ -10,13 +10,13 @@ loop-inode-init c =
     let g = c.args.walked.now.image.geometry in
     record {
       kept = λ x lt. lemmas.all_pages_none g.pages c.args.walked.now.image.words.now x (λ reached. let least = (reached_range g.pages c.args.walked.now.image.words.now x (one_inode g.pages g.volume_size) reached).0 in omega (arith, least, lt));
-      earlier = lemmas.unstamped c.fill.new.self (length c.args.stamps.now) (c.fill.ensures.after (λ y e. e));
+      stamps = lemmas.unstamped g.pages c.fill.new.self (length c.args.stamps.now) (c.fill.ensures.after (λ y e. e)) (omega (arith, c.fill.ensures.len, c.requires.room, g.data_pages_exact));
     }
 
 pub loop-inode-preserved : goal.loop-inode-preserved
 loop-inode-preserved c = record {
   kept = below_more _ _ c.loop-inode.invariant.kept (c.has_all_pages.ensures.complete.0 c.if-not-has_all_pages.false);
-  earlier = c.has_all_pages.ensures.earlier;
+  stamps = c.has_all_pages.ensures.stamps;
 }
 
 pub returns : goal.returns

@@ -37,7 +37,7 @@ stamp_page-requires-clause-room c =
     let limit = c.div_ceil-limit.ensures ∙ lemmas.pages_of c.inode_at-fields.result.size ∙ ap pages_of_size c.inode_at-fields.ensures.size in
     let few = lemmas.offsets_within g.pages I c.args.inode c.div_ceil-limit.result
     (λ k lt. c.requires.complete reached (sym c.inode_at-fields.ensures.kind ∙ c.if-fields-ne-FILE.false) k (omega (arith, lt, limit))) in
-    omega (arith, few, g.data_pages_exact, c.loop-link.auto.stamps, c.requires.room)
+    omega (arith, few, g.data_pages_exact, c.loop-link.auto.stamps, c.requires.stamps.room)
 
 pub returns-then-not-stamp_page-clause-least : goal.returns-then-not-stamp_page-clause-least
 returns-then-not-stamp_page-clause-least c =
@@ -61,7 +61,7 @@ loop-link-preserved c =
     let limit = c.div_ceil-limit.ensures ∙ lemmas.pages_of c.inode_at-fields.result.size ∙ ap pages_of_size c.inode_at-fields.ensures.size in
     let own = lemmas.own_here P I c.args.inode c.div_ceil-limit.result c.loop-link.stamps c.loop-link.link c.loop-link-test.true c.loop-link.invariant limit (s.ensures.fresh c.if-not-stamp_page.false) in
     lemmas.file_step P I c.args.inode c.div_ceil-limit.result (HasOwnOffset P I) c.loop-link.stamps s.new.stamps c.loop-link.link (get_or c.args.walked.now.lists.next.now (c.loop-link.link - 1) 0)
-    c.loop-link-test.true c.loop-link.invariant s.ensures.here s.ensures.only (c.requires.walked.linked.nexts (c.loop-link.link - 1)) range own
+    c.loop-link-test.true c.loop-link.invariant s.result s.ensures (c.requires.walked.linked.nexts (c.loop-link.link - 1)) range own
 
 pub returns-clause-least : goal.returns-clause-least
 returns-clause-least c =

@@ -21,6 +21,6 @@ returns-clause-complete c =
     let I = c.args.walked.now.image.words.now in
     let reached = (c.requires.walked.known.reached c.args.inode).0 (c.has.ensures.0 c.if-not-has.false) in
     let pages = c.div_ceil.ensures ∙ lemmas.pages_of c.inode_at-fields.result.size ∙ ap pages_of_size c.inode_at-fields.ensures.size in
-    let all = lemmas.all_pages g.pages I c.args.inode c.stamp_pages.new.stamps g.data_pages c.div_ceil.result g.data_pages_exact (omega (arith, c.stamp_pages.auto.stamps, c.requires.room)) pages reached
+    let all = lemmas.all_pages g.pages I c.args.inode c.stamp_pages.new.stamps c.div_ceil.result c.stamp_pages.ensures.stamps.room pages reached
     (sym c.inode_at-fields.ensures.kind ∙ c.if-fields-ne-FILE.false) c.stamp_pages.ensures.stamped in
     ((λ t. all.0 (c.all_stamped.ensures.0 t)), (λ h. c.all_stamped.ensures.1 (all.1 h)))

@@ -12,7 +12,7 @@ loop-inode-init c =
       kept = λ x lt owner. lemmas.own_offset_other g.pages c.args.walked.now.image.words.now x
           (λ reached _. let least = (reached_range g.pages c.args.walked.now.image.words.now _ (one_inode g.pages g.volume_size) reached).0 in omega (arith, least, owner));
       broken = λ ne. absurd (ne g.data_pages_exact);
-      earlier = lemmas.unstamped c.fill.new.self (length c.args.stamps.now) (c.fill.ensures.after (λ y e. e));
+      stamps = lemmas.unstamped g.pages c.fill.new.self (length c.args.stamps.now) (c.fill.ensures.after (λ y e. e)) (omega (arith, c.fill.ensures.len, c.requires.room, g.data_pages_exact));
     }
 
 pub loop-inode-preserved : goal.loop-inode-preserved
@@ -25,7 +25,7 @@ loop-inode-preserved c =
     record {
       kept = lemmas.least_kept P I c.loop-inode.inode c.loop-inode.least c.unwrap_or.result c.min-least.result found.result g.data_pages g.data_pages_exact c.unwrap_or.ensures c.min-least.ensures found.ensures.least inv.kept;
       broken = lemmas.least_broken P I c.loop-inode.inode c.loop-inode.least c.unwrap_or.result c.min-least.result found.result g.data_pages g.data_pages_exact c.unwrap_or.ensures c.min-least.ensures found.ensures.least inv.broken;
-      earlier = found.ensures.earlier;
+      stamps = found.ensures.stamps;
     }
 
 pub returns-then-least-walked : goal.returns-then-least-walked

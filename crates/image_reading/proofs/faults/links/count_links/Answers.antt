@@ -8,8 +8,11 @@ use Rattle.image_reading.proofs.Credits as lemmas
 use Rattle.image_reading.proofs.faults.links.count_links.Goals as goal
 use Rattle.image_reading.proofs.faults.links.count_links.Goals.{then-is_reached_slot, else-is_reached_slot}
 
-pub credited-inode-requires-clause-most : goal.credited-inode-requires-clause-most
-credited-inode-requires-clause-most c = (c.requires.numbers c.loop-slot.slot).most (c.is_reached_slot.ensures.0 c.if-is_reached_slot.true)
+pub credited-inode-requires : goal.credited-inode-requires
+credited-inode-requires c =
+    let slot = c.is_reached_slot.ensures.0 c.if-is_reached_slot.true in
+    let named = c.requires.walked.numbers c.loop-slot.slot in
+    record { in_range = slot.live.held.in_range; least = (let least = named.least slot in omega (arith, least)); most = named.most slot }
 
 pub offset_bounds-tally-inode : goal.offset_bounds-tally-inode
 offset_bounds-tally-inode c =
@@ -19,7 +22,7 @@ offset_bounds-tally-inode c =
     let s = c.loop-slot.slot in
     let slot = c.is_reached_slot.ensures.0 c.if-is_reached_slot.true in
     let owner = (reached_range P I (slot_owner P I s) (one_inode P g.volume_size) slot.owner).1 in
-    let within = lemmas.credited_within P I s g.inodes (g.inodes + 1) slot (c.requires.numbers s) g.inodes_exact (omega arith) owner in
+    let within = lemmas.credited_within P I s g.inodes (g.inodes + 1) slot (c.requires.walked.numbers s) g.inodes_exact (omega arith) owner in
     let few = inodes_below P g.volume_size in
     let small : c.credited-inode.result < 65537 = omega (arith, within, few, c.credited-inode.ensures, g.inodes_exact, g.volume_size) in
     search (rules, small)
@@ -32,7 +35,7 @@ bounds-tally-inode c =
     let s = c.loop-slot.slot in
     let slot = c.is_reached_slot.ensures.0 c.if-is_reached_slot.true in
     let owner = (reached_range P I (slot_owner P I s) (one_inode P g.volume_size) slot.owner).1 in
-    let within = lemmas.credited_within P I s g.inodes (length c.loop-slot.tally) slot (c.requires.numbers s) g.inodes_exact
+    let within = lemmas.credited_within P I s g.inodes (length c.loop-slot.tally) slot (c.requires.walked.numbers s) g.inodes_exact
     (omega (arith, c.loop-slot.auto.tally, c.fill.ensures.len, c.requires.inodes)) owner in
     omega (arith, within, c.credited-inode.ensures)
 
@@ -44,12 +47,13 @@ bounds-tally-inode-then-is_reached_slot c =
     let s = c.loop-slot.slot in
     let slot = c.is_reached_slot.ensures.0 c.if-is_reached_slot.true in
     let owner = (reached_range P I (slot_owner P I s) (one_inode P g.volume_size) slot.owner).1 in
-    let within = lemmas.credited_within P I s g.inodes (length c.loop-slot.tally) slot (c.requires.numbers s) g.inodes_exact
+    let within = lemmas.credited_within P I s g.inodes (length c.loop-slot.tally) slot (c.requires.walked.numbers s) g.inodes_exact
     (omega (arith, c.loop-slot.auto.tally, c.fill.ensures.len, c.requires.inodes)) owner in
     omega (arith, within, c.credited-inode.ensures)
 
 pub returns : goal.returns
-returns c = lemmas.tallied_all c.args.walked.now.image.geometry.pages c.args.walked.now.image.words.now c.loop-slot.slot c.loop-slot.tally (omega (arith, c.loop-slot-test.false, c.slots-slot-end.ensures)) c.loop-slot.invariant
+returns c = lemmas.tallied_all c.args.walked.now.image.geometry.pages c.args.walked.now.image.words.now c.loop-slot.slot c.loop-slot.tally (omega (arith, c.loop-slot-test.false, c.slots-slot-end.ensures))
+    (omega (arith, c.loop-slot.auto.tally, c.fill.ensures.len, c.requires.inodes, c.args.walked.now.image.geometry.inodes_exact)) c.loop-slot.invariant
 
 pub loop-slot-preserved : goal.loop-slot-preserved
 loop-slot-preserved c =
@@ -62,7 +66,7 @@ loop-slot-preserved c =
       | then-is_reached_slot w ↦
           let slot = c.is_reached_slot.ensures.0 w.if-is_reached_slot.true in
           let owner = (reached_range P I (slot_owner P I s) (one_inode P g.volume_size) slot.owner).1 in
-          let within = lemmas.credited_within P I s g.inodes (length c.loop-slot.tally) slot (c.requires.numbers s) g.inodes_exact
+          let within = lemmas.credited_within P I s g.inodes (length c.loop-slot.tally) slot (c.requires.walked.numbers s) g.inodes_exact
           (omega (arith, c.loop-slot.auto.tally, c.fill.ensures.len, c.requires.inodes)) owner in
           subst (lemmas.AreTallied P I (s + 1)) (sym w.tally-is)
           (lemmas.tallied_more P I s c.loop-slot.tally w.credited-inode.result slot w.credited-inode.ensures (omega (arith, within, w.credited-inode.ensures)) t)

@@ -1,22 +1,14 @@
-use Rattle.std.proofs.Common.{sym, ap, ◌∙◌, arith}
+use Rattle.std.proofs.Common.{sym, ap, ◌∙◌}
 use Rattle.layout.specs.Fields.{inode_kind}
-use Rattle.image_reading.proofs.Places.{slot_page_below}
-use Rattle.image_reading.proofs.Owners.{owner_is}
 use Rattle.image_reading.proofs.Credits as lemmas
 use Rattle.image_reading.proofs.faults.links.credited.Goals as goal
-
-pub descriptor_at-requires-clause-page_in_range : goal.descriptor_at-requires-clause-page_in_range
-descriptor_at-requires-clause-page_in_range c =
-    let g = c.args.image.now.geometry in
-    let below = slot_page_below g.pages c.args.image.now.words.now c.args.slot c.requires.slot_in_range in
-    omega (arith, below, g.data_pages_exact)
 
 pub returns-then-inode_at-eq-DIRECTORY : goal.returns-then-inode_at-eq-DIRECTORY
 returns-then-inode_at-eq-DIRECTORY c =
     let P = c.args.image.now.geometry.pages in
     let I = c.args.image.now.words.now in
     let directory = ap (inode_kind I) (sym c.slot_at-inode.ensures.inode) ∙ sym c.inode_at.ensures.kind ∙ c.if-inode_at-eq-DIRECTORY.true in
-    owner_is P I c.args.slot c.descriptor_at.result.owner c.descriptor_at.ensures.owner ∙ sym (lemmas.credited-directory P I c.args.slot directory)
+    c.owner_of.ensures ∙ sym (lemmas.credited-directory P I c.args.slot directory)
 
 pub returns : goal.returns
 returns c =

@@ -23,7 +23,7 @@ returns-then-fields-eq-FILE c =
     let within = (found_range g.pages I c.args.walked.now.reach.now c.requires.walked.known c.args.inode g.volume_size found).1 in
     let reached = (c.requires.walked.known.reached c.args.inode).0 found in
     let enough = lemmas.enough_file g.pages I c.args.inode c.inode_at-fields.result.links (get_or c.args.tally.now c.args.inode 0) c.inode_at-fields.ensures.links
-    (c.requires.counted c.args.inode within) (sym c.inode_at-fields.ensures.kind ∙ c.if-fields-eq-FILE.true) in
+    (c.requires.counted.each c.args.inode within) (sym c.inode_at-fields.ensures.kind ∙ c.if-fields-eq-FILE.true) in
     ((λ t _. enough.0 (leb-true _ _ t)), (λ h. le-leb _ _ (enough.1 (h reached))))
 
 pub returns-then-fields-lt2 : goal.returns-then-fields-lt2
@@ -34,7 +34,7 @@ returns-then-fields-lt2 c =
     let within = (found_range g.pages I c.args.walked.now.reach.now c.requires.walked.known c.args.inode g.volume_size found).1 in
     let reached = (c.requires.walked.known.reached c.args.inode).0 found in
     let enough = lemmas.enough_directory g.pages I c.args.inode c.inode_at-fields.result.links (get_or c.args.tally.now c.args.inode 0) c.inode_at-fields.ensures.links
-    (c.requires.counted c.args.inode within) (sym c.inode_at-fields.ensures.kind ∙ c.if-fields-ne-DIRECTORY.false) in
+    (c.requires.counted.each c.args.inode within) (sym c.inode_at-fields.ensures.kind ∙ c.if-fields-ne-DIRECTORY.false) in
     ((λ t. absurd (false≢true t)), (λ h. absurd (let least = enough.1 (h reached) in omega (arith, least, c.if-fields-lt2.true))))
 
 pub returns : goal.returns
@@ -47,7 +47,7 @@ returns c =
     let within = (found_range g.pages I c.args.walked.now.reach.now c.requires.walked.known c.args.inode g.volume_size found).1 in
     let reached = (c.requires.walked.known.reached c.args.inode).0 found in
     let enough = lemmas.enough_directory g.pages I c.args.inode links counted c.inode_at-fields.ensures.links
-    (c.requires.counted c.args.inode within) (sym c.inode_at-fields.ensures.kind ∙ c.if-fields-ne-DIRECTORY.false) in (
+    (c.requires.counted.each c.args.inode within) (sym c.inode_at-fields.ensures.kind ∙ c.if-fields-ne-DIRECTORY.false) in (
       (λ t _. enough.0 (let le = leb-true counted (links - 2) t in omega (arith, le, c.if-fields-lt2.false))),
       (λ h. le-leb counted (links - 2) (let least = enough.1 (h reached) in omega (arith, least))),
     )

@@ -5,30 +5,23 @@ use Rattle.image_reading.specs.Reading.{slot_owner}
 use Rattle.image_reading.specs.Scan.{IsNextPage}
 use Rattle.image_reading.proofs.Places.{one_inode}
 use Rattle.image_reading.proofs.Walked.{reached_range}
-use Rattle.image_reading.proofs.Owners.{owner_is, live_page}
 use Rattle.image_reading.proofs.Linked.{pages_begin, pages_step, pages_smaller, pages_left}
 use Rattle.image_reading.proofs.Twins as lemmas
 use Rattle.image_reading.proofs.faults.names.has_twin.Goals as goal
 
-pub descriptor_at-owner-requires-clause-page_in_range : goal.descriptor_at-owner-requires-clause-page_in_range
-descriptor_at-owner-requires-clause-page_in_range c =
-    let g = c.args.walked.now.image.geometry in
-    let below = live_page g.pages c.args.walked.now.image.words.now c.args.slot c.requires.reached.live in
-    omega (arith, below, g.data_pages_exact)
-
 pub offset_bounds-walked-owner : goal.offset_bounds-walked-owner
 offset_bounds-walked-owner c =
     let g = c.args.walked.now.image.geometry in
-    let is = owner_is g.pages c.args.walked.now.image.words.now c.args.slot c.descriptor_at-owner.result.owner c.descriptor_at-owner.ensures.owner in
+    let is = c.owner_of-owner.ensures in
     let within = (reached_range g.pages c.args.walked.now.image.words.now (slot_owner g.pages c.args.walked.now.image.words.now c.args.slot) (one_inode g.pages g.volume_size) c.requires.reached.owner).1 in
     let few = inodes_below g.pages g.volume_size in
-    let small : c.descriptor_at-owner.result.owner < 65537 = omega (arith, is, within, few, g.volume_size) in
+    let small : c.owner_of-owner.result < 65537 = omega (arith, is, within, few, g.volume_size) in
     search (rules, small)
 
 pub bounds-walked-owner : goal.bounds-walked-owner
 bounds-walked-owner c =
     let g = c.args.walked.now.image.geometry in
-    let is = owner_is g.pages c.args.walked.now.image.words.now c.args.slot c.descriptor_at-owner.result.owner c.descriptor_at-owner.ensures.owner in
+    let is = c.owner_of-owner.ensures in
     let within = (reached_range g.pages c.args.walked.now.image.words.now (slot_owner g.pages c.args.walked.now.image.words.now c.args.slot) (one_inode g.pages g.volume_size) c.requires.reached.owner).1 in
     omega (arith, is, within, c.requires.walked.linked.inodes)
 
@@ -38,8 +31,8 @@ loop-link-init c =
     let P = g.pages in
     let I = c.args.walked.now.image.words.now in
     let s = c.args.slot in
-    let owner = c.descriptor_at-owner.result.owner in
-    let is = owner_is P I s owner c.descriptor_at-owner.ensures.owner in
+    let owner = c.owner_of-owner.result in
+    let is = c.owner_of-owner.ensures in
     let within = (reached_range P I (slot_owner P I s) (one_inode P g.volume_size) c.requires.reached.owner).1 in
     let first : IsNextPage P I owner 0 (get_or c.args.walked.now.lists.first.now owner 0) = c.requires.walked.linked.firsts owner (omega (arith, is, within)) in
     pages_begin P I (slot_owner P I s) (lemmas.IsTwinFree P I s) _ (subst (λ o. IsNextPage P I o 0 (get_or c.args.walked.now.lists.first.now owner 0)) is first)

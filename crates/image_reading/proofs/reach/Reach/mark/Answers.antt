@@ -16,17 +16,11 @@ invariant_of-self c = record {
   room = c.args.self.now.room;
 }
 
-pub returns-clause-extends : goal.returns-clause-extends
-returns-clause-extends c =
+pub returns : goal.returns
+returns c =
     let in_marks = lemmas.in_marks c.args.self.now c.args.inode c.requires c.index.result.now c.index.ensures c.if-index.false in
     let in_order = lemmas.in_order c.args.self.now c.args.inode c.requires c.index.result.now c.index.ensures c.if-index.false in
-    lemmas.mark_extends c.args.self.now _ c.args.inode refl refl refl in_marks in_order
+    lemmas.marks_new c.args.self.now _ c.args.inode refl refl refl refl in_marks in_order
 
-pub returns-clause-ordered : goal.returns-clause-ordered
-returns-clause-ordered c =
-    let in_marks = lemmas.in_marks c.args.self.now c.args.inode c.requires c.index.result.now c.index.ensures c.if-index.false in
-    let in_order = lemmas.in_order c.args.self.now c.args.inode c.requires c.index.result.now c.index.ensures c.if-index.false in
-    lemmas.mark_ordered c.args.self.now c.args.inode in_marks in_order
-
-pub returns-then-index-clause-extends : goal.returns-then-index-clause-extends
-returns-then-index-clause-extends c = lemmas.extends_itself c.args.self.now
+pub returns-then-index : goal.returns-then-index
+returns-then-index c = lemmas.marks_old c.args.self.now c.args.inode c.requires c.index.result.now c.index.ensures c.if-index.true
