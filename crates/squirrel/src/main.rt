@@ -1,6 +1,9 @@
 //! The program: the words of the command line, the device in a file, standard input and output, and the exit status.
 #![tactic(auto)]
 
+ghost use Rattle.std.specs.Prelude.{◌≡◌, ◌↔◌, None};
+ghost use Rattle.squirrel_cli.specs.Job.{job_of};
+
 mod device;
 mod faults;
 mod words;
@@ -34,6 +37,7 @@ fn status_of_run(rt: &HostRuntime) -> Status {
 fn do_job<R: Files + Input + Print>(rt: &R, alloc: Global, words: &Words) -> Status
 where
     R::File: Lockable,
+    ensures usage { (result ≡ Status.Usage) ↔ (job_of words.now ≡ None) }
 {
     match device_for(&Images { rt, alloc }, alloc, words) {
         Ok(mut pm) => {
