@@ -13,6 +13,10 @@ use Rattle.squirrel_cli.proofs.Refusals.{told_as, told_whole, told_prefix}
 use Rattle.squirrel_cli.proofs.Unacknowledged.{leaves_unacknowledged}
 use Rattle.squirrel_cli.proofs.mkfs.make_volume.Goals as goal
 
+-- the pages are those of the length
+pages_of : (now seen : List ℕ) (pages : ℕ) → seen ≡ now → length seen ≡ 512 * pages → length now / 512 ≡ pages
+pages_of now seen pages is long = let same = ap length is in omega (arith, same, long)
+
 -- what a crash in a format leaves, and that it acknowledges nothing
 format_leaves : {a b : Option Trail} {old new : List ℕ} {fences acks fences_after acks_after : ℕ} (pages : ℕ) → IsHonest old a fences acks → IsHonest new b fences_after acks_after → acks_after ≡ acks
     → LeavesOnly a b (λ k. IsOldHiddenOrFormatted (length old / 512) old) → length old ≡ 512 * pages → LeavesOnly a b (λ k image. (k ≡ 0) × IsOldHiddenOrFormatted pages old image)
@@ -22,16 +26,14 @@ format_leaves {a = a} {b = b} {old = old} pages before behind stays leaves long 
 
 pub returns-in-Ok-clause-makes : goal.returns-in-Ok-clause-makes
 returns-in-Ok-clause-makes g c =
+    let here = c.in-Some.ensures in
     let old = g.P.Pm.view c.args.pm.now in
     let new = g.P.Pm.view c.format.new.pm in
     let took = g.K.Sink.took c.args.out.now in
     let now = g.K.Sink.took c.write_formatted.new.sink in
-    let geometry = c.in-Ok.geometry in
-    let long : length old.words ≡ 512 * c.args.pages = omega (arith, ap length c.image.ensures) in
-    let made : length old.words / 512 ≡ c.args.pages = omega (arith, long) in
-    let same : geometry.pages ≡ c.args.pages = omega (arith, long, c.in-Ok.ensures.geometry) in
+    let made = pages_of old.words c.image.result.now c.args.pages c.image.ensures here.1 in
     let told : IsToldOrCut Done (formatted_text c.args.pages) c.status_of_write.result took now =
-    subst (λ (p : ℕ). IsToldOrCut Done (formatted_text p) c.status_of_write.result took now) same
+    subst (λ (p : ℕ). IsToldOrCut Done (formatted_text p) c.status_of_write.result took now) here.0
     (told_as Done c.write_formatted.result c.write_formatted.ensures c.status_of_write.ensures) in
     record {
       formatted = λ ends. subst (λ (p : ℕ). IsFormattedFrom p old.words new.words) made c.in-Ok.ensures.formatted;
