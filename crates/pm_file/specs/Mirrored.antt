@@ -24,3 +24,8 @@ listed_lines (Some mirror) = mirror.flushed.items
 abbrev pub HasNextRound : {F : Type 0} → Option (Mirror F) → Type 0
 HasNextRound None = ⊤
 HasNextRound (Some mirror) = mirror.round < 2 ^ 64 - 1
+
+-- the faults of the medium
+abbrev pub faults_behind : {F : Type 0} → (F → ℕ) → Option (Mirror F) → ℕ
+faults_behind faults None = 0
+faults_behind faults (Some mirror) = faults mirror.medium

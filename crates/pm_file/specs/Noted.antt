@@ -1,7 +1,8 @@
 -- What a device over a file has still to write.
 use Rattle.std.specs.Prelude.{ℕ, List}
 use Rattle.pm_file.specs.declared.device.FilePm.{FilePm}
-use Rattle.pm_file.specs.Mirrored.{listed_lines, HasNextRound}
+use Rattle.pm_file.specs.Calls.{failed_calls}
+use Rattle.pm_file.specs.Mirrored.{listed_lines, HasNextRound, faults_behind}
 
 -- the lines that were flushed since the last fence that succeeded, which the next fence writes
 abbrev pub noted_lines : {R F E : Type 0} → FilePm R F E → List ℕ
@@ -10,3 +11,7 @@ noted_lines pm = listed_lines pm.mirror
 -- it can count one fence more of those that write
 abbrev pub CanForget : {R F E : Type 0} → FilePm R F E → Type 0
 CanForget pm = HasNextRound pm.mirror
+
+-- how many calls to its file failed
+abbrev pub file_faults : {R F E : Type 0} → FilePm R F E → ℕ
+file_faults pm = faults_behind failed_calls pm.mirror

@@ -1,5 +1,6 @@
 // A file that nobody else uses meanwhile.
-ghost use Rattle.std.specs.Prelude.{Bool, true, None, IsTrue, IfOk};
+ghost use Rattle.std.specs.Prelude.{◌≡◌, Bool, true, None, IsTrue, IfOk};
+ghost use Rattle.pm_file.specs.Faults.{CountsFaults};
 
 use crate::bytes::{bytes_of_line, place_of_line, place_of_page, words_of_page};
 use crate::medium::Medium;
@@ -30,10 +31,11 @@ impl Lockable for File {
     }
 }
 
-/// A file whose lock was taken. No other module sees its field, so `new` alone makes one.
+/// A file whose lock was taken. No other module sees its fields, so `new` alone makes one. Its calls that fail are counted.
 #[derive(Drop)]
 pub struct Locked<F> {
     file: F,
+    faults: u64,
 }
 
 impl<F: Lockable + OpenFile + Drop> Locked<F> {
@@ -41,7 +43,10 @@ impl<F: Lockable + OpenFile + Drop> Locked<F> {
     pub fn new(file: F) -> io::Result<Locked<F>>
         ensures { IfOk result (λ locked. IsTrue (F.is_locked locked.file)) }
     {
-        Ok(Locked { file: file.lock()? })
+        Ok(Locked {
+            file: file.lock()?,
+            faults: 0,
+        })
     }
 
     /// How many bytes it has.
@@ -56,25 +61,58 @@ impl<F: Lockable + OpenFile + Drop> Locked<F> {
     }
 }
 
+impl<F> Locked<F> {
+    ghost use Rattle.pm_file.specs.Calls.{failed_calls};
+
+    // Counts a call if it failed.
+    fn counted<T>(&mut self, answer: io::Result<T>) -> io::Result<T>
+        ensures answer { result ≡ answer }
+        ensures faults { CountsFaults (failed_calls self.old) (failed_calls self.new) result }
+    {
+        if answer.is_err() {
+            self.faults = self.faults.saturating_add(1);
+        }
+        answer
+    }
+}
+
+// Reads a page from this place on.
+fn read_at<F: Read + Seek>(file: &mut F, place: u64) -> io::Result<[u8; BYTES_OF_A_PAGE]> {
+    let mut bytes = [0u8; BYTES_OF_A_PAGE];
+    file.seek(SeekFrom::Start(place))?;
+    file.read_exact(&mut bytes)?;
+    Ok(bytes)
+}
+
+// Writes bytes from this place on.
+fn write_at<F: Write + Seek>(file: &mut F, place: u64, bytes: &[u8]) -> io::Result<()> {
+    file.seek(SeekFrom::Start(place))?;
+    file.write_all(bytes)
+}
+
 /// A file, which tells none of its words. They are little-endian.
 impl<F: Read + Write + Seek + OpenFile> Medium for Locked<F> {
+    ghost use Rattle.pm_file.specs.Calls.{failed_calls};
+
     ghost held = { λ _. None };
 
     ghost safe = { λ _. None };
 
+    ghost faults = { failed_calls };
+
     fn read_page(&mut self, page: u64) -> io::Result<[u64; WORDS_OF_A_PAGE]> {
-        let mut bytes = [0u8; BYTES_OF_A_PAGE];
-        self.file.seek(SeekFrom::Start(place_of_page(page)))?;
-        self.file.read_exact(&mut bytes)?;
+        let read = read_at(&mut self.file, place_of_page(page));
+        let bytes = self.counted(read)?;
         Ok(words_of_page(&bytes))
     }
 
     fn write_line(&mut self, line: u64, words: &[u64]) -> io::Result<()> {
-        self.file.seek(SeekFrom::Start(place_of_line(line)))?;
-        self.file.write_all(&bytes_of_line(words))
+        let written = write_at(&mut self.file, place_of_line(line), &bytes_of_line(words));
+        self.counted(written)
     }
 
     fn sync(&mut self) -> io::Result<()> {
-        self.file.sync_data()
+        let synced = self.file.sync_data();
+        self.counted(synced)
     }
 }

@@ -1,6 +1,7 @@
 // The words of a file in memory, and which of their lines the file has still to be given.
 ghost use Rattle.std.specs.Prelude.{◌≡◌, ◌+◌, ◌-◌, ◌*◌, ◌^◌, ◌<◌, ◌≤◌, ℕ, List, [], ◌∷◌, ◌++◌, ◌==◌, length, slice_index, slice_set, vec_len, count_by, IfOk, OnOk, OnErr, true};
 ghost use Rattle.std.specs.Vec.{vec_capacity};
+ghost use Rattle.pm_file.specs.Faults.{CountsFaults};
 ghost use Rattle.pm_file.specs.Given.{is_listed, KeepsListed, HasLines, ReadsFrom};
 ghost use Rattle.pm_file.specs.Room.{IsRoomFor};
 
@@ -53,7 +54,8 @@ fn read_pages<F: Medium>(
 fn write_lines<F: Medium>(medium: &mut F, words: &[u64], lines: &[u64]) -> io::Result<()>
     requires in_file { 8 * length words.now < 2 ^ 63 }
     requires in_range { (k : ℕ) → k < length lines.now → 8 * slice_index lines.now k + 8 ≤ length words.now }
-    ensures { OnOk result (HasLines (F.held medium.old) (F.held medium.new) words.now lines.now) }
+    ensures lines { OnOk result (HasLines (F.held medium.old) (F.held medium.new) words.now lines.now) }
+    ensures faults { CountsFaults (F.faults medium.old) (F.faults medium.new) result }
 {
     for line in lines {
         let first = *line as usize * WORDS_OF_A_LINE;
@@ -152,6 +154,7 @@ impl<F: Medium + Drop> Mirror<F> {
             (HasLines (F.held self.old.medium) (F.safe self.new.medium) self.old.words.items self.old.flushed.items) }
         ensures forgotten { OnOk result (self.old.round < 2 ^ 64 - 1 → self.new.flushed.items ≡ []) }
         ensures err { OnErr result (self.new.flushed.items ≡ self.old.flushed.items) }
+        ensures faults { CountsFaults (F.faults self.old.medium) (F.faults self.new.medium) result }
     {
         write_lines(&mut self.medium, &self.words, &self.flushed)?;
         self.medium.sync()?;

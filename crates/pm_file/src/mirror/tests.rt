@@ -14,6 +14,7 @@ use std::test::Fail;
 struct Ram {
     words: Vec<u64>,
     safe: Vec<u64>,
+    faults: u64,
     ghost same_length: { length words.items ≡ length safe.items },
 }
 
@@ -22,9 +23,12 @@ impl Medium for Ram {
 
     ghost safe = { λ ram. Some ram.safe.items };
 
+    ghost faults = { λ ram. ram.faults };
+
     fn read_page(&mut self, page: u64) -> io::Result<[u64; WORDS_OF_A_PAGE]> {
         let first = WORDS_OF_A_PAGE * page as usize;
         if first + WORDS_OF_A_PAGE > self.words.len() {
+            self.faults = self.faults.saturating_add(1);
             return Err(Error::from(ErrorKind::UnexpectedEof));
         }
         let mut words = [0u64; WORDS_OF_A_PAGE];
@@ -35,6 +39,7 @@ impl Medium for Ram {
     fn write_line(&mut self, line: u64, words: &[u64]) -> io::Result<()> {
         let first = WORDS_OF_A_LINE * line as usize;
         if first + WORDS_OF_A_LINE > self.words.len() {
+            self.faults = self.faults.saturating_add(1);
             return Err(Error::from(ErrorKind::WriteZero));
         }
         put(&mut self.words, first, words);
@@ -60,7 +65,12 @@ fn written_back(alloc: Global) -> Result<Vec<u64>, Fail> {
     let words = vec![in alloc; 0u64; 8192]?;
     let safe = vec![in alloc; 0u64; 8192]?;
     let room = take_room(alloc, 16)?;
-    let mut mirror = Mirror::read_from(Ram { words, safe }, room, 16)?;
+    let ram = Ram {
+        words,
+        safe,
+        faults: 0,
+    };
+    let mut mirror = Mirror::read_from(ram, room, 16)?;
     mirror.set(9, 3);
     mirror.set(8191, 4);
     mirror.set(16, 5);
