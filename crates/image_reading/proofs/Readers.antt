@@ -3,10 +3,10 @@ use Rattle.std.proofs.Common.{◌≡◌, ◌≢◌, ◌↔◌, inl, inr, ℕ, �
 use Rattle.std.proofs.lemmas.Bool.{cases_eq, cases_lt}
 use Rattle.layout.proofs.GeometryLaws.{page_of_slot_below}
 use Rattle.layout.specs.Geometry.{data_pages_of, page_of_slot}
-use Rattle.layout.specs.Fields.{inode_links, inode_size, page_owner, page_offset, slot_inode, slot_pointer}
+use Rattle.layout.specs.Fields.{inode_links, inode_size, page_owner, page_offset, slot_inode}
 use Rattle.image_reading.specs.Counts.{Count}
-use Rattle.image_reading.specs.Reading.{IsFile, IsDirectory, IsHeld, slot_owner, Reached, IsNameOf, IsChildOf, IsLinkCount, IsRoomOf, pages_of_size}
-use Rattle.image_reading.specs.Repairs.{IsKept, IsPointer, WasLeft, IsLeft}
+use Rattle.image_reading.specs.Reading.{IsFile, IsDirectory, IsHeld, slot_owner, Reached, IsNameOf, IsChildOf, IsLinkCount, pages_of_size}
+use Rattle.image_reading.specs.Repairs.{IsKept, IsPointer, IsLeft}
 use Rattle.image_reading.specs.Litter.{HasLiveSlot}
 use Rattle.image_reading.specs.Scan.{IsCredit, IsRename}
 use Rattle.image_reading.specs.Soundness.{Rule, Sound}

@@ -1,20 +1,18 @@
 -- When sound words need no recovery.
-use Rattle.std.proofs.Common.{◌≡◌, ◌≢◌, inl, inr, ℕ, zero, suc, ◌+◌, ◌-◌, ◌*◌, ◌%◌, ◌<◌, ◌≤◌, List, [], refl, sym, ap, subst, ◌∙◌, arith}
+use Rattle.std.proofs.Common.{◌≡◌, ◌≢◌, inl, inr, ℕ, zero, suc, ◌+◌, ◌*◌, ◌%◌, ◌<◌, ◌≤◌, List, refl, sym, ap, subst, ◌∙◌, arith}
 use Rattle.std.proofs.lemmas.Bool.{cases_eq, cases_lt}
 use Rattle.layout.proofs.GeometryLaws.{page_of_slot_below}
 use Rattle.layout.specs.Geometry.{inodes_of, data_pages_of, page_of_slot, inode_word_of, descriptor_word_of, slot_word_of}
 use Rattle.layout.specs.Fields.{word, inode_kind, inode_links, inode_size, inode_own, page_owner, page_kind, page_offset}
-use Rattle.image_reading.specs.Counts.{Count}
-use Rattle.image_reading.specs.Reading.{IsFile, IsDirectory, HasBytes, slot_owner, Reached, IsNameOf, IsChildOf, IsLinkCount, IsRoomOf, pages_of_size}
+use Rattle.image_reading.specs.Reading.{IsFile, Reached, IsNameOf, IsChildOf, IsLinkCount, IsRoomOf}
 use Rattle.image_reading.specs.Repairs.{IsKept, IsPointer, IsLitterSlot, IsLitterPage, IsLitterInode, IsLitterCount}
-use Rattle.image_reading.specs.Scan.{IsCredit, IsRename}
+use Rattle.image_reading.specs.Scan.{IsRename}
 use Rattle.image_reading.specs.Soundness.{Rule, Sound}
 use Rattle.image_reading.specs.Tidy.{Tidy}
 use Rattle.image_reading.proofs.Counts.{count_none, none_counted, count_one}
-use Rattle.image_reading.proofs.Credits.{count_same, name_credit, child_credit}
 use Rattle.image_reading.proofs.Places.{one_inode}
 use Rattle.image_reading.proofs.Walked.{reached_range}
-use Rattle.image_reading.specs.Litter.{IsZeroInode, IsZeroDescriptor, HasLiveSlot, HasZeroSlots, IsTidyPage, IsTidyInode}
+use Rattle.image_reading.specs.Litter.{IsZeroInode, IsZeroDescriptor, HasZeroSlots, IsTidyPage, IsTidyInode}
 
 module _ (P : ℕ) (I : List ℕ) where
   pub in_range : (i : ℕ) → Sound P I → Reached P I i → (1 ≤ i) × (i ≤ inodes_of P)

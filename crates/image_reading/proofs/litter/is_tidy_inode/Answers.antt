@@ -1,6 +1,5 @@
 use Rattle.std.proofs.Common.{sym, ◌∙◌, eq-eqb}
 use Rattle.std.proofs.lemmas.Bool.{eqb-true, iff_false}
-use Rattle.image_reading.specs.Reading.{Reached}
 use Rattle.image_reading.proofs.Tidying.{zero_tidy, tidy_zero, links_tidy, tidy_links}
 use Rattle.image_reading.proofs.litter.is_tidy_inode.Goals as goal
 
