@@ -1,28 +1,22 @@
 -- When sound words need no recovery.
-use Rattle.std.proofs.Common.{◌≡◌, ◌≢◌, inl, inr, ℕ, zero, suc, ◌+◌, ◌-◌, ◌*◌, ◌%◌, ◌<◌, ◌≤◌, List, [], refl, sym, ap, subst, ◌∙◌, arith}
+use Rattle.std.proofs.Common.{◌≡◌, ◌≢◌, inl, inr, ℕ, zero, suc, ◌+◌, ◌*◌, ◌%◌, ◌<◌, ◌≤◌, List, refl, sym, ap, subst, ◌∙◌, arith}
 use Rattle.std.proofs.lemmas.Bool.{cases_eq, cases_lt}
 use Rattle.layout.proofs.GeometryLaws.{page_of_slot_below}
 use Rattle.layout.specs.Geometry.{inodes_of, data_pages_of, page_of_slot, inode_word_of, descriptor_word_of, slot_word_of}
 use Rattle.layout.specs.Fields.{word, inode_kind, inode_links, inode_size, inode_own, page_owner, page_kind, page_offset}
-use Rattle.image_reading.specs.Counts.{Count}
-use Rattle.image_reading.specs.Reading.{IsFile, IsDirectory, HasBytes, slot_owner, Reached, IsNameOf, IsChildOf, IsLinkCount, IsRoomOf, pages_of_size}
+use Rattle.image_reading.specs.Reading.{IsFile, Reached, IsNameOf, IsChildOf, IsLinkCount, IsRoomOf}
 use Rattle.image_reading.specs.Repairs.{IsKept, IsPointer, IsLitterSlot, IsLitterPage, IsLitterInode, IsLitterCount}
-use Rattle.image_reading.specs.Scan.{IsCredit, IsRename}
+use Rattle.image_reading.specs.Scan.{IsRename}
 use Rattle.image_reading.specs.Soundness.{Rule, Sound}
 use Rattle.image_reading.specs.Tidy.{Tidy}
 use Rattle.image_reading.proofs.Counts.{count_none, none_counted, count_one}
-use Rattle.image_reading.proofs.Credits.{count_same, name_credit, child_credit}
 use Rattle.image_reading.proofs.Places.{one_inode}
 use Rattle.image_reading.proofs.Walked.{reached_range}
-use Rattle.image_reading.specs.Litter.{IsZeroInode, IsZeroDescriptor, HasLiveSlot, HasZeroSlots, IsTidyPage, IsTidyInode}
+use Rattle.image_reading.specs.Litter.{IsZeroInode, IsZeroDescriptor, HasZeroSlots, IsTidyPage, IsTidyInode}
 
 module _ (P : ℕ) (I : List ℕ) where
   pub in_range : (i : ℕ) → Sound P I → Reached P I i → (1 ≤ i) × (i ≤ inodes_of P)
   in_range i sound reached = reached_range P I i (one_inode P ((sound Rule.head 0).size refl)) reached
-
-  owner_of_slot : (j s : ℕ) → page_of_slot s ≡ j → slot_owner P I s ≡ page_owner P I j
-  unfolding slot_owner
-  owner_of_slot j s at = ap (page_owner P I) at
 
   -- ---- all parts
 
@@ -91,58 +85,25 @@ module _ (P : ℕ) (I : List ℕ) where
       unfolding inode_kind inode_links inode_size inode_own
       tidy_zero = record { kind = zero_word 0 (omega arith); links = zero_word 1 (omega arith); size = zero_word 2 (omega arith); own = zero_word 3 (omega arith) }
 
-  module _ (i n : ℕ) (sound : Sound P I) (reached : Reached P I i) (count : Count (IsCredit P I i) n) where
-    tidy_linked : IsLinkCount P I i (inode_links I i) → IsTidyInode P I i
-    tidy_linked linked = record { inode = λ litter. litter.unreached reached; links = λ litter. litter.other linked }
+  -- ---- a reached inode's links
 
-    -- ---- a directory's links
+  module _ (i n : ℕ) (sound : Sound P I) (reached : Reached P I i) (count : IsLinkCount P I i n) where
+    pub links_tidy : inode_links I i ≡ n → IsTidyInode P I i
+    links_tidy is = record { inode = λ litter. litter.unreached reached; links = λ litter. litter.other (subst (IsLinkCount P I i) (sym is) count) }
 
-    pub enough_links : IsDirectory I i → 2 ≤ inode_links I i
-    enough_links directory = let enough = (sound Rule.links i reached).directory directory [] tt (λ x none. absurd none) in omega (arith, enough)
-
-    pub directory_tidy : IsDirectory I i → inode_links I i - 2 ≡ n → IsTidyInode P I i
-    directory_tidy directory is = tidy_linked (record {
-      file = λ file. absurd (omega (arith, file, directory));
-      directory = λ _. (
-        n,
-        count_same (IsCredit P I i) (IsChildOf P I i) n (λ s. child_credit P I i s directory) count,
-        let enough = enough_links directory in omega (arith, enough, is),
-      );
-    })
-
-    pub tidy_directory : IsDirectory I i → IsTidyInode P I i → inode_links I i - 2 ≡ n
-    tidy_directory directory tidy = elim (cases_eq (inode_links I i - 2) n) [
-      | inl is ↦ is
-      | inr other ↦ absurd (tidy.links (record {
-        reached = reached;
-        other = λ linked.
-            let (m, children, is) = linked.directory directory in
-            let same = count_one (IsChildOf P I i) m n children (count_same (IsCredit P I i) (IsChildOf P I i) n (λ s. child_credit P I i s directory) count) in
-            other (omega (arith, is, same));
-      }))
+    one_count : (m : ℕ) → IsLinkCount P I i m → m ≡ n
+    one_count m other = elim ((sound Rule.kinds i).kind reached) [
+      | inl file ↦ count_one (IsNameOf P I i) m n (other.file file) (count.file file)
+      | inr directory ↦
+          let (a, children, is) = other.directory directory in
+          let (b, counted, same) = count.directory directory in
+          is ∙ ap (λ (k : ℕ). 2 + k) (count_one (IsChildOf P I i) a b children counted) ∙ sym same
     ]
 
-    -- ---- a file's
-
-    is_file : ¬ IsDirectory I i → HasBytes I i
-    is_file other = elim ((sound Rule.kinds i).kind reached) [ inl file ↦ file | inr directory ↦ absurd (other directory) ]
-
-    pub file_tidy : ¬ IsDirectory I i → inode_links I i ≡ n → IsTidyInode P I i
-    file_tidy other is = tidy_linked (record {
-      file = λ file. subst (Count (IsNameOf P I i)) (sym is) (count_same (IsCredit P I i) (IsNameOf P I i) n (λ s. name_credit P I i s file) count);
-      directory = λ directory. absurd (other directory);
-    })
-
-    pub tidy_file : ¬ IsDirectory I i → IsTidyInode P I i → inode_links I i ≡ n
-    tidy_file none tidy = elim (cases_eq (inode_links I i) n) [
+    pub tidy_links : IsTidyInode P I i → inode_links I i ≡ n
+    tidy_links tidy = elim (cases_eq (inode_links I i) n) [
       | inl is ↦ is
-      | inr other ↦ absurd (tidy.links (record {
-        reached = reached;
-        other = λ linked.
-            let file = is_file none in
-            other (count_one (IsNameOf P I i) (inode_links I i) n (linked.file file)
-            (count_same (IsCredit P I i) (IsNameOf P I i) n (λ s. name_credit P I i s file) count));
-      }))
+      | inr other ↦ absurd (tidy.links (record { reached = reached; other = λ linked. other (one_count (inode_links I i) linked) }))
     ]
 
   -- ---- pages
@@ -154,92 +115,52 @@ module _ (P : ℕ) (I : List ℕ) where
   zero_descriptor j (suc (suc zero)) owner kind offset lt = offset
   zero_descriptor j (suc (suc (suc f))) owner kind offset lt = absurd (omega arith)
 
-  owner_litter : (j : ℕ) → j < data_pages_of P → ¬ IsKept P I j → page_owner P I j ≢ 0 → IsLitterPage P I j
-  unfolding page_owner
-  owner_litter j within free owned = record { in_range = within; free = free; nonzero = (0, omega arith, owned) }
-
-  -- a kept page's owner is reached
-  kept_reached : (j : ℕ) → IsKept P I j → Reached P I (page_owner P I j)
-  kept_reached j kept = elim kept [ inl page ↦ page.owner | inr room ↦ room.reached ]
-
   litter_kept : (j s : ℕ) → page_of_slot s ≡ j → IsLitterSlot P I s → IsRoomOf P I (page_owner P I j) j
   litter_kept j s at litter = subst (λ (k : ℕ). IsRoomOf P I (page_owner P I k) k) at litter.page
 
-  module _ (j : ℕ) (sound : Sound P I) (within : j < data_pages_of P) where
-    free_unreached : page_owner P I j ≡ 0 → ¬ Reached P I (page_owner P I j)
-    free_unreached free reached = let least = (in_range (page_owner P I j) sound reached).0 in omega (arith, least, free)
-
-    pub free_tidy : IsZeroDescriptor P I j → IsTidyPage P I j
-    free_tidy zeros = record {
+  module _ (j : ℕ) (within : j < data_pages_of P) (unkept : ¬ IsKept P I j) where
+    pub zero_page_tidy : IsZeroDescriptor P I j → IsTidyPage P I j
+    zero_page_tidy zeros = record {
       page = λ litter. let (f, lt, other) = litter.nonzero in other (zero_descriptor j f zeros.owner zeros.kind zeros.offset lt);
-      slots = λ s at litter. free_unreached zeros.owner (litter_kept j s at litter).reached;
+      slots = λ s at litter. unkept (inr (litter_kept j s at litter));
     }
 
-    module _ (owner : page_owner P I j ≡ 0) (tidy : IsTidyPage P I j) where
+    module _ (tidy : IsTidyPage P I j) where
       zero_of : (f : ℕ) → f < 3 → word I (descriptor_word_of P j f) ≡ 0
       zero_of f lt = elim (cases_eq (word I (descriptor_word_of P j f)) 0) [
         | inl is ↦ is
-        | inr other ↦ absurd (tidy.page (record { in_range = within; free = λ kept. free_unreached owner (kept_reached j kept); nonzero = (f, lt, other) }))
+        | inr other ↦ absurd (tidy.page (record { in_range = within; free = unkept; nonzero = (f, lt, other) }))
       ]
 
-      pub tidy_free : IsZeroDescriptor P I j
+      pub tidy_zero_page : IsZeroDescriptor P I j
       unfolding page_owner page_kind page_offset
-      tidy_free = record { owner = zero_of 0 (omega arith); kind = zero_of 1 (omega arith); offset = zero_of 2 (omega arith) }
+      tidy_zero_page = record { owner = zero_of 0 (omega arith); kind = zero_of 1 (omega arith); offset = zero_of 2 (omega arith) }
 
-    -- a page of an owner that isn't reached is litter
-    pub unreached_litter : page_owner P I j ≢ 0 → ¬ Reached P I (page_owner P I j) → ¬ IsTidyPage P I j
-    unreached_litter owned unreached tidy = tidy.page (owner_litter j within (λ kept. unreached (kept_reached j kept)) owned)
+  module _ (j : ℕ) (kept : IsKept P I j) where
+    pub file_page_tidy : IsFile I (page_owner P I j) → IsTidyPage P I j
+    file_page_tidy file = record {
+      page = λ litter. litter.free kept;
+      slots = λ s at litter. let directory = (litter_kept j s at litter).directory in omega (arith, file, directory);
+    }
 
-    module _ (reached : Reached P I (page_owner P I j)) where
-      owned : page_owner P I j ≢ 0
-      owned free = free_unreached free reached
+    pub zeros_tidy : HasZeroSlots P I j → IsTidyPage P I j
+    zeros_tidy zeros = record {
+      page = λ litter. litter.free kept;
+      slots = λ s at litter. let (f, lt, nonzero) = litter.nonzero in nonzero (zeros s at litter.dead f lt);
+    }
 
-      -- ---- of a file
+    kept_room : ¬ IsFile I (page_owner P I j) → IsRoomOf P I (page_owner P I j) j
+    kept_room other = elim kept [ inl page ↦ absurd (other page.file) | inr room ↦ room ]
 
-      pub file_page_tidy : IsFile I (page_owner P I j) → page_offset P I j < pages_of_size (inode_size I (page_owner P I j)) → IsTidyPage P I j
-      file_page_tidy file below = record {
-        page = λ litter. litter.free (inl (record { in_range = within; owner = reached; file = file; below = below }));
-        slots = λ s at litter. let directory = (litter_kept j s at litter).directory in omega (arith, file, directory);
-      }
-
-      pub tidy_file_page : IsFile I (page_owner P I j) → IsTidyPage P I j → page_offset P I j < pages_of_size (inode_size I (page_owner P I j))
-      tidy_file_page file tidy = elim (cases_lt (page_offset P I j) (pages_of_size (inode_size I (page_owner P I j)))) [
-        | inl lt ↦ lt
-        | inr past ↦ absurd (tidy.page (owner_litter j within (λ kept. elim kept [
-          | inl page ↦ let below = page.below in omega (arith, below, past)
-          | inr room ↦ let directory = room.directory in omega (arith, file, directory)
-        ]) owned))
-      ]
-
-      -- ---- of a directory
-
-      is_directory : ¬ IsFile I (page_owner P I j) → IsDirectory I (page_owner P I j)
-      is_directory other = elim ((sound Rule.kinds (page_owner P I j)).kind reached) [ inl file ↦ absurd (other file) | inr directory ↦ directory ]
-
-      room_of : ¬ IsFile I (page_owner P I j) → HasLiveSlot P I j → IsRoomOf P I (page_owner P I j) j
-      room_of other (s, at, live) = record { reached = reached; directory = is_directory other; slot = (s, at, owner_of_slot j s at, live) }
-
-      pub directory_page_tidy : ¬ IsFile I (page_owner P I j) → HasLiveSlot P I j → HasZeroSlots P I j → IsTidyPage P I j
-      directory_page_tidy other live zeros = record {
-        page = λ litter. litter.free (inr (room_of other live));
-        slots = λ s at litter. let (f, lt, nonzero) = litter.nonzero in nonzero (zeros s at litter.dead f lt);
-      }
-
-      pub tidy_live : ¬ IsFile I (page_owner P I j) → ¬ HasLiveSlot P I j → ¬ IsTidyPage P I j
-      tidy_live other none tidy = tidy.page (owner_litter j within (λ kept. elim kept [
-        | inl page ↦ other page.file
-        | inr room ↦ let (s, at, owner, live) = room.slot in none (s, at, live)
-      ]) owned)
-
-      pub tidy_zeros : ¬ IsFile I (page_owner P I j) → HasLiveSlot P I j → IsTidyPage P I j → HasZeroSlots P I j
-      tidy_zeros other live tidy s at dead f lt = elim (cases_eq (word I (slot_word_of P s f)) 0) [
-        | inl is ↦ is
-        | inr nonzero ↦ absurd (tidy.slots s at (record {
-          page = subst (λ (k : ℕ). IsRoomOf P I (page_owner P I k) k) (sym at) (room_of other live);
-          dead = dead;
-          nonzero = (f, lt, nonzero);
-        }))
-      ]
+    pub tidy_zeros : ¬ IsFile I (page_owner P I j) → IsTidyPage P I j → HasZeroSlots P I j
+    tidy_zeros other tidy s at dead f lt = elim (cases_eq (word I (slot_word_of P s f)) 0) [
+      | inl is ↦ is
+      | inr nonzero ↦ absurd (tidy.slots s at (record {
+        page = subst (λ (k : ℕ). IsRoomOf P I (page_owner P I k) k) (sym at) (kept_room other);
+        dead = dead;
+        nonzero = (f, lt, nonzero);
+      }))
+    ]
 
   -- ---- past the last
 

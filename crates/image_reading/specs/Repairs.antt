@@ -1,7 +1,7 @@
 -- What a recovery would repair, counted.
-use Rattle.std.specs.Prelude.{◌≢◌, ◌⊎◌, ℕ, ◌<◌, ◌≤◌, List}
+use Rattle.std.specs.Prelude.{◌≡◌, ◌≢◌, ◌⊎◌, ℕ, ◌+◌, ◌<◌, ◌≤◌, List}
 use Rattle.layout.specs.Geometry.{inodes_of, data_pages_of, page_of_slot, inode_word_of, descriptor_word_of, slot_word_of}
-use Rattle.layout.specs.Fields.{word, inode_links, inode_size, page_owner, page_offset, slot_pointer}
+use Rattle.layout.specs.Fields.{word, inode_links, inode_size, page_owner, page_offset, slot_inode, slot_pointer}
 use Rattle.image_reading.specs.Counts.{Count}
 use Rattle.image_reading.specs.Reading.{HasBytes, IsHeld, IsLive, Reached, IsRoomOf, IsLinkCount, pages_of_size}
 
@@ -35,6 +35,17 @@ descriptor_words = 3
 pub record IsPointer (P : ℕ) (I : List ℕ) (s : ℕ) : Type 0 where
   pub held : IsHeld P I s
   pub nonzero : slot_pointer P I s ≢ 0
+
+-- A committed rename left slot s: the held slot d points at it and has its inode number.
+pub record WasLeft (P : ℕ) (I : List ℕ) (s d : ℕ) : Type 0 where
+  pub held : IsHeld P I d
+  pub points : slot_pointer P I d ≡ s + 1
+  pub same : slot_inode P I d ≡ slot_inode P I s
+  pub names : slot_inode P I s ≢ 0
+
+-- a slot that a committed rename left
+abbrev pub IsLeft : ℕ → List ℕ → ℕ → Type 0
+IsLeft P I s = (d : ℕ) × WasLeft P I s d
 
 -- a slot of a kept directory page that isn't live and isn't zero
 pub record IsLitterSlot (P : ℕ) (I : List ℕ) (s : ℕ) : Type 0 where

@@ -4,7 +4,7 @@ use Rattle.layout.specs.Geometry.{inodes_of, data_pages_of, slots_of, page_of_sl
 use Rattle.layout.specs.Fields.{page_owner, slot_inode}
 use Rattle.image_reading.specs.Reading.{IsDirectory, slot_owner, IsLive, Reached}
 use Rattle.image_reading.specs.Scan.{IsRename, IsLinked, KeepsBelow}
-use Rattle.image_reading.specs.Soundness.{Sound, NamesInode}
+use Rattle.image_reading.specs.Soundness.{NamesInode}
 use Rattle.image_reading.specs.declared.held.Rename.{Rename}
 use Rattle.image_reading.specs.Marks.{IsMarked}
 use Rattle.image_reading.specs.declared.reach.Reach.{Reach}
@@ -106,8 +106,3 @@ pub record IsWalkedBelow (n : ℕ) (walked : Walked) : Type 0 where
 pub record IsNumbered (walked : Walked) : Type 0 where
   pub walk : IsWalked walked
   pub numbers : (s : ℕ) → NamesInode walked.image.geometry.pages walked.image.words.now s
-
--- All rules hold.
-pub record IsSoundWalk (walked : Walked) : Type 0 where
-  pub sound : Sound walked.image.geometry.pages walked.image.words.now
-  pub walk : IsWalked walked

@@ -1,6 +1,6 @@
 // The rules, one after another.
 ghost use Rattle.std.specs.Prelude.{◌≡◌, ◌*◌, ◌+◌, length};
-ghost use Rattle.image_reading.specs.Scan.{FindsFault};
+ghost use Rattle.image_reading.specs.Scan.{AreCounted, FindsFault};
 ghost use Rattle.image_reading.specs.Walk.{IsWalkedBelow};
 
 use crate::Violation;
@@ -78,11 +78,12 @@ pub fn fault_of_pages(walked: &Walked<'_>, stamps: &mut [u64]) -> Option<Violati
     None
 }
 
-/// Rule 14, which is about links. `tally` is overwritten.
+/// Rule 14, which is about links. `tally` is overwritten with those that are counted.
 pub fn fault_of_links(walked: &Walked<'_>, tally: &mut [u64]) -> Option<Violation>
     requires walked { IsWalkedBelow 14 walked.now }
     requires inodes { length tally.old ≡ walked.now.image.geometry.inodes + 1 }
-    ensures { FindsFault walked.now.image.geometry.pages walked.now.image.words.now 15 result }
+    ensures found { FindsFault walked.now.image.geometry.pages walked.now.image.words.now 15 result }
+    ensures counted { AreCounted walked.now.image.geometry.pages walked.now.image.words.now tally.new }
 {
     if let Some(place) = links_broken_at(walked, tally) {
         return Some(Violation { rule: 14, place });

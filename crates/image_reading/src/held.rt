@@ -1,14 +1,15 @@
 // Which slots are held, and their rename pointer.
-ghost use Rattle.std.specs.Prelude.{◌≡◌, ◌↔◌, ◌*◌, ◌<◌, ℕ, IsTrue, length};
-ghost use Rattle.layout.specs.Geometry.{slots_of};
+ghost use Rattle.std.specs.Prelude.{◌≡◌, ◌↔◌, ◌*◌, ◌<◌, ℕ, IsTrue, MatchOption, length};
+ghost use Rattle.layout.specs.Geometry.{data_pages_of, slots_of};
 ghost use Rattle.image_reading.specs.Images.{In};
 ghost use Rattle.image_reading.specs.Reading.{IsHeld, IsLive, slot_owner};
 ghost use Rattle.image_reading.specs.Soundness.{IsOnlyPointer};
 ghost use Rattle.image_reading.specs.Scan.{IsRename};
 ghost use Rattle.image_reading.specs.Repairs.{IsPointer};
+ghost use Rattle.image_reading.specs.Litter.{HasLiveSlot};
 
 use crate::image::Image;
-use layout::SLOTS;
+use layout::{PAGE_SLOTS, SLOTS};
 
 /// The owner of the page that the slot stands in.
 #[tactic(auto, unfolding(crate::specs::Reading::slot_owner))]
@@ -54,23 +55,33 @@ pub struct Rename {
     pub inode: u64,
 }
 
+/// The first held slot with a rename pointer.
+pub fn pointer_of(image: &Image<'_>) -> Option<u64>
+    ensures { MatchOption result ((s : ℕ) → ¬ In image.now IsPointer s) (λ s. In image.now IsPointer s) }
+{
+    for slot in 0..image.geometry.slots() {
+        if has_pointer(image, slot) {
+            return Some(slot);
+        }
+    }
+    None
+}
+
 /// The rename pointer, where one held slot at most has one.
 pub fn rename_of(image: &Image<'_>) -> Rename
     requires { (s : ℕ) → In image.now IsOnlyPointer s }
     ensures { IsRename image.now.geometry.pages image.now.words.now result.target result.inode }
 {
-    for slot in 0..image.geometry.slots() {
-        if has_pointer(image, slot) {
-            let fields = image.geometry.slot_at(image.words, slot);
-            return Rename {
-                target: fields.pointer,
-                inode: fields.inode,
-            };
-        }
-    }
+    let Some(slot) = pointer_of(image) else {
+        return Rename {
+            target: 0,
+            inode: 0,
+        };
+    };
+    let fields = image.geometry.slot_at(image.words, slot);
     Rename {
-        target: 0,
-        inode: 0,
+        target: fields.pointer,
+        inode: fields.inode,
     }
 }
 
@@ -87,4 +98,18 @@ pub fn is_live(image: &Image<'_>, rename: Rename, slot: u64) -> bool
         return false;
     }
     rename.target == 0 || rename.target - 1 != slot || rename.inode != inode
+}
+
+/// Whether some slot of the page is live.
+pub fn has_live_slot(image: &Image<'_>, rename: Rename, page: u64) -> bool
+    requires pointer { IsRename image.now.geometry.pages image.now.words.now rename.target rename.inode }
+    requires in_range { page < data_pages_of image.now.geometry.pages }
+    ensures { IsTrue result ↔ In image.now HasLiveSlot page }
+{
+    for place in 0..PAGE_SLOTS {
+        if is_live(image, rename, image.geometry.slot_in(page, place)) {
+            return true;
+        }
+    }
+    false
 }

@@ -1,17 +1,15 @@
 // Inodes and pages in which nothing is to be repaired.
-ghost use Rattle.std.specs.Prelude.{◌≡◌, ◌↔◌, ◌<◌, IsTrue};
+ghost use Rattle.std.specs.Prelude.{◌↔◌, ◌<◌, IsTrue};
 ghost use Rattle.layout.specs.Geometry.{data_pages_of, slots_of};
-ghost use Rattle.layout.specs.Fields.{page_owner};
 ghost use Rattle.image_reading.specs.Images.{In};
-ghost use Rattle.image_reading.specs.Reading.{Reached, IsLive};
-ghost use Rattle.image_reading.specs.Scan.{AreCounted};
-ghost use Rattle.image_reading.specs.Soundness.{Sound};
-ghost use Rattle.image_reading.specs.Walk.{IsWalked, IsSoundWalk};
-ghost use Rattle.image_reading.specs.Litter.{IsInode, IsZeroInode, IsZeroDescriptor, IsZeroSlot, HasLiveSlot, HasZeroSlots, IsTidyPage, IsTidyInode};
+ghost use Rattle.image_reading.specs.Reading.{IsLive};
+ghost use Rattle.image_reading.specs.Repairs.{IsKept};
+ghost use Rattle.image_reading.specs.Scanned.{IsScanned};
+ghost use Rattle.image_reading.specs.Litter.{IsInode, IsZeroInode, IsZeroDescriptor, IsZeroSlot, HasZeroSlots, IsTidyPage, IsTidyInode};
 
-use crate::held::{Rename, is_live};
-use crate::image::{Image, Walked};
-use layout::{DIRECTORY, DescriptorFields, FILE, InodeFields, PAGE_BYTES, PAGE_SLOTS, SLOT_WORDS};
+use crate::image::Image;
+use crate::scanned::Scanned;
+use layout::{DescriptorFields, FILE, InodeFields, PAGE_SLOTS, SLOT_WORDS};
 
 // What the words of a free inode say.
 const FREE_INODE: InodeFields = InodeFields {
@@ -29,16 +27,16 @@ const FREE_PAGE: DescriptorFields = DescriptorFields {
 };
 
 /// Whether the inode has the links that are counted where it is reached, and is zero elsewhere.
-pub fn is_tidy_inode(walked: &Walked<'_>, tally: &[u64], inode: u64) -> bool
-    requires walked { IsSoundWalk walked.now }
-    requires counted { AreCounted walked.now.image.geometry.pages walked.now.image.words.now tally.now }
-    requires inode { IsInode walked.now.image.geometry.pages inode }
-    ensures { IsTrue result ↔ In walked.now.image IsTidyInode inode }
+pub fn is_tidy_inode(scanned: &Scanned<'_>, inode: u64) -> bool
+    requires scanned { IsScanned scanned.now }
+    requires inode { IsInode scanned.now.image.geometry.pages inode }
+    ensures { IsTrue result ↔ In scanned.now.image IsTidyInode inode }
 {
-    if !walked.reach.has(inode) {
-        return is_zero_inode(&walked.image, inode);
+    if !scanned.is_reached(inode) {
+        return is_zero_inode(&scanned.image, inode);
     }
-    has_exact_links(&walked.image, tally, inode)
+    let fields = scanned.image.geometry.inode_at(scanned.image.words, inode);
+    fields.links == scanned.links(inode)
 }
 
 // Whether the words of the inode that are read are zero.
@@ -49,40 +47,16 @@ fn is_zero_inode(image: &Image<'_>, inode: u64) -> bool
     image.geometry.inode_at(image.words, inode) == FREE_INODE
 }
 
-// Whether the reached inode has as many links as are counted.
-fn has_exact_links(image: &Image<'_>, tally: &[u64], inode: u64) -> bool
-    requires sound { Sound image.now.geometry.pages image.now.words.now }
-    requires counted { AreCounted image.now.geometry.pages image.now.words.now tally.now }
-    requires reached { In image.now Reached inode }
-    requires inode { IsInode image.now.geometry.pages inode }
-    ensures { IsTrue result ↔ In image.now IsTidyInode inode }
-{
-    let fields = image.geometry.inode_at(image.words, inode);
-    let counted = tally[inode as usize];
-    if fields.kind == DIRECTORY {
-        return fields.links - 2 == counted;
-    }
-    fields.links == counted
-}
-
 /// Whether the page is kept and its slots are live or zero, or its descriptor is zero.
-pub fn is_tidy_page(walked: &Walked<'_>, page: u64) -> bool
-    requires walked { IsSoundWalk walked.now }
-    requires in_range { page < data_pages_of walked.now.image.geometry.pages }
-    ensures { IsTrue result ↔ In walked.now.image IsTidyPage page }
+pub fn is_tidy_page(scanned: &Scanned<'_>, page: u64) -> bool
+    requires scanned { IsScanned scanned.now }
+    requires in_range { page < data_pages_of scanned.now.image.geometry.pages }
+    ensures { IsTrue result ↔ In scanned.now.image IsTidyPage page }
 {
-    let owner = walked
-        .image
-        .geometry
-        .descriptor_at(walked.image.words, page)
-        .owner;
-    if owner == 0 {
-        return is_zero_descriptor(&walked.image, page);
+    if !scanned.is_kept(page) {
+        return is_zero_descriptor(&scanned.image, page);
     }
-    if !walked.reach.has(owner) {
-        return false;
-    }
-    is_tidy_owned(walked, page, owner)
+    is_tidy_kept(scanned, page)
 }
 
 // Whether the words of the page's descriptor that are read are zero.
@@ -93,56 +67,29 @@ fn is_zero_descriptor(image: &Image<'_>, page: u64) -> bool
     image.geometry.descriptor_at(image.words, page) == FREE_PAGE
 }
 
-// Whether the page of a reached inode is kept, and its slots are live or zero.
-fn is_tidy_owned(walked: &Walked<'_>, page: u64, owner: u64) -> bool
-    requires walked { IsSoundWalk walked.now }
-    requires in_range { page < data_pages_of walked.now.image.geometry.pages }
-    requires owner { owner ≡ page_owner walked.now.image.geometry.pages walked.now.image.words.now page }
-    requires reached { Reached walked.now.image.geometry.pages walked.now.image.words.now
-        (page_owner walked.now.image.geometry.pages walked.now.image.words.now page) }
-    ensures { IsTrue result ↔ In walked.now.image IsTidyPage page }
+// Whether the kept page is a file's, or its slots are live or zero.
+fn is_tidy_kept(scanned: &Scanned<'_>, page: u64) -> bool
+    requires scanned { IsScanned scanned.now }
+    requires in_range { page < data_pages_of scanned.now.image.geometry.pages }
+    requires kept { In scanned.now.image IsKept page }
+    ensures { IsTrue result ↔ In scanned.now.image IsTidyPage page }
 {
-    let inode = walked.image.geometry.inode_at(walked.image.words, owner);
-    if inode.kind == FILE {
-        return walked
-            .image
-            .geometry
-            .descriptor_at(walked.image.words, page)
-            .offset
-            < inode.size.div_ceil(PAGE_BYTES);
+    let image = &scanned.image;
+    let owner = image.geometry.descriptor_at(image.words, page).owner;
+    if image.geometry.inode_at(image.words, owner).kind == FILE {
+        return true;
     }
-    if !has_live_slot(walked, page) {
-        return false;
-    }
-    has_zero_slots(walked, page)
-}
-
-// Whether some slot of the page is live.
-fn has_live_slot(walked: &Walked<'_>, page: u64) -> bool
-    requires walked { IsWalked walked.now }
-    requires in_range { page < data_pages_of walked.now.image.geometry.pages }
-    ensures { IsTrue result ↔ In walked.now.image HasLiveSlot page }
-{
-    for place in 0..PAGE_SLOTS {
-        if is_live(
-            &walked.image,
-            walked.reach.rename,
-            walked.image.geometry.slot_in(page, place),
-        ) {
-            return true;
-        }
-    }
-    false
+    has_zero_slots(scanned, page)
 }
 
 // Whether each slot of the page is live or zero.
-fn has_zero_slots(walked: &Walked<'_>, page: u64) -> bool
-    requires walked { IsWalked walked.now }
-    requires in_range { page < data_pages_of walked.now.image.geometry.pages }
-    ensures { IsTrue result ↔ In walked.now.image HasZeroSlots page }
+fn has_zero_slots(scanned: &Scanned<'_>, page: u64) -> bool
+    requires scanned { IsScanned scanned.now }
+    requires in_range { page < data_pages_of scanned.now.image.geometry.pages }
+    ensures { IsTrue result ↔ In scanned.now.image HasZeroSlots page }
 {
     for place in 0..PAGE_SLOTS {
-        if !is_live_or_zero(walked, walked.image.geometry.slot_in(page, place)) {
+        if !is_live_or_zero(scanned, scanned.image.geometry.slot_in(page, place)) {
             return false;
         }
     }
@@ -150,15 +97,15 @@ fn has_zero_slots(walked: &Walked<'_>, page: u64) -> bool
 }
 
 // Whether the slot is zero, if it isn't live.
-fn is_live_or_zero(walked: &Walked<'_>, slot: u64) -> bool
-    requires walked { IsWalked walked.now }
-    requires in_range { slot < slots_of walked.now.image.geometry.pages }
-    ensures { IsTrue result ↔ (¬ In walked.now.image IsLive slot → In walked.now.image IsZeroSlot slot) }
+fn is_live_or_zero(scanned: &Scanned<'_>, slot: u64) -> bool
+    requires scanned { IsScanned scanned.now }
+    requires in_range { slot < slots_of scanned.now.image.geometry.pages }
+    ensures { IsTrue result ↔ (¬ In scanned.now.image IsLive slot → In scanned.now.image IsZeroSlot slot) }
 {
-    if is_live(&walked.image, walked.reach.rename, slot) {
+    if scanned.is_live(slot) {
         return true;
     }
-    is_zero_slot(&walked.image, slot)
+    is_zero_slot(&scanned.image, slot)
 }
 
 // Whether all words of the slot are zero.

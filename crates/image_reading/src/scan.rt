@@ -1,15 +1,13 @@
-// The search for the first violation and for what is to be repaired, and the tables of both.
-ghost use Rattle.std.specs.Prelude.{◌≡◌, ◌↔◌, ◌*◌, ◌+◌, IfSome, IsTrue, None, length, vec_len};
-ghost use Rattle.image_reading.specs.Soundness.{IsFirstViolation, Sound, pages_in_image};
-ghost use Rattle.image_reading.specs.Tidy.{Tidy};
+// The tables of a scan, and the rules that need them.
+ghost use Rattle.std.specs.Prelude.{◌≡◌, ◌+◌, vec_len};
 
 use crate::Violation;
-use crate::chain::{fault_of_head, fault_of_links, fault_of_names, fault_of_pages};
+use crate::chain::{fault_of_links, fault_of_names, fault_of_pages};
 use crate::held::rename_of;
 use crate::image::{Image, Walked};
 use crate::pages::{Lists, link_pages};
 use crate::reach::Reach;
-use crate::tidy::has_no_repairs;
+use crate::scanned::Scanned;
 use crate::walk::walk_tree;
 use layout::Geometry;
 use pm_trait::NoMemory;
@@ -38,9 +36,10 @@ pub struct Scan {
 }
 
 impl Scan {
-    ghost use Rattle.std.specs.Prelude.{◌≡◌, ◌*◌, ℕ, IfOk, length};
+    ghost use Rattle.std.specs.Prelude.{◌≡◌, ◌*◌, ℕ, IfOk, None, length};
     ghost use Rattle.image_reading.specs.Scan.{FindsFault, KeepsBelow};
-    ghost use Rattle.image_reading.specs.Soundness.{IsOnlyPointer};
+    ghost use Rattle.image_reading.specs.Scanned.{HasScanned, IsScanned};
+    ghost use Rattle.image_reading.specs.Soundness.{IsOnlyPointer, Sound, pages_in_image};
     ghost use Rattle.image_reading.specs.Walk.{IsWalkDone};
 
     /// Tables for volumes of this size.
@@ -89,11 +88,12 @@ impl Scan {
         walk_tree(&image, rename, lists, &mut self.reach);
     }
 
-    // Rules 5 to 14, where those before hold.
-    fn fault_of_tree(&mut self, words: &[u64]) -> Option<Violation>
+    /// Rules 5 to 14, where those before hold.
+    pub(crate) fn fault_of_tree(&mut self, words: &[u64]) -> Option<Violation>
         requires whole { length words.now ≡ 512 * self.old.geometry.pages }
         requires kept { KeepsBelow self.old.geometry.pages words.now 5 }
         ensures found { FindsFault self.old.geometry.pages words.now 15 result }
+        ensures knows { result ≡ None → HasScanned words.now self.new }
         ensures made_for { self.new.geometry ≡ self.old.geometry }
     {
         self.walk(words);
@@ -114,41 +114,24 @@ impl Scan {
         }
         fault_of_links(&walked, self.tally.as_mut_slice())
     }
-}
 
-/// The first place at which the words break a rule, by rule and then by place. `None` where the image is sound.
-pub fn first_fault(words: &[u64], scan: &mut Scan) -> Option<Violation>
-    requires made_for { length words.now ≡ 512 * scan.old.geometry.pages }
-    ensures none { (result ≡ None) ↔ Sound (pages_in_image words.now) words.now }
-    ensures first { IfSome result (IsFirstViolation words.now) }
-    ensures made_for { scan.new.geometry ≡ scan.old.geometry }
-{
-    let image = Image {
-        words,
-        geometry: scan.geometry,
-    };
-    if let Some(fault) = fault_of_head(&image) {
-        return Some(fault);
+    /// The sound image that these words are, with what the scan knows of it.
+    pub fn scanned<'a>(&'a self, words: &'a [u64]) -> Scanned<'a>
+        requires made_for { length words.now ≡ 512 * self.now.geometry.pages }
+        requires known { HasScanned words.now self.now }
+        requires sound { Sound (pages_in_image words.now) words.now }
+        ensures known { IsScanned result }
+        ensures words { result.image.words.now ≡ words.now }
+        ensures geometry { result.image.geometry ≡ self.now.geometry }
+    {
+        let image = Image {
+            words,
+            geometry: self.geometry,
+        };
+        Scanned {
+            image,
+            reach: &self.reach,
+            tally: self.tally.as_slice(),
+        }
     }
-    scan.fault_of_tree(words)
-}
-
-/// Whether a sound image needs no recovery. No memory is taken.
-pub fn is_tidy(words: &[u64], scan: &mut Scan) -> bool
-    requires made_for { length words.now ≡ 512 * scan.old.geometry.pages }
-    requires sound { Sound (pages_in_image words.now) words.now }
-    ensures tidy { IsTrue result ↔ Tidy (pages_in_image words.now) words.now }
-    ensures made_for { scan.new.geometry ≡ scan.old.geometry }
-{
-    scan.walk(words);
-    let image = Image {
-        words,
-        geometry: scan.geometry,
-    };
-    let lists = Lists {
-        first: scan.first.as_slice(),
-        next: scan.next.as_slice(),
-    };
-    let walked = Walked::new(image, lists, &scan.reach);
-    has_no_repairs(&walked, scan.tally.as_mut_slice())
 }

@@ -1,6 +1,7 @@
 // Each rule and each repair once, at places worked out by hand, on 16 pages: inode 1 begins at word 512, inode 2 at 528,
 // the descriptors at 1,024, eight words each, and data page 0 at 1,536, with sixteen words a slot.
 ghost use Rattle.std.specs.Prelude.{◌≡◌, IfOk, vec_len};
+ghost use Rattle.image_reading.specs.Scanned.{IsScanned};
 
 use super::*;
 use layout::Geometry;
@@ -75,7 +76,7 @@ fn is_tidy_after(rt: &impl Abort, alloc: Global, stores: Stores<'_>) -> Result<b
     let words = words_after(alloc, ONE_FILE.as_slice(), stores)?;
     assert_eq!(rt; geometry.pages, 16);
     match first_fault(words.as_slice(), &mut scan) {
-        None => Ok(is_tidy(words.as_slice(), &mut scan)),
+        None => Ok(is_tidy(words.as_slice(), &scan)),
         Some(_) => Err("a broken rule".into()),
     }
 }
@@ -116,6 +117,111 @@ fn repairs(rt: HostRuntime) -> Result<(), Fail> {
         ([(1_032, 3), (1_033, 1)].as_slice(), false),
     ] {
         assert_eq!(rt; is_tidy_after(&rt, rt.alloc(), stores)?, expected);
+    }
+    Ok(())
+}
+
+// Slot 1 names the file by `b` and points at slot 0, which the rename has left. Slot 2 names directory 3 by `c`. Page 1 has
+// the file's one byte, page 2 is past its end, and page 3 is the root's, with no live slot. All links are too many.
+const RENAMED: [(u64, u64); 19] = [
+    (513, 9),
+    (529, 7),
+    (530, 1),
+    (544, 2),
+    (545, 9),
+    (547, 3),
+    (1_032, 2),
+    (1_033, 1),
+    (1_040, 2),
+    (1_041, 1),
+    (1_042, 1),
+    (1_048, 1),
+    (1_049, 2),
+    (1_552, 2),
+    (1_553, 1),
+    (1_554, 0x62_0001),
+    (1_568, 3),
+    (1_570, 0x63_0001),
+    (563, 4),
+];
+
+// The links that are counted, of a reached inode.
+fn links_of(scanned: &Scanned<'_>, inode: u64) -> Option<u64>
+    requires { IsScanned scanned.now }
+{
+    if scanned.is_reached(inode) {
+        return Some(scanned.links(inode));
+    }
+    None
+}
+
+#[test]
+fn readers(rt: HostRuntime) -> Result<(), Fail> {
+    let geometry = Geometry::of(16).ok_or("no volume")?;
+    let mut scan = Scan::new(rt.alloc(), &geometry)?;
+    let words = words_after(rt.alloc(), ONE_FILE.as_slice(), RENAMED.as_slice())?;
+    assert_eq!(rt; geometry.pages, 16);
+    let words = words.as_slice();
+    if first_fault(words, &mut scan).is_some() {
+        return Err("a broken rule".into());
+    }
+    let scanned = scan.scanned(words);
+    for (slot, expected) in [(0, false), (1, true), (2, true), (3, false), (9_999, false)] {
+        assert_eq!(rt; scanned.is_live(slot), expected);
+    }
+    for (page, expected) in [
+        (0, true),
+        (1, true),
+        (2, false),
+        (3, false),
+        (4, false),
+        (13, false),
+    ] {
+        assert_eq!(rt; scanned.is_kept(page), expected);
+    }
+    for (inode, expected) in [
+        (0, None),
+        (1, Some(3)),
+        (2, Some(1)),
+        (3, Some(2)),
+        (4, None),
+        (5, None),
+    ] {
+        assert_eq!(rt; scanned.is_reached(inode), expected.is_some());
+        assert_eq!(rt; links_of(&scanned, inode), expected);
+    }
+    Ok(())
+}
+
+// The slot with the rename pointer, and the one that a committed rename left.
+fn rename_after(
+    rt: &impl Abort,
+    alloc: Global,
+    stores: Stores<'_>,
+) -> Result<(Option<u64>, Option<u64>), Fail> {
+    let geometry = Geometry::of(16).ok_or("no volume")?;
+    let mut scan = Scan::new(alloc, &geometry)?;
+    let words = words_after(alloc, ONE_FILE.as_slice(), stores)?;
+    assert_eq!(rt; geometry.pages, 16);
+    let words = words.as_slice();
+    if first_fault(words, &mut scan).is_some() {
+        return Err("a broken rule".into());
+    }
+    let scanned = scan.scanned(words);
+    Ok((scanned.pointer(), scanned.left()))
+}
+
+#[test]
+fn rename_pointers(rt: HostRuntime) -> Result<(), Fail> {
+    for (stores, expected) in [
+        ([].as_slice(), (None, None)),
+        (RENAMED.as_slice(), (Some(1), Some(0))),
+        // the slot with the pointer has no number, or the other one has none, or neither has
+        ([(1_553, 1)].as_slice(), (Some(1), None)),
+        ([(1_537, 2)].as_slice(), (Some(0), None)),
+        ([(1_553, 3)].as_slice(), (Some(1), None)),
+    ] {
+        assert_eq!(rt; rename_after(&rt, rt.alloc(), stores)?, expected);
     }
     Ok(())
 }

@@ -5,7 +5,8 @@ use Rattle.image_reading.specs.Reading.{IsHeld, Reached, IsLinkCount}
 use Rattle.image_reading.specs.Soundness.{IsCoherent}
 use Rattle.image_counts.proofs.Paths.{in_range}
 use Rattle.image_laws.proofs.Addresses.{descriptor-ne_inode, descriptor-ne_slot, inode-ne_slot, inode_word-one, descriptor_word-one, slot_word-one}
-use Rattle.repair_laws.specs.Mended.{WasLeft, GivesUp, Unpoints, Clears, Frees, IsDead, IsUnkept}
+use Rattle.image_reading.specs.Repairs.{WasLeft}
+use Rattle.repair_laws.specs.Mended.{GivesUp, Unpoints, Clears, Frees, IsDead, IsUnkept}
 
 module _ (P : ℕ) (W : List ℕ) where
   -- ---- the first step

@@ -13,7 +13,8 @@ use Rattle.image_laws.specs.Pointers.{CanPoint}
 use Rattle.image_laws.proofs.Free.{mix_one}
 use Rattle.image_laws.proofs.Meaning.{same_itself, same_chained}
 use Rattle.image_laws.proofs.Pointers.{pointer_law, leave_law}
-use Rattle.repair_laws.specs.Mended.{WasLeft, GivesUp, Unpoints, IsAfter}
+use Rattle.image_reading.specs.Repairs.{WasLeft}
+use Rattle.repair_laws.specs.Mended.{GivesUp, Unpoints, IsAfter}
 use Rattle.repair_laws.proofs.After.{mix_same, stays, unchanged, one_word}
 use Rattle.repair_laws.proofs.Held.{SameDescriptors, turned, still_held}
 use Rattle.repair_laws.proofs.Apart.{gives_descriptor, gives_inode, gives_slot, unpoints_descriptor, unpoints_inode, unpoints_slot}

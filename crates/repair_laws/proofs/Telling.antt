@@ -5,13 +5,13 @@ use Rattle.layout.specs.Geometry.{IsVolumeSize, inodes_of, data_pages_of, slots_
 use Rattle.layout.specs.Fields.{inode_kind, page_owner}
 use Rattle.layout.proofs.GeometryLaws.{inode_word_within, descriptor_word_within, slot_word_within}
 use Rattle.image_reading.specs.Reading.{IsHeld, Reached, IsLinkCount}
-use Rattle.image_reading.specs.Repairs.{IsKeptDirectoryPage, inode_words, descriptor_words}
+use Rattle.image_reading.specs.Repairs.{IsKeptDirectoryPage, WasLeft, inode_words, descriptor_words}
 use Rattle.image_reading.specs.Soundness.{Rule, IsCoherent}
 use Rattle.image_counts.proofs.Decided.{IsDecided, any_below, held_or_not, live_or_not, room_or_not}
 use Rattle.image_counts.proofs.Links.{links_counted, only_links}
 use Rattle.image_counts.proofs.Paths.{in_range}
 use Rattle.image_laws.proofs.Trees.{tree_law}
-use Rattle.repair_laws.specs.Mended.{WasLeft, IsDead, IsUnkept, IsUnreached, GivesUp, Unpoints, Clears, Frees, IsAfter, IsRepair}
+use Rattle.repair_laws.specs.Mended.{IsDead, IsUnkept, IsUnreached, GivesUp, Unpoints, Clears, Frees, IsAfter, IsRepair}
 use Rattle.repair_laws.proofs.Apart.{clears_descriptor, clears_inode, clears_slot}
 use Rattle.repair_laws.proofs.Kept.{told_reached, kept_or_not, kept_held}
 use Rattle.repair_laws.proofs.Making.{IsTold, make}

@@ -1,16 +1,9 @@
 -- What recovery makes of the words of an image: P is its number of pages, W the words before it.
-use Rattle.std.specs.Prelude.{◌≡◌, ◌≢◌, ◌⊎◌, ℕ, ◌+◌, ◌<◌, ◌≤◌, List, length}
+use Rattle.std.specs.Prelude.{◌≡◌, ◌⊎◌, ℕ, ◌<◌, ◌≤◌, List, length}
 use Rattle.layout.specs.Geometry.{inodes_of, data_pages_of, page_of_slot, inode_word_of, descriptor_word_of, slot_word_of}
-use Rattle.layout.specs.Fields.{word, slot_inode, slot_pointer}
+use Rattle.layout.specs.Fields.{word}
 use Rattle.image_reading.specs.Reading.{IsHeld, IsLive, Reached, IsLinkCount}
-use Rattle.image_reading.specs.Repairs.{IsKept, IsKeptDirectoryPage, inode_words, descriptor_words}
-
--- A committed rename left slot s: the held slot d points at it and has its inode number.
-pub record WasLeft (P : ℕ) (W : List ℕ) (s d : ℕ) : Type 0 where
-  pub held : IsHeld P W d
-  pub points : slot_pointer P W d ≡ s + 1
-  pub same : slot_inode P W d ≡ slot_inode P W s
-  pub names : slot_inode P W s ≢ 0
+use Rattle.image_reading.specs.Repairs.{IsKept, IsKeptDirectoryPage, WasLeft, inode_words, descriptor_words}
 
 -- a slot of a kept directory page that isn't live
 pub record IsDead (P : ℕ) (W : List ℕ) (s : ℕ) : Type 0 where

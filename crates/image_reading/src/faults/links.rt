@@ -14,7 +14,8 @@ use layout::{DIRECTORY, FILE};
 pub fn links_broken_at(walked: &Walked<'_>, tally: &mut [u64]) -> Option<u64>
     requires walked { IsNumbered walked.now }
     requires inodes { length tally.old ≡ walked.now.image.geometry.inodes + 1 }
-    ensures { Finds (In walked.now.image HasEnoughLinks) result }
+    ensures found { Finds (In walked.now.image HasEnoughLinks) result }
+    ensures counted { AreCounted walked.now.image.geometry.pages walked.now.image.words.now tally.new }
 {
     count_links(walked, tally);
     let end = walked.image.geometry.inodes + 1;

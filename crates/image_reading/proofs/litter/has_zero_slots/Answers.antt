@@ -6,6 +6,6 @@ use Rattle.image_reading.proofs.litter.has_zero_slots.Goals as goal
 
 pub returns : goal.returns
 returns c = (
-  (λ t s at. slots_of_page (λ s. ¬ IsLive c.args.walked.now.image.geometry.pages c.args.walked.now.image.words.now s → IsZeroSlot c.args.walked.now.image.geometry.pages c.args.walked.now.image.words.now s) c.args.page (λ k lt. c.loop-place.invariant k (omega (arith, lt))) s at),
+  (λ t s at. slots_of_page (λ s. ¬ IsLive c.args.scanned.now.image.geometry.pages c.args.scanned.now.image.words.now s → IsZeroSlot c.args.scanned.now.image.geometry.pages c.args.scanned.now.image.words.now s) c.args.page (λ k lt. c.loop-place.invariant k (omega (arith, lt))) s at),
   (λ zeros. refl),
 )

@@ -4,4 +4,4 @@ use Rattle.image_reading.specs.Litter.{IsZeroSlot}
 use Rattle.image_reading.proofs.litter.has_zero_slots.Given as goal
 
 abbrev pub invariant-loop-place : goal.invariant-loop-place
-invariant-loop-place l = (k : ℕ) → k < l.place → ¬ IsLive l.walked.image.geometry.pages l.walked.image.words.now (32 * l.page + k) → IsZeroSlot l.walked.image.geometry.pages l.walked.image.words.now (32 * l.page + k)
+invariant-loop-place l = (k : ℕ) → k < l.place → ¬ IsLive l.scanned.image.geometry.pages l.scanned.image.words.now (32 * l.page + k) → IsZeroSlot l.scanned.image.geometry.pages l.scanned.image.words.now (32 * l.page + k)

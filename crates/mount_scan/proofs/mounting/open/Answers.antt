@@ -21,20 +21,23 @@ returns-in-Some-first_fault c = (head_holds _ _ c.in-Some.ensures, inl c.in-Some
 pub is_tidy-requires-clause-made_for : goal.is_tidy-requires-clause-made_for
 is_tidy-requires-clause-made_for c = head_whole _ _ c.in-Some.ensures ∙ ap (λ (g : Geometry). 512 * g.pages) (sym (c.first_fault.ensures.made_for ∙ c.in_ok-scan.ensures))
 
+pub is_tidy-requires-clause-known : goal.is_tidy-requires-clause-known
+is_tidy-requires-clause-known c = c.first_fault.ensures.knows c.in_default-first_fault.is
+
 pub is_tidy-requires-clause-sound : goal.is_tidy-requires-clause-sound
 is_tidy-requires-clause-sound c = c.first_fault.ensures.none.0 c.in_default-first_fault.is
 
 pub returns-then-not-is_tidy : goal.returns-then-not-is_tidy
 returns-then-not-is_tidy c = (
   head_holds _ _ c.in-Some.ensures,
-  inr (refl, c.first_fault.ensures.none.0 c.in_default-first_fault.is, iff_false c.is_tidy.ensures.tidy c.if-not-is_tidy.true),
+  inr (refl, c.first_fault.ensures.none.0 c.in_default-first_fault.is, iff_false c.is_tidy.ensures c.if-not-is_tidy.true),
 )
 
 pub volume_of_words-requires-clause-whole : goal.volume_of_words-requires-clause-whole
 volume_of_words-requires-clause-whole c = head_whole _ _ c.in-Some.ensures
 
 pub volume_of_words-requires-clause-tidy : goal.volume_of_words-requires-clause-tidy
-volume_of_words-requires-clause-tidy c = subst (λ (n : ℕ). Tidy n c.args.words.now) (head_pages _ _ c.in-Some.ensures) (c.is_tidy.ensures.tidy.0 c.if-not-is_tidy.false)
+volume_of_words-requires-clause-tidy c = subst (λ (n : ℕ). Tidy n c.args.words.now) (head_pages _ _ c.in-Some.ensures) (c.is_tidy.ensures.0 c.if-not-is_tidy.false)
 
 pub returns-in_err-volume : goal.returns-in_err-volume
 returns-in_err-volume c = let p = err_from_is_err_and c.from_residual-in_err-volume.result c.from_residual-in_err-volume.ensures.1 in rw (p.1, p.2) (head_holds _ _ c.in-Some.ensures)
@@ -43,7 +46,7 @@ pub returns : goal.returns
 returns c =
     let pages = head_pages _ _ c.in-Some.ensures in (
       head_holds _ _ c.in-Some.ensures,
-      c.is_tidy.ensures.tidy.0 c.if-not-is_tidy.false,
+      c.is_tidy.ensures.0 c.if-not-is_tidy.false,
       c.in_ok-volume.ensures.knows,
       c.in_ok-volume.ensures.size ∙ sym pages,
       c.in_ok-volume.ensures.going,

@@ -1,5 +1,5 @@
 use Rattle.image_reading.proofs.Chained as lemmas
-use Rattle.image_reading.proofs.scan.first_fault.Goals as goal
+use Rattle.image_reading.proofs.verdict.first_fault.Goals as goal
 
 pub returns-in-Some-clause-none : goal.returns-in-Some-clause-none
 returns-in-Some-clause-none c = lemmas.none_not_at_some c.args.scan.now.geometry.pages c.args.words.now c.in-Some.fault c.requires.made_for c.in-Some.ensures

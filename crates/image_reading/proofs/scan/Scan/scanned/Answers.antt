@@ -1,0 +1,15 @@
+use Rattle.std.proofs.Common.{ℕ, List, sym, subst}
+use Rattle.image_reading.specs.Scan.{AreCounted}
+use Rattle.image_reading.specs.Soundness.{Sound}
+use Rattle.image_reading.proofs.Chained.{pages_are}
+use Rattle.image_reading.proofs.scan.Scan.scanned.Goals as goal
+
+pub returns-clause-known : goal.returns-clause-known
+returns-clause-known c =
+    let P = c.args.self.now.geometry.pages in
+    let I = c.args.words.now in
+    record {
+      sound = subst (λ (n : ℕ). Sound n I) (pages_are P I c.requires.made_for) c.requires.sound;
+      known = c.requires.known.walk.known;
+      counted = subst (λ (t : List ℕ). AreCounted P I t) (sym c.as_slice.ensures.value) c.requires.known.counted;
+    }
