@@ -3,10 +3,10 @@ use Rattle.std.proofs.Common.{◌≡◌, ℕ, ◌<◌, List, [], ◌∷◌, leng
 use Rattle.std.specs.Prelude.{Option, Some, None, IsSomeAnd, slice_index}
 use Rattle.std.specs.Option.{ForSome}
 use Rattle.pm_trait.specs.declared.event.Event.{Event}
-use Rattle.pm_trait.specs.declared.event.Event.TheVariants.{Flush, Fence, BadFence, Ack}
+use Rattle.pm_trait.specs.declared.event.Event.TheVariants.{Fence}
 use Rattle.pm_trait.specs.Trail.{Trail, stores_to, settled_value, unsettled_stores, after_stores}
 use Rattle.pm_trait.proofs.TrailLaws.{after_stores-none, length-after_stores, settled_value-later, unsettled_stores-later}
-use Rattle.pm_trait.specs.Device.{with_event, with_events, IsClean, IsFlushed, IsInFlight, IsSettledAt, IsHonest, IsInterval}
+use Rattle.pm_trait.specs.Device.{with_event, with_events, IsClean, IsFlushed, IsInFlight, IsHonest, IsInterval}
 use Rattle.pm_trait.proofs.DeviceLaws.{clean_after_ticket, interval_keeps, interval_length, clean_stays, in_flight_more, in_flight_stays, in_flight_event, in_flight_now}
 use Rattle.pm_trait.proofs.AckLaws.{clean_event}
 use Rattle.fence_token.specs.Ticket.{Settles}

@@ -1,13 +1,13 @@
 -- Steps of an object's call, one after another.
 use Rattle.std.proofs.Common.{◌≡◌, ◌⊎◌, ℕ, ◌+◌, ◌≤◌, List, [], ◌∷◌, ◌++◌, length, refl, sym, ◌∙◌, ap, arith}
 use Rattle.pm_trait.specs.declared.event.Event.{Event}
-use Rattle.pm_trait.specs.declared.event.Event.TheVariants.{Store, Flush}
+use Rattle.pm_trait.specs.declared.event.Event.TheVariants.{Store}
 use Rattle.pm_trait.specs.Trail.{after_stores}
 use Rattle.pm_trait.specs.Device.{with_events, IsInterval}
 use Rattle.pm_trait.specs.DeviceView.{DeviceView, Performs, Stores}
 use Rattle.pm_trait.proofs.TrailLaws.{after_stores-append}
 use Rattle.pm_trait.proofs.ContinuesLaws.{with_events-nil, with_events-append}
-use Rattle.pm_trait.proofs.DeviceLaws.{interval_empty, interval_store, interval_flush, interval_joined, interval_weaker, then_nothing}
+use Rattle.pm_trait.proofs.DeviceLaws.{interval_empty, interval_store, interval_joined, interval_weaker, then_nothing}
 use Rattle.pm_trait.proofs.DeviceViewLaws.{same_counts_then}
 use Rattle.fence_token.specs.Flushes.{Flushes}
 use Rattle.fence_token.specs.Stored.{StoresExactly}

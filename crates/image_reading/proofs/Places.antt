@@ -1,8 +1,8 @@
 -- How the tests and loops of a scan decide what they are to decide.
 use Rattle.std.proofs.Common.{◌≡◌, ◌≢◌, inl, inr, ℕ, ◌<◌, ◌≤◌, not, eqb, IsTrue, List, arith, length, get_or, ◌*◌, sym, ap, subst, ◌∙◌, eq-eqb, ne_eqb}
 use Rattle.std.proofs.lemmas.Bool.{cases_lt}
-use Rattle.layout.specs.Geometry.{IsVolumeSize, slots_of, page_of_slot, inodes_of, data_pages_of}
-use Rattle.layout.proofs.GeometryLaws.{some_inodes, data_pages_below}
+use Rattle.layout.specs.Geometry.{IsVolumeSize, slots_of, page_of_slot, inodes_of}
+use Rattle.layout.proofs.GeometryLaws.{some_inodes}
 use Rattle.layout.specs.Superblock.{head_of}
 use Rattle.layout.specs.Fields.{word, page_kind, page_owner}
 use Rattle.image_reading.specs.Reading.{IsHeld, slot_owner}
@@ -63,6 +63,3 @@ module _ (P : ℕ) (I : List ℕ) (x : ℕ) (size : IsVolumeSize P) (whole : len
 
 pub one_inode : (P : ℕ) → IsVolumeSize P → 1 ≤ inodes_of P
 one_inode P size = let some = some_inodes P size in omega arith
-
-pub few_pages : (P : ℕ) → IsVolumeSize P → data_pages_of P < 65536
-few_pages P size = let d = data_pages_below P size in omega arith

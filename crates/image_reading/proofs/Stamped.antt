@@ -109,10 +109,6 @@ unstamped P stamps n is room = record {
   earlier = λ k. (let none : get_or stamps k 0 ≡ 0 = ap (λ xs. get_or xs k 0) is ∙ zeros n k in omega (arith, none));
 }
 
--- and none of the next inode
-pub stamps_later : (P i : ℕ) (stamps : List ℕ) → AreStamps P i stamps → AreStamps P (i + 1) stamps
-stamps_later P i stamps earlier = record { room = earlier.room; earlier = λ k. (let less = earlier.earlier k in omega (arith, less)) }
-
 module _ (P : ℕ) (I : List ℕ) where
   -- a page of nobody that is a reached file, or past the last page, is no second page
   pub own_offset_past : (j : ℕ) → data_pages_of P ≤ j → HasOwnOffset P I j

@@ -1,9 +1,7 @@
 -- The text of bytes in pieces.
-use Rattle.std.proofs.Common.{◌≡◌, ℕ, ◌≤◌, ◌/◌, ◌%◌, min, List, [], ◌∷◌, ◌++◌, length, codes, decimal, refl, sym, ap, ◌∙◌, append_assoc, arith}
-use Rattle.std.specs.Prelude.{slice_index, IsErr, Result, Ok, Err}
+use Rattle.std.proofs.Common.{◌≡◌, ℕ, ◌≤◌, ◌/◌, ◌%◌, List, [], ◌∷◌, ◌++◌, length, codes, decimal, refl, sym, ap, ◌∙◌, append_assoc}
+use Rattle.std.specs.Prelude.{slice_index}
 use Rattle.hex.specs.Hex.{encode_with, encode_lower, lower_digits}
-use Rattle.io_edge.specs.Bytes.{Writes}
-use Rattle.io_edge.proofs.BytesLaws.{prefix_before}
 use Rattle.tree_model.specs.Step.{Bytes}
 use Rattle.script.specs.Lines.{space, newline}
 use Rattle.script.specs.Texts.{answer_text, bytes_text}

@@ -2,10 +2,10 @@
 use Rattle.std.proofs.Common.{◌≡◌, ℕ, ◌+◌, ◌<◌, ◌≤◌, Bool, true, false, cond, nat_le, List, [], ◌∷◌, ◌++◌, length, take, drop, Option, Some, None, refl, sym, ap, subst, ◌∙◌, arith, append_assoc, length-append, inl, inr}
 use Rattle.std.proofs.lemmas.Bool.Decides.{nat_tests}
 use Rattle.std.proofs.lemmas.List.{append-nil, length-take-le}
-use Rattle.io_edge.specs.Bytes.{GivesFirst, IsEnd}
+use Rattle.io_edge.specs.Bytes.{IsEnd}
 use Rattle.script.specs.Lines.{newline, line_limit, script_limit, IsUnbroken}
 use Rattle.script.specs.Places.{BreaksAt}
-use Rattle.script.specs.Reading.{rest_of, IfTold, TakesLine, TakesLongLine, IsOver, BreaksOff, GoesOn, ReadPrefix, ReadsOnto, ReadsOn, HasSkipped, SkipsOn}
+use Rattle.script.specs.Reading.{rest_of, IfTold, TakesLine, TakesLongLine, IsOver, BreaksOff, GoesOn, ReadPrefix, ReadsOn, HasSkipped, SkipsOn}
 use Rattle.script.specs.declared.lines.Step.{Step}
 use Rattle.script.specs.declared.lines.Step.TheVariants.{Line, TooLong, End}
 use Rattle.script.proofs.PlaceLaws.{lacks_append}

@@ -1,13 +1,11 @@
 -- The texts of answers in pieces.
 use Rattle.std.specs.Prelude.{◌≡◌, ℕ, List, [], ◌∷◌, ◌++◌, length, map, codes, decimal, flat_map}
 use Rattle.std.specs.List.{join_with_byte}
-use Rattle.std.proofs.Common.{refl, sym, ap, ◌∙◌, append_assoc}
+use Rattle.std.proofs.Common.{sym, ap, ◌∙◌, append_assoc}
 use Rattle.std.proofs.lemmas.List.{append-nil}
-use Rattle.tree_model.specs.Step.{Answer, Done, Count, Status, Bytes, Listed, Space, Refused, Unread, Fault, Stopped}
-use Rattle.tree_model.specs.Replies.{reply_of}
+use Rattle.tree_model.specs.Step.{Listed}
 use Rattle.script.specs.Lines.{space, newline}
 use Rattle.script.specs.Texts.{answer_text, name_text}
-use Rattle.script.specs.Replies.{IsPlain, reply_text}
 
 join-map : (word : List ℕ) (names : List (List ℕ)) → join_with_byte space (word ∷ map name_text names) ≡ word ++ flat_map (λ name. space ∷ name_text name) names
 join-map word [] = sym (append-nil word)

@@ -1,8 +1,8 @@
 -- How the words of a text go on from its front.
 use Rattle.std.proofs.Common.{◌≡◌, ℕ, zero, suc, ◌+◌, ◌-◌, ◌<◌, true, false, true≢false, cond, List, [], ◌∷◌, length, take, drop, slice_index, filter, refl, sym, ap, ◌∙◌, arith}
 use Rattle.std.specs.List.{slice_split}
-use Rattle.std.proofs.lemmas.List.{drop_more, drop_all, length-take-le, take_rest}
-use Rattle.std.proofs.lemmas.List.Splits.{slice_split-cons_yes, slice_split_at, slice_split_none}
+use Rattle.std.proofs.lemmas.List.{drop_all, length-take-le, take_rest}
+use Rattle.std.proofs.lemmas.List.Splits.{slice_split_at, slice_split_none}
 use Rattle.std.proofs.lemmas.Bool.Decides.{nat_tests}
 use Rattle.script.specs.Places.{Lacks, BreaksAt}
 use Rattle.script.specs.Lines.{space, is_space, is_filled, words_of}

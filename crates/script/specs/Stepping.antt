@@ -1,5 +1,5 @@
 -- What each part of a step does to a reader of lines.
-use Rattle.std.specs.Prelude.{◌≡◌, ℕ, ◌+◌, ◌<◌, ◌≤◌, Bool, true, false, IsTrue, if◌then◌else◌, nat_le, List, [], length, take, drop, Option, Result, Ok, Err, IfOk, OnOk, OnErr}
+use Rattle.std.specs.Prelude.{◌≡◌, ℕ, ◌+◌, ◌<◌, ◌≤◌, true, false, IsTrue, if◌then◌else◌, nat_le, List, [], length, take, drop, Option, Result, Ok, Err, IfOk, OnOk, OnErr}
 use Rattle.pm_trait.specs.Device.{HasRisen}
 use Rattle.io_edge.specs.declared.source.ReadFault.{ReadFault}
 use Rattle.io_edge.specs.Bytes.{IsEnd}

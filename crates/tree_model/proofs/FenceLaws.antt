@@ -3,7 +3,7 @@ use Rattle.std.proofs.Common.{◌≡◌, ◌≢◌, ℕ, ◌+◌, ◌*◌, ◌�
 use Rattle.layout.specs.Geometry.{pieces}
 use Rattle.tree_model.specs.PathText.{Route}
 use Rattle.tree_model.specs.Tree.{Tree, Room, page_bytes}
-use Rattle.tree_model.specs.Step.{Answer, Done, Count, Status, Bytes, Listed, Space, Refused, Unread, Fault, Stopped, is_full, is_same_node, is_there, gaining, page_for_name, need, resolved}
+use Rattle.tree_model.specs.Step.{Answer, Done, Count, Status, Bytes, Listed, Space, Refused, Unread, Fault, Stopped, is_full, is_same_node, is_there, gaining, page_for_name, resolved}
 use Rattle.tree_model.specs.Run.{State, Line, is_changing}
 use Rattle.tree_model.specs.Fences.{most_fences, one_where, needs_pages, gave, gone, clears_owners, size_before, pages_before, fences_for_loss, fences_of_growth, fences_of_write, fences_of_truncate, fences_of_rename, fences_of_accepted, fences_of_change, fences_of, fences_of_run}
 use Rattle.tree_model.specs.declared.command.Command.{Command}
@@ -82,19 +82,6 @@ fences_of-le old line Stopped new = omega arith
 
 -- ---- none
 
--- only an answer that a change was made tells of fences
-pub no_fences : (old : State) (line : Line) (answer : Answer) (new : State) → answer ≢ Done → ((n : ℕ) → answer ≢ Count n) → fences_of old line answer new ≡ 0
-no_fences old line Done new done count = absurd (done refl)
-no_fences old line (Count n) new done count = absurd (count n refl)
-no_fences old line (Status s) new done count = refl
-no_fences old line (Bytes bytes) new done count = refl
-no_fences old line (Listed inode names) new done count = refl
-no_fences old line (Space free) new done count = refl
-no_fences old line (Refused refusal) new done count = refl
-no_fences old line (Unread fault) new done count = refl
-no_fences old line Fault new done count = refl
-no_fences old line Stopped new done count = refl
-
 reader_change : (old : State) (c : Command) (new : State) → is_changing c ≡ false → fences_of_accepted old c new ≡ 0
 reader_change old (Create path) new e = cc
 reader_change old (Mkdir path) new e = cc
@@ -123,16 +110,6 @@ no_fences-reading old c Fault new e = refl
 no_fences-reading old c Stopped new e = refl
 
 -- ---- a new name
-
--- two, and two more for each page that it needed
-pub fences_of-create : (old : State) (path : Route) (new : State) → fences_of old (Ok (Create path)) Done new ≡ 2 + 2 * need old.tree old.room (Create path)
-fences_of-create old path new = refl
-
-pub fences_of-mkdir : (old : State) (path : Route) (new : State) → fences_of old (Ok (Mkdir path)) Done new ≡ 2 + 2 * need old.tree old.room (Mkdir path)
-fences_of-mkdir old path new = refl
-
-pub fences_of-link : (old : State) (from to : Route) (new : State) → fences_of old (Ok (Link from to)) Done new ≡ 2 + 2 * need old.tree old.room (Link from to)
-fences_of-link old from to new = refl
 
 -- ---- runs
 

@@ -1,14 +1,14 @@
 -- No row of refusals has NoMemory: that comes of memory alone.
-use Rattle.std.proofs.Common.{◌≡◌, ◌≢◌, ◌&&◌, ◌||◌, Bool, true, false, cond, nat_lt, ℕ, ◌+◌, List, [], ◌∷◌, ◌++◌, length, Option, Some, None, Result, Ok, Err}
+use Rattle.std.proofs.Common.{◌≡◌, ◌≢◌, ◌&&◌, ◌||◌, Bool, true, false, cond, ℕ, ◌+◌, List, [], ◌∷◌, ◌++◌, Option, Some, None, Result, Ok, Err}
 use Rattle.tree_model.specs.PathText.{Route}
-use Rattle.tree_model.specs.Tree.{Tree, Room, parent, is_root, id_at, is_directory, is_file, is_above, name_count}
-use Rattle.tree_model.specs.Capacity.{Supply, untaken, file_limit}
+use Rattle.tree_model.specs.Tree.{Tree, Room, parent, id_at, is_directory}
+use Rattle.tree_model.specs.Capacity.{Supply, untaken}
 use Rattle.tree_model.specs.Walk.{Place, root_place, place_at, walk, walk_on, walk_to_parent, step_into, only_directory}
-use Rattle.tree_model.specs.Step.{first, at, fault_of, walk_faults, later_faults, faults_of_rename, refusal_of, id_of, is_there, is_same_node, lacks_inodes, lacks_pages, read_limit}
+use Rattle.tree_model.specs.Step.{first, at, fault_of, walk_faults, later_faults, faults_of_rename, refusal_of, is_same_node}
 use Rattle.tree_model.specs.declared.command.Command.{Command}
 use Rattle.tree_model.specs.declared.command.Command.TheVariants.{Create, Mkdir, Link, Unlink, Rmdir, Rename, Write, Truncate, Read, Stat as Tell, List as Show, Df}
 use Rattle.tree_model.specs.declared.reply.Refusal.{Refusal}
-use Rattle.tree_model.specs.declared.reply.Refusal.TheVariants.{NotFound, NotDir, Root, Exists, IsDir, NotEmpty, IntoItself, TooBig, NoInodes, NoPages, NoMemory}
+use Rattle.tree_model.specs.declared.reply.Refusal.TheVariants.{NotDir, Root, Exists, IsDir, NotEmpty, IntoItself, TooBig, NoInodes, NoPages, NoMemory}
 
 -- ---- rows
 

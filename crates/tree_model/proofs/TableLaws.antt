@@ -1,5 +1,5 @@
 -- Laws of tables, and of the order of paths.
-use Rattle.std.specs.Prelude.{◌≡◌, Bool, true, false, cond, not, T, List, [], ◌∷◌, Option, Some, None, refl}
+use Rattle.std.specs.Prelude.{◌≡◌, Bool, true, false, cond, not, T, List, [], ◌∷◌, Some, None, refl}
 use Rattle.std.proofs.Common.{sym, ap, ◌∙◌, Ordering, Equal}
 use mathlib.Core.HLevel.{Σ_prop_path}
 use lib.Dec.{T_prop}
