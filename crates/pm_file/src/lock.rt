@@ -1,5 +1,5 @@
 // A file that nobody else uses meanwhile.
-ghost use Rattle.std.specs.Prelude.{◌≡◌, Bool, true, None, IsTrue, IfOk};
+ghost use Rattle.std.specs.Prelude.{◌≡◌, Bool, true, None, IsTrue, IfOk, OnErr};
 ghost use Rattle.pm_file.specs.Faults.{CountsFaults};
 
 use crate::bytes::{bytes_of_line, place_of_line, place_of_page, words_of_page};
@@ -14,16 +14,22 @@ pub trait Lockable {
     /// Whether its lock was taken. A file of the system doesn't show it.
     ghost is_locked: { Self → Bool };
 
+    /// What is known of a file whose lock is refused, and from nothing else.
+    ghost is_refused: { Self → Type 0 };
+
     /// Takes the lock, or fails at once where another open file has it. It is held until the file is closed.
     fn lock(self) -> io::Result<Self>
     where
         Self: Sized,
-        ensures { IfOk result (λ file. IsTrue (is_locked file)) };
+        ensures locked { IfOk result (λ file. IsTrue (is_locked file)) }
+        ensures refused { OnErr result (is_refused self) };
 }
 
 /// No contract says what the system's lock does, so every file counts as locked here, and only tests show that it is.
 impl Lockable for File {
     ghost is_locked = { λ _. true };
+
+    ghost is_refused = { λ _. Unit {0} };
 
     fn lock(self) -> io::Result<File> {
         self.try_lock()?;
@@ -41,7 +47,8 @@ pub struct Locked<F> {
 impl<F: Lockable + OpenFile + Drop> Locked<F> {
     /// Locks a file.
     pub fn new(file: F) -> io::Result<Locked<F>>
-        ensures { IfOk result (λ locked. IsTrue (F.is_locked locked.file)) }
+        ensures locked { IfOk result (λ locked. IsTrue (F.is_locked locked.file)) }
+        ensures refused { OnErr result (F.is_refused file) }
     {
         Ok(Locked {
             file: file.lock()?,

@@ -68,6 +68,8 @@ impl<F: OpenFile> OpenFile for ScantyFile<F> {
 impl<F: Lockable> Lockable for ScantyFile<F> {
     ghost is_locked = { λ scanty. scanty.is_taken };
 
+    ghost is_refused = { λ scanty. F.is_refused scanty.file };
+
     fn lock(self) -> io::Result<ScantyFile<F>> {
         let ScantyFile {
             file,
