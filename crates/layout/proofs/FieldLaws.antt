@@ -1,5 +1,5 @@
 -- What follows of words that are read together.
-use Rattle.std.proofs.Common.{◌≡◌, ℕ, zero, suc, ◌+◌, ◌-◌, ◌/◌, ◌%◌, ◌^◌, ◌<◌, ◌≤◌, List, [], ◌∷◌, length, get_or, take, drop, refl, sym, ap, ◌∙◌, arith}
+use Rattle.std.proofs.Common.{◌≡◌, ℕ, zero, suc, ◌+◌, ◌-◌, ◌/◌, ◌%◌, ◌^◌, ◌<◌, ◌≤◌, List, [], ◌∷◌, length, get_or, take, drop, slice_range, refl, sym, ap, ◌∙◌, arith}
 use Rattle.std.proofs.Math.Nat.{div-le_self, div-one}
 use Rattle.std.proofs.Math.Seq.{drop-cons}
 use Rattle.layout.specs.Fields.{word, words_from, byte_of}
@@ -23,6 +23,11 @@ words_from-take I a (suc n) h =
     let next : a + 1 ≡ suc a = omega arith in
     ap (λ xs. get_or I a 0 ∷ xs) (words_from-take I (a + 1) n (omega arith) ∙ ap (λ k. take n (drop k I)) next)
     ∙ ap (λ xs. take (suc n) xs) (sym (drop-cons I a 0 here))
+
+pub words_from_range : (I : List ℕ) (a n : ℕ) → a + n ≤ length I → words_from I a n ≡ slice_range I a (a + n)
+words_from_range I a n h =
+    let e : a + n - a ≡ n = omega arith in
+    words_from-take I a n h ∙ ap (λ k. take k (drop a I)) (sym e)
 
 -- equal words, read together
 pub same_words_from : (I J : List ℕ) (a n : ℕ) → ((k : ℕ) → k < n → word I (a + k) ≡ word J (a + k)) → words_from I a n ≡ words_from J a n

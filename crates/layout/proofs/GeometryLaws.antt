@@ -1,6 +1,6 @@
 -- What follows from the regions' sizes: which numbers are in range, and that addresses differ.
 use Rattle.std.proofs.Common.{◌≡◌, ◌≢◌, ℕ, ◌+◌, ◌*◌, ◌/◌, ◌%◌, ◌<◌, ◌≤◌, arith}
-use Rattle.layout.specs.Geometry.{IsVolumeSize, inodes_of, inode_pages_of, data_pages_of, slots_of, page_of_slot, first_data_word_of, inode_word_of, descriptor_word_of, slot_word_of, page_word_of, AddressesDiffer, AddressesInRange}
+use Rattle.layout.specs.Geometry.{IsVolumeSize, inodes_of, inode_pages_of, descriptor_pages_of, data_pages_of, slots_of, page_of_slot, first_data_word_of, inode_word_of, descriptor_word_of, slot_word_of, page_word_of, AddressesDiffer, AddressesInRange}
 
 -- ---- sizes
 
@@ -86,6 +86,11 @@ slot_word_above P s f = omega arith
 pub slot_word_within : (P s f : ℕ) → s < slots_of P → f < 16 → slot_word_of P s f < 512 * P
 unfolding slot_word_of slots_of
 slot_word_within P s f h hf = omega arith
+
+-- and all of a slot's words from one on
+pub slot_words_within : (P s f n : ℕ) → s < slots_of P → f + n ≤ 16 → slot_word_of P s f + n ≤ 512 * P
+unfolding slot_word_of slots_of
+slot_words_within P s f n h hf = omega arith
 
 pub page_word_above : (P j k : ℕ) → first_data_word_of P ≤ page_word_of P j k
 unfolding page_word_of
