@@ -11,7 +11,7 @@ use Rattle.tree_model.specs.Run.{Line, State}
 use Rattle.tree_model.specs.declared.reply.Reply.{Reply}
 use Rattle.volume.specs.Stands.{IsStanding}
 use Rattle.engine.specs.Session.{SessionView, Mounted, on}
-use Rattle.engine.specs.Exec.{Does, LeavesVolume, Executes, LeavesSession}
+use Rattle.engine.specs.Exec.{Does, LeavesVolume, ExecutesLine, LeavesSession}
 use Rattle.engine.specs.Turns.{MovesOn}
 use Rattle.engine.proofs.Acknowledged.{acknowledged}
 use Rattle.engine.proofs.Causes.{GoesOn}
@@ -20,7 +20,7 @@ use Rattle.engine.proofs.Stays.{stays_ack}
 
 module _ {old new : SessionView} {before between after : DeviceView} {state : State} {line : Line} where
   pub executes_ok : (reply : Reply) → LeavesVolume old.volume new.volume before between (Ok reply) → Acknowledges between after
-      → Does old new before between state line (Ok reply) → Executes old new before after state line reply
+      → Does old new before between state line (Ok reply) → ExecutesLine old new before after state line reply
   executes_ok reply leaves acks does = record {
     answered = λ is. acknowledged before between after leaves.size does.executed acks;
     failed = λ is. absurd (apart is leaves.going);
@@ -29,7 +29,7 @@ module _ {old new : SessionView} {before between after : DeviceView} {state : St
 
 module _ {old new : SessionView} {before after : DeviceView} {state : State} {line : Line} where
   -- a fence failed
-  pub executes_err : {fault : PmFault} (reply : Reply) → LeavesVolume old.volume new.volume before after (Err fault) → Does old new before after state line (Err fault) → Executes old new before after state line reply
+  pub executes_err : {fault : PmFault} (reply : Reply) → LeavesVolume old.volume new.volume before after (Err fault) → Does old new before after state line (Err fault) → ExecutesLine old new before after state line reply
   executes_err reply leaves does = record {
     answered = λ is. absurd (apart leaves.stopped is);
     failed = λ is. does.failed;

@@ -99,7 +99,7 @@ pub record HasAnswered (P : ℕ) (old : State) (line : Line) (session : SessionV
   pub no_memory : answer ≡ Refused NoMemory → IsTrue (line_needs_places old line) ⊎ HasRisen before.refused after.refused
 
 -- The session goes on exactly where the line was answered and acknowledged; else a fence failed in it.
-pub record Executes (old new : SessionView) (before after : DeviceView) (state : State) (line : Line) (reply : Reply) : Type 0 where
+pub record ExecutesLine (old new : SessionView) (before after : DeviceView) (state : State) (line : Line) (reply : Reply) : Type 0 where
   pub answered : new.volume.stopped ≡ false → HasAnswered old.volume.size state line new reply before after
   pub failed : new.volume.stopped ≡ true → HasFailed old.volume.size state line before after
   pub stays : StaysAsAfter old.volume.size state line before after
