@@ -5,3 +5,4 @@ pub mod Planned
 pub mod Meaning
 pub mod Starting
 pub mod Objects
+pub mod Rows

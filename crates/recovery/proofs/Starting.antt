@@ -12,7 +12,7 @@ pub record Start (P : ℕ) (device : DeviceView) (events fences : ℕ) : Type 0 
   pub room : events ≤ device.spare
   pub countable : device.fences + fences < 2 ^ 64
 
-one_fence : (n : ℕ) → fences_for n ≤ 1
+pub one_fence : (n : ℕ) → fences_for n ≤ 1
 one_fence zero = omega arith
 one_fence (suc n) = omega arith
 

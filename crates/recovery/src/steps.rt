@@ -80,3 +80,6 @@ pub fn free_objects<P: Pm>(pm: &mut P, repairs: &Repairs) -> Result<(), PmFault>
         Err(fault) => Err(fault),
     }
 }
+
+#[cfg(test)]
+mod tests;
