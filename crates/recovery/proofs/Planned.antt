@@ -123,7 +123,7 @@ module _ (r : Repairs) (W : List ℕ) (sound : Sound r.geometry.pages W) (plan :
     one_clears a v (Clears.slot s f dead low small) w two = let (some, other, none) = clears_slot P W s f sound small two refl in none
     one_clears a v (Clears.links i n reached count) w two =
         let (least, most) = in_range P W sound i reached in
-        let (one, other) = clears_inode P W i 1 least most sound (omega arith) two refl in one_count i n w reached count other
+        let (one, also, other) = clears_inode P W i 1 least most sound (omega arith) two refl in one_count i n w reached count other
 
     -- a slot's word by its place
     slot_field : (s a : ℕ) → slot_word_of P s 1 ≤ a → a ≤ slot_word_of P s 15 → (f : ℕ) × (1 ≤ f) × (f < 16) × (a ≡ slot_word_of P s f)

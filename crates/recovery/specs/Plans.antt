@@ -3,8 +3,8 @@ use Rattle.std.specs.Prelude.{◌≡◌, ◌≢◌, ◌↔◌, ℕ, ◌<◌, ◌
 use Rattle.layout.specs.Geometry.{descriptor_word_of, slot_word_of}
 use Rattle.layout.specs.Fields.{word, page_owner}
 use Rattle.image_reading.specs.Reading.{IsLinkCount}
-use Rattle.image_reading.specs.Repairs.{IsPointer, IsLitterCount, IsLitterInode, descriptor_words}
-use Rattle.repair_laws.specs.Mended.{WasLeft, IsDead, IsUnkept}
+use Rattle.image_reading.specs.Repairs.{IsPointer, IsLitterCount, IsLitterInode, descriptor_words, WasLeft}
+use Rattle.repair_laws.specs.Mended.{IsDead, IsUnkept}
 use Rattle.recovery.specs.declared.repairs.Repairs.{Repairs}
 use Rattle.recovery.specs.Parts.{IsRising}
 
