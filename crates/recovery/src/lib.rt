@@ -1,0 +1,14 @@
+//! Recovery of a sound image: what a crash left of earlier commands is cleared, so that a crash at any moment of it
+//! changes nothing of what the image means.
+#![tactic(auto)]
+
+mod costs;
+mod part;
+mod recover;
+mod repairs;
+mod span;
+mod steps;
+
+pub use part::Part;
+pub use recover::repair;
+pub use repairs::Repairs;

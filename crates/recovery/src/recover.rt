@@ -1,0 +1,37 @@
+// The whole repair of an image.
+ghost use Rattle.std.specs.Prelude.{◌≡◌, ◌^◌, ◌<◌, ◌≤◌, OnOk};
+ghost use Rattle.pm_trait.specs.Device.{LeavesOnly};
+ghost use Rattle.pm_trait.specs.DeviceView.{IsSettledView, MakesIntervals};
+ghost use Rattle.image_reading.specs.Soundness.{Sound};
+ghost use Rattle.image_laws.specs.Frame.{SameMeaning};
+ghost use Rattle.repair_laws.specs.Mended.{IsMended};
+ghost use Rattle.recovery.specs.Plans.{IsPlanOf};
+ghost use Rattle.recovery.specs.Repairs.{events_of_repairs, fences_of_repairs};
+
+use crate::steps::{clear_objects, clear_word, free_objects};
+use crate::{Part, Repairs};
+use pm_trait::{Pm, PmFault};
+
+/// Makes of a sound image what recovery makes of it, in at most four steps.
+///
+/// A crash at any moment leaves an image that means the same.
+pub fn repair<P: Pm>(pm: &mut P, repairs: &Repairs) -> Result<(), PmFault>
+    requires settled { IsSettledView (P.view pm.old) }
+    requires sound { Sound repairs.now.geometry.pages (P.view pm.old).words }
+    requires planned { IsPlanOf (P.view pm.old).words repairs.now }
+    requires room { events_of_repairs repairs.now ≤ (P.view pm.old).spare }
+    requires countable { (P.view pm.old).fences < 2 ^ 63 }
+
+    ensures any_moment { LeavesOnly (P.view pm.old).trail (P.view pm.new).trail
+        (λ acks image. (acks ≡ 0) × SameMeaning repairs.now.geometry.pages (P.view pm.old).words image) }
+    ensures mended { OnOk result (IsMended repairs.now.geometry.pages (P.view pm.old).words (P.view pm.new).words) }
+    ensures device { MakesIntervals (P.view pm.old) (P.view pm.new) (events_of_repairs repairs.now)
+        (fences_of_repairs repairs.now) result }
+    ensures quiet { fences_of_repairs repairs.now ≡ 0 → (P.view pm.new) ≡ (P.view pm.old) }
+{
+    let geometry = &repairs.geometry;
+    clear_word(pm, geometry, Part::Number, repairs.left)?;
+    clear_word(pm, geometry, Part::Pointer, repairs.pointer)?;
+    clear_objects(pm, repairs)?;
+    free_objects(pm, repairs)
+}
