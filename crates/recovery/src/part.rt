@@ -2,7 +2,10 @@
 ghost use Rattle.std.specs.Prelude.{◌≡◌, ◌*◌, ◌<◌, ◌≤◌};
 ghost use Rattle.recovery.specs.Parts.{IsNumber, first_of, last_of};
 
-use layout::Geometry;
+use layout::{
+    DESCRIPTOR_KIND, DESCRIPTOR_OFFSET, DESCRIPTOR_OWNER, Geometry, INODE_KIND, INODE_LINKS,
+    INODE_OWN, SLOT_INODE, SLOT_POINTER, SLOT_WORDS,
+};
 
 /// Words of an object that are stored together.
 #[derive(Clone, Copy, Debug, PartialEq, Eq)]
@@ -30,13 +33,13 @@ impl Part {
         ensures value { result ≡ first_of geometry.now.pages self number }
     {
         match self {
-            Part::Number => geometry.slot_word(number, 0),
-            Part::Pointer => geometry.slot_word(number, 1),
-            Part::Owner => geometry.descriptor_word(number, 0),
-            Part::Name => geometry.slot_word(number, 1),
-            Part::Links => geometry.inode_word(number, 1),
-            Part::Descriptor => geometry.descriptor_word(number, 1),
-            Part::Inode => geometry.inode_word(number, 0),
+            Part::Number => geometry.slot_word(number, SLOT_INODE),
+            Part::Pointer => geometry.slot_word(number, SLOT_POINTER),
+            Part::Owner => geometry.descriptor_word(number, DESCRIPTOR_OWNER),
+            Part::Name => geometry.slot_word(number, SLOT_POINTER),
+            Part::Links => geometry.inode_word(number, INODE_LINKS),
+            Part::Descriptor => geometry.descriptor_word(number, DESCRIPTOR_KIND),
+            Part::Inode => geometry.inode_word(number, INODE_KIND),
         }
     }
 
@@ -47,13 +50,13 @@ impl Part {
         ensures in_device { result < 512 * geometry.now.pages }
     {
         match self {
-            Part::Number => geometry.slot_word(number, 0),
-            Part::Pointer => geometry.slot_word(number, 1),
-            Part::Owner => geometry.descriptor_word(number, 0),
-            Part::Name => geometry.slot_word(number, 15),
-            Part::Links => geometry.inode_word(number, 1),
-            Part::Descriptor => geometry.descriptor_word(number, 2),
-            Part::Inode => geometry.inode_word(number, 3),
+            Part::Number => geometry.slot_word(number, SLOT_INODE),
+            Part::Pointer => geometry.slot_word(number, SLOT_POINTER),
+            Part::Owner => geometry.descriptor_word(number, DESCRIPTOR_OWNER),
+            Part::Name => geometry.slot_word(number, SLOT_WORDS - 1),
+            Part::Links => geometry.inode_word(number, INODE_LINKS),
+            Part::Descriptor => geometry.descriptor_word(number, DESCRIPTOR_OFFSET),
+            Part::Inode => geometry.inode_word(number, INODE_OWN),
         }
     }
 }

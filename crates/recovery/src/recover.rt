@@ -15,23 +15,23 @@ use pm_trait::{Pm, PmFault};
 /// Makes of a sound image what recovery makes of it, in at most four steps.
 ///
 /// A crash at any moment leaves an image that means the same.
-pub fn repair<P: Pm>(pm: &mut P, repairs: &Repairs) -> Result<(), PmFault>
+pub fn repair<P: Pm>(pm: &mut P, repairs: Repairs) -> Result<(), PmFault>
     requires settled { IsSettledView (P.view pm.old) }
-    requires sound { Sound repairs.now.geometry.pages (P.view pm.old).words }
-    requires planned { IsPlanOf (P.view pm.old).words repairs.now }
-    requires room { events_of_repairs repairs.now ≤ (P.view pm.old).spare }
+    requires sound { Sound repairs.geometry.pages (P.view pm.old).words }
+    requires planned { IsPlanOf (P.view pm.old).words repairs }
+    requires room { events_of_repairs repairs ≤ (P.view pm.old).spare }
     requires countable { (P.view pm.old).fences < 2 ^ 63 }
 
     ensures any_moment { LeavesOnly (P.view pm.old).trail (P.view pm.new).trail
-        (λ acks image. (acks ≡ 0) × SameMeaning repairs.now.geometry.pages (P.view pm.old).words image) }
-    ensures mended { OnOk result (IsMended repairs.now.geometry.pages (P.view pm.old).words (P.view pm.new).words) }
-    ensures device { MakesIntervals (P.view pm.old) (P.view pm.new) (events_of_repairs repairs.now)
-        (fences_of_repairs repairs.now) result }
-    ensures quiet { fences_of_repairs repairs.now ≡ 0 → (P.view pm.new) ≡ (P.view pm.old) }
+        (λ acks image. (acks ≡ 0) × SameMeaning repairs.geometry.pages (P.view pm.old).words image) }
+    ensures mended { OnOk result (IsMended repairs.geometry.pages (P.view pm.old).words (P.view pm.new).words) }
+    ensures device { MakesIntervals (P.view pm.old) (P.view pm.new) (events_of_repairs repairs)
+        (fences_of_repairs repairs) result }
+    ensures quiet { fences_of_repairs repairs ≡ 0 → (P.view pm.new) ≡ (P.view pm.old) }
 {
     let geometry = &repairs.geometry;
     clear_word(pm, geometry, Part::Number, repairs.left)?;
     clear_word(pm, geometry, Part::Pointer, repairs.pointer)?;
-    clear_objects(pm, repairs)?;
-    free_objects(pm, repairs)
+    clear_objects(pm, &repairs)?;
+    free_objects(pm, &repairs)
 }

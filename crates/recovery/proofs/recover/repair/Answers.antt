@@ -1,9 +1,9 @@
-use Rattle.std.proofs.Common.{◌≡◌, arith, refl}
+use Rattle.std.proofs.Common.{◌≡◌, ◌∙◌, ℕ, zero, suc, arith, refl}
 use Rattle.std.specs.Prelude.{Result, Ok, Err, OnOk}
 use Rattle.pm_trait.proofs.DeviceLaws.{leaves_weaker, leaves_then, leaves_quiet}
 use Rattle.pm_trait.proofs.DeviceViewLaws.{intervals_then, intervals_failed}
 use Rattle.image_laws.specs.Frame.{SameMeaning}
-use Rattle.recovery.specs.Changes.{one_changes}
+use Rattle.recovery.specs.Changes.{one_changes, fences_for}
 use Rattle.recovery.specs.Repairs.{clear_changes, free_changes, events_of_repairs, fences_of_repairs}
 use Rattle.recovery.proofs.Objects.{left_there, pointer_there, has_objects}
 use Rattle.recovery.proofs.Planned.{first_planned, second_planned, third_planned, fourth_planned}
@@ -15,10 +15,14 @@ on_ok : {T E Q : Type 0} (result : Result T E) → Q → OnOk result Q
 on_ok (Ok done) holds = holds
 on_ok (Err fault) holds = tt
 
+no_changes : (changes : ℕ) → fences_for changes ≡ 0 → changes ≡ 0
+no_changes zero none = refl
+no_changes (suc changes) none = omega (arith, none)
+
 pub clear_word-requires-clause-slot : goal.clear_word-requires-clause-slot
 clear_word-requires-clause-slot g c =
-    let r = c.args.repairs.now in
-    let P = c.args.repairs.now.geometry.pages in
+    let r = c.args.repairs in
+    let P = c.args.repairs.geometry.pages in
     let W = (g.P.Pm.view c.args.pm.now).words in
     let sound = c.requires.sound in
     let plan = c.requires.planned in
@@ -26,8 +30,8 @@ clear_word-requires-clause-slot g c =
 
 pub clear_word-requires-clause-begins : goal.clear_word-requires-clause-begins
 clear_word-requires-clause-begins g c =
-    let r = c.args.repairs.now in
-    let P = c.args.repairs.now.geometry.pages in
+    let r = c.args.repairs in
+    let P = c.args.repairs.geometry.pages in
     let W = (g.P.Pm.view c.args.pm.now).words in
     let sound = c.requires.sound in
     let plan = c.requires.planned in
@@ -36,8 +40,8 @@ clear_word-requires-clause-begins g c =
 
 pub clear_word-requires-2-clause-slot : goal.clear_word-requires-2-clause-slot
 clear_word-requires-2-clause-slot g c =
-    let r = c.args.repairs.now in
-    let P = c.args.repairs.now.geometry.pages in
+    let r = c.args.repairs in
+    let P = c.args.repairs.geometry.pages in
     let W = (g.P.Pm.view c.args.pm.now).words in
     let sound = c.requires.sound in
     let plan = c.requires.planned in
@@ -45,8 +49,8 @@ clear_word-requires-2-clause-slot g c =
 
 pub clear_word-requires-2-clause-begins : goal.clear_word-requires-2-clause-begins
 clear_word-requires-2-clause-begins g c =
-    let r = c.args.repairs.now in
-    let P = c.args.repairs.now.geometry.pages in
+    let r = c.args.repairs in
+    let P = c.args.repairs.geometry.pages in
     let W = (g.P.Pm.view c.args.pm.now).words in
     let sound = c.requires.sound in
     let plan = c.requires.planned in
@@ -56,8 +60,8 @@ clear_word-requires-2-clause-begins g c =
 
 pub clear_objects-requires-clause-objects : goal.clear_objects-requires-clause-objects
 clear_objects-requires-clause-objects g c =
-    let r = c.args.repairs.now in
-    let P = c.args.repairs.now.geometry.pages in
+    let r = c.args.repairs in
+    let P = c.args.repairs.geometry.pages in
     let W = (g.P.Pm.view c.args.pm.now).words in
     let sound = c.requires.sound in
     let plan = c.requires.planned in
@@ -65,8 +69,8 @@ clear_objects-requires-clause-objects g c =
 
 pub clear_objects-requires-clause-begins : goal.clear_objects-requires-clause-begins
 clear_objects-requires-clause-begins g c =
-    let r = c.args.repairs.now in
-    let P = c.args.repairs.now.geometry.pages in
+    let r = c.args.repairs in
+    let P = c.args.repairs.geometry.pages in
     let W = (g.P.Pm.view c.args.pm.now).words in
     let sound = c.requires.sound in
     let plan = c.requires.planned in
@@ -77,8 +81,8 @@ clear_objects-requires-clause-begins g c =
 
 pub free_objects-requires-clause-objects : goal.free_objects-requires-clause-objects
 free_objects-requires-clause-objects g c =
-    let r = c.args.repairs.now in
-    let P = c.args.repairs.now.geometry.pages in
+    let r = c.args.repairs in
+    let P = c.args.repairs.geometry.pages in
     let W = (g.P.Pm.view c.args.pm.now).words in
     let sound = c.requires.sound in
     let plan = c.requires.planned in
@@ -86,8 +90,8 @@ free_objects-requires-clause-objects g c =
 
 pub free_objects-requires-clause-begins : goal.free_objects-requires-clause-begins
 free_objects-requires-clause-begins g c =
-    let r = c.args.repairs.now in
-    let P = c.args.repairs.now.geometry.pages in
+    let r = c.args.repairs in
+    let P = c.args.repairs.geometry.pages in
     let W = (g.P.Pm.view c.args.pm.now).words in
     let sound = c.requires.sound in
     let plan = c.requires.planned in
@@ -99,8 +103,8 @@ free_objects-requires-clause-begins g c =
 
 pub returns-in_err-clear_word-clause-device : goal.returns-in_err-clear_word-clause-device
 returns-in_err-clear_word-clause-device g c =
-    let r = c.args.repairs.now in
-    let P = c.args.repairs.now.geometry.pages in
+    let r = c.args.repairs in
+    let P = c.args.repairs.geometry.pages in
     let W = (g.P.Pm.view c.args.pm.now).words in
     let sound = c.requires.sound in
     let plan = c.requires.planned in
@@ -109,8 +113,8 @@ returns-in_err-clear_word-clause-device g c =
 
 pub returns-in_err-clear_word-clause-any_moment : goal.returns-in_err-clear_word-clause-any_moment
 returns-in_err-clear_word-clause-any_moment g c =
-    let r = c.args.repairs.now in
-    let P = c.args.repairs.now.geometry.pages in
+    let r = c.args.repairs in
+    let P = c.args.repairs.geometry.pages in
     let W = (g.P.Pm.view c.args.pm.now).words in
     let sound = c.requires.sound in
     let plan = c.requires.planned in
@@ -121,8 +125,8 @@ returns-in_err-clear_word-clause-any_moment g c =
 
 pub returns-in_err-clear_word-2-clause-device : goal.returns-in_err-clear_word-2-clause-device
 returns-in_err-clear_word-2-clause-device g c =
-    let r = c.args.repairs.now in
-    let P = c.args.repairs.now.geometry.pages in
+    let r = c.args.repairs in
+    let P = c.args.repairs.geometry.pages in
     let W = (g.P.Pm.view c.args.pm.now).words in
     let sound = c.requires.sound in
     let plan = c.requires.planned in
@@ -131,8 +135,8 @@ returns-in_err-clear_word-2-clause-device g c =
 
 pub returns-in_err-clear_word-2-clause-any_moment : goal.returns-in_err-clear_word-2-clause-any_moment
 returns-in_err-clear_word-2-clause-any_moment g c =
-    let r = c.args.repairs.now in
-    let P = c.args.repairs.now.geometry.pages in
+    let r = c.args.repairs in
+    let P = c.args.repairs.geometry.pages in
     let W = (g.P.Pm.view c.args.pm.now).words in
     let sound = c.requires.sound in
     let plan = c.requires.planned in
@@ -146,8 +150,8 @@ returns-in_err-clear_word-2-clause-any_moment g c =
 
 pub returns-in_err-clear_objects-clause-device : goal.returns-in_err-clear_objects-clause-device
 returns-in_err-clear_objects-clause-device g c =
-    let r = c.args.repairs.now in
-    let P = c.args.repairs.now.geometry.pages in
+    let r = c.args.repairs in
+    let P = c.args.repairs.geometry.pages in
     let W = (g.P.Pm.view c.args.pm.now).words in
     let sound = c.requires.sound in
     let plan = c.requires.planned in
@@ -156,8 +160,8 @@ returns-in_err-clear_objects-clause-device g c =
 
 pub returns-in_err-clear_objects-clause-any_moment : goal.returns-in_err-clear_objects-clause-any_moment
 returns-in_err-clear_objects-clause-any_moment g c =
-    let r = c.args.repairs.now in
-    let P = c.args.repairs.now.geometry.pages in
+    let r = c.args.repairs in
+    let P = c.args.repairs.geometry.pages in
     let W = (g.P.Pm.view c.args.pm.now).words in
     let sound = c.requires.sound in
     let plan = c.requires.planned in
@@ -174,8 +178,8 @@ returns-in_err-clear_objects-clause-any_moment g c =
 
 pub returns-clause-device : goal.returns-clause-device
 returns-clause-device g c =
-    let r = c.args.repairs.now in
-    let P = c.args.repairs.now.geometry.pages in
+    let r = c.args.repairs in
+    let P = c.args.repairs.geometry.pages in
     let W = (g.P.Pm.view c.args.pm.now).words in
     let sound = c.requires.sound in
     let plan = c.requires.planned in
@@ -183,8 +187,8 @@ returns-clause-device g c =
 
 pub returns-clause-any_moment : goal.returns-clause-any_moment
 returns-clause-any_moment g c =
-    let r = c.args.repairs.now in
-    let P = c.args.repairs.now.geometry.pages in
+    let r = c.args.repairs in
+    let P = c.args.repairs.geometry.pages in
     let W = (g.P.Pm.view c.args.pm.now).words in
     let sound = c.requires.sound in
     let plan = c.requires.planned in
@@ -204,8 +208,8 @@ returns-clause-any_moment g c =
 
 pub returns-clause-mended : goal.returns-clause-mended
 returns-clause-mended g c =
-    let r = c.args.repairs.now in
-    let P = c.args.repairs.now.geometry.pages in
+    let r = c.args.repairs in
+    let P = c.args.repairs.geometry.pages in
     let W = (g.P.Pm.view c.args.pm.now).words in
     let sound = c.requires.sound in
     let plan = c.requires.planned in
@@ -214,3 +218,12 @@ returns-clause-mended g c =
     let third = third_planned r W sound plan first second c.clear_objects.ensures.words in
     let fourth = fourth_planned r W sound plan first second third c.free_objects.ensures.words in
     on_ok c.free_objects.result (all_mended P W sound first second third fourth)
+
+pub returns-clause-quiet : goal.returns-clause-quiet
+returns-clause-quiet g c none =
+    let r = c.args.repairs in
+    let first : one_changes r.left ≡ 0 = no_changes (one_changes r.left) (omega (arith, none)) in
+    let second : one_changes r.pointer ≡ 0 = no_changes (one_changes r.pointer) (omega (arith, none)) in
+    let third : clear_changes r ≡ 0 = no_changes (clear_changes r) (omega (arith, none)) in
+    let fourth : free_changes r ≡ 0 = no_changes (free_changes r) (omega (arith, none)) in
+    c.free_objects.ensures.quiet fourth ∙ (c.clear_objects.ensures.quiet third ∙ (c.clear_word-2.ensures.quiet second ∙ c.clear_word.ensures.quiet first))
