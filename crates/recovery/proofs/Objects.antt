@@ -24,9 +24,9 @@ module _ (r : Repairs) (W : List ℕ) (sound : Sound r.geometry.pages W) (plan :
 
   pub has_objects : HasObjects r
   has_objects = record {
-    owners = record { rising = plan.owners.rising; each = λ k lt. (plan.owners.each k lt).unkept.in_range };
-    slots = record { rising = plan.slots.rising; each = λ k lt. (kept_held r.geometry.pages W sound (slice_index r.slots.items k) (plan.slots.each k lt).dead.page).in_range };
+    owners = record { rising = plan.owners.rising; each = λ k lt. (plan.owners.each k lt).page.in_range };
+    slots = record { rising = plan.slots.rising; each = λ k lt. (kept_held r.geometry.pages W sound (slice_index r.slots.items k) (plan.slots.each k lt).slot.page).in_range };
     links = record { rising = plan.links.rising; each = λ k lt. in_range r.geometry.pages W sound (slice_index r.links.items k) (plan.links.each k lt).reached };
-    descriptors = record { rising = plan.descriptors.rising; each = λ k lt. (plan.descriptors.each k lt).unkept.in_range };
+    descriptors = record { rising = plan.descriptors.rising; each = λ k lt. (plan.descriptors.each k lt).page.in_range };
     inodes = record { rising = plan.inodes.rising; each = λ k lt. ((plan.inodes.each k lt).least, (plan.inodes.each k lt).most) };
   }

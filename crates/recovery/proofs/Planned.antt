@@ -134,13 +134,13 @@ module _ (r : Repairs) (W : List ℕ) (sound : Sound r.geometry.pages W) (plan :
     third_to a v (inl (inl is)) =
         let has = plan.owners.each is.place is.before in
         let part = is.is in
-        subst (λ z. Clears P W a z) (sym part.is) (subst (λ z. Clears P W z 0) (sym (the_word part.low part.high)) (Clears.owner (slice_index r.owners.items is.place) has.unkept))
+        subst (λ z. Clears P W a z) (sym part.is) (subst (λ z. Clears P W z 0) (sym (the_word part.low part.high)) (Clears.owner (slice_index r.owners.items is.place) has.page))
     third_to a v (inl (inr is)) =
         let has = plan.slots.each is.place is.before in
         let part = is.is in
         let s = slice_index r.slots.items is.place in
         let (f, low, small, at) = slot_field s a part.low part.high in
-        subst (λ z. Clears P W a z) (sym part.is) (subst (λ z. Clears P W z 0) (sym at) (Clears.slot s f has.dead low small))
+        subst (λ z. Clears P W a z) (sym part.is) (subst (λ z. Clears P W z 0) (sym at) (Clears.slot s f has.slot low small))
     third_to a v (inr is) =
         let has = plan.links.each is.place is.before in
         let part = is.is in
@@ -157,14 +157,14 @@ module _ (r : Repairs) (W : List ℕ) (sound : Sound r.geometry.pages W) (plan :
     third_from a v (Clears.owner j unkept) = elim (cases_eq (page_owner P W j) 0) [
       | inl zero ↦ inr (same_descriptor j 0 unkept.in_range (omega arith) ∙ zero)
       | inr some ↦
-          let (place, before, at) = plan.owners.all j (record { unkept = unkept; nonzero = some }) in
+          let (place, before, at) = plan.owners.all j (record { page = unkept; owned = some }) in
           inl (inl (inl (record { place = place; before = before; is = subst (λ z. IsInPart P Owner z 0 a 0) (sym at) (record { low = omega arith; high = omega arith; is = refl }) })))
     ]
     third_from a v (Clears.slot s f dead low small) = elim (cases_eq f 1) [
       | inl one ↦ inr (subst (λ z. word B (slot_word_of P s z) ≡ 0) (sym one) (second.new (slot_word_of P s 1) 0 (Unpoints.pointer s (kept_held P W sound s dead.page))))
       | inr more ↦ elim (cases_eq (word W (slot_word_of P s f)) 0) [
         | inl zero ↦ inr (same_name s f (omega (arith, low, more)) small ∙ zero)
-        | inr some ↦ inl (inl (inr (pick_slot s f low small (plan.slots.all s (record { dead = dead; nonzero = (f, omega (arith, low, more), small, some) })))))
+        | inr some ↦ inl (inl (inr (pick_slot s f low small (plan.slots.all s (record { slot = dead; nonzero = (f, omega (arith, low, more), small, some) })))))
       ]
     ]
     third_from a v (Clears.links i n reached count) = elim (cases_eq (inode_links W i) n) [
@@ -212,7 +212,7 @@ module _ (r : Repairs) (W : List ℕ) (sound : Sound r.geometry.pages W) (plan :
           let part = is.is in
           let j = slice_index r.descriptors.items is.place in
           let (f, low, small, at) = descriptor_field j a part.low part.high in
-          subst (λ z. Frees P W a z) (sym part.is) (subst (λ z. Frees P W z 0) (sym at) (Frees.descriptor j f has.unkept low small))
+          subst (λ z. Frees P W a z) (sym part.is) (subst (λ z. Frees P W z 0) (sym at) (Frees.descriptor j f has.page low small))
       fourth_to a v (inr is) =
           let has = plan.inodes.each is.place is.before in
           let part = is.is in
@@ -231,7 +231,7 @@ module _ (r : Repairs) (W : List ℕ) (sound : Sound r.geometry.pages W) (plan :
       fourth_from : (a v : ℕ) → Frees P W a v → IsFreedBy r a v ⊎ (word C a ≡ v)
       fourth_from a v (Frees.descriptor j f unkept low small) = elim (cases_eq (word W (descriptor_word_of P j f)) 0) [
         | inl zero ↦ inr (last_descriptor j f unkept.in_range low (omega (arith, small)) ∙ zero)
-        | inr some ↦ inl (inl (pick_descriptor j f low small (plan.descriptors.all j (record { unkept = unkept; nonzero = (f, low, small, some) }))))
+        | inr some ↦ inl (inl (pick_descriptor j f low small (plan.descriptors.all j (record { page = unkept; nonzero = (f, low, small, some) }))))
       ]
       fourth_from a v (Frees.inode i f unreached small) = elim (cases_eq (word W (inode_word_of i f)) 0) [
         | inl zero ↦ inr (last_inode i f unreached (omega (arith, small)) ∙ zero)
