@@ -6,3 +6,5 @@ pub mod Meaning
 pub mod Starting
 pub mod Objects
 pub mod Rows
+pub mod Listing
+pub mod Needing

@@ -2,3 +2,4 @@ pub mod Parts
 pub mod Changes
 pub mod Repairs
 pub mod Plans
+pub mod Listing

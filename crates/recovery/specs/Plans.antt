@@ -1,7 +1,7 @@
 -- The repairs that an image needs: in each step the objects whose words aren't yet what recovery makes of them.
-use Rattle.std.specs.Prelude.{◌≡◌, ◌↔◌, ℕ, ◌<◌, ◌≤◌, List, length, slice_index, Some}
+use Rattle.std.specs.Prelude.{◌≡◌, ◌↔◌, ℕ, ◌<◌, List, length, slice_index, Some}
 use Rattle.image_reading.specs.Reading.{IsLinkCount}
-use Rattle.image_reading.specs.Repairs.{IsPointer, IsLitterCount, IsLitterInode, WasLeft}
+use Rattle.image_reading.specs.Repairs.{IsPointer, IsLitterCount, IsLitterInode, IsLeft}
 use Rattle.repair_laws.specs.Stored.{HasNeedlessOwner, HasDeadName, HasNeedlessKind}
 use Rattle.recovery.specs.declared.repairs.Repairs.{Repairs}
 use Rattle.recovery.specs.Parts.{IsRising}
@@ -14,7 +14,7 @@ pub record IsListOf (Q : ℕ → Type 0) (numbers : List ℕ) : Type 0 where
 
 -- These are the repairs of the image W.
 pub record IsPlanOf (W : List ℕ) (r : Repairs) : Type 0 where
-  pub left : (s : ℕ) → (r.left ≡ Some s) ↔ ((d : ℕ) × WasLeft r.geometry.pages W s d)
+  pub left : (s : ℕ) → (r.left ≡ Some s) ↔ IsLeft r.geometry.pages W s
   pub pointer : (d : ℕ) → (r.pointer ≡ Some d) ↔ IsPointer r.geometry.pages W d
   pub owners : IsListOf (HasNeedlessOwner r.geometry.pages W) r.owners.items
   pub slots : IsListOf (HasDeadName r.geometry.pages W) r.slots.items

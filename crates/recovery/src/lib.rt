@@ -3,12 +3,15 @@
 #![tactic(auto)]
 
 mod costs;
+mod needs;
 mod part;
+mod plan;
 mod recover;
 mod repairs;
 mod span;
 mod steps;
 
 pub use part::Part;
+pub use plan::plan_repairs;
 pub use recover::repair;
 pub use repairs::Repairs;

@@ -14,7 +14,7 @@ use pm_trait::{Pm, PmFault};
 
 /// Makes of a sound image what recovery makes of it, in at most four steps.
 ///
-/// A crash at any moment leaves an image that means the same.
+/// A crash at any moment leaves an image that means the same. Where a fence fails nothing is done after it.
 pub fn repair<P: Pm>(pm: &mut P, repairs: Repairs) -> Result<(), PmFault>
     requires settled { IsSettledView (P.view pm.old) }
     requires sound { Sound repairs.geometry.pages (P.view pm.old).words }

@@ -29,14 +29,14 @@ UseLaw = (P : ℕ) (W A B C K : List ℕ) → Sound P W → IsRepair P W A B C K
 
 -- Whatever mix of old and new words a crash leaves in a step means what W means: it is sound, with the same paths,
 -- nodes, tree and room.
-pub record KeepsMeaning (P : ℕ) (W A B C K : List ℕ) : Type 0 where
+pub record StepsKeepMeaning (P : ℕ) (W A B C K : List ℕ) : Type 0 where
   pub first : (M : List ℕ) → IsMix W A M → SameMeaning P W M
   pub second : (M : List ℕ) → IsMix A B M → SameMeaning P W M
   pub third : (M : List ℕ) → IsMix B C M → SameMeaning P W M
   pub fourth : (M : List ℕ) → IsMix C K M → SameMeaning P W M
 
 abbrev pub RepairLaw : Type 0
-RepairLaw = (P : ℕ) (W A B C K : List ℕ) → Sound P W → IsRepair P W A B C K → KeepsMeaning P W A B C K
+RepairLaw = (P : ℕ) (W A B C K : List ℕ) → Sound P W → IsRepair P W A B C K → StepsKeepMeaning P W A B C K
 
 -- The stores of each step make the words what the step makes them,
 abbrev pub StoredLaw : Type 0

@@ -1,4 +1,4 @@
-use Rattle.std.proofs.Common.{◌≡◌, ℕ, ◌*◌, length, arith, rules, ◌∙◌}
+use Rattle.std.proofs.Common.{◌≡◌, ◌*◌, length, arith, rules, ◌∙◌}
 use Rattle.recovery.proofs.Rows.{slots_of_sixteen}
 use Rattle.recovery.proofs.steps.tests.a_committed_rename.Goals as goal
 

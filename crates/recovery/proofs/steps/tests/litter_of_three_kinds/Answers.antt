@@ -1,4 +1,4 @@
-use Rattle.std.proofs.Common.{◌≡◌, ℕ, ◌+◌, ◌*◌, ◌<◌, ◌≤◌, List, length, slice_index, arith, rules, ap, ◌∙◌, refl}
+use Rattle.std.proofs.Common.{◌≡◌, ◌+◌, ◌*◌, length, arith, rules, ap}
 use Rattle.recovery.specs.declared.part.Part.TheVariants.{Owner, Name, Links, Descriptor, Inode}
 use Rattle.recovery.proofs.Rows.{pages_of_sixteen, slots_of_sixteen, inodes_of_sixteen, one_object_of, no_object_of}
 use Rattle.recovery.proofs.Starting.{one_fence}

@@ -1,0 +1,116 @@
+-- What tells that an object of a sound image needs a repair.
+use Rattle.std.proofs.Common.{◌≡◌, ◌≢◌, ◌⊎◌, inl, inr, ℕ, zero, suc, ◌+◌, ◌*◌, ◌<◌, ◌≤◌, List, length, slice_index, ap, subst, ◌∙◌, sym, arith}
+use Rattle.layout.proofs.GeometryLaws.{data_pages_below, inodes_below, slots_in_pages}
+use Rattle.layout.specs.Geometry.{IsVolumeSize, data_pages_of, page_of_slot, inode_word_of, descriptor_word_of}
+use Rattle.layout.specs.Fields.{word, inode_kind, inode_links, inode_size, inode_own, page_kind, page_offset}
+use Rattle.image_reading.specs.Reading.{Reached, IsLinkCount}
+use Rattle.image_reading.specs.Repairs.{IsKept, IsKeptDirectoryPage, IsLitterCount, IsLitterInode}
+use Rattle.image_reading.specs.Soundness.{Rule, Sound}
+use Rattle.image_counts.proofs.Paths.{in_range}
+use Rattle.repair_laws.proofs.Kept.{kept_held}
+use Rattle.repair_laws.proofs.Telling.{one_count}
+use Rattle.repair_laws.specs.Mended.{IsUnkept}
+use Rattle.repair_laws.specs.Stored.{HasNeedlessOwner, HasNeedlessKind, HasDeadName}
+use Rattle.recovery.specs.Parts.{IsInode}
+use Rattle.recovery.specs.Plans.{IsListOf}
+
+module _ (P : ℕ) (W : List ℕ) where
+  -- ---- a page's kind and offset
+
+  module _ (j : ℕ) where
+    pub needs_kind : IsUnkept P W j → (page_kind P W j ≢ 0) ⊎ (page_offset P W j ≢ 0) → HasNeedlessKind P W j
+    unfolding page_kind page_offset
+    needs_kind page (inl kind) = record { page = page; nonzero = (1, omega arith, omega arith, kind) }
+    needs_kind page (inr offset) = record { page = page; nonzero = (2, omega arith, omega arith, offset) }
+
+    kind_or_offset : (f : ℕ) → 1 ≤ f → f < 3 → word W (descriptor_word_of P j f) ≢ 0 → (page_kind P W j ≢ 0) ⊎ (page_offset P W j ≢ 0)
+    unfolding page_kind page_offset
+    kind_or_offset zero low high other = absurd (omega arith)
+    kind_or_offset (suc zero) low high other = inl other
+    kind_or_offset (suc (suc zero)) low high other = inr other
+    kind_or_offset (suc (suc (suc f))) low high other = absurd (omega arith)
+
+    pub has_kind : HasNeedlessKind P W j → (page_kind P W j ≢ 0) ⊎ (page_offset P W j ≢ 0)
+    has_kind needs = let (f, low, high, other) = needs.nonzero in kind_or_offset f low high other
+
+  -- ---- a directory's page has kind 2, and no other kept one has
+
+  module _ (j : ℕ) where
+    pub room_kind : IsKeptDirectoryPage P W j → page_kind P W j ≡ 2
+    room_kind room = let (s, at, owner, live) = room.slot in sym (ap (page_kind P W) at) ∙ live.held.kind
+
+    pub room_of_kind : Sound P W → IsKept P W j → page_kind P W j ≡ 2 → IsKeptDirectoryPage P W j
+    room_of_kind sound kept slots = elim kept [
+      | inl page ↦ absurd (let bytes = (sound Rule.page_kinds j).file page.in_range page.owner page.file in omega (arith, bytes, slots))
+      | inr room ↦ room
+    ]
+
+  -- ---- a reached inode's links
+
+  module _ (i n m : ℕ) (sound : Sound P W) (reached : Reached P W i) (count : IsLinkCount P W i n) where
+    pub other_count : m ≢ n → IsLinkCount P W i m → ⊥
+    other_count other linked = other (one_count P W sound i n m reached count linked)
+
+    pub same_count : (IsLinkCount P W i m → ⊥) → m ≢ n
+    same_count other same = other (subst (IsLinkCount P W i) (sym same) count)
+
+  -- ---- an inode's words
+
+  module _ (i : ℕ) where
+    word_of : (inode_kind W i ≢ 0) ⊎ ((inode_links W i ≢ 0) ⊎ ((inode_size W i ≢ 0) ⊎ (inode_own W i ≢ 0))) → (f : ℕ) × (f < 4) × (word W (inode_word_of i f) ≢ 0)
+    unfolding inode_kind inode_links inode_size inode_own
+    word_of (inl kind) = (0, omega arith, kind)
+    word_of (inr (inl links)) = (1, omega arith, links)
+    word_of (inr (inr (inl size))) = (2, omega arith, size)
+    word_of (inr (inr (inr own))) = (3, omega arith, own)
+
+    pub litter_of : IsInode P i → ¬ Reached P W i → (inode_kind W i ≢ 0) ⊎ ((inode_links W i ≢ 0) ⊎ ((inode_size W i ≢ 0) ⊎ (inode_own W i ≢ 0))) → IsLitterInode P W i
+    litter_of inode unreached some = record { least = inode.0; most = inode.1; unreached = unreached; nonzero = word_of some }
+
+    own_left : (f : ℕ) → f < 4 → word W (inode_word_of i f) ≢ 0 → inode_kind W i ≡ 0 → inode_links W i ≡ 0 → inode_size W i ≡ 0 → inode_own W i ≢ 0
+    unfolding inode_kind inode_links inode_size inode_own
+    own_left zero lt other kind links size = absurd (other kind)
+    own_left (suc zero) lt other kind links size = absurd (other links)
+    own_left (suc (suc zero)) lt other kind links size = absurd (other size)
+    own_left (suc (suc (suc zero))) lt other kind links size = other
+    own_left (suc (suc (suc (suc f)))) lt other kind links size = absurd (omega arith)
+
+    pub litter_own : IsLitterInode P W i → inode_kind W i ≡ 0 → inode_links W i ≡ 0 → inode_size W i ≡ 0 → inode_own W i ≢ 0
+    litter_own litter = let (f, lt, other) = litter.nonzero in own_left f lt other
+
+  -- ---- where there are such objects
+
+  module _ (size : IsVolumeSize P) where
+    pub owner_below : (j : ℕ) → HasNeedlessOwner P W j → j < P
+    owner_below j needless = let few = data_pages_below P size in let within = needless.page.in_range in omega (arith, few, within)
+
+    pub kind_below : (j : ℕ) → HasNeedlessKind P W j → j < P
+    kind_below j needless = let few = data_pages_below P size in let within = needless.page.in_range in omega (arith, few, within)
+
+    pub litter_below : (i : ℕ) → IsLitterInode P W i → i < P
+    litter_below i litter = let few = inodes_below P size in let most = litter.most in omega (arith, few, most)
+
+  module _ (sound : Sound P W) where
+    pub linked_inode : (i : ℕ) → IsLitterCount P W i → IsInode P i
+    linked_inode i litter = in_range P W sound i litter.reached
+
+    pub links_below : IsVolumeSize P → (i : ℕ) → IsLitterCount P W i → i < P
+    links_below size i litter = let few = inodes_below P size in let most = (linked_inode i litter).1 in omega (arith, few, most)
+
+    pub dead_within : (s : ℕ) → HasDeadName P W s → s < 32 * data_pages_of P
+    dead_within s dead = let within = (kept_held P W sound s dead.slot.page).in_range in let slots = slots_in_pages P in omega (arith, within, slots)
+
+    pub dead_below : IsVolumeSize P → (s : ℕ) → HasDeadName P W s → s < 32 * P
+    dead_below size s dead = let few = data_pages_below P size in let within = dead_within s dead in omega (arith, few, within)
+
+  -- ---- a page that isn't a directory's kept one has no dead slot
+
+  pub none_of_page : (j : ℕ) → ¬ IsKeptDirectoryPage P W j → (s : ℕ) → 32 * j ≤ s → s < 32 * (j + 1) → ¬ HasDeadName P W s
+  unfolding page_of_slot
+  none_of_page j other s low high dead =
+      let at : page_of_slot s ≡ j = omega (arith, low, high) in
+      other (subst (IsKeptDirectoryPage P W) at dead.slot.page)
+
+-- the inodes of the list are reached
+pub all_reached : (P : ℕ) (W links slice : List ℕ) → slice ≡ links → IsListOf (IsLitterCount P W) links → (place : ℕ) → place < length slice → Reached P W (slice_index slice place)
+all_reached P W links slice same list = subst (λ (l : List ℕ). (place : ℕ) → place < length l → Reached P W (slice_index l place)) (sym same) (λ place within. (list.each place within).reached)
