@@ -5,6 +5,8 @@ use Rattle.std.proofs.lemmas.Bool.{cases_eq}
 use Rattle.pm_trait.specs.declared.event.Event.TheVariants.{Store}
 use Rattle.pm_trait.specs.Trail.{Trail}
 use Rattle.pm_trait.specs.Device.{IsInterval, with_event}
+use Rattle.pm_trait.specs.DeviceView.{DeviceView, Performs}
+use Rattle.pm_trait.proofs.DeviceViewLaws.{store_stores}
 use Rattle.pm_trait.proofs.DeviceLaws.{interval_empty, interval_weaker, interval_keeps, interval_length, then_store}
 use Rattle.layout.specs.declared.fields.SlotFields.{SlotFields}
 use Rattle.layout.specs.declared.fields.InodeFields.{InodeFields}
@@ -12,10 +14,14 @@ use Rattle.layout.specs.Geometry.{first_data_word_of, inode_word_of, slot_word_o
 use Rattle.layout.specs.Fields.{word, words_from, inode_kind, slot_inode, slot_pointer, slot_words}
 use Rattle.layout.proofs.FieldLaws.{same_words_from}
 use Rattle.fence_token.specs.Objects.{Stands, StandsClean}
-use Rattle.inode_state.specs.States.{IsInit}
-use Rattle.inode_state.specs.Inode.{IsInodeWord, fields_at}
+use Rattle.fence_token.specs.Stored.{StoresExactly}
+use Rattle.fence_token.proofs.StoredLaws.{exactly_store, exactly_then, exactly_as}
+use Rattle.fence_token.proofs.ObjectLaws.{stands_clean_stays}
+use Rattle.inode_state.specs.States.{IsInit, IsLive}
+use Rattle.inode_state.specs.Inode.{InodeView, IsInodeWord, InodeIsClean, fields_at}
+use Rattle.inode_state.proofs.InodeLaws.{inode_is_local}
 use Rattle.dentry_state.specs.States.{committed_fields}
-use Rattle.dentry_state.specs.Dentry.{IsSlotWord, IsNameWord, slot_fields_at}
+use Rattle.dentry_state.specs.Dentry.{DentryView, IsSlotWord, IsNameWord, IsRestWord, DentryStands, slot_fields_at, stores_from}
 use Rattle.dentry_state.proofs.DentryLaws.{same_fields, next_fields}
 
 -- a word of a slot is one of the slot of the same place
@@ -111,20 +117,51 @@ pub all_stored : {a b : List ℕ} {ta tb : Option Trail} (p s count : ℕ) → c
 all_stored p s count whole run =
     interval_weaker (λ word is. let high = is.so_far in record { field = is.field; is_name = is.is_name; is_field = omega (arith, high, whole); at = is.at }) run
 
--- the other words stay
+-- neither the number nor the pointer is a word of the name
+no_name_word : (p s f : ℕ) → f < 2 → ¬ IsNameWord p s (slot_word_of p s f)
+no_name_word p s f low is =
+    let at_least = is.is_name in
+    differs p s f is.field (slot_word_of p s f) is.at (λ same. omega (arith, same, low, at_least)) refl
+
+-- so they stay
 pub name_stored : {a b : List ℕ} {ta tb : Option Trail} (p s : ℕ) (old new : SlotFields) → IsInterval (IsNameWord p s) a ta b tb → slot_words p b s ≡ new.name → old.inode ≡ new.inode → old.pointer ≡ new.pointer
     → Stands (IsSlotWord p s) (λ words. slot_fields_at p words s ≡ old) a → Stands (IsSlotWord p s) (λ words. slot_fields_at p words s ≡ new) b
 unfolding slot_inode slot_pointer word
-name_stored {a} {b} p s old new run name inode pointer stands =
-    let outside : (f : ℕ) → f < 2 → ¬ IsNameWord p s (slot_word_of p s f) = λ f low is. let at_least = is.is_name in
-    differs p s f is.field (slot_word_of p s f) is.at (λ same. omega (arith, same, low, at_least)) refl in
+name_stored {a} {b} p s old new run name inode pointer stands = record {
+  inside = λ w is. let before = stands.inside w is in omega (arith, before, interval_length run);
+  reads = same_fields (slot_fields_at p b s) new
+      (interval_keeps (slot_word_of p s 0) run (no_name_word p s 0 (omega arith)) ∙ ap (λ (f : SlotFields). f.inode) stands.reads ∙ inode)
+      (interval_keeps (slot_word_of p s 1) run (no_name_word p s 1 (omega arith)) ∙ ap (λ (f : SlotFields). f.pointer) stands.reads ∙ pointer)
+      name;
+}
+
+-- ---- the pointer stored, and then the name
+
+pub rest_stored : {a b c : List ℕ} {tb tc : Option Trail} (p s : ℕ) (old new : SlotFields) (w : ℕ) → w ≡ slot_word_of p s 1 → b ≡ slice_set a w new.pointer → IsInterval (IsNameWord p s) b tb c tc → slot_words p c s ≡ new.name → old.inode ≡ new.inode
+    → Stands (IsSlotWord p s) (λ words. slot_fields_at p words s ≡ old) a → Stands (IsSlotWord p s) (λ words. slot_fields_at p words s ≡ new) c
+unfolding slot_inode slot_pointer word
+rest_stored {a} {b} {c} p s old new w at is run name inode stands =
+    let long : length b ≡ length a = ap length is ∙ length-set a w new.pointer in
+    let inside = word_inside p s 1 w a at (omega arith) stands.inside in
     record {
-      inside = λ w is. let before = stands.inside w is in omega (arith, before, interval_length run);
-      reads = same_fields (slot_fields_at p b s) new
-          (interval_keeps (slot_word_of p s 0) run (outside 0 (omega arith)) ∙ ap (λ (f : SlotFields). f.inode) stands.reads ∙ inode)
-          (interval_keeps (slot_word_of p s 1) run (outside 1 (omega arith)) ∙ ap (λ (f : SlotFields). f.pointer) stands.reads ∙ pointer)
+      inside = λ x own. let before = stands.inside x own in omega (arith, before, long, interval_length run);
+      reads = same_fields (slot_fields_at p c s) new
+          (interval_keeps (slot_word_of p s 0) run (no_name_word p s 0 (omega arith)) ∙ kept a b w new.pointer (slot_word_of p s 0) is (differs p s 0 1 w at (λ none. omega (arith, none))) ∙ ap (λ (f : SlotFields). f.inode) stands.reads ∙ inode)
+          (interval_keeps (slot_word_of p s 1) run (no_name_word p s 1 (omega arith)) ∙ put a b w new.pointer (slot_word_of p s 1) is at inside)
           name;
     }
+
+-- both are stores of the fifteen words behind the number
+pub rest_performed : {a b c : DeviceView} {w value count : ℕ} (p s more : ℕ) (values : List ℕ) → w ≡ slot_word_of p s 1 → Performs a b (Store w value ∷ []) → StoresExactly (IsNameWord p s) b c (stores_from (slot_word_of p s 2) values) count → 1 + count ≤ more
+    → StoresExactly (IsRestWord p s) a c (stores_from (slot_word_of p s 1) (value ∷ values)) more
+rest_performed {value = value} p s more values at stored named few =
+    exactly_as (stores_from (slot_word_of p s 1) (value ∷ values)) more
+    (λ word either. elim either [
+      | inl is ↦ record { field = 1; is_rest = omega arith; is_field = omega arith; at = is ∙ at }
+      | inr is ↦ let at_least = is.is_name in record { field = is.field; is_rest = omega (arith, at_least); is_field = is.is_field; at = is.at }
+    ])
+    (ap (λ (x : ℕ). Store x value ∷ stores_from (slot_word_of p s 2) values) at ∙ ap (λ (x : ℕ). Store (slot_word_of p s 1) value ∷ stores_from x values) (sym (next_fields p s 1 1)))
+    few (exactly_then (exactly_store stored) named (λ word is own. no_name_word p s 1 (omega arith) (subst (λ (x : ℕ). IsNameWord p s x) (is ∙ at) own)))
 
 -- ---- the number stored alone
 
@@ -154,12 +191,23 @@ first_of_both p s n word is at =
     let own = is.at in
     omega (arith, few, own, at)
 
-new_kind : (n : ℕ) (fields : InodeFields) → IsInit n fields → fields.kind ≢ 0
+-- the kind that a new inode has, and one that is a file or a directory
+pub new_kind : (n : ℕ) (fields : InodeFields) → IsInit n fields → fields.kind ≢ 0
 new_kind n fields (inl file) none = let kind = ap (λ (f : InodeFields). f.kind) file in omega (arith, kind, none)
 new_kind n fields (inr directory) none = let kind = ap (λ (f : InodeFields). f.kind) directory in omega (arith, kind, none)
 
--- so no word of a new inode is the first of a slot that names none: its kind is not 0
-pub new_inode_apart : (p s n word : ℕ) (now : List ℕ) (fields : InodeFields) → IsInit n fields → fields_at now n ≡ fields → slot_inode p now s ≡ 0 → IsInodeWord n word → word ≢ slot_word_of p s 0
+pub live_kind : (n : ℕ) (fields : InodeFields) → IsLive n fields → fields.kind ≢ 0
+live_kind n fields live none = elim live.0 [ inl file ↦ omega (arith, file, none) | inr directory ↦ omega (arith, directory, none) ]
+
+-- so none of its words is the first of a slot that names none: its kind is not 0
+inode_apart : (p s n w : ℕ) (now : List ℕ) (fields : InodeFields) → fields.kind ≢ 0 → fields_at now n ≡ fields → slot_inode p now s ≡ 0 → IsInodeWord n w → w ≢ slot_word_of p s 0
 unfolding inode_kind slot_inode word
-new_inode_apart p s n w now fields new reads none is at =
-    new_kind n fields new (sym (ap (λ (f : InodeFields). f.kind) reads) ∙ ap (λ (a : ℕ). slice_index now a) (first_of_both p s n w is at) ∙ none)
+inode_apart p s n w now fields some reads none is at =
+    some (sym (ap (λ (f : InodeFields). f.kind) reads) ∙ ap (λ (a : ℕ). slice_index now a) (first_of_both p s n w is at) ∙ none)
+
+-- and it stays clean while the slot's number is stored
+pub stays_clean : {old new : DeviceView} {number : ℕ} (dentry : DentryView) (inode : InodeView) → inode.fields.kind ≢ 0 → dentry.fields.inode ≡ 0 → DentryStands dentry old.words
+    → Performs old new (Store (slot_word_of dentry.pages dentry.slot 0) number ∷ []) → InodeIsClean inode old → InodeIsClean inode new
+stays_clean {old} dentry inode some none stands stored clean =
+    stands_clean_stays (inode_is_local inode) (store_stores stored).stores
+    (λ word own is. inode_apart dentry.pages dentry.slot inode.number word old.words inode.fields some clean.stands.reads (ap (λ (f : SlotFields). f.inode) stands.reads ∙ none) own is) clean

@@ -7,7 +7,7 @@ mod states;
 
 pub use dentry::{DentryH, Touched};
 pub use laws::dentry_law;
-pub use states::{DentryState, Free, Live, Named};
+pub use states::{Cleared, DentryState, Free, Live, Named};
 
 #[cfg(test)]
 mod tests;

@@ -20,6 +20,10 @@ pub struct Named;
 #[derive(Drop)]
 pub struct Live;
 
+/// Its number was taken from it: it names no inode, and has still its name.
+#[derive(Drop)]
+pub struct Cleared;
+
 impl DentryState for Free {
     ghost Reads = { IsFree };
 }
@@ -30,4 +34,8 @@ impl DentryState for Named {
 
 impl DentryState for Live {
     ghost Reads = { IsLive };
+}
+
+impl DentryState for Cleared {
+    ghost Reads = { IsNamed };
 }

@@ -1,4 +1,5 @@
-// A new file and its name, written together and settled by one fence, then committed, on a volume of 16 pages.
+// On a volume of 16 pages: a new file and its name, written together and settled by one fence, then committed; and a name that is
+// committed by a link, cleared and freed.
 use crate::{DentryH, Free};
 use fence_token::{Clean, fence};
 use inode_state::InodeH;
@@ -47,5 +48,47 @@ fn a_file_with_a_name(rt: HostRuntime) -> Result<(), Fail> {
     }
     assert_eq!(rt; pm.fences(), 2);
     assert_eq!(rt; pm.events(), 25);
+    Ok(())
+}
+
+#[test]
+fn a_name_added_and_taken(rt: HostRuntime) -> Result<(), Fail> {
+    let alloc = rt.alloc();
+    let old = vec![in alloc; 0; 8_192]?;
+    let mut pm = RamPm::new(alloc, old.as_slice())?;
+    pm.reserve(49)?;
+    let geometry = Geometry::of(16).ok_or("no volume")?;
+    let slots = geometry.slots();
+    assert_eq!(rt; geometry.pages, 16);
+    assert_eq!(rt; geometry.inodes, 4);
+    assert_eq!(rt; slots, 416);
+    let name = Name::new(b"a").ok().ok_or("no name")?;
+    let inode: InodeH<Clean, inode_state::Free> = InodeH::at(&pm, &geometry, 2);
+    let slot: DentryH<Clean, Free> = DentryH::at(&pm, &geometry, 1);
+    let inode = inode.init_file(&mut pm);
+    let named = slot.set_name(&mut pm, &name);
+    let inode = inode.flush(&mut pm);
+    let named = named.flush(&mut pm);
+    let token = fence(&mut pm)?;
+    let file = inode.settle(&pm, &token).live();
+    let named = named.settle(&pm, &token);
+    let linked = file.inc_links(&mut pm).flush(&mut pm);
+    let token = fence(&mut pm)?;
+    let linked = linked.settle(&pm, &token);
+    let live = named.commit_link(&mut pm, &linked).flush(&mut pm);
+    let token = fence(&mut pm)?;
+    let live = live.settle(&pm, &token);
+    assert_eq!(rt; pm.image().get(1_552).copied(), Some(2));
+    let cleared = live.clear_ino(&mut pm).flush(&mut pm);
+    let token = fence(&mut pm)?;
+    let cleared = cleared.settle(&pm, &token);
+    assert_eq!(rt; pm.image().get(1_552).copied(), Some(0));
+    assert_eq!(rt; pm.image().get(1_554).copied(), Some(0x61_0001));
+    let freed = cleared.free(&mut pm).flush(&mut pm);
+    let token = fence(&mut pm)?;
+    let freed = freed.settle(&pm, &token);
+    assert_eq!(rt; freed.slot(), 1);
+    assert_eq!(rt; pm.image().get(1_554).copied(), Some(0));
+    assert_eq!(rt; pm.events(), 49);
     Ok(())
 }

@@ -1,5 +1,5 @@
 -- The words of an inode after stores to them.
-use Rattle.std.proofs.Common.{◌≡◌, ◌≢◌, inl, inr, ⊎_elim, ℕ, ◌+◌, ◌<◌, List, [], ◌∷◌, length, slice_index, slice_set, sym, ◌∙◌, ap, subst, arith, get_or-set_same, get_or-set_other, length-set}
+use Rattle.std.proofs.Common.{◌≡◌, ◌≢◌, inl, inr, ⊎_elim, ℕ, ◌<◌, List, [], ◌∷◌, length, slice_index, slice_set, sym, ◌∙◌, ap, subst, arith, get_or-set_same, get_or-set_other, length-set}
 use Rattle.std.specs.Prelude.{Option}
 use Rattle.pm_trait.specs.declared.event.Event.{Event}
 use Rattle.pm_trait.specs.declared.event.Event.TheVariants.{Store}
@@ -12,7 +12,6 @@ use Rattle.layout.specs.declared.fields.InodeFields.{InodeFields}
 use Rattle.layout.specs.Geometry.{inode_word_of}
 use Rattle.layout.specs.Fields.{word, inode_kind, inode_links, inode_size, inode_own}
 use Rattle.fence_token.specs.Objects.{Stands, StandsClean}
-use Rattle.inode_state.specs.States.{linked_fields}
 use Rattle.inode_state.specs.Inode.{IsInodeWord, fields_at, inode_stores}
 use Rattle.inode_state.proofs.InodeLaws.{same_fields}
 
@@ -109,17 +108,17 @@ four_fields n fields a b c d e w0 w1 w2 w3 at0 at1 at2 at3 isb isc isd ise insid
     }
 
 -- the link count stored alone
-pub links_stored : (n : ℕ) (fields : InodeFields) (a b : List ℕ) (w : ℕ) → w ≡ inode_word_of n 1 → b ≡ slice_set a w (fields.links + 1)
-    → Stands (IsInodeWord n) (λ words. fields_at words n ≡ fields) a → Stands (IsInodeWord n) (λ words. fields_at words n ≡ linked_fields fields) b
+pub links_stored : (n links : ℕ) (fields : InodeFields) (a b : List ℕ) (w : ℕ) → w ≡ inode_word_of n 1 → b ≡ slice_set a w links
+    → Stands (IsInodeWord n) (λ words. fields_at words n ≡ fields) a → Stands (IsInodeWord n) (λ words. fields_at words n ≡ record fields { links = links }) b
 unfolding inode_kind inode_links inode_size inode_own word
-links_stored n fields a b w at is stands =
-    let long = same_length a b w (fields.links + 1) is in
+links_stored n links fields a b w at is stands =
+    let long = same_length a b w links is in
     let in1 = word_inside n 1 w a at (omega arith) stands.inside in
     record {
       inside = λ word own. let before = stands.inside word own in omega (arith, before, long);
-      reads = same_fields (fields_at b n) (linked_fields fields)
-          (kept a b w (fields.links + 1) (inode_word_of n 0) is (differs n 0 1 w at (λ same. omega (arith, same))) ∙ ap (λ (f : InodeFields). f.kind) stands.reads)
-          (put a b w (fields.links + 1) (inode_word_of n 1) is at in1)
-          (kept a b w (fields.links + 1) (inode_word_of n 2) is (differs n 2 1 w at (λ same. omega (arith, same))) ∙ ap (λ (f : InodeFields). f.size) stands.reads)
-          (kept a b w (fields.links + 1) (inode_word_of n 3) is (differs n 3 1 w at (λ same. omega (arith, same))) ∙ ap (λ (f : InodeFields). f.own) stands.reads);
+      reads = same_fields (fields_at b n) (record fields { links = links })
+          (kept a b w links (inode_word_of n 0) is (differs n 0 1 w at (λ same. omega (arith, same))) ∙ ap (λ (f : InodeFields). f.kind) stands.reads)
+          (put a b w links (inode_word_of n 1) is at in1)
+          (kept a b w links (inode_word_of n 2) is (differs n 2 1 w at (λ same. omega (arith, same))) ∙ ap (λ (f : InodeFields). f.size) stands.reads)
+          (kept a b w links (inode_word_of n 3) is (differs n 3 1 w at (λ same. omega (arith, same))) ∙ ap (λ (f : InodeFields). f.own) stands.reads);
     }

@@ -1,3 +1,4 @@
 pub mod States
 pub mod Inode
 pub mod Laws
+pub mod Unused

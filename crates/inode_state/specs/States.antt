@@ -1,5 +1,5 @@
 -- What an inode's words mean, from its number and its fields.
-use Rattle.std.specs.Prelude.{◌≡◌, ◌⊎◌, ℕ, ◌+◌, ◌≤◌}
+use Rattle.std.specs.Prelude.{◌≡◌, ◌⊎◌, ℕ, ◌+◌, ◌-◌, ◌≤◌}
 use Rattle.layout.specs.declared.fields.InodeFields.{InodeFields}
 
 -- all words are 0
@@ -17,6 +17,10 @@ directory_fields number = record { kind = 2; links = 2; size = 0; own = number }
 -- the fields with one link more
 abbrev pub linked_fields : InodeFields → InodeFields
 linked_fields fields = record { kind = fields.kind; links = fields.links + 1; size = fields.size; own = fields.own }
+
+-- the fields with one link less
+abbrev pub unlinked_fields : InodeFields → InodeFields
+unlinked_fields fields = record { kind = fields.kind; links = fields.links - 1; size = fields.size; own = fields.own }
 
 abbrev pub IsFree : ℕ → InodeFields → Type 0
 IsFree number fields = fields ≡ free_fields

@@ -25,6 +25,10 @@ pub struct Live;
 #[derive(Drop)]
 pub struct Linked;
 
+/// A file or a directory from which a link was taken.
+#[derive(Drop)]
+pub struct Unlinked;
+
 impl InodeState for Free {
     ghost Reads = { IsFree };
 }
@@ -39,4 +43,8 @@ impl InodeState for Live {
 
 impl InodeState for Linked {
     ghost Reads = { IsLinked };
+}
+
+impl InodeState for Unlinked {
+    ghost Reads = { IsLive };
 }

@@ -1,4 +1,4 @@
-// Inodes made and settled, on a volume of 16 pages: a file, which then gets one link more, and a directory.
+// Inodes on a volume of 16 pages: a file with two links, and a file and a directory that are made, lose a link and are cleared.
 use crate::{Free, InodeH};
 use fence_token::{Clean, fence};
 use layout::Geometry;
@@ -32,22 +32,62 @@ fn a_file_with_two_links(rt: HostRuntime) -> Result<(), Fail> {
 }
 
 #[test]
+fn a_file_without_links(rt: HostRuntime) -> Result<(), Fail> {
+    let alloc = rt.alloc();
+    let old = vec![in alloc; 0; 8_192]?;
+    let mut pm = RamPm::new(alloc, old.as_slice())?;
+    pm.reserve(15)?;
+    let geometry = Geometry::of(16).ok_or("no volume")?;
+    assert_eq!(rt; geometry.inodes, 4);
+    let free: InodeH<Clean, Free> = InodeH::at(&pm, &geometry, 2);
+    let file = free.init_file(&mut pm).flush(&mut pm);
+    let token = fence(&mut pm)?;
+    let file = file.settle(&pm, &token).live();
+    let unlinked = file.dec_links(&mut pm).flush(&mut pm);
+    let token = fence(&mut pm)?;
+    let unlinked = unlinked.settle(&pm, &token);
+    for (word, value) in [(528, 1), (529, 0), (530, 0), (531, 2)] {
+        assert_eq!(rt; pm.image().get(word).copied(), Some(value), "at {word}");
+    }
+    let cleared = unlinked.clear(&mut pm).flush(&mut pm);
+    let token = fence(&mut pm)?;
+    let cleared = cleared.settle(&pm, &token);
+    assert_eq!(rt; cleared.number(), 2);
+    for word in [527, 528, 529, 530, 531, 532] {
+        assert_eq!(rt; pm.image().get(word).copied(), Some(0), "at {word}");
+    }
+    assert_eq!(rt; pm.fences(), 3);
+    assert_eq!(rt; pm.events(), 15);
+    Ok(())
+}
+
+#[test]
 fn an_empty_directory(rt: HostRuntime) -> Result<(), Fail> {
     let alloc = rt.alloc();
     let old = vec![in alloc; 0; 8_192]?;
     let mut pm = RamPm::new(alloc, old.as_slice())?;
-    pm.reserve(6)?;
+    pm.reserve(15)?;
     let geometry = Geometry::of(16).ok_or("no volume")?;
     assert_eq!(rt; geometry.inodes, 4);
     let free: InodeH<Clean, Free> = InodeH::at(&pm, &geometry, 3);
     let directory = free.init_dir(&mut pm).flush(&mut pm);
     let token = fence(&mut pm)?;
     let directory = directory.settle(&pm, &token).live();
-    assert_eq!(rt; directory.number(), 3);
     for (word, value) in [(543, 0), (544, 2), (545, 2), (546, 0), (547, 3), (548, 0)] {
         assert_eq!(rt; pm.image().get(word).copied(), Some(value), "at {word}");
     }
-    assert_eq!(rt; pm.fences(), 1);
-    assert_eq!(rt; pm.events(), 6);
+    let unlinked = directory.dec_links(&mut pm).flush(&mut pm);
+    let token = fence(&mut pm)?;
+    let directory = unlinked.settle(&pm, &token).live();
+    assert_eq!(rt; pm.image().get(545).copied(), Some(1));
+    let cleared = directory.clear_dir(&mut pm).flush(&mut pm);
+    let token = fence(&mut pm)?;
+    let cleared = cleared.settle(&pm, &token);
+    assert_eq!(rt; cleared.number(), 3);
+    for word in [544, 545, 546, 547] {
+        assert_eq!(rt; pm.image().get(word).copied(), Some(0), "at {word}");
+    }
+    assert_eq!(rt; pm.fences(), 3);
+    assert_eq!(rt; pm.events(), 15);
     Ok(())
 }

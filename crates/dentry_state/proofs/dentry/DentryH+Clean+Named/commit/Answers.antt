@@ -1,40 +1,11 @@
-use Rattle.std.proofs.Common.{sym, ◌∙◌, ap, subst, arith}
-use Rattle.pm_trait.proofs.DeviceLaws.{interval_store, clean_stays}
-use Rattle.layout.specs.declared.fields.SlotFields.{SlotFields}
-use Rattle.fence_token.proofs.ObjectLaws.{stands_clean_stays}
-use Rattle.inode_state.proofs.InodeLaws.{inode_is_local}
-use Rattle.dentry_state.specs.Dentry.{DentryView, DentryIsDirty, DentryIsClean}
-use Rattle.dentry_state.proofs.DentryLaws.{slot_word_is}
-use Rattle.dentry_state.proofs.Stored.{word_inside, differs, number_stored, new_inode_apart}
+use Rattle.std.proofs.Common.{rules}
+use Rattle.dentry_state.specs.States.{IsNamed}
+use Rattle.dentry_state.proofs.Stored.{new_kind, stays_clean}
 use Rattle.dentry_state.proofs.dentry.DentryH+Clean+Named.commit.Goals as goal
-
-pub store-requires-clause-in_range : goal.store-requires-clause-in_range
-store-requires-clause-in_range g c =
-    let inside = c.self.inside in
-    let clean = subst (λ (view : DentryView). DentryIsClean view (g.P.Pm.view c.args.pm.now)) (sym c.self.view_is) c.requires.clean in
-    word_inside inside.geometry.pages inside.slot 0 c.slot_word.result (g.P.Pm.view c.args.pm.now).words c.slot_word.ensures.value (omega arith) clean.stands.inside
-
-pub returns-clause-dirty : goal.returns-clause-dirty
-returns-clause-dirty g c =
-    let inside = c.self.inside in
-    let clean = subst (λ (view : DentryView). DentryIsClean view (g.P.Pm.view c.args.pm.now)) (sym c.self.view_is) c.requires.clean in
-    let word = c.slot_word.result in
-    let number = c.number-number.result in
-    subst (λ (view : DentryView). DentryIsDirty view (g.P.Pm.view c.store.new.self)) (sym c.of.ensures)
-    (record {
-      stands = number_stored inside.geometry.pages inside.slot inside.fields (g.P.Pm.view c.args.pm.now).words (g.P.Pm.view c.store.new.self).words word number c.slot_word.ensures.value c.store.ensures.words clean.stands;
-      untouched = λ field past few.
-          clean_stays _ (interval_store word number c.store.ensures.words c.store.ensures.trail)
-          (differs inside.geometry.pages inside.slot field 0 word c.slot_word.ensures.value (λ none. omega (arith, past, none)))
-          (clean.clean _ (slot_word_is inside.geometry.pages inside.slot field few));
-    })
 
 pub returns-clause-inode_clean : goal.returns-clause-inode_clean
 returns-clause-inode_clean g c =
-    let inside = c.self.inside in
+    let slot = c.args.self in
     let inode = c.args.inode.now in
-    let now = (g.P.Pm.view c.args.pm.now).words in
-    let clean = subst (λ (view : DentryView). DentryIsClean view (g.P.Pm.view c.args.pm.now)) (sym c.self.view_is) c.requires.clean in
-    stands_clean_stays (inode_is_local inode) (interval_store c.slot_word.result c.number-number.result c.store.ensures.words c.store.ensures.trail)
-    (λ word own is. new_inode_apart inside.geometry.pages inside.slot inode.number word now inode.fields c.number-number.ensures.reads c.requires.inode_clean.stands.reads
-    (ap (λ (f : SlotFields). f.inode) clean.stands.reads ∙ c.self.invariant.1.0) own (is ∙ c.slot_word.ensures.value)) c.requires.inode_clean
+    let named : IsNamed slot.fields = search rules in
+    stays_clean slot inode (new_kind inode.number inode.fields c.number-number.ensures.reads) named.0 c.requires.clean.stands c.store_number.ensures.device c.requires.inode_clean
