@@ -1,5 +1,5 @@
 -- What the pages say after a change of them.
-use Rattle.std.proofs.Common.{◌≡◌, ◌≢◌, ◌⊎◌, inl, inr, ⊎_elim, ℕ, ◌<◌, List, length, slice_index, refl, sym, ◌∙◌, ap, arith}
+use Rattle.std.proofs.Common.{◌≡◌, ◌≢◌, ◌⊎◌, inl, inr, ⊎_elim, ℕ, ◌<◌, List, length, slice_index, sym, ◌∙◌, ap, arith}
 use Rattle.std.specs.Prelude.{Option}
 use Rattle.pm_trait.specs.Trail.{Trail}
 use Rattle.pm_trait.specs.Device.{IsInterval, IsFlushed}
@@ -58,8 +58,8 @@ filled_kind : (fields : DescriptorFields) → (fields.kind ≡ 1) ⊎ ((fields.k
 filled_kind fields (inl bytes) = inl bytes
 filled_kind fields (inr slots) = inr slots.0
 
-pub owned_mean : (pages : List ℕ) (fields : DescriptorFields) (owner : ℕ) → owner ≢ 0 → HaveMeaning IsFilled pages fields → HaveMeaning IsLive pages (owned_fields fields owner)
-owned_mean pages fields owner some filled = record { each = λ index inside. (some, filled_kind (fields_of_page fields index) (filled.each index inside).1) }
+pub owned_means : (owner : ℕ) → owner ≢ 0 → (fields : DescriptorFields) → IsFilled fields → IsLive (owned_fields fields owner)
+owned_means owner some fields filled = (some, filled_kind fields filled.1)
 
 -- ---- the objects
 

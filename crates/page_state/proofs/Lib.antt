@@ -5,3 +5,6 @@ pub mod Told
 pub mod Pages
 pub mod Changes
 pub mod Zeros
+pub mod Releases
+mod Unlinked
+mod Written

@@ -12,7 +12,7 @@ use Rattle.layout.specs.Fields.{word, page_owner, page_kind, page_offset}
 use Rattle.fence_token.specs.Objects.{IsLocal, StoreNoneOf}
 use Rattle.fence_token.proofs.ObjectLaws.{stands_stays, goes_on_as, clean_as_events}
 use Rattle.page_state.specs.States.{IsFree}
-use Rattle.page_state.specs.Page.{PageView, EachPage, AreDataPages, IsDescriptorWord, IsOwnWord, descriptor_of, fields_of_page, SayFields, HaveMeaning, IsWordOf, ReadAs, PageIsDirty}
+use Rattle.page_state.specs.Page.{PageView, EachPage, AreDataPages, IsDescriptorWord, IsOwnWord, descriptor_of, fields_of_page, SayFields, IsWordOf, ReadAs, PageIsDirty}
 
 -- the word of a field is the descriptor's
 pub descriptor_word_is : (volume_pages page field : ℕ) → field < 3 → IsDescriptorWord volume_pages page (descriptor_word_of volume_pages page field)

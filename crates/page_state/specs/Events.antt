@@ -11,7 +11,7 @@ use Rattle.fence_token.specs.Flushes.{Flushes}
 use Rattle.fence_token.specs.Stored.{StoresExactly}
 use Rattle.page_state.specs.declared.page.Touched.{Touched}
 use Rattle.page_state.specs.declared.page.Touched.TheVariants.{Descriptors, Whole}
-use Rattle.page_state.specs.Page.{OfSome, IsFilledWord, IsOwnerWord, touched_lines}
+use Rattle.page_state.specs.Page.{OfSome, IsFilledWord, IsOwnerWord, IsReleasedWord, touched_lines}
 
 -- a store of 0 to each of a page's 512 words
 unfoldable pub page_zeros : ℕ → ℕ → List Event
@@ -24,6 +24,10 @@ fill_of_page volume_pages page = page_zeros volume_pages page ++ Store (descript
 -- a store of the owner to its descriptor
 abbrev pub claim_of_page : ℕ → ℕ → ℕ → List Event
 claim_of_page volume_pages owner page = Store (descriptor_word_of volume_pages page 0) owner ∷ []
+
+-- a store of 0 to the kind and to the offset in its descriptor
+abbrev pub release_of_page : ℕ → ℕ → List Event
+release_of_page volume_pages page = Store (descriptor_word_of volume_pages page 1) 0 ∷ Store (descriptor_word_of volume_pages page 2) 0 ∷ []
 
 -- a flush of each of the 64 lines of a page
 unfoldable pub content_flushes : ℕ → ℕ → List Event
@@ -43,6 +47,14 @@ FillsPages volume_pages pages old new = StoresExactly (OfSome pages (IsFilledWor
 -- Each page gets the owner: one store a page.
 abbrev pub ClaimsPages : ℕ → List ℕ → ℕ → DeviceView → DeviceView → Type 0
 ClaimsPages volume_pages pages owner old new = StoresExactly (OfSome pages (IsOwnerWord volume_pages)) old new (flat_map (claim_of_page volume_pages owner) pages) (length pages)
+
+-- Each page loses its owner: one store a page.
+abbrev pub CutsPages : ℕ → List ℕ → DeviceView → DeviceView → Type 0
+CutsPages volume_pages pages old new = ClaimsPages volume_pages pages 0 old new
+
+-- Each page loses its kind and its offset: two stores a page.
+abbrev pub ReleasesPages : ℕ → List ℕ → DeviceView → DeviceView → Type 0
+ReleasesPages volume_pages pages old new = StoresExactly (OfSome pages (IsReleasedWord volume_pages)) old new (flat_map (release_of_page volume_pages) pages) (2 * length pages)
 
 -- The lines of the pages that were stored to are flushed, each once.
 abbrev pub FlushesPages : ℕ → List ℕ → Touched → DeviceView → DeviceView → Type 0

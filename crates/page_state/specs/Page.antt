@@ -3,8 +3,8 @@ use Rattle.std.specs.Prelude.{◌≡◌, ◌⊎◌, ℕ, ◌+◌, ◌==◌, ◌<
 use Rattle.pm_trait.specs.Device.{IsClean}
 use Rattle.pm_trait.specs.DeviceView.{DeviceView}
 use Rattle.layout.specs.declared.fields.DescriptorFields.{DescriptorFields}
-use Rattle.layout.specs.Geometry.{descriptor_word_of, page_word_of}
-use Rattle.layout.specs.Fields.{page_owner, page_kind, page_offset}
+use Rattle.layout.specs.Geometry.{descriptor_word_of, page_word_of, page_of_slot, slot_word_of}
+use Rattle.layout.specs.Fields.{page_owner, page_kind, page_offset, slot_inode}
 use Rattle.fence_token.specs.Objects.{Stands, StandsClean, StandsInFlight}
 use Rattle.page_state.specs.declared.page.Touched.{Touched}
 use Rattle.page_state.specs.declared.page.Touched.TheVariants.{Descriptors, Whole}
@@ -64,9 +64,13 @@ IsOwnWord volume_pages page word = IsContentWord volume_pages page word ⊎ IsDe
 abbrev pub IsFilledWord : ℕ → ℕ → ℕ → Type 0
 IsFilledWord volume_pages page word = IsContentWord volume_pages page word ⊎ ((word ≡ descriptor_word_of volume_pages page 1) ⊎ (word ≡ descriptor_word_of volume_pages page 2))
 
--- the one that a claim stores
+-- the one that a claim and a cut store
 abbrev pub IsOwnerWord : ℕ → ℕ → ℕ → Type 0
 IsOwnerWord volume_pages page word = word ≡ descriptor_word_of volume_pages page 0
+
+-- those that a release stores
+abbrev pub IsReleasedWord : ℕ → ℕ → ℕ → Type 0
+IsReleasedWord volume_pages page word = (word ≡ descriptor_word_of volume_pages page 1) ⊎ (word ≡ descriptor_word_of volume_pages page 2)
 
 -- those of the lines that were stored to
 abbrev pub IsTouched : Touched → ℕ → ℕ → ℕ → Type 0
@@ -87,6 +91,20 @@ pub record IsSlotPage (volume_pages : ℕ) (words : List ℕ) (page : ℕ) : Typ
   pub zero : IsZeroPage volume_pages words page
   pub kind : page_kind volume_pages words page ≡ 2
   pub offset : page_offset volume_pages words page ≡ 0
+
+-- its descriptor says no kind and no offset, whoever its owner is
+pub record IsWithoutKind (volume_pages : ℕ) (words : List ℕ) (page : ℕ) : Type 0 where
+  pub kind : page_kind volume_pages words page ≡ 0
+  pub offset : page_offset volume_pages words page ≡ 0
+
+-- the slot has no inode's number, and a crash leaves it so
+pub record IsEmptySlot (volume_pages : ℕ) (device : DeviceView) (slot : ℕ) : Type 0 where
+  pub number : slot_inode volume_pages device.words slot ≡ 0
+  pub settled : IsClean device.words device.trail (slot_word_of volume_pages slot 0)
+
+-- so each slot of these pages
+abbrev pub AreEmpty : ℕ → List ℕ → DeviceView → Type 0
+AreEmpty volume_pages pages device = EachPage pages (λ page. (slot : ℕ) → page_of_slot slot ≡ page → IsEmptySlot volume_pages device slot)
 
 -- ---- what descriptors say
 

@@ -24,3 +24,11 @@ IsFilled fields = (fields.owner ≡ 0) × ((fields.kind ≡ 1) ⊎ ((fields.kind
 -- one of either kind; the offset of one of slots is not read
 abbrev pub IsLive : DescriptorFields → Type 0
 IsLive fields = (fields.owner ≢ 0) × ((fields.kind ≡ 1) ⊎ (fields.kind ≡ 2))
+
+-- one of either kind that has no owner any more
+abbrev pub IsReleased : DescriptorFields → Type 0
+IsReleased fields = (fields.owner ≡ 0) × ((fields.kind ≡ 1) ⊎ (fields.kind ≡ 2))
+
+-- fields of the one meaning have the other once they have this owner
+abbrev pub MeansOwned : (DescriptorFields → Type 0) → (DescriptorFields → Type 0) → ℕ → Type 0
+MeansOwned before after owner = (fields : DescriptorFields) → before fields → after (owned_fields fields owner)

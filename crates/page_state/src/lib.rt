@@ -8,7 +8,7 @@ mod words;
 
 pub use laws::page_law;
 pub use page::{PageH, Touched};
-pub use states::{Filled, Free, Live, PageState};
+pub use states::{Filled, Free, Live, PageState, Released};
 
 #[cfg(test)]
 mod tests;

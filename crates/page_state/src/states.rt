@@ -1,6 +1,6 @@
 // What the descriptor of a data page means.
 ghost use Rattle.layout.specs.declared.fields.DescriptorFields.{DescriptorFields};
-ghost use Rattle.page_state.specs.States.{IsFree, IsFilled, IsLive};
+ghost use Rattle.page_state.specs.States.{IsFree, IsFilled, IsLive, IsReleased};
 
 /// A meaning that a page's descriptor may have.
 pub trait PageState {
@@ -20,6 +20,10 @@ pub struct Filled;
 #[derive(Drop)]
 pub struct Live;
 
+/// It was taken from its inode: it has no owner any more, and its kind and offset are still there.
+#[derive(Drop)]
+pub struct Released;
+
 impl PageState for Free {
     ghost Reads = { IsFree };
 }
@@ -30,4 +34,8 @@ impl PageState for Filled {
 
 impl PageState for Live {
     ghost Reads = { IsLive };
+}
+
+impl PageState for Released {
+    ghost Reads = { IsReleased };
 }

@@ -1,6 +1,7 @@
-// Two pages made pages of slots and settled, then given to an inode, on a volume of 16 pages.
-use crate::{Free, PageH};
+// Pages on a volume of 16 pages: made pages of slots and given to an inode, and taken from one and freed.
+use crate::{Free, Live, PageH};
 use fence_token::{Clean, fence};
+use inode_state::{InodeH, Unlinked};
 use layout::Geometry;
 use pm_memory::RamPm;
 use pm_trait::{Event, Pm};
@@ -72,5 +73,73 @@ fn two_pages_of_slots(rt: HostRuntime) -> Result<(), Fail> {
         }
     );
     assert_eq!(rt; pm.event(1_161), Event::Flush { line: 132 });
+    Ok(())
+}
+
+#[test]
+fn pages_of_a_file_without_links(rt: HostRuntime) -> Result<(), Fail> {
+    let alloc = rt.alloc();
+    let mut old = vec![in alloc; 0; 8_192]?;
+    old[544] = 1;
+    old[547] = 3;
+    old[1_040] = 3;
+    old[1_041] = 1;
+    old[1_042] = 1;
+    old[1_056] = 3;
+    old[1_057] = 1;
+    let mut pm = RamPm::new(alloc, old.as_slice())?;
+    pm.reserve(12)?;
+    let geometry = Geometry::of(16).ok_or("no volume")?;
+    assert_eq!(rt; geometry.inodes, 4);
+    assert_eq!(rt; geometry.data_pages, 13);
+    let numbers = [4, 2];
+    let file: InodeH<Clean, Unlinked> = InodeH::at(&pm, &geometry, 3);
+    let live: PageH<Clean, Live> = PageH::at(&pm, &geometry, &numbers);
+    let cut = live.cut_last(&mut pm, &file).flush(&mut pm);
+    let token = fence(&mut pm)?;
+    let released = cut.settle(&pm, &token);
+    let free = released.release(&mut pm).flush(&mut pm);
+    let token = fence(&mut pm)?;
+    let free = free.settle(&pm, &token);
+    assert_eq!(rt; free.pages(), [4, 2].as_slice());
+    for word in [1_040, 1_041, 1_042, 1_056, 1_057, 1_058] {
+        assert_eq!(rt; pm.image().get(word).copied(), Some(0), "at {word}");
+    }
+    assert_eq!(rt; pm.fences(), 2);
+    assert_eq!(rt; pm.events(), 12);
+    assert_eq!(rt;
+        pm.event(1),
+        Event::Store {
+            word: 1_040,
+            value: 0
+        }
+    );
+    assert_eq!(rt;
+        pm.event(6),
+        Event::Store {
+            word: 1_058,
+            value: 0
+        }
+    );
+    Ok(())
+}
+
+#[test]
+fn a_page_without_names(rt: HostRuntime) -> Result<(), Fail> {
+    let alloc = rt.alloc();
+    let mut old = vec![in alloc; 0; 8_192]?;
+    old[1_064] = 1;
+    old[1_065] = 2;
+    let mut pm = RamPm::new(alloc, old.as_slice())?;
+    pm.reserve(2)?;
+    let geometry = Geometry::of(16).ok_or("no volume")?;
+    assert_eq!(rt; geometry.data_pages, 13);
+    let numbers = [5];
+    let live: PageH<Clean, Live> = PageH::at(&pm, &geometry, &numbers);
+    let cut = live.cut_empty(&mut pm).flush(&mut pm);
+    assert_eq!(rt; cut.pages(), [5].as_slice());
+    assert_eq!(rt; pm.image().get(1_064).copied(), Some(0));
+    assert_eq!(rt; pm.image().get(1_065).copied(), Some(2));
+    assert_eq!(rt; pm.events(), 2);
     Ok(())
 }

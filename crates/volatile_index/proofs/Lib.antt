@@ -1,3 +1,4 @@
 pub mod EntryLaws
 mod Places
 mod Nodes
+mod PagesLeft

@@ -1,5 +1,5 @@
 -- What the index holds of each inode, and what its calls do to that.
-use Rattle.std.specs.Prelude.{◌≡◌, ◌≢◌, ℕ, zero, suc, ◌+◌, ◌<◌, ◌≤◌, List, [], length, slice_index_or, Result, IsOk, OnOk, OnErr}
+use Rattle.std.specs.Prelude.{◌≡◌, ◌≢◌, ℕ, zero, suc, ◌+◌, ◌<◌, ◌≤◌, List, [], ◌∷◌, ◌++◌, length, slice_index_or, Result, IsOk, OnOk, OnErr}
 use Rattle.volatile_index.specs.declared.entry.Entry.{Entry}
 use Rattle.volatile_index.specs.Entries.{IsSorted, IsWithEntry}
 
@@ -82,6 +82,13 @@ pub record IsWithPages (pages_now : List ℕ) (old new : NodeView) : Type 0 wher
   pub page_places : new.page_places ≡ old.page_places
   pub entries : new.entries ≡ old.entries
   pub places : new.places ≡ old.places
+
+-- One page is taken out, wherever it stands, and the others keep their order and their places.
+pub record DropsPage (page : ℕ) (old new : NodeView) : Type 0 where
+  pub front : List ℕ
+  pub back : List ℕ
+  pub old_is : old.pages ≡ front ++ page ∷ back
+  pub new_is : IsWithPages (front ++ back) old new
 
 -- ---- and to the index
 

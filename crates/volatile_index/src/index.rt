@@ -1,7 +1,7 @@
 // What is held of each inode.
 ghost use Rattle.std.specs.Prelude.{◌≡◌, ◌+◌, ◌-◌, ◌<◌, ◌≤◌, ℕ, [], ◌∷◌, ◌++◌, length, take, slice_get, slice_set, Contains, MatchOption, IfOk, Some};
 ghost use Rattle.volatile_index.specs.Entries.{IsSorted, IsAbsent, IsPresent};
-ghost use Rattle.volatile_index.specs.Index.{inodes_of_index, node_of, entries_of, places_of, pages_of, page_places_of, IsEmpty, ReservesEntry, PutsEntry, RemovesEntry, ReservesPages, IsWithPages, ChangesNode};
+ghost use Rattle.volatile_index.specs.Index.{inodes_of_index, node_of, entries_of, places_of, pages_of, page_places_of, IsEmpty, ReservesEntry, PutsEntry, RemovesEntry, ReservesPages, IsWithPages, DropsPage, ChangesNode};
 
 use crate::entry::Entry;
 use crate::node::Node;
@@ -152,6 +152,18 @@ impl Index {
             IsWithPages (take (length old.pages - n) old.pages) old new) }
     {
         self.nodes[place_of(inode)].cut_pages(n);
+    }
+
+    /// Drops one page of a directory, wherever it stands. It takes no memory.
+    ///
+    /// A file's pages aren't dropped so: they stand by their offsets, and those behind the page would move to lower ones.
+    pub fn drop_page(&mut self, inode: u64, page: u64)
+        requires from_one { 1 ≤ inode }
+        requires in_range { inode ≤ inodes_of_index self.old }
+        requires there { Contains (pages_of self.old inode) page }
+        ensures { ChangesNode inode self.old self.new (DropsPage page) }
+    {
+        self.nodes[place_of(inode)].drop_page(page);
     }
 }
 

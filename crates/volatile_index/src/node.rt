@@ -1,7 +1,7 @@
 // What is held of one inode.
 ghost use Rattle.std.specs.Prelude.{◌≡◌, ◌-◌, ◌<◌, ◌≤◌, ℕ, [], ◌∷◌, ◌++◌, length, take, slice_get, slice_set, Contains, IsSomeAnd, MatchOption, IfOk, IfErr, Some};
 ghost use Rattle.volatile_index.specs.Entries.{IsSorted, IsAbsent, IsPresent};
-ghost use Rattle.volatile_index.specs.Index.{IsEmpty, ReservesEntry, PutsEntry, RemovesEntry, ReservesPages, IsWithPages};
+ghost use Rattle.volatile_index.specs.Index.{IsEmpty, ReservesEntry, PutsEntry, RemovesEntry, ReservesPages, IsWithPages, DropsPage};
 ghost use Rattle.volatile_index.specs.Place.{IsGap};
 
 use crate::entry::Entry;
@@ -146,5 +146,15 @@ impl Node {
         ensures { IsWithPages (take (length self.old.pages - n) self.old.pages) self.old self.new }
     {
         self.pages.truncate(self.pages.len() - n as usize);
+    }
+
+    /// Drops a page, wherever it stands.
+    pub fn drop_page(&mut self, page: u64)
+        requires there { Contains self.old.pages page }
+        ensures { DropsPage page self.old self.new }
+    {
+        if let Some(place) = self.pages.iter().position(|other| *other == page) {
+            let _ = self.pages.remove(place);
+        }
     }
 }

@@ -1,6 +1,6 @@
 // What no clause says: that calls which need memory succeed, and the order of names in examples.
-ghost use Rattle.std.specs.Prelude.{◌≡◌, ◌≤◌, IfOk};
-ghost use Rattle.volatile_index.specs.Index.{inodes_of_index};
+ghost use Rattle.std.specs.Prelude.{◌≡◌, ◌≤◌, ℕ, IfOk};
+ghost use Rattle.volatile_index.specs.Index.{inodes_of_index, node_of, IsEmpty};
 
 use crate::Index;
 use layout::{Geometry, Name};
@@ -14,7 +14,8 @@ fn name(text: &str) -> Result<Name, Fail> {
 
 // An index of the least volume, whose inodes are 1 to 4.
 fn least_index(alloc: Global) -> Result<Index, Fail>
-    ensures { IfOk result (λ index. inodes_of_index index ≡ 4) }
+    ensures inodes { IfOk result (λ index. inodes_of_index index ≡ 4) }
+    ensures empty { IfOk result (λ index. (inode : ℕ) → IsEmpty (node_of index inode)) }
 {
     let geometry = Geometry::of(16).ok_or("no volume")?;
     if geometry.inodes != 4 {
@@ -103,5 +104,17 @@ fn pages_stand_in_the_order_of_their_coming(rt: HostRuntime) -> Result<(), Fail>
     assert_eq!(rt; index.pages(1).len(), 0);
     index.cut_pages(4, 2);
     assert_eq!(rt; index.pages(4), [9].as_slice());
+    Ok(())
+}
+
+#[test]
+fn a_page_is_dropped_from_among_the_others(rt: HostRuntime) -> Result<(), Fail> {
+    let mut index = least_index(rt.alloc())?;
+    index.reserve_pages(2, 3)?;
+    index.push_page(2, 9);
+    index.push_page(2, 7);
+    index.push_page(2, 8);
+    index.drop_page(2, 7);
+    assert_eq!(rt; index.pages(2), [9, 8].as_slice());
     Ok(())
 }
