@@ -4,9 +4,14 @@ pub mod Ways
 pub mod Places
 pub mod Reserved
 pub mod Frees
+pub mod Holders
 pub mod Rows
+pub mod LinkRows
+pub mod PageLists
+pub mod RemovalRows
 pub mod Readings
 pub mod Plans
+pub mod PlanDeeds
 pub mod Listed
 pub mod PlanRows
 pub mod Staying

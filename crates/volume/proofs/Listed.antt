@@ -27,7 +27,7 @@ use Rattle.volume.specs.Volume.{VolumeView}
 use Rattle.volume.specs.Stands.{StandsFor}
 use Rattle.volume.proofs.Walked.{stands_tree, in_table}
 use Rattle.volume.proofs.Statuses.{among_contained, contained_among, less_than_contained}
-use Rattle.volume.proofs.Rows.{whole_path}
+use Rattle.volume.proofs.Ways.{whole_path}
 
 -- ---- names in order
 

@@ -30,7 +30,9 @@ use Rattle.image_counts.proofs.Counting.{none_counted}
 use Rattle.image_counts.proofs.Nodes.{size_law}
 use Rattle.image_counts.proofs.States.{state_law}
 use Rattle.image_counts.proofs.Tidied.{room_law, file_pages_law}
-use Rattle.volume.specs.Deed.{Deed, Loss, Removal, Moving, RemovesName, MovesName, WritesBytes, SetsSize}
+use Rattle.volume.specs.Deed.{Deed, Moving, RemovesName, MovesName, WritesBytes, SetsSize}
+use Rattle.volume.specs.declared.plan.Loss.{Loss}
+use Rattle.volume.specs.declared.plan.Removal.{Removal}
 use Rattle.volume.specs.Planned.{IsPlace, IsLossOf, IsTargetOf, IsRemovalFor, IsMovingFor, IsWritingFor, IsResizingFor, IsNothingOr, IsPlanOf}
 use Rattle.volume.specs.Costs.{count_of, where_true, goes_of, pages_of_loss, fences_of_plan, fences_for_page, fences_for_loss, fences_for_growth}
 use Rattle.volume.specs.Laws.{IsLeftBy, PlanFencesLaw}

@@ -7,7 +7,8 @@ use Rattle.layout.specs.Fields.{slot_inode}
 use Rattle.layout.specs.declared.kinds.NodeKind.{NodeKind}
 use Rattle.layout.specs.declared.kinds.NodeKind.TheVariants.{File, Directory}
 use Rattle.volume.specs.Lowest.{AreLowestOf}
-use Rattle.volume.specs.Deed.{Deed, Loss, Moving, MakesNode, AddsName, RemovesName, MovesName, WritesBytes, SetsSize, ChangesNothing, TellsSpace, rising_of, falling_of}
+use Rattle.volume.specs.Deed.{Deed, Moving, MakesNode, AddsName, RemovesName, MovesName, WritesBytes, SetsSize, ChangesNothing, TellsSpace, rising_of, falling_of}
+use Rattle.volume.specs.declared.plan.Loss.{Loss}
 use Rattle.volume.specs.Planned.{IsAlone, IsGivenBack}
 use Rattle.volume.specs.Costs.{events_of, reserved_events, fences_of_plan}
 

@@ -1,25 +1,18 @@
 -- What a plan says of its command.
-use Rattle.std.proofs.Common.{◌≡◌, ℕ, ◌+◌, ◌≤◌, Bool, true, false, cond, ◌||◌, nat_lt, nat_le, List, [], ◌∷◌, Option, Some, None, is_some, refl, sym, ap, subst, ◌∙◌, arith}
-use Rattle.pm_trait.specs.DeviceView.{DeviceView}
+use Rattle.std.proofs.Common.{◌≡◌, ℕ, ◌+◌, ◌≤◌, Bool, true, false, cond, ◌||◌, nat_lt, nat_le, List, [], ◌∷◌, Option, is_some, refl, sym, ap, ◌∙◌, arith}
 use Rattle.tree_model.specs.PathText.{Route}
-use Rattle.tree_model.specs.Tree.{parent, id_at}
 use Rattle.tree_model.specs.Run.{State, is_changing}
 use Rattle.tree_model.specs.Fences.{most_fences}
 use Rattle.tree_model.specs.declared.command.Command.{Command}
 use Rattle.tree_model.specs.declared.command.Command.TheVariants.{Create, Mkdir, Link, Unlink, Rmdir, Rename, Write, Truncate, Read, Stat as Tell, List as Show, Df}
-use Rattle.volatile_index.specs.Index.{inodes_of_index}
-use Rattle.volume.specs.Volume.{VolumeView}
-use Rattle.volume.specs.Stands.{StandsFor}
 use Rattle.volume.specs.Deed.{Deed, MakesNode, AddsName, RemovesName, MovesName, WritesBytes, SetsSize, ChangesNothing, ReadsBytes, TellsNode, ListsNames, TellsSpace, deed_of}
-use Rattle.volume.specs.Planned.{IsMovingFor, IsWritingFor, IsResizingFor, IsNothingOr, IsPlanOf, IsPlanned}
+use Rattle.volume.specs.Planned.{IsMovingFor, IsWritingFor, IsResizingFor, IsNothingOr, IsPlanOf}
 use Rattle.volume.specs.Costs.{pages_removed, pages_replaced, goes_of, fences_for_page, fences_for_loss, fences_for_growth, fences_of_plan}
-use Rattle.volume.specs.Prepared.{making, IsMaking, IsMadeIn}
+use Rattle.volume.specs.Prepared.{making, IsChange}
 use Rattle.layout.specs.declared.kinds.NodeKind.{NodeKind}
-use Rattle.layout.specs.declared.kinds.NodeKind.TheVariants.{File, Directory}
 use Rattle.volume.specs.declared.plan.NewEntry.{NewEntry}
 use Rattle.volume.specs.declared.plan.Action.{Action}
-use Rattle.volume.specs.declared.plan.Action.TheVariants.{Make, Status, Names, Space}
-use Rattle.volume.proofs.Walked.{reached_at, in_table}
+use Rattle.volume.specs.declared.plan.Action.TheVariants.{Make, Name, Remove, Status, Names, Space}
 
 -- ---- by the deed
 
@@ -51,7 +44,7 @@ makes_node TellsSpace = false
 
 -- where nothing is to be done, or what is made of some x
 module _ (R : Type 0) {A : Type 0} (make : A → Deed) (For : A → Type 0) (deed : Deed) where
-  nothing_or : (nothing : Bool) → IsNothingOr nothing (λ deed. (x : A) × (deed ≡ make x) × For x) deed → (deed ≡ ChangesNothing → R) → ((x : A) → deed ≡ make x → R) → R
+  pub nothing_or : (nothing : Bool) → IsNothingOr nothing (λ deed. (x : A) × (deed ≡ make x) × For x) deed → (deed ≡ ChangesNothing → R) → ((x : A) → deed ≡ make x → R) → R
   nothing_or true plan none some = none plan
   nothing_or false (x, is, made) none some = some x is
 
@@ -70,16 +63,18 @@ change_is P I state (Tell path) deed is = sym (ap is_change is)
 change_is P I state (Show path) deed is = sym (ap is_change is)
 change_is P I state Df deed is = sym (ap is_change is)
 
--- a plan that makes nothing is one of a command that reads
-pub telling_reads : (P : ℕ) (I : List ℕ) (state : State) (command : Command) (action : Action) → IsPlanOf P I state command (deed_of action) → ¬ IsMaking action → is_changing command ≡ false
+-- a plan that changes nothing is one of a command that reads
+pub telling_reads : (P : ℕ) (I : List ℕ) (state : State) (command : Command) (action : Action) → IsPlanOf P I state command (deed_of action) → ¬ IsChange action → is_changing command ≡ false
 telling_reads P I state command (Make entry) plan not = absurd (not tt)
+telling_reads P I state command (Name link) plan not = absurd (not tt)
+telling_reads P I state command (Remove removal) plan not = absurd (not tt)
 telling_reads P I state command (Status inode) plan not = change_is P I state command (TellsNode inode) plan
 telling_reads P I state command (Names inode) plan not = change_is P I state command (ListsNames inode) plan
 telling_reads P I state command Space plan not = change_is P I state command TellsSpace plan
 
 -- ---- an entry
 
-same_entry : (entry other : NewEntry) → MakesNode entry ≡ MakesNode other → entry ≡ other
+pub same_entry : (entry other : NewEntry) → MakesNode entry ≡ MakesNode other → entry ≡ other
 same_entry entry other is = cc
 
 no_entry : {X : Type 0} (entry : NewEntry) (deed : Deed) → MakesNode entry ≡ deed → makes_node deed ≡ false → X
@@ -103,30 +98,8 @@ planned_making P I state (Tell path) entry is = no_entry entry (TellsNode _) is 
 planned_making P I state (Show path) entry is = no_entry entry (ListsNames _) is refl
 planned_making P I state Df entry is = no_entry entry TellsSpace is refl
 
--- and its directory has a path
-named_by : (P : ℕ) (I : List ℕ) (state : State) (entry : NewEntry) (kind : NodeKind) (path : Route) → IsPlanOf P I state (making kind path) (MakesNode entry) → id_at state.tree (parent path) ≡ Some entry.directory
-named_by P I state entry File path (other, is, made) = made.directory_is ∙ ap (λ (e : NewEntry). Some e.directory) (sym (same_entry entry other is))
-named_by P I state entry Directory path (other, is, made) = made.directory_is ∙ ap (λ (e : NewEntry). Some e.directory) (sym (same_entry entry other is))
+-- ---- what a plan costs
 
-directory_named : (P : ℕ) (I : List ℕ) (state : State) (entry : NewEntry) (command : Command) → IsPlanOf P I state command (MakesNode entry) → (path : Route) × (id_at state.tree path ≡ Some entry.directory)
-directory_named P I state entry command plan =
-    let (path, is) = planned_making P I state command entry plan in
-    (parent path, named_by P I state entry entry.kind path (subst (λ (c : Command). IsPlanOf P I state c (MakesNode entry)) is plan))
-
--- ---- what an entry costs
-
--- no plan of the code makes more fences than an entry in a new page
-pub fences_of_plan-le : (action : Action) → fences_of_plan (deed_of action) ≤ 4
-fences_of_plan-le (Make entry) = few entry.new_page
-  where
-    few : (new_page : Option ℕ) → fences_of_plan (MakesNode (record entry { new_page = new_page })) ≤ 4
-    few None = omega arith
-    few (Some page) = omega arith
-fences_of_plan-le (Status inode) = omega arith
-fences_of_plan-le (Names inode) = omega arith
-fences_of_plan-le Space = omega arith
-
--- and no plan makes more than a move with a new page that gives one back
 at_most : (b : Bool) (x y limit : ℕ) → x ≤ limit → y ≤ limit → cond b x y ≤ limit
 at_most true x y limit p q = p
 at_most false x y limit p q = q
@@ -144,6 +117,16 @@ growth-le : (pages : List ℕ) → fences_for_growth pages ≤ 3
 growth-le [] = omega arith
 growth-le (page ∷ pages) = omega arith
 
+-- no plan of the code makes more than four fences
+pub fences_of_plan-le : (action : Action) → fences_of_plan (deed_of action) ≤ 4
+fences_of_plan-le (Make entry) = let page = page-le entry.new_page in omega (arith, page)
+fences_of_plan-le (Name link) = let page = page-le link.new_page in omega (arith, page)
+fences_of_plan-le (Remove removal) = let loss = loss-le (pages_removed removal) removal.loss.goes in omega (arith, loss)
+fences_of_plan-le (Status inode) = omega arith
+fences_of_plan-le (Names inode) = omega arith
+fences_of_plan-le Space = omega arith
+
+-- and no plan makes more than a move with a new page that gives one back
 pub fences_of_deed-le : (deed : Deed) → fences_of_plan deed ≤ most_fences
 fences_of_deed-le (MakesNode entry) = let page = page-le entry.new_page in omega (arith, page)
 fences_of_deed-le (AddsName link) = let page = page-le link.new_page in omega (arith, page)
@@ -165,15 +148,3 @@ fences_of_deed-le (ReadsBytes reading) = omega arith
 fences_of_deed-le (TellsNode inode) = omega arith
 fences_of_deed-le (ListsNames inode) = omega arith
 fences_of_deed-le TellsSpace = omega arith
-
--- ---- its directory
-
-module _ (volume : VolumeView) (device : DeviceView) (state : State) (stands : StandsFor volume device state) (command : Command) where
-  pub made_within : (action : Action) → IsPlanned volume.size device.words state command (deed_of action) → IsMadeIn (inodes_of_index volume.index) action
-  made_within (Make entry) planned =
-      let (path, named) = directory_named volume.size device.words state entry command planned.plan_is in
-      let within = in_table volume device entry.directory (state, stands) (reached_at volume device state path entry.directory stands named) in
-      (within.0, omega (arith, within.1, stands.knows.nodes.each_inode))
-  made_within (Status inode) planned = tt
-  made_within (Names inode) planned = tt
-  made_within Space planned = tt

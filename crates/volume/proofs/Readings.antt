@@ -15,12 +15,12 @@ use Rattle.volume.specs.Planned.{IsPlanned}
 use Rattle.volume.specs.Deed.{TellsNode, ListsNames}
 use Rattle.volume.proofs.Walked.{stands_tree}
 
-no_file : (o : Option Node) → is_directory_node o ≡ true → is_file_node o ≡ false
+pub no_file : (o : Option Node) → is_directory_node o ≡ true → is_file_node o ≡ false
 no_file None e = refl
 no_file (Some Directory) e = refl
 no_file (Some (File bytes)) e = cc
 
-a_file : (o : Option Node) → is_some o ≡ true → is_directory_node o ≡ false → is_file_node o ≡ true
+pub a_file : (o : Option Node) → is_some o ≡ true → is_directory_node o ≡ false → is_file_node o ≡ true
 a_file None there e = cc
 a_file (Some Directory) there e = cc
 a_file (Some (File bytes)) there e = refl

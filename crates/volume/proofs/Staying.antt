@@ -8,7 +8,7 @@ use Rattle.tree_model.proofs.TreeKept.{is_some_at}
 use Rattle.tree_model.proofs.TreeLess.{HasNoNames, less_kept, IsAlmostTree-without_path}
 use Rattle.tree_model.proofs.TreeMoved.{not_some, clear, at_self, IsAlmostTree-with_moved}
 use Rattle.tree_model.proofs.TreePruned.{kept_named}
-use Rattle.volume.proofs.Rows.{whole_path}
+use Rattle.volume.proofs.Ways.{whole_path}
 
 shorter : (p : Route) → is_root p ≡ false → length p ≡ length (parent p) + 1
 shorter p below = ap length (whole_path p below) ∙ length-append (parent p) (last_name p ∷ [])

@@ -1,7 +1,7 @@
--- How far a walk has come.
-use Rattle.std.proofs.Common.{◌≡◌, ℕ, Bool, true, false, cond, List, [], ◌∷◌, ◌++◌, Option, Some, None, Result, Ok, Err, refl, ap, ◌∙◌, append_assoc}
+-- How far a walk has come, and where it ends.
+use Rattle.std.proofs.Common.{◌≡◌, ℕ, Bool, true, false, cond, List, [], ◌∷◌, ◌++◌, Option, Some, None, Result, Ok, Err, refl, sym, ap, ◌∙◌, append_assoc}
 use Rattle.tree_model.specs.PathText.{Route}
-use Rattle.tree_model.specs.Tree.{Tree, Node, IsTree, is_directory_node, root_id, id_at, is_directory, parent}
+use Rattle.tree_model.specs.Tree.{Tree, Node, IsTree, is_directory_node, root_id, id_at, is_directory, is_root, parent, last_name}
 use Rattle.tree_model.specs.Walk.{Place, root_place, place_at, walk, walk_on, walk_to_parent, step_into, only_directory}
 use Rattle.tree_model.specs.declared.reply.Refusal.{Refusal}
 use Rattle.tree_model.specs.declared.reply.Refusal.TheVariants.{NotDir}
@@ -50,3 +50,38 @@ parent_fails T path fault e = ap (only_directory T) e
 -- the root has no parent but itself
 pub root_holds : (T : Tree) → IsTree T → walk_to_parent T [] ≡ Ok root_place
 root_holds T tree = ap (λ (o : Option Node). cond (is_directory_node o) (Ok root_place) (Err NotDir)) tree.root_directory
+
+-- ---- from there to the last name
+
+pub whole_path : (path : Route) → is_root path ≡ false → path ≡ parent path ++ last_name path ∷ []
+whole_path [] below = cc
+whole_path (name ∷ []) below = refl
+whole_path (name ∷ next ∷ names) below = ap (λ rest. name ∷ rest) (whole_path (next ∷ names) refl)
+
+walk_on-append : (T : Tree) (reached : Result Place Refusal) (front names : Route) → walk_on T reached (front ++ names) ≡ walk_on T (walk_on T reached front) names
+walk_on-append T reached [] names = refl
+walk_on-append T reached (name ∷ front) names = walk_on-append T (step_into T reached name) front names
+
+pub walk_last : (T : Tree) (path : Route) → is_root path ≡ false → walk T path ≡ step_into T (walk T (parent path)) (last_name path)
+walk_last T path below = ap (walk T) (whole_path path below) ∙ walk_on-append T (Ok root_place) (parent path) (last_name path ∷ [])
+
+-- a place that is wanted for the last name is walked to
+only_there : (T : Tree) (reached : Result Place Refusal) (here : Place) → only_directory T reached ≡ Ok here → reached ≡ Ok here
+only_there T (Err fault) here e = cc
+only_there T (Ok found) here e = entered (is_directory T found.id) (Ok found) here e
+
+pub parent_walked : (T : Tree) (path : Route) (here : Place) → walk_to_parent T path ≡ Ok here → walk T (parent path) ≡ Ok here
+parent_walked T path here e = only_there T (walk T (parent path)) here e
+
+-- and where there is none, the name isn't there
+no_directory : (directory : Bool) (here : Place) (next : Result Place Refusal) (fault : Refusal) → cond directory (Ok here) (Err NotDir) ≡ Err fault → cond directory next (Err NotDir) ≡ Err fault
+no_directory true here next fault e = cc
+no_directory false here next fault e = e
+
+none_below : (T : Tree) (reached : Result Place Refusal) (name : List ℕ) (fault : Refusal) → only_directory T reached ≡ Err fault → step_into T reached name ≡ Err fault
+none_below T (Err found) name fault e = e
+none_below T (Ok here) name fault e = no_directory (is_directory T here.id) here _ fault e
+
+pub walk_fails : (T : Tree) (path : Route) (fault : Refusal) → IsTree T → walk_to_parent T path ≡ Err fault → walk T path ≡ Err fault
+walk_fails T [] fault tree e = let both : Ok root_place ≡ Err fault = sym (root_holds T tree) ∙ e in cc
+walk_fails T (name ∷ names) fault tree e = walk_last T (name ∷ names) refl ∙ none_below T (walk T (parent (name ∷ names))) (last_name (name ∷ names)) fault e

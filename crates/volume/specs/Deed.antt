@@ -3,31 +3,11 @@ use Rattle.std.specs.Prelude.{ℕ, Bool, false, true, not, ◌&&◌, ◌||◌, �
 use Rattle.layout.specs.declared.kinds.NodeKind.{NodeKind}
 use Rattle.layout.specs.declared.kinds.NodeKind.TheVariants.{File, Directory}
 use Rattle.volume.specs.declared.plan.NewEntry.{NewEntry}
+use Rattle.volume.specs.declared.plan.NewName.{NewName}
+use Rattle.volume.specs.declared.plan.Loss.{Loss}
+use Rattle.volume.specs.declared.plan.Removal.{Removal}
 use Rattle.volume.specs.declared.plan.Action.{Action}
 use Rattle.volume.specs.declared.plan.Action.TheVariants as actions
-
--- a file gets one more name: in this directory, slot and new page
-pub record NewName : Type 0 where
-  pub directory : ℕ
-  pub name : List ℕ
-  pub inode : ℕ
-  pub slot : ℕ
-  pub new_page : Option ℕ
-
--- A node whose name is taken away: whether that was its last one, and how many pages it gives up then.
-pub record Loss : Type 0 where
-  pub inode : ℕ
-  pub kind : NodeKind
-  pub goes : Bool
-  pub pages : ℕ
-
--- a directory loses a name, and may give back the page of its slot
-pub record Removal : Type 0 where
-  pub directory : ℕ
-  pub name : List ℕ
-  pub slot : ℕ
-  pub loss : Loss
-  pub given_back : Option ℕ
 
 -- The name of a node of this kind moves: from one slot to another, which named another node or none.
 pub record Moving : Type 0 where
@@ -102,6 +82,8 @@ pub data Deed : Type 0 where
 -- what an action of the code means
 abbrev pub deed_of : Action → Deed
 deed_of (actions.Make entry) = MakesNode entry
+deed_of (actions.Name link) = AddsName link
+deed_of (actions.Remove removal) = RemovesName removal
 deed_of (actions.Status inode) = TellsNode inode
 deed_of (actions.Names inode) = ListsNames inode
 deed_of actions.Space = TellsSpace

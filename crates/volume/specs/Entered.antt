@@ -2,9 +2,11 @@
 use Rattle.std.specs.Prelude.{◌≡◌, ℕ, ◌+◌, ◌-◌, ◌<◌, ◌≤◌, Bool, true, false, List, [], ◌∷◌, ◌++◌, length, Option, Some, None, slice_set}
 use Rattle.allocators.specs.Numbers.{IsFree}
 use Rattle.volatile_index.specs.Entries.{IsAbsent}
-use Rattle.volatile_index.specs.Index.{NodeView, inodes_of_index, entries_of, places_of, pages_of, page_places_of, IsWithPages, PutsEntry, RemovesEntry, ChangesNode}
+use Rattle.volatile_index.specs.Index.{inodes_of_index, entries_of, places_of, pages_of, page_places_of, IsWithPages, DropsPage, PutsEntry, RemovesEntry, ChangesNode}
 use Rattle.volume.specs.Volume.{VolumeView}
-use Rattle.volume.specs.Deed.{Deed, Loss, Removal, Moving, Resizing, MakesNode, AddsName, RemovesName, MovesName, WritesBytes, SetsSize, ChangesNothing, ReadsBytes, TellsNode, ListsNames, TellsSpace}
+use Rattle.volume.specs.Deed.{Deed, Moving, Resizing, MakesNode, AddsName, RemovesName, MovesName, WritesBytes, SetsSize, ChangesNothing, ReadsBytes, TellsNode, ListsNames, TellsSpace}
+use Rattle.volume.specs.declared.plan.Loss.{Loss}
+use Rattle.volume.specs.declared.plan.Removal.{Removal}
 
 -- ---- pages of a plan
 
@@ -95,14 +97,7 @@ pub record LeavesName (old new : VolumeView) (directory : ℕ) (name : List ℕ)
   pub index : ChangesNode directory old.index new.index (RemovesEntry name)
   pub rest : new ≡ record old { index = new.index }
 
--- one page leaves the pages of an inode, wherever it stands
-pub record DropsPage (page : ℕ) (old new : NodeView) : Type 0 where
-  pub front : List ℕ
-  pub back : List ℕ
-  pub old_is : old.pages ≡ front ++ page ∷ back
-  pub new_is : IsWithPages (front ++ back) old new
-
--- and it is free
+-- one page leaves the pages of an inode, wherever it stands, and it is free
 pub record LeavesPage (old new : VolumeView) (directory page : ℕ) : Type 0 where
   pub index : ChangesNode directory old.index new.index (DropsPage page)
   pub rest : new ≡ record old { index = new.index; data_pages = slice_set old.data_pages page true }

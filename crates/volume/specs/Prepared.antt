@@ -1,5 +1,5 @@
 -- What preparing a command answers and leaves.
-use Rattle.std.specs.Prelude.{◌≡◌, ◌≢◌, ◌⊎◌, ℕ, ◌≤◌, false, List, IsTrue, Some, Result, Ok, Err, OnOk, IfOk, IfErr}
+use Rattle.std.specs.Prelude.{◌≡◌, ◌≢◌, ◌⊎◌, ℕ, ◌^◌, ◌<◌, ◌≤◌, false, List, IsTrue, Some, Result, Ok, Err, OnOk, IfOk, IfErr}
 use Rattle.pm_trait.specs.Device.{HasRisen}
 use Rattle.pm_trait.specs.DeviceView.{DeviceView}
 use Rattle.tree_model.specs.PathText.{Route}
@@ -7,7 +7,7 @@ use Rattle.tree_model.specs.Step.{refusal_of}
 use Rattle.tree_model.specs.Run.{State, is_changing, may_fail}
 use Rattle.tree_model.specs.Places.{needs_places}
 use Rattle.tree_model.specs.declared.command.Command.{Command}
-use Rattle.tree_model.specs.declared.command.Command.TheVariants.{Create, Mkdir}
+use Rattle.tree_model.specs.declared.command.Command.TheVariants.{Create, Mkdir, Link, Unlink, Rmdir, Rename, Write, Truncate, Read, Stat as Tell, List as Show, Df}
 use Rattle.tree_model.specs.declared.reply.Refusal.{Refusal}
 use Rattle.tree_model.specs.declared.reply.Refusal.TheVariants.{NoMemory}
 use Rattle.volatile_index.specs.Index.{NodeView, inodes_of_index, entries_of, places_of, pages_of, page_places_of}
@@ -20,7 +20,22 @@ use Rattle.volume.specs.Carried.{HasReserved}
 use Rattle.layout.specs.declared.kinds.NodeKind.{NodeKind}
 use Rattle.layout.specs.declared.kinds.NodeKind.TheVariants.{File, Directory}
 use Rattle.volume.specs.declared.plan.Action.{Action}
-use Rattle.volume.specs.declared.plan.Action.TheVariants.{Make, Status, Names, Space}
+use Rattle.volume.specs.declared.plan.Action.TheVariants.{Make, Name, Remove, Status, Names, Space}
+
+-- the commands that `prepare` plans
+abbrev pub HasPlan : Command → Type 0
+HasPlan (Create path) = Unit {0}
+HasPlan (Mkdir path) = Unit {0}
+HasPlan (Link from to) = Unit {0}
+HasPlan (Unlink path) = Unit {0}
+HasPlan (Rmdir path) = Unit {0}
+HasPlan (Rename from to) = ⊥
+HasPlan (Write path offset bytes) = ⊥
+HasPlan (Truncate path size) = ⊥
+HasPlan (Read path offset count) = ⊥
+HasPlan (Tell path) = Unit {0}
+HasPlan (Show path) = Unit {0}
+HasPlan Df = Unit {0}
 
 -- the command that makes a node of this kind
 abbrev pub making : NodeKind → Route → Command
@@ -44,21 +59,77 @@ abbrev pub IsPlanOrRefusal : VolumeView → DeviceView → Command → Result Ac
 IsPlanOrRefusal volume device command (Ok action) = (state : State) → StandsFor volume device state → IsPlanned volume.size device.words state command (deed_of action)
 IsPlanOrRefusal volume device command (Err refusal) = (state : State) → StandsFor volume device state → refusal_of volume.size state.tree state.room command ≡ Some refusal
 
--- ---- what is reserved
+-- ---- what a plan does
 
--- what is done makes an entry, for which memory is needed
+-- it makes an entry and its node
 abbrev pub IsMaking : Action → Type 0
 IsMaking (Make entry) = Unit {0}
+IsMaking (Name link) = ⊥
+IsMaking (Remove removal) = ⊥
 IsMaking (Status inode) = ⊥
 IsMaking (Names inode) = ⊥
 IsMaking Space = ⊥
 
--- the directory of the entry that is made is one of so many inodes
-abbrev pub IsMadeIn : ℕ → Action → Type 0
-IsMadeIn inodes (Make entry) = (1 ≤ entry.directory) × (entry.directory ≤ inodes)
-IsMadeIn inodes (Status inode) = Unit {0}
-IsMadeIn inodes (Names inode) = Unit {0}
-IsMadeIn inodes Space = Unit {0}
+-- it gives a file one more name
+abbrev pub IsNaming : Action → Type 0
+IsNaming (Make entry) = ⊥
+IsNaming (Name link) = Unit {0}
+IsNaming (Remove removal) = ⊥
+IsNaming (Status inode) = ⊥
+IsNaming (Names inode) = ⊥
+IsNaming Space = ⊥
+
+-- it takes a name away
+abbrev pub IsRemoving : Action → Type 0
+IsRemoving (Make entry) = ⊥
+IsRemoving (Name link) = ⊥
+IsRemoving (Remove removal) = Unit {0}
+IsRemoving (Status inode) = ⊥
+IsRemoving (Names inode) = ⊥
+IsRemoving Space = ⊥
+
+-- it changes something
+abbrev pub IsChange : Action → Type 0
+IsChange (Make entry) = Unit {0}
+IsChange (Name link) = Unit {0}
+IsChange (Remove removal) = Unit {0}
+IsChange (Status inode) = ⊥
+IsChange (Names inode) = ⊥
+IsChange Space = ⊥
+
+-- it takes a place in the index
+abbrev pub TakesPlace : Action → Type 0
+TakesPlace (Make entry) = Unit {0}
+TakesPlace (Name link) = Unit {0}
+TakesPlace (Remove removal) = ⊥
+TakesPlace (Status inode) = ⊥
+TakesPlace (Names inode) = ⊥
+TakesPlace Space = ⊥
+
+-- ---- what is reserved
+
+-- the directory of the name that comes or goes is one of so many inodes
+abbrev pub IsNamedIn : ℕ → Action → Type 0
+IsNamedIn inodes (Make entry) = (1 ≤ entry.directory) × (entry.directory ≤ inodes)
+IsNamedIn inodes (Name link) = (1 ≤ link.directory) × (link.directory ≤ inodes)
+IsNamedIn inodes (Remove removal) = (1 ≤ removal.directory) × (removal.directory ≤ inodes)
+IsNamedIn inodes (Status inode) = Unit {0}
+IsNamedIn inodes (Names inode) = Unit {0}
+IsNamedIn inodes Space = Unit {0}
+
+-- a node that goes gives up no more pages than a volume may have
+abbrev pub HasFewPages : Action → Type 0
+HasFewPages (Make entry) = Unit {0}
+HasFewPages (Name link) = Unit {0}
+HasFewPages (Remove removal) = removal.loss.pages < 2 ^ 16
+HasFewPages (Status inode) = Unit {0}
+HasFewPages (Names inode) = Unit {0}
+HasFewPages Space = Unit {0}
+
+-- Memory is short for a change: for one that takes no place in the index only where the device refused room.
+pub record IsShort (action : Action) (before after : DeviceView) : Type 0 where
+  pub change : IsChange action
+  pub cause : TakesPlace action ⊎ HasRisen before.refused after.refused
 
 -- the same entries and pages of each inode, and no fewer places for more
 pub record HasSameContents (old new : List NodeView) : Type 0 where

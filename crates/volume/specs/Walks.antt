@@ -1,10 +1,11 @@
 -- Where a path leads.
-use Rattle.std.specs.Prelude.{◌≡◌, ℕ, [], false, Option, Some, None, Result, Ok, Err}
+use Rattle.std.specs.Prelude.{◌≡◌, ℕ, [], ◌∷◌, false, Option, Some, None, Result, Ok, Err}
 use Rattle.tree_model.specs.PathText.{Route}
-use Rattle.tree_model.specs.Tree.{is_root, parent, last_name}
-use Rattle.tree_model.specs.Walk.{Place, root_place}
+use Rattle.tree_model.specs.Tree.{Tree, is_root, parent, last_name}
+use Rattle.tree_model.specs.Walk.{Place, root_place, walk}
+use Rattle.tree_model.specs.Step.{first, at, fault_of}
 use Rattle.tree_model.specs.declared.reply.Refusal.{Refusal}
-use Rattle.tree_model.specs.declared.reply.Refusal.TheVariants.{NotFound as IsMissing, NotDir as IsNoDirectory}
+use Rattle.tree_model.specs.declared.reply.Refusal.TheVariants.{NotFound as IsMissing, NotDir as IsNoDirectory, Root}
 use Rattle.volume.specs.declared.resolve.Walk.{Walk}
 use Rattle.volume.specs.declared.resolve.Walk.TheVariants.{NotFound, NotDir}
 use Rattle.volume.specs.declared.resolve.LastName.{LastName}
@@ -28,3 +29,7 @@ place_of_parent path (Err fault) = Err (refusal_of_walk fault)
 abbrev pub IsLastName : Route → Option LastName → Type 0
 IsLastName path None = path ≡ []
 IsLastName path (Some last) = (is_root path ≡ false) × (last.name ≡ last_name path)
+
+-- how the row of a command begins that takes a name away
+abbrev pub name_row : Tree → Route → Option Refusal
+name_row T path = first (fault_of (walk T path) ∷ at Root (is_root path) ∷ [])

@@ -15,6 +15,12 @@ pub const NAME_EVENTS: u64 = 14 + 2;
 /// The 512 words of a page in 64 lines, and the kind and the offset in its descriptor.
 pub const PAGE_EVENTS: u64 = 512 + 64 + 2 + 1;
 
+/// The fifteen words of a slot behind its number, in two lines.
+pub const SLOT_REST_EVENTS: u64 = 15 + 2;
+
+/// The kind and the offset of a descriptor, in one line.
+pub const DESCRIPTOR_REST_EVENTS: u64 = 2 + 1;
+
 /// A word that is settled by a fence of its own.
 pub const COMMIT_EVENTS: u64 = WORD_EVENTS + FENCE_EVENTS;
 

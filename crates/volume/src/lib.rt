@@ -12,11 +12,11 @@ mod stat;
 mod volume;
 
 pub use costs::{
-    COMMIT_EVENTS, FENCE_EVENTS, INODE_EVENTS, KEPT_EVENTS, NAME_EVENTS, NEW_PAGE_EVENTS,
-    PAGE_EVENTS, WORD_EVENTS,
+    COMMIT_EVENTS, DESCRIPTOR_REST_EVENTS, FENCE_EVENTS, INODE_EVENTS, KEPT_EVENTS, NAME_EVENTS,
+    NEW_PAGE_EVENTS, PAGE_EVENTS, SLOT_REST_EVENTS, WORD_EVENTS,
 };
 pub use laws::plan_fences_law;
-pub use plan::{Action, NewEntry, Plan};
+pub use plan::{Action, Loss, NewEntry, NewName, Plan, Removal};
 pub use resolve::Walk;
 pub use volume::Volume;
 

@@ -1,8 +1,10 @@
 // Plans of accepted commands. A plan can't be copied, and none is made but by `prepare`.
-ghost use Rattle.std.specs.Prelude.{◌≡◌};
+ghost use Rattle.std.specs.Prelude.{◌≡◌, ◌^◌, ◌<◌, ◌≤◌};
+ghost use Rattle.volume.specs.Costs.{events_of, new_page_events as events_of_new_page, loss_events as events_of_loss};
 
 use crate::costs::{
-    COMMIT_EVENTS, FENCE_EVENTS, INODE_EVENTS, NAME_EVENTS, NEW_PAGE_EVENTS, WORD_EVENTS,
+    COMMIT_EVENTS, DESCRIPTOR_REST_EVENTS, FENCE_EVENTS, INODE_EVENTS, NAME_EVENTS,
+    NEW_PAGE_EVENTS, SLOT_REST_EVENTS, WORD_EVENTS,
 };
 use layout::{Name, NodeKind};
 use std::marker::Model;
@@ -25,22 +27,117 @@ pub struct NewEntry {
 }
 
 impl NewEntry {
-    ghost use Rattle.volume.specs.Costs.{events_of};
     ghost use Rattle.volume.specs.Deed.{MakesNode};
 
     /// How many stores, flushes and fences the making takes.
     pub fn events(&self) -> u64
         ensures { result ≡ events_of (MakesNode self.now) }
     {
-        let page = match self.new_page {
-            None => 0,
-            Some(_) => NEW_PAGE_EVENTS,
-        };
         let links = match self.kind {
             NodeKind::File => 0,
             NodeKind::Directory => WORD_EVENTS,
         };
-        page + (INODE_EVENTS + NAME_EVENTS + links + FENCE_EVENTS) + COMMIT_EVENTS
+        new_page_events(self.new_page)
+            + (INODE_EVENTS + NAME_EVENTS + links + FENCE_EVENTS)
+            + COMMIT_EVENTS
+    }
+}
+
+/// One more name for a file.
+#[derive(Drop)]
+pub struct NewName {
+    /// The inode of the directory that gets the name.
+    pub directory: u64,
+    /// The name.
+    pub name: Name,
+    /// The file's inode. Inodes are numbered from 1.
+    pub inode: u64,
+    /// The slot for the name. Slots are numbered from 0, 32 for each data page.
+    pub slot: u64,
+    /// The data page that the directory takes for the slot, where its pages are full. They are numbered from 0.
+    pub new_page: Option<u64>,
+}
+
+impl NewName {
+    ghost use Rattle.volume.specs.Deed.{AddsName};
+
+    /// How many stores, flushes and fences the naming takes.
+    pub fn events(&self) -> u64
+        ensures { result ≡ events_of (AddsName self.now) }
+    {
+        new_page_events(self.new_page) + (WORD_EVENTS + NAME_EVENTS + FENCE_EVENTS) + COMMIT_EVENTS
+    }
+}
+
+/// What a node loses whose name is taken away.
+#[derive(Clone, Copy, Debug, PartialEq, Eq)]
+pub struct Loss {
+    /// The node's inode. Inodes are numbered from 1.
+    pub inode: u64,
+    /// What the node is.
+    pub kind: NodeKind,
+    /// Whether this was its last name. Then the inode is free afterwards.
+    pub goes: bool,
+    /// How many data pages it gives up: all that it has where it goes, else 0. A volume has fewer than 65,536.
+    pub pages: u64,
+}
+
+/// A name that is taken away.
+#[derive(Drop)]
+pub struct Removal {
+    /// The inode of the directory that loses the name.
+    pub directory: u64,
+    /// The name.
+    pub name: Name,
+    /// The slot in which it stands. Slots are numbered from 0, 32 for each data page.
+    pub slot: u64,
+    /// What the node loses that it names.
+    pub loss: Loss,
+    /// The slot's data page, where no other name stands in it. They are numbered from 0.
+    pub given_back: Option<u64>,
+}
+
+impl Removal {
+    ghost use Rattle.volume.specs.Deed.{RemovesName};
+
+    /// How many stores, flushes and fences the removal takes.
+    pub fn events(&self) -> u64
+        requires { self.now.loss.pages < 2 ^ 16 }
+        ensures { result ≡ events_of (RemovesName self.now) }
+    {
+        let pages = match self.given_back {
+            None => self.loss.pages,
+            Some(_) => self.loss.pages + 1,
+        };
+        COMMIT_EVENTS
+            + (SLOT_REST_EVENTS + WORD_EVENTS + FENCE_EVENTS)
+            + loss_events(pages, self.loss.goes)
+    }
+}
+
+// The events of a directory's new page, where it takes one.
+fn new_page_events(page: Option<u64>) -> u64
+    ensures { result ≡ events_of_new_page page }
+{
+    match page {
+        None => 0,
+        Some(_) => NEW_PAGE_EVENTS,
+    }
+}
+
+// The events by which so many pages lose their owners, and then the rest of their descriptors, with an inode that goes.
+fn loss_events(pages: u64, goes: bool) -> u64
+    requires { pages ≤ 2 ^ 16 }
+    ensures { result ≡ events_of_loss pages goes }
+{
+    let inode = if goes { INODE_EVENTS } else { 0 };
+    if pages > 0 {
+        let owners = pages * WORD_EVENTS + FENCE_EVENTS;
+        owners + (pages * DESCRIPTOR_REST_EVENTS + inode + FENCE_EVENTS)
+    } else if goes {
+        inode + FENCE_EVENTS
+    } else {
+        0
     }
 }
 
@@ -49,6 +146,10 @@ impl NewEntry {
 pub enum Action {
     /// Makes an entry and its node.
     Make(NewEntry),
+    /// Gives a file one more name.
+    Name(NewName),
+    /// Takes a name away, and its node where that was the last one.
+    Remove(Removal),
     /// Tells what the node of an inode is.
     Status(u64),
     /// Gives the names of the directory of an inode.
@@ -73,8 +174,7 @@ impl Model for Plan {
 }
 
 impl Plan {
-    ghost use Rattle.volume.specs.Prepared.{IsMaking};
-    ghost use Rattle.volume.specs.declared.plan.Action.TheVariants.{Make};
+    ghost use Rattle.volume.specs.Prepared.{IsMaking, IsNaming, IsRemoving};
 
     // The plan of an action.
     pub(crate) fn of(action: Action) -> Plan
@@ -93,11 +193,45 @@ impl Plan {
     /// The entry that the command makes. The plan is spent.
     pub fn into_entry(self) -> NewEntry
         requires { IsMaking self }
-        ensures { self ≡ Make result }
+        ensures { self ≡ Action.Make result }
     {
         match self.action {
             Action::Make(entry) => entry,
-            Action::Status(_) | Action::Names(_) | Action::Space => unreachable!(),
+            Action::Name(_)
+            | Action::Remove(_)
+            | Action::Status(_)
+            | Action::Names(_)
+            | Action::Space => unreachable!(),
+        }
+    }
+
+    /// The name that the command gives a file. The plan is spent.
+    pub fn into_name(self) -> NewName
+        requires { IsNaming self }
+        ensures { self ≡ Action.Name result }
+    {
+        match self.action {
+            Action::Name(link) => link,
+            Action::Make(_)
+            | Action::Remove(_)
+            | Action::Status(_)
+            | Action::Names(_)
+            | Action::Space => unreachable!(),
+        }
+    }
+
+    /// The name that the command takes away. The plan is spent.
+    pub fn into_removal(self) -> Removal
+        requires { IsRemoving self }
+        ensures { self ≡ Action.Remove result }
+    {
+        match self.action {
+            Action::Remove(removal) => removal,
+            Action::Make(_)
+            | Action::Name(_)
+            | Action::Status(_)
+            | Action::Names(_)
+            | Action::Space => unreachable!(),
         }
     }
 }
