@@ -19,10 +19,12 @@ use Rattle.volume.specs.declared.plan.NewEntry.{NewEntry}
 use Rattle.volume.specs.Planned.{IsPlace, IsEntryFor}
 use Rattle.image_counts.proofs.Inodes.{free_inode_law}
 use Rattle.image_counts.proofs.Tidied.{page_count_law, room_law}
-use Rattle.create_ops.specs.Making.{node_of, IsOpened, IsPlannedAt}
-use Rattle.create_ops.proofs.Opened
+use Rattle.entry_steps.specs.Steps.{IsOpened}
+use Rattle.create_ops.specs.Making.{node_of, IsPlannedAt}
+use Rattle.entry_steps.proofs.Opened
 use Rattle.create_ops.proofs.Placed
 use Rattle.create_ops.proofs.Plans
+use Rattle.entry_steps.proofs.Places
 
 -- an entry by its words, in a tidy image
 pub record HasEntryWords (P : ℕ) (I : List ℕ) (e : ℕ) (bytes : List ℕ) (t : ℕ) : Type 0 where
@@ -61,10 +63,10 @@ module _ (P : ℕ) (W : List ℕ) (state : State) (path : Route) (entry : NewEnt
   plan = Plans.for_entry P W state path entry at
 
   d_least : 1 ≤ entry.directory
-  d_least = Plans.from_one P W state path entry at
+  d_least = Places.from_one (Plans.naming P W state path entry at)
 
   d_most : entry.directory ≤ inodes_of P
-  d_most = Plans.within P W state path entry at
+  d_most = Places.within (Plans.naming P W state path entry at)
 
   pub i_least : 1 ≤ entry.inode
   i_least = let two = Plans.from_two P W state path entry at in omega (arith, two)
@@ -116,22 +118,22 @@ module _ (P : ℕ) (W : List ℕ) (state : State) (path : Route) (entry : NewEnt
 
   module _ (B I J : List ℕ) (opened : IsOpened P W B entry.directory entry.new_page) (made : MakesNode P B I (node_of entry.kind) entry.directory entry.slot entry.inode (words_of_name entry.name)) (commit : J ≡ committed P I entry.slot entry.inode) where
     B_whole : length B ≡ 512 * P
-    B_whole = Opened.opened_long P W B entry.directory (Plans.size P W state path entry at) (Plans.whole P W state path entry at) entry.new_page (Plans.takes P W state path entry at) opened ∙ Plans.whole P W state path entry at
+    B_whole = Opened.opened_long P W B entry.directory (Places.size (Plans.naming P W state path entry at)) (Places.whole (Plans.naming P W state path entry at)) entry.new_page (Places.takes (Plans.naming P W state path entry at)) opened ∙ Places.whole (Plans.naming P W state path entry at)
 
     pub after_kind : (x : ℕ) → 1 ≤ x → x ≤ inodes_of P → x ≢ entry.inode → inode_kind J x ≡ inode_kind W x
     unfolding inode_kind
     after_kind x some most other =
-        Placed.placed_kind P B I J entry.kind entry.directory entry.slot entry.inode (words_of_name entry.name) made commit B_whole (Plans.slot_within P W state path entry at) i_least plan.inode_within d_least d_most x some most other
-        ∙ Opened.opened_inode P W B entry.directory (Plans.size P W state path entry at) (Plans.whole P W state path entry at) entry.new_page (Plans.takes P W state path entry at) opened x 0 some most (omega arith)
+        Placed.placed_kind P B I J entry.kind entry.directory entry.slot entry.inode (words_of_name entry.name) made commit B_whole (Places.slot_within (Plans.naming P W state path entry at)) i_least plan.inode_within d_least d_most x some most other
+        ∙ Opened.opened_inode P W B entry.directory (Places.size (Plans.naming P W state path entry at)) (Places.whole (Plans.naming P W state path entry at)) entry.new_page (Places.takes (Plans.naming P W state path entry at)) opened x 0 some most (omega arith)
 
     pub after_kind_here : inode_kind J entry.inode ≢ 0
-    after_kind_here = Placed.placed_kind_here P B I J entry.kind entry.directory entry.slot entry.inode (words_of_name entry.name) made commit B_whole (Plans.slot_within P W state path entry at) i_least plan.inode_within d_least d_most
+    after_kind_here = Placed.placed_kind_here P B I J entry.kind entry.directory entry.slot entry.inode (words_of_name entry.name) made commit B_whole (Places.slot_within (Plans.naming P W state path entry at)) i_least plan.inode_within d_least d_most
 
     descriptor_same : (j f : ℕ) → j < data_pages_of P → f < 3 → word J (descriptor_word_of P j f) ≡ word B (descriptor_word_of P j f)
-    descriptor_same = Placed.placed_descriptor P B I J entry.kind entry.directory entry.slot entry.inode (words_of_name entry.name) made commit B_whole (Plans.slot_within P W state path entry at) i_least plan.inode_within d_least d_most
+    descriptor_same = Placed.placed_descriptor P B I J entry.kind entry.directory entry.slot entry.inode (words_of_name entry.name) made commit B_whole (Places.slot_within (Plans.naming P W state path entry at)) i_least plan.inode_within d_least d_most
 
     descriptor_old : (j f : ℕ) → j < data_pages_of P → f < 3 → entry.new_page ≢ Some j → word B (descriptor_word_of P j f) ≡ word W (descriptor_word_of P j f)
-    descriptor_old = Opened.opened_descriptor P W B entry.directory (Plans.size P W state path entry at) (Plans.whole P W state path entry at) entry.new_page (Plans.takes P W state path entry at) opened
+    descriptor_old = Opened.opened_descriptor P W B entry.directory (Places.size (Plans.naming P W state path entry at)) (Places.whole (Plans.naming P W state path entry at)) entry.new_page (Places.takes (Plans.naming P W state path entry at)) opened
 
     pub after_owner : (j : ℕ) → j < data_pages_of P → entry.new_page ≢ Some j → page_owner P J j ≡ page_owner P W j
     unfolding page_owner
@@ -145,14 +147,14 @@ module _ (P : ℕ) (W : List ℕ) (state : State) (path : Route) (entry : NewEnt
     unfolding page_owner
     after_new_owner j new =
         descriptor_same j 0 (new_in_range j new) (omega arith)
-        ∙ Opened.opened_owner P W B entry.directory (Plans.size P W state path entry at) (Plans.whole P W state path entry at) entry.new_page (Plans.takes P W state path entry at) opened j new
+        ∙ Opened.opened_owner P W B entry.directory (Places.size (Plans.naming P W state path entry at)) (Places.whole (Plans.naming P W state path entry at)) entry.new_page (Places.takes (Plans.naming P W state path entry at)) opened j new
 
     slot_same : (t f : ℕ) → f < 16 → t ≢ entry.slot → word J (slot_word_of P t f) ≡ word B (slot_word_of P t f)
-    slot_same = Placed.placed_slot P B I J entry.kind entry.directory entry.slot entry.inode (words_of_name entry.name) made commit B_whole (Plans.slot_within P W state path entry at) i_least plan.inode_within d_least d_most
+    slot_same = Placed.placed_slot P B I J entry.kind entry.directory entry.slot entry.inode (words_of_name entry.name) made commit B_whole (Places.slot_within (Plans.naming P W state path entry at)) i_least plan.inode_within d_least d_most
 
     slot_old : (t f : ℕ) → f < 16 → t ≢ entry.slot → entry.new_page ≢ Some (page_of_slot t) → word J (slot_word_of P t f) ≡ word W (slot_word_of P t f)
     slot_old t f lt other old =
-        slot_same t f lt other ∙ Opened.opened_slot P W B entry.directory (Plans.size P W state path entry at) (Plans.whole P W state path entry at) entry.new_page (Plans.takes P W state path entry at) opened t f lt old
+        slot_same t f lt other ∙ Opened.opened_slot P W B entry.directory (Places.size (Plans.naming P W state path entry at)) (Places.whole (Plans.naming P W state path entry at)) entry.new_page (Places.takes (Plans.naming P W state path entry at)) opened t f lt old
 
     pub after_number : (t : ℕ) → t ≢ entry.slot → entry.new_page ≢ Some (page_of_slot t) → slot_inode P J t ≡ slot_inode P W t
     unfolding slot_inode
@@ -167,21 +169,21 @@ module _ (P : ℕ) (W : List ℕ) (state : State) (path : Route) (entry : NewEnt
     pub after_new_number : (t : ℕ) → t ≢ entry.slot → entry.new_page ≡ Some (page_of_slot t) → slot_inode P J t ≡ 0
     unfolding slot_inode
     after_new_number t other new =
-        slot_same t 0 (omega arith) other ∙ Opened.opened_zero P W B entry.directory (Plans.size P W state path entry at) (Plans.whole P W state path entry at) entry.new_page (Plans.takes P W state path entry at) opened t 0 (omega arith) new
+        slot_same t 0 (omega arith) other ∙ Opened.opened_zero P W B entry.directory (Places.size (Plans.naming P W state path entry at)) (Places.whole (Plans.naming P W state path entry at)) entry.new_page (Places.takes (Plans.naming P W state path entry at)) opened t 0 (omega arith) new
 
     pub number_here : slot_inode P J entry.slot ≡ entry.inode
-    number_here = Placed.placed_number P B I J entry.kind entry.directory entry.slot entry.inode (words_of_name entry.name) made commit B_whole (Plans.slot_within P W state path entry at) i_least plan.inode_within d_least d_most
+    number_here = Placed.placed_number P B I J entry.kind entry.directory entry.slot entry.inode (words_of_name entry.name) made commit B_whole (Places.slot_within (Plans.naming P W state path entry at)) i_least plan.inode_within d_least d_most
 
     pub name_here : IsName entry.name → IsBytes entry.name → slot_name P J entry.slot ≡ entry.name
     unfolding slot_name
     name_here is_name of_bytes =
-        ap name_in_words (Placed.placed_name P B I J entry.kind entry.directory entry.slot entry.inode (words_of_name entry.name) made commit B_whole (Plans.slot_within P W state path entry at) i_least plan.inode_within d_least d_most)
+        ap name_in_words (Placed.placed_name P B I J entry.kind entry.directory entry.slot entry.inode (words_of_name entry.name) made commit B_whole (Places.slot_within (Plans.naming P W state path entry at)) i_least plan.inode_within d_least d_most)
         ∙ name_in_words-words_of_name entry.name is_name of_bytes
 
     pub owner_here : slot_owner P J entry.slot ≡ entry.directory
     unfolding slot_owner
     owner_here = elim (slot_by entry.new_page plan.place) [
-      | inl (none, here, old) ↦ after_owner (page_of_slot entry.slot) (page_of_slot_below P entry.slot (Plans.slot_within P W state path entry at)) (old (page_of_slot entry.slot)) ∙ here
+      | inl (none, here, old) ↦ after_owner (page_of_slot entry.slot) (page_of_slot_below P entry.slot (Places.slot_within (Plans.naming P W state path entry at))) (old (page_of_slot entry.slot)) ∙ here
       | inr new ↦ after_new_owner (page_of_slot entry.slot) new
     ]
 
@@ -235,9 +237,9 @@ module _ (P : ℕ) (W : List ℕ) (state : State) (path : Route) (entry : NewEnt
 
       pub entry_here : IsName entry.name → IsBytes entry.name → IsEntryOf P J entry.directory entry.name entry.slot
       entry_here is_name of_bytes = entry_by_words P J after tidy reads entry.directory entry.name entry.slot (record {
-        reached = reached_after entry.directory d_least d_most (Plans.holds P W state path entry at).0;
-        directory = after_kind entry.directory d_least d_most (Plans.other P W state path entry at) ∙ (Plans.holds P W state path entry at).1;
-        in_range = Plans.slot_within P W state path entry at;
+        reached = reached_after entry.directory d_least d_most (Places.holds (Plans.naming P W state path entry at)).0;
+        directory = after_kind entry.directory d_least d_most (Plans.other P W state path entry at) ∙ (Places.holds (Plans.naming P W state path entry at)).1;
+        in_range = Places.slot_within (Plans.naming P W state path entry at);
         owner = owner_here;
         number = λ none. let two = i_least in omega (arith, two, sym number_here ∙ none);
         name = name_here is_name of_bytes;

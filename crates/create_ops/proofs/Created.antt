@@ -1,9 +1,8 @@
 -- What a crash leaves while an entry is made, from the laws of images.
-use Rattle.std.proofs.Common.{◌≡◌, ◌≢◌, ◌⊎◌, inl, inr, ℕ, ◌+◌, ◌*◌, ◌<◌, ◌≤◌, List, length, reverse, slice_index, set, Option, Some, None, refl, sym, ap, subst, ◌∙◌, arith}
+use Rattle.std.proofs.Common.{◌≡◌, ◌≢◌, inl, inr, ℕ, ◌+◌, ◌*◌, List, reverse, Option, Some, None, refl, sym, ap, subst, ◌∙◌, arith}
 use Rattle.pm_trait.specs.Device.{Mix}
-use Rattle.layout.specs.Geometry.{IsVolumeSize, inodes_of, page_of_slot, slot_word_of}
+use Rattle.layout.specs.Geometry.{page_of_slot}
 use Rattle.layout.proofs.GeometryLaws.{page_of_entry}
-use Rattle.layout.specs.Fields.{word}
 use Rattle.layout.specs.Name.{IsName, IsBytes, words_of_name}
 use Rattle.tree_model.specs.PathText.{Route}
 use Rattle.tree_model.specs.Tree.{Tree, id_at, parent}
@@ -15,11 +14,7 @@ use Rattle.tree_model.specs.declared.reply.Refusal.{Refusal}
 use Rattle.image_reading.specs.Reading.{Reads}
 use Rattle.image_laws.specs.Commits.{Commits}
 use Rattle.image_laws.specs.Create.{IsEmptyNode, MakesNode, owned, committed}
-use Rattle.image_laws.specs.Frame.{SameMeaning}
 use Rattle.image_laws.specs.Quiet.{IsMix}
-use Rattle.inode_state.specs.Inode.{fields_at}
-use Rattle.inode_state.proofs.InodeLaws.{same_fields_at}
-use Rattle.layout.specs.declared.fields.InodeFields.{InodeFields}
 use Rattle.layout.specs.declared.kinds.NodeKind.{NodeKind}
 use Rattle.layout.specs.declared.kinds.NodeKind.TheVariants.{File as AFile, Directory as ADirectory}
 use Rattle.volume.specs.declared.plan.NewEntry.{NewEntry}
@@ -28,19 +23,16 @@ use Rattle.volume.specs.Crashes.{MayReadAs}
 use Rattle.volume.specs.Prepared.{making}
 use Rattle.image_laws.proofs.Creates.{create_law}
 use Rattle.image_laws.proofs.PageCreates.{new_page_law}
-use Rattle.create_ops.specs.Making.{node_of, room_of, MayTake, IsParent, IsReady, IsOpened, IsPlannedAt}
-use Rattle.create_ops.proofs.Moments.{is_mix}
+use Rattle.entry_steps.specs.Steps.{IsOpened}
+use Rattle.create_ops.specs.Making.{node_of, room_of, IsReady, IsPlannedAt}
+use Rattle.entry_steps.proofs.Moments.{is_mix}
 use Rattle.create_ops.proofs.Plans
-use Rattle.create_ops.proofs.Opened
+use Rattle.entry_steps.proofs.Places
+use Rattle.entry_steps.proofs.Opened
 
 empty_node : (kind : NodeKind) → IsEmptyNode (node_of kind)
 empty_node AFile = refl
 empty_node ADirectory = tt
-
--- what was committed, by the numbers that the entry has
-pub committed_is : (P : ℕ) (I J : List ℕ) (slot inode pages s i : ℕ) → pages ≡ P → s ≡ slot → i ≡ inode → J ≡ set I (slot_word_of pages s 0) i → J ≡ committed P I slot inode
-committed_is P I J slot inode pages s i volume same number is =
-    is ∙ ap (λ (p : ℕ). set I (slot_word_of p s 0) i) volume ∙ ap (λ (t : ℕ). set I (slot_word_of P t 0) i) same ∙ ap (λ (n : ℕ). set I (slot_word_of P slot 0) n) number
 
 -- the step of an accepted command makes the node
 tree_by : (P : ℕ) (state : State) (path : Route) (kind : NodeKind) → refusal_of P state.tree state.room (making kind path) ≡ None
@@ -70,63 +62,20 @@ module _ (P : ℕ) (W : List ℕ) (state : State) (path : Route) (entry : NewEnt
       let clash : ◌≡◌ {A = Option ℕ} None (Some entry.inode) = sym may.place.absent ∙ there in
       cc
 
-  -- what means the same may be left
-  pub may_same : (image : List ℕ) → SameMeaning P W image → MayReadAs P state (Some (making entry.kind path)) image
-  may_same image same = record { sound = same.coherent; tree = state.tree; reads = same.reads state.tree at.reads.tree; allowed = inl refl }
-
   module _ (B : List ℕ) (opened : IsOpened P W B entry.directory entry.new_page) where
-    may_take : MayTake P W entry.new_page
-    may_take = Plans.takes P W state path entry at
-
-    size : IsVolumeSize P
-    size = Plans.size P W state path entry at
-
-    whole : length W ≡ 512 * P
-    whole = Plans.whole P W state path entry at
-
-    inode_words : (x : ℕ) → 1 ≤ x → x ≤ inodes_of P → fields_at B x ≡ fields_at W x
-    unfolding word
-    inode_words x some most = same_fields_at x W B (λ a is.
-        let lt = is.is_field in
-        ap (λ (k : ℕ). slice_index B k) is.at
-        ∙ Opened.opened_inode P W B entry.directory size whole entry.new_page may_take opened x is.field some most (omega (arith, lt))
-        ∙ ap (λ (k : ℕ). slice_index W k) (sym is.at))
-
-    parent_ready : IsParent P B entry.directory
-    parent_ready =
-        let parent = Plans.parent_ready P W state path entry at in
-        let same = inode_words entry.directory parent.least parent.most in
-        let links = ap (λ (f : InodeFields). f.links) same in
-        let room = parent.countable in
-        record {
-          least = parent.least;
-          most = parent.most;
-          live = subst (λ (f : InodeFields). ((f.kind ≡ 1) ⊎ (f.kind ≡ 2)) × (f.own ≡ entry.directory)) (sym same) parent.live;
-          countable = omega (arith, links, room);
-        }
-
-    slot_zero : (new_page : Option ℕ) → entry.new_page ≡ new_page → IsPlace P W entry.directory entry.slot new_page → (f : ℕ) → f < 16 → word B (slot_word_of P entry.slot f) ≡ 0
-    slot_zero None is place f lt =
-        Opened.opened_slot P W B entry.directory size whole entry.new_page may_take opened entry.slot f lt (λ e. let clash : ◌≡◌ {A = Option ℕ} None (Some (page_of_slot entry.slot)) = sym is ∙ e in cc)
-        ∙ Plans.vacant_zero P W state path entry at place.vacant f lt
-    slot_zero (Some page) is place f lt =
-        Opened.opened_zero P W B entry.directory size whole entry.new_page may_take opened entry.slot f lt (is ∙ ap (λ (j : ℕ). Some j) (sym (slot_page page entry.slot place.slot_is)))
-      where
-        slot_page : (page slot : ℕ) → slot ≡ 32 * page → page_of_slot slot ≡ page
-        slot_page page slot e = let plain : slot ≡ 32 * page + 0 = omega (arith, e) in ap (λ (s : ℕ). page_of_slot s) plain ∙ page_of_entry page 0 (omega arith)
-
     pub ready : IsReady P B entry
     ready =
         let for_entry = Plans.for_entry P W state path entry at in
+        let naming = Plans.naming P W state path entry at in
         let two = Plans.from_two P W state path entry at in
         record {
-          whole = Opened.opened_long P W B entry.directory size whole entry.new_page may_take opened ∙ whole;
+          whole = Places.opened_whole naming B opened;
           least = omega (arith, two);
           most = for_entry.inode_within;
-          inode = inode_words entry.inode (omega (arith, two)) for_entry.inode_within ∙ Plans.inode_free P W state path entry at;
-          slot_in_range = Plans.slot_within P W state path entry at;
-          slot = Plans.zero_slot P B entry.slot (slot_zero entry.new_page refl for_entry.place);
-          parent = parent_ready;
+          inode = Places.opened_fields naming B opened entry.inode (omega (arith, two)) for_entry.inode_within ∙ Plans.inode_free P W state path entry at;
+          slot_in_range = Places.slot_within naming;
+          slot = Places.slot_free naming B opened;
+          parent = Places.opened_linkable naming B opened entry.directory (Places.linkable at.tidy at.reads entry.directory (Places.holds naming).0);
           other = Plans.other P W state path entry at;
         }
 
@@ -139,8 +88,8 @@ module _ (P : ℕ) (W : List ℕ) (state : State) (path : Route) (entry : NewEnt
           = subst (λ (l : List ℕ). MakesNode P l I node entry.directory entry.slot entry.inode (words_of_name entry.name)) is made in
           subst (λ (l : List ℕ). Commits P W l I (committed P I entry.slot entry.inode) (λ (T : Tree). with_new T path entry.inode node) (room_of entry None)) (sym is)
           (create_law P W I (reverse (parent path)) path node entry.directory entry.slot entry.inode (words_of_name entry.name)
-          (Plans.can P W state path entry at is_name of_bytes) (Plans.vacant P W state path entry at place.vacant) (empty_node entry.kind) made_here
-          (Plans.path_reversed P W state path entry at is_name of_bytes))
+          (Plans.can P W state path entry at is_name of_bytes) (Places.vacant (Plans.naming P W state path entry at) place.vacant) (empty_node entry.kind) made_here
+          (Places.path_reversed (Plans.naming P W state path entry at) is_name of_bytes))
       created_by (Some page) place (A, page_made, is) =
           let node = node_of entry.kind in
           let made_here : MakesNode P (owned P A page entry.directory) I node entry.directory entry.slot entry.inode (words_of_name entry.name)
@@ -149,13 +98,13 @@ module _ (P : ℕ) (W : List ℕ) (state : State) (path : Route) (entry : NewEnt
           subst (λ (l : List ℕ). Commits P W l I (committed P I entry.slot entry.inode) (λ (T : Tree). with_new T path entry.inode node) (room_of entry (Some page))) (sym is)
           ((new_page_law P W A I (reverse (parent path)) path node entry.directory page entry.slot entry.inode (words_of_name entry.name)
           (Plans.can P W state path entry at is_name of_bytes) place.page_is.free (ap (λ (s : ℕ). page_of_slot s) plain ∙ page_of_entry page 0 (omega arith)) (empty_node entry.kind) page_made made_here
-          (Plans.path_reversed P W state path entry at is_name of_bytes)).1)
+          (Places.path_reversed (Plans.naming P W state path entry at) is_name of_bytes)).1)
 
       pub created : Commits P W B I (committed P I entry.slot entry.inode) (λ (T : Tree). with_new T path entry.inode (node_of entry.kind)) (room_of entry entry.new_page)
       created = created_by entry.new_page (Plans.for_entry P W state path entry at).place opened
 
       pub writing : (image : List ℕ) → Mix B I image → MayReadAs P state (Some (making entry.kind path)) image
-      writing image mix = may_same image (created.before image (is_mix B I image mix))
+      writing image mix = Places.may_same at.tidy at.reads (making entry.kind path) image (created.before image (is_mix B I image mix))
 
       -- and it still reads as the tree before
       pub writing_reads : (image : List ℕ) → Mix B I image → Reads P image state.tree
@@ -173,7 +122,7 @@ module _ (P : ℕ) (W : List ℕ) (state : State) (path : Route) (entry : NewEnt
 
       pub committing : (J : List ℕ) → J ≡ committed P I entry.slot entry.inode → (image : List ℕ) → Mix I J image → MayReadAs P state (Some (making entry.kind path)) image
       committing J is image mix = elim (created.commit image (subst (λ (l : List ℕ). IsMix I l image) is (is_mix I J image mix))) [
-        | inl same ↦ may_same image same
+        | inl same ↦ Places.may_same at.tidy at.reads (making entry.kind path) image same
         | inr new ↦ subst (λ (l : List ℕ). MayReadAs P state (Some (making entry.kind path)) l) (sym new)
             (record { sound = created.tidy.coherent; tree = (step P state.tree state.room (making entry.kind path)).tree; reads = new_reads; allowed = inr (inl refl) })
       ]

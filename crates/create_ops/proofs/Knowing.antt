@@ -27,12 +27,14 @@ use Rattle.volume.specs.Entered.{MayEnterName, IsFreePlace, pages_of_option, wit
 use Rattle.volume.specs.Planned.{IsPlace}
 use Rattle.volume.specs.Stands.{Knows, KnowsNodes}
 use Rattle.image_counts.proofs.Inodes.{inode_count_law}
-use Rattle.create_ops.specs.Making.{node_of, IsOpened, IsPlannedAt}
-use Rattle.create_ops.proofs.Lists.{contains_at, contains_last, contains_before, contains_either, distinct_with}
+use Rattle.entry_steps.specs.Steps.{IsOpened}
+use Rattle.create_ops.specs.Making.{node_of, IsPlannedAt}
+use Rattle.entry_steps.proofs.Lists.{contains_at, contains_last, contains_before, contains_either, distinct_with}
 use Rattle.create_ops.proofs.After
 use Rattle.create_ops.proofs.Entering.{HasEntered}
-use Rattle.create_ops.proofs.Opened
+use Rattle.entry_steps.proofs.Opened
 use Rattle.create_ops.proofs.Plans
+use Rattle.entry_steps.proofs.Places
 
 -- ---- lists of pages
 
@@ -85,10 +87,10 @@ module _ (P : ℕ) (W : List ℕ) (state : State) (path : Route) (entry : NewEnt
   data_pages = subst (λ (p : ℕ). (j : ℕ) → j < data_pages_of p → IsFree volume.data_pages j ↔ (page_owner p W j ≡ 0)) size knows.data_pages
 
   d_least : 1 ≤ entry.directory
-  d_least = Plans.from_one P W state path entry at
+  d_least = Places.from_one (Plans.naming P W state path entry at)
 
   d_most : entry.directory ≤ inodes_of P
-  d_most = Plans.within P W state path entry at
+  d_most = Places.within (Plans.naming P W state path entry at)
 
   pub i_least : 1 ≤ entry.inode
   i_least = After.i_least P W state path entry at
@@ -103,11 +105,11 @@ module _ (P : ℕ) (W : List ℕ) (state : State) (path : Route) (entry : NewEnt
   free_place None place = tt
   free_place (Some page) place = (data_pages page place.page_is.free.0).1 place.page_is.free.1
 
-  pub may_enter : IsName entry.name → IsBytes entry.name → MayEnterName volume entry.directory entry.name entry.new_page
-  may_enter is_name of_bytes = record {
+  pub may_enter : MayEnterName volume entry.directory entry.name entry.new_page
+  may_enter = record {
     least = d_least;
     most = let within = d_most in omega (arith, within, nodes.each_inode);
-    absent = λ old has same. Plans.absent P W state path entry at is_name of_bytes old.slot
+    absent = λ old has same. Places.absent (Plans.naming P W state path entry at) old.slot
         (subst (λ (bytes : List ℕ). IsEntryOf P W entry.directory bytes old.slot) (same ∙ (After.plan P W state path entry at).name_is)
         ((nodes.entries entry.directory old.slot old.name d_least d_most).0 has));
     page = free_place entry.new_page (After.plan P W state path entry at).place;
@@ -215,7 +217,7 @@ module _ (P : ℕ) (W : List ℕ) (state : State) (path : Route) (entry : NewEnt
     not_file : HasBytes J entry.directory → ⊥
     not_file bytes =
         let kind = After.after_kind P W state path entry at B I J opened made commit entry.directory d_least d_most (Plans.other P W state path entry at) in
-        let two = (Plans.holds P W state path entry at).1 in
+        let two = (Places.holds (Plans.naming P W state path entry at)).1 in
         omega (arith, kind, two, bytes)
 
     offsets : (x k page : ℕ) → Reached P J x → HasBytes J x → slice_get (pages_of new.index x) k ≡ Some page → page_offset P J page ≡ k

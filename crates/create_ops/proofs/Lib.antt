@@ -1,15 +1,8 @@
-pub mod Pages
 pub mod Nodes
-pub mod Moments
-pub mod Hanging
-pub mod Opening
-pub mod Counts
 pub mod Plans
-pub mod Opened
 pub mod Created
 pub mod Rooms
 pub mod Placed
-pub mod Lists
 pub mod After
 pub mod Entering
 pub mod Knowing

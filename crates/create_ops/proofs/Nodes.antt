@@ -3,9 +3,9 @@ use Rattle.std.proofs.Common.{◌≡◌, ◌⊎◌, inl, inr, ℕ, zero, suc, �
 use Rattle.std.specs.Prelude.{Option}
 use Rattle.pm_trait.specs.Trail.{Trail}
 use Rattle.pm_trait.specs.Device.{IsInterval, IsFlushed, IsClean, IsSettledAt}
-use Rattle.pm_trait.specs.declared.event.Event.TheVariants.{Store, Flush}
+use Rattle.pm_trait.specs.declared.event.Event.TheVariants.{Flush}
 use Rattle.pm_trait.specs.DeviceView.{DeviceView, Performs, Stores}
-use Rattle.pm_trait.proofs.DeviceViewLaws.{store_stores, flush_stores, stores_flushed}
+use Rattle.pm_trait.proofs.DeviceViewLaws.{flush_stores, stores_flushed}
 use Rattle.pm_trait.proofs.DeviceLaws.{interval_keeps, interval_length, interval_joined, clean_stays, flushed_stays}
 use Rattle.layout.specs.declared.fields.InodeFields.{InodeFields}
 use Rattle.layout.specs.declared.fields.SlotFields.{SlotFields}
@@ -13,8 +13,7 @@ use Rattle.layout.specs.Geometry.{IsVolumeSize, inode_word_of, slot_word_of}
 use Rattle.layout.specs.Fields.{word, inode_kind, inode_links, inode_size, inode_own, slot_words}
 use Rattle.layout.specs.Name.{words_of_name}
 use Rattle.fence_token.specs.Objects.{StandsInFlight}
-use Rattle.fence_token.specs.Flushes.{FlushesLines}
-use Rattle.fence_token.proofs.ObjectLaws.{lines_stores, stands_in_flight_stays}
+use Rattle.fence_token.proofs.ObjectLaws.{stands_in_flight_stays}
 use Rattle.inode_state.specs.Inode.{InodeView, IsInodeWord, fields_at}
 use Rattle.inode_state.proofs.InodeLaws.{same_fields_at, inode_is_local, inode_words_apart, inode_word_in_volume}
 use Rattle.dentry_state.specs.States.{free_fields as free_slot, named_fields}
@@ -24,31 +23,13 @@ use Rattle.layout.specs.declared.kinds.NodeKind.{NodeKind}
 use Rattle.layout.specs.declared.kinds.NodeKind.TheVariants.{File as AFile, Directory as ADirectory}
 use Rattle.volume.specs.declared.plan.NewEntry.{NewEntry}
 use Rattle.image_laws.specs.Create.{IsAmong, IsMadeWord, MakesNode, node_words, parent_links}
-use Rattle.create_ops.specs.Making.{node_of, fields_of, IsParentWord, IsParent, IsReady}
+use Rattle.entry_steps.specs.Steps.{IsLinkable}
+use Rattle.create_ops.specs.Making.{node_of, fields_of, IsParentWord, IsReady}
 
 -- ---- stores and the flush after them
 
 pub inode_stored : {a b c : DeviceView} {line : ℕ} (m n : ℕ) → n ≡ m → Stores (IsInodeWord n) a b 4 → Performs b c (Flush line ∷ []) → Stores (IsInodeWord m) a c 5
 inode_stored {a} {c = c} m n same run flush = subst (λ (k : ℕ). Stores (IsInodeWord k) a c 5) same (stores_flushed run (flush_stores flush))
-
-pub links_stored : {a b c : DeviceView} {value line : ℕ} (m n : ℕ) → n ≡ m → Performs a b (Store (inode_word_of n 1) value ∷ []) → Performs b c (Flush line ∷ []) → Stores (λ word. word ≡ inode_word_of m 1) a c 2
-links_stored {a} {c = c} m n same stored flush = subst (λ (k : ℕ). Stores (λ word. word ≡ inode_word_of k 1) a c 2) same (stores_flushed (store_stores stored) (flush_stores flush))
-
-pub name_stored : {a b c : DeviceView} {line lines : ℕ} (P s : ℕ) (dentry : DentryView) → dentry.pages ≡ P → dentry.slot ≡ s → lines ≡ 2 → Stores (IsNameWord dentry.pages dentry.slot) a b 14 → FlushesLines b c line lines → Stores (IsNameWord P s) a c 16
-name_stored {a} {c = c} {lines = lines} P s dentry pages slot both run flushes =
-    subst (λ (count : ℕ). Stores (IsNameWord P s) a c (14 + count)) both
-    (subst (λ (p : ℕ). Stores (IsNameWord p s) a c (14 + lines)) pages (subst (λ (k : ℕ). Stores (IsNameWord dentry.pages k) a c (14 + lines)) slot (stores_flushed run (lines_stores flushes))))
-
--- ---- the commit
-
-pub commit_flushed : {trail : Option Trail} (P Q s t : ℕ) → Q ≡ P → t ≡ s → ((word : ℕ) → IsSlotWord Q t word → IsFlushed trail word) → (word : ℕ) → word ≡ slot_word_of P s 0 → IsFlushed trail word
-commit_flushed P Q s t volume slot flushed word is =
-    let own : IsSlotWord P s word = record { field = 0; is_field = omega arith; at = is } in
-    flushed word (subst (λ (k : ℕ). IsSlotWord k t word) (sym volume) (subst (λ (k : ℕ). IsSlotWord P k word) (sym slot) own))
-
--- the store of the slot's number, and its flush
-pub slot_stored : {a b c : DeviceView} {word value line lines : ℕ} → lines ≡ 1 → Performs a b (Store word value ∷ []) → FlushesLines b c line lines → Stores (λ other. other ≡ word) a c 2
-slot_stored {a} {c = c} {word = word} one stored flushes = subst (λ (count : ℕ). Stores (λ other. other ≡ word) a c (1 + count)) one (stores_flushed (store_stores stored) (lines_stores flushes))
 
 -- ---- the kind of the node
 
@@ -146,7 +127,7 @@ module _ (P : ℕ) (entry : NewEntry) {a : List ℕ} {ta : Option Trail} (size :
       parent_same : fields_at c entry.directory ≡ fields_at a entry.directory
       parent_same = same_fields_at entry.directory a c (λ x is. interval_keeps x two (parent_off_name x is) ∙ interval_keeps x one (parent_apart x is))
 
-      pub parent_still : IsParent P c entry.directory
+      pub parent_still : IsLinkable P c entry.directory
       parent_still =
           let links = ap (λ (f : InodeFields). f.links) parent_same in
           let room = ready.parent.countable in

@@ -1,9 +1,8 @@
 -- The room after an entry is the one that the step of its command leaves.
-use Rattle.std.proofs.Common.{◌≡◌, ◌≢◌, ℕ, ◌*◌, ◌==◌, true, false, Option, Some, None, is_some, refl, sym, ap, subst, ◌∙◌, List, arith}
-use Rattle.std.proofs.lemmas.Bool.Decides.{nat_tests}
+use Rattle.std.proofs.Common.{◌≡◌, ℕ, false, Option, Some, None, refl, sym, ap, subst, ◌∙◌, List}
 use Rattle.tree_model.specs.PathText.{Route}
-use Rattle.tree_model.specs.Tree.{Tree, IsRoom, name_count, pages_in}
-use Rattle.tree_model.specs.Step.{is_full, room_after, tree_after, with_new, least_free_id, refusal_of, RoomAfter}
+use Rattle.tree_model.specs.Tree.{Tree, IsRoom}
+use Rattle.tree_model.specs.Step.{room_after, tree_after, with_new, least_free_id, refusal_of, RoomAfter}
 use Rattle.tree_model.specs.Run.{State}
 use Rattle.tree_model.specs.declared.command.Command.{Command}
 use Rattle.tree_model.specs.declared.reply.Refusal.{Refusal}
@@ -16,6 +15,7 @@ use Rattle.volume.specs.Prepared.{making}
 use Rattle.image_laws.proofs.RoomAfter.{room_after_law}
 use Rattle.create_ops.specs.Making.{node_of, room_of, IsPlannedAt}
 use Rattle.create_ops.proofs.Plans
+use Rattle.entry_steps.proofs.Places
 
 -- a row for each kind
 after_is : (kind : NodeKind) (id : ℕ) (T : Tree) (path : Route) → tree_after id T (making kind path) ≡ with_new T path id (node_of kind)
@@ -26,34 +26,19 @@ command_is : (kind : NodeKind) (path : Route) → making_node (node_of kind) pat
 command_is AFile path = refl
 command_is ADirectory path = refl
 
-is_same : (n m : ℕ) → n ≡ m → n == m ≡ true
-is_same n m e = grind (arith, nat_tests)
-
-not_equal : (n m : ℕ) → (n ≡ m → ⊥) → n == m ≡ false
-not_equal n m e = let apart : n ≢ m = e in grind (arith, nat_tests)
-
 module _ (P : ℕ) (W : List ℕ) (state : State) (path : Route) (entry : NewEntry) (at : IsPlannedAt P W state path entry) where
-  -- the directory is full where the name needs a new page, and only there
-  full_by : (new_page : Option ℕ) → IsPlace P W entry.directory entry.slot new_page → is_full state.tree state.room entry.directory ≡ is_some new_page
-  full_by None place =
-      let rooms = Plans.room_words P W state path entry at in
-      not_equal (name_count state.tree entry.directory) (32 * pages_in state.room entry.directory) (λ full. rooms.full.0 full entry.slot place.vacant.page place.vacant.vacant)
-  full_by (Some page) place =
-      let rooms = Plans.room_words P W state path entry at in
-      is_same (name_count state.tree entry.directory) (32 * pages_in state.room entry.directory) (rooms.full.1 (λ s is none. place.full s (record { page = is; vacant = none })))
-
   after_command : HasRoomAfter state.tree state.room (node_of entry.kind) path entry.directory entry.inode
   after_command = room_after_law state.tree state.room (node_of entry.kind) path entry.directory entry.inode (record {
-    formed = (Plans.volume_state P W state path entry at).tree;
-    fits = (Plans.volume_state P W state path entry at).room;
+    formed = (Places.volume_state (Plans.naming P W state path entry at)).tree;
+    fits = (Places.volume_state (Plans.naming P W state path entry at)).room;
     above = (Plans.for_entry P W state path entry at).directory_is;
-    directory = Plans.is_holder P W state path entry at;
+    directory = Places.is_holder (Plans.naming P W state path entry at);
     absent = Plans.not_there P W state path entry at;
   })
 
   room_by : (new_page : Option ℕ) → IsPlace P W entry.directory entry.slot new_page → room_after entry.inode state.tree state.room (making_node (node_of entry.kind) path) false ≡ room_of entry new_page state.room
-  room_by None place = after_command.not_full false (full_by None place)
-  room_by (Some page) place = after_command.full false (full_by (Some page) place)
+  room_by None place = after_command.not_full false (Places.full_by (Plans.naming P W state path entry at) None place)
+  room_by (Some page) place = after_command.full false (Places.full_by (Plans.naming P W state path entry at) (Some page) place)
 
   pub room_is : room_of entry entry.new_page state.room ≡ room_after (least_free_id state.tree) state.tree state.room (making entry.kind path) false
   room_is =

@@ -1,33 +1,13 @@
 -- Words of a device of zeros, and one that has an empty root.
 use Rattle.std.proofs.Common.{◌≡◌, inr, ℕ, ◌+◌, ◌-◌, ◌^◌, ◌<◌, ◌≤◌, List, [], ◌∷◌, ◌++◌, length, slice_index, replicate, refl, ◌∙◌, ap, subst, sym, arith, length-append}
 use Rattle.std.proofs.lemmas.List.{get_or-replicate, get_or_append_left, get_or-append_right, length-replicate}
-use Rattle.layout.specs.Geometry.{inodes_of, inode_pages_of, descriptor_pages_of, data_pages_of, first_data_word_of, descriptor_word_of, inode_word_of, slot_word_of, slots_of}
-use Rattle.layout.proofs.GeometryLaws.{descriptor_word_below}
-use Rattle.layout.specs.Fields.{word, inode_kind, inode_links, inode_size, inode_own, page_owner, page_kind, page_offset}
-use Rattle.page_state.specs.States.{IsFree}
-use Rattle.page_state.specs.Page.{descriptor_of}
-use Rattle.page_state.proofs.PageLaws.{same_descriptor_fields}
+use Rattle.layout.specs.Geometry.{inodes_of, inode_pages_of, descriptor_pages_of, data_pages_of, first_data_word_of, inode_word_of, slot_word_of, slots_of}
+use Rattle.layout.specs.Fields.{word, inode_kind, inode_links, inode_size, inode_own}
 use Rattle.inode_state.specs.States.{IsLive}
 use Rattle.inode_state.specs.Inode.{fields_at}
 use Rattle.volume.specs.declared.plan.NewEntry.{NewEntry}
 use Rattle.create_ops.specs.Making.{IsReady}
-use Rattle.create_ops.proofs.Plans.{zero_inode, zero_slot}
-
--- a word among the first, which are 0
-zero_word : (words zeros rest : List ℕ) (count w : ℕ) → words ≡ zeros ++ rest → zeros ≡ replicate count 0 → w < count → slice_index words w ≡ 0
-zero_word words zeros rest count w joined are before =
-    let long : length zeros ≡ count = ap length are ∙ length-replicate count 0 in
-    ap (λ (l : List ℕ). slice_index l w) joined ∙ get_or_append_left zeros rest 0 w (omega (arith, long, before))
-    ∙ ap (λ (l : List ℕ). slice_index l w) are ∙ get_or-replicate count w 0 0 before
-
-pub free_page : (volume_pages count page : ℕ) (words zeros rest : List ℕ) → page < data_pages_of volume_pages → first_data_word_of volume_pages ≡ count
-    → words ≡ zeros ++ rest → zeros ≡ replicate count 0 → IsFree (descriptor_of volume_pages words page)
-unfolding page_owner page_kind page_offset word
-free_page volume_pages count page words zeros rest in_range first joined are =
-    let at : (field : ℕ) → field < 8 → slice_index words (descriptor_word_of volume_pages page field) ≡ 0 = λ field few.
-    let below = descriptor_word_below volume_pages page field in_range few in
-    zero_word words zeros rest count (descriptor_word_of volume_pages page field) joined are (omega (arith, below, first)) in
-    same_descriptor_fields (descriptor_of volume_pages words page) (record { owner = 0; kind = 0; offset = 0 }) (at 0 (omega arith)) (at 1 (omega arith)) (at 2 (omega arith))
+use Rattle.entry_steps.proofs.Zeros.{zero_inode, zero_slot, sixteen_pages}
 
 four_inodes : inodes_of 16 ≡ 4
 unfolding inodes_of
@@ -36,10 +16,6 @@ four_inodes = refl
 all_slots : slots_of 16 ≡ 416
 unfolding slots_of data_pages_of descriptor_pages_of inode_pages_of inodes_of
 all_slots = refl
-
-pub sixteen_pages : first_data_word_of 16 ≡ 1536
-unfolding first_data_word_of descriptor_pages_of inode_pages_of inodes_of
-sixteen_pages = refl
 
 -- ---- the root's inode among zeros
 

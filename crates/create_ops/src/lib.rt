@@ -4,6 +4,5 @@
 mod calls;
 mod make;
 mod node;
-mod page;
 
 pub use calls::{apply_create, apply_mkdir};

@@ -1,5 +1,6 @@
 // A directory made in the root, on a volume of 16 pages that has no more than the root's inode.
 use super::*;
+use layout::Name;
 use pm_memory::RamPm;
 use std::test::Fail;
 

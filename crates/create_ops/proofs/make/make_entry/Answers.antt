@@ -9,32 +9,34 @@ use Rattle.volume.specs.Crashes.{MayReadAs}
 use Rattle.volume.specs.Deed.{MakesNode}
 use Rattle.volume.specs.Prepared.{making}
 use Rattle.image_laws.specs.Frame.{SameMeaning}
-use Rattle.create_ops.proofs.Moments.{quiet_fenced, quiet_then, quiet_weaker, no_ack_then, on_ok, on_err, reads_stay}
+use Rattle.entry_steps.proofs.Moments.{quiet_fenced, quiet_then, quiet_weaker, no_ack_then, on_ok, on_err, reads_stay}
 use Rattle.create_ops.proofs.Intervals.{entry_intervals}
-use Rattle.create_ops.proofs.Hanging.{hangs_quiet, hangs_commit, hangs_then}
+use Rattle.entry_steps.proofs.Hanging.{hangs_quiet, hangs_commit, hangs_then}
 use Rattle.create_ops.proofs.Plans
+use Rattle.entry_steps.proofs.Places
+use Rattle.entry_steps.proofs.Slots.{committed_is}
 use Rattle.create_ops.proofs.Created
 use Rattle.create_ops.proofs.make.make_entry.Goals as goal
 
 pub take_page-requires-clause-holder : goal.take_page-requires-clause-holder
 take_page-requires-clause-holder g c =
     let (state, path, at) = c.requires.planned in
-    Plans.holder c.args.geometry.now.pages (g.P.Pm.view c.args.pm.now).words state path c.args.entry.now at
+    Places.holder (Plans.naming c.args.geometry.now.pages (g.P.Pm.view c.args.pm.now).words state path c.args.entry.now at)
 
 pub take_page-requires-clause-some_directory : goal.take_page-requires-clause-some_directory
 take_page-requires-clause-some_directory g c =
     let (state, path, at) = c.requires.planned in
-    Plans.from_one c.args.geometry.now.pages (g.P.Pm.view c.args.pm.now).words state path c.args.entry.now at
+    Places.from_one (Plans.naming c.args.geometry.now.pages (g.P.Pm.view c.args.pm.now).words state path c.args.entry.now at)
 
 pub take_page-requires-clause-page : goal.take_page-requires-clause-page
 take_page-requires-clause-page g c =
     let (state, path, at) = c.requires.planned in
-    Plans.takes c.args.geometry.now.pages (g.P.Pm.view c.args.pm.now).words state path c.args.entry.now at
+    Places.takes (Plans.naming c.args.geometry.now.pages (g.P.Pm.view c.args.pm.now).words state path c.args.entry.now at)
 
 pub take_page-requires-clause-whole : goal.take_page-requires-clause-whole
 take_page-requires-clause-whole g c =
     let (state, path, at) = c.requires.planned in
-    Plans.whole c.args.geometry.now.pages (g.P.Pm.view c.args.pm.now).words state path c.args.entry.now at
+    Places.whole (Plans.naming c.args.geometry.now.pages (g.P.Pm.view c.args.pm.now).words state path c.args.entry.now at)
 
 pub write_node-requires-clause-ready : goal.write_node-requires-clause-ready
 write_node-requires-clause-ready g c =
@@ -47,7 +49,7 @@ returns-in_err-take_page-clause-atomic g c = λ state path at.
     let W = (g.P.Pm.view c.args.pm.now).words in
     let entry = c.args.entry.now in
     record {
-      any_moment = quiet_weaker (SameMeaning P W) (MayReadAs P state (Some (making entry.kind path))) (Created.may_same P W state path entry at) c.take_page.ensures.any_moment;
+      any_moment = quiet_weaker (SameMeaning P W) (MayReadAs P state (Some (making entry.kind path))) (Places.may_same at.tidy at.reads (making entry.kind path)) c.take_page.ensures.any_moment;
       stays = c.take_page.ensures.stays state.tree _ at.reads.tree (Created.differ P W state path entry at);
     }
 
@@ -64,7 +66,7 @@ returns-in_err-node-clause-atomic g c = λ state path at.
     let opened = c.in_ok-take_page.ensures.opened in
     record {
       any_moment = quiet_then May c.take_page.ensures.device.no_ack
-          (quiet_weaker (SameMeaning P W) May (Created.may_same P W state path entry at) c.take_page.ensures.any_moment)
+          (quiet_weaker (SameMeaning P W) May (Places.may_same at.tidy at.reads (making entry.kind path)) c.take_page.ensures.any_moment)
           (quiet_fenced May write.device.fenced (Created.writing P W state path entry at B opened write.is_name write.of_bytes I write.made));
       stays = stays_then (c.take_page.ensures.stays state.tree _ at.reads.tree differ)
           (reads_stay P state.tree _ write.device.fenced (Created.opened_reads P W state path entry at B opened write.is_name write.of_bytes I write.made) differ);
@@ -87,10 +89,10 @@ returns-clause-atomic g c = λ state path at.
     record {
       any_moment = quiet_then May (no_ack_then c.take_page.ensures.any_moment write.device.fenced.leaves c.take_page.ensures.device.no_ack write.device.fenced.no_ack)
           (quiet_then May c.take_page.ensures.device.no_ack
-          (quiet_weaker (SameMeaning P W) May (Created.may_same P W state path entry at) c.take_page.ensures.any_moment)
+          (quiet_weaker (SameMeaning P W) May (Places.may_same at.tidy at.reads (making entry.kind path)) c.take_page.ensures.any_moment)
           (quiet_fenced May write.device.fenced (Created.writing P W state path entry at B opened write.is_name write.of_bytes I write.made)))
           (quiet_fenced May commit.device.fenced (Created.committing P W state path entry at B opened write.is_name write.of_bytes I write.made J
-          (Created.committed_is P I J entry.slot entry.inode node.node.dentry.pages node.node.dentry.slot node.node.inode.number node.ensures.node.pages node.ensures.node.slot node.ensures.node.number commit.committed)));
+          (committed_is P I J entry.slot entry.inode node.node.dentry.pages node.node.dentry.slot node.node.inode.number node.ensures.node.pages node.ensures.node.slot node.ensures.node.number commit.committed)));
       stays = stays_then (stays_then (c.take_page.ensures.stays state.tree _ at.reads.tree differ)
           (reads_stay P state.tree _ write.device.fenced (Created.opened_reads P W state path entry at B opened write.is_name write.of_bytes I write.made) differ))
           (reads_stay P state.tree _ commit.device.fenced (Created.written_reads P W state path entry at B opened write.is_name write.of_bytes I write.made) differ);
@@ -139,7 +141,7 @@ returns-clause-stored g c =
     let write = c.write_node.ensures in
     let node = c.in_ok-node in
     let opened = c.in_ok-take_page.ensures.opened in
-    let stored = Created.committed_is P I J entry.slot entry.inode node.node.dentry.pages node.node.dentry.slot node.node.inode.number node.ensures.node.pages node.ensures.node.slot node.ensures.node.number c.commit_node.ensures.committed in
+    let stored = committed_is P I J entry.slot entry.inode node.node.dentry.pages node.node.dentry.slot node.node.inode.number node.ensures.node.pages node.ensures.node.slot node.ensures.node.number c.commit_node.ensures.committed in
     record {
       made = on_ok c.commit_node.result (record { opened = B; page = opened; placed = record { written = I; node = write.made; commit = stored } });
       commit_word = hangs_then

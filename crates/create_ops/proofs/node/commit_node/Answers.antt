@@ -2,7 +2,7 @@ use Rattle.std.proofs.Common.{◌∙◌, ap}
 use Rattle.pm_trait.proofs.DeviceViewLaws.{ok_ends, err_ends}
 use Rattle.fence_token.proofs.ObjectLaws.{stands_in_flight_fence}
 use Rattle.dentry_state.specs.Dentry.{DentryView, touched_lines}
-use Rattle.create_ops.proofs.Nodes.{commit_flushed, slot_stored}
+use Rattle.entry_steps.proofs.Slots.{commit_flushed, slot_stored}
 use Rattle.create_ops.proofs.node.commit_node.Goals as goal
 
 pub settle-entry-requires-clause-in_flight : goal.settle-entry-requires-clause-in_flight

@@ -5,7 +5,7 @@ use Rattle.layout.specs.Geometry.{IsVolumeSize, inodes_of, data_pages_of, page_o
 use Rattle.layout.proofs.GeometryLaws.{same_descriptor_word, same_page_word, slot_word_in_page, descriptor_word_within, inode_word_not_descriptor_word, inode_word_not_page_word, descriptor_word_not_slot_word, descriptor_word_not_page_word}
 use Rattle.layout.specs.Fields.{word, page_owner}
 use Rattle.image_laws.specs.Create.{IsPageMadeWord, MakesPage, owned}
-use Rattle.create_ops.specs.Making.{MayTake, IsOpened}
+use Rattle.entry_steps.specs.Steps.{MayTake, IsOpened}
 
 some_page : (x y : ℕ) → ◌≡◌ {A = Option ℕ} (Some x) (Some y) → x ≡ y
 some_page x y e = cc

@@ -4,8 +4,8 @@ use Rattle.layout.specs.Fields.{page_owner}
 use Rattle.fence_token.proofs.ObjectLaws.{stands_in_flight_fence}
 use Rattle.page_state.specs.Page.{PageView, EachPage, touched_lines}
 use Rattle.page_state.proofs.Changes.{dirty_owners}
-use Rattle.create_ops.proofs.Pages.{owner_inside, page_owned, claim_flushed, claim_stores, page_flushes}
-use Rattle.create_ops.proofs.page.claim_page.Goals as goal
+use Rattle.entry_steps.proofs.Pages.{owner_inside, page_owned, claim_flushed, claim_stores, page_flushes}
+use Rattle.entry_steps.proofs.page.claim_page.Goals as goal
 
 pub settle-live-requires-clause-in_flight : goal.settle-live-requires-clause-in_flight
 settle-live-requires-clause-in_flight g c = stands_in_flight_fence c.fence.ensures.device.words c.in-Ok.ensures.device.ok c.flush-claimed.ensures.in_flight

@@ -8,10 +8,10 @@ use Rattle.page_state.specs.Page.{PageView}
 use Rattle.image_laws.specs.Frame.{SameMeaning}
 use Rattle.image_laws.proofs.Meaning.{meanings_chain}
 use Rattle.volume.specs.Costs.{new_page_events, fences_for_page}
-use Rattle.create_ops.specs.Making.{MayTake, IsOpened}
-use Rattle.create_ops.proofs.Moments.{Quietly, quiet_fenced, quiet_then, on_ok, reads_stay, reads_stay_here}
-use Rattle.create_ops.proofs.Opening.{filling, still_reads, claiming, opened}
-use Rattle.create_ops.proofs.page.take_page.Goals as goal
+use Rattle.entry_steps.specs.Steps.{MayTake, IsOpened}
+use Rattle.entry_steps.proofs.Moments.{Quietly, quiet_fenced, quiet_then, on_ok, reads_stay, reads_stay_here}
+use Rattle.entry_steps.proofs.Opening.{filling, still_reads, claiming, opened}
+use Rattle.entry_steps.proofs.page.take_page.Goals as goal
 
 -- ---- no page is needed
 

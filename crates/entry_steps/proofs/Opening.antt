@@ -10,8 +10,8 @@ use Rattle.image_laws.specs.Create.{MakesPage, IsPageQuiet, owned}
 use Rattle.image_laws.specs.Frame.{SameMeaning}
 use Rattle.image_laws.specs.Quiet.{IsMix}
 use Rattle.image_laws.proofs.PageQuiet.{page_quiet_law}
-use Rattle.create_ops.specs.Making.{MayTake, IsHolder, IsOpened}
-use Rattle.create_ops.proofs.Moments.{is_mix, mix_of_new}
+use Rattle.entry_steps.specs.Steps.{MayTake, IsHolder, IsOpened}
+use Rattle.entry_steps.proofs.Moments.{is_mix, mix_of_new}
 
 module _ (P : ℕ) (W : List ℕ) (d page : ℕ) (holder : IsHolder P W d) (may : MayTake P W (Some page)) (list : List ℕ) (is : list ≡ page ∷ []) (A : List ℕ) (filled : MakesPage P W A (slice_index list 0)) where
   page_is : slice_index list 0 ≡ page

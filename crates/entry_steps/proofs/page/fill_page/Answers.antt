@@ -3,8 +3,8 @@ use Rattle.pm_trait.proofs.DeviceViewLaws.{stores_flushed, ok_ends, err_ends}
 use Rattle.fence_token.proofs.ObjectLaws.{stands_in_flight_fence}
 use Rattle.page_state.specs.Page.{PageView, touched_lines}
 use Rattle.page_state.proofs.PageLaws.{one_page_alike, one_data_page}
-use Rattle.create_ops.proofs.Pages.{page_settled, page_made, made_flushed, fill_stores, page_flushes}
-use Rattle.create_ops.proofs.page.fill_page.Goals as goal
+use Rattle.entry_steps.proofs.Pages.{page_settled, page_made, made_flushed, fill_stores, page_flushes}
+use Rattle.entry_steps.proofs.page.fill_page.Goals as goal
 
 pub at-free-requires-clause-data_pages : goal.at-free-requires-clause-data_pages
 at-free-requires-clause-data_pages g c = one_data_page c.args.page.now c.requires.one c.requires.in_range

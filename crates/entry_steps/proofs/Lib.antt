@@ -1,0 +1,10 @@
+pub mod Slots
+pub mod Pages
+pub mod Moments
+pub mod Hanging
+pub mod Opening
+pub mod Opened
+pub mod Counts
+pub mod Zeros
+pub mod Lists
+pub mod Places
