@@ -1,0 +1,7 @@
+mod Slots
+mod Clearing
+mod Pages
+mod Emptied
+mod Given
+mod Unused
+mod Resting
