@@ -5,19 +5,19 @@ use Rattle.std.proofs.lemmas.Bool.{cases_eq, cases_lt}
 use Rattle.std.proofs.lemmas.List.{length-set}
 use Rattle.std.proofs.lemmas.Option.{slice_get_within}
 use Rattle.layout.specs.Geometry.{inodes_of, data_pages_of, slots_of, page_of_slot}
-use Rattle.layout.specs.Fields.{inode_kind, page_owner, page_kind, page_offset, slot_name}
+use Rattle.layout.specs.Fields.{inode_kind, page_owner, page_offset, slot_name}
 use Rattle.image_reading.specs.Counts.{IsDistinct}
 use Rattle.image_reading.specs.Reading.{slot_owner}
 use Rattle.image_reading.specs.Tidy.{Tidy}
 use Rattle.image_counts.specs.Entries.{IsEntryOf, IsPageIn}
 use Rattle.volatile_index.specs.Entries.{IsAbsent, IsWithEntry}
 use Rattle.volatile_index.proofs.EntryLaws.{contains_none, contains_entry, contains_still, contains_before}
-use Rattle.volatile_index.specs.Index.{NodeView, node_of, inodes_of_index, IsSameElsewhere}
+use Rattle.volatile_index.specs.Index.{NodeView, node_of, IsSameElsewhere}
 use Rattle.volatile_index.specs.declared.entry.Entry.{Entry}
 use Rattle.volume.specs.Stands.{KnowsNodes}
 use Rattle.mount_scan.specs.Building.{HasPlacesOf, HasPlaces, HoldsOf, Holds}
 use Rattle.mount_scan.proofs.Lists.{got_contained, contained_got, distinct_by_places, push_cases, push_still, push_there, push_distinct, set_there, set_elsewhere}
-use Rattle.mount_scan.proofs.Facts.{in_table, owner_reached, file_owner, directory_owner, offset_below, page_at, one_offset, one_entry, entry_directory, entry_page}
+use Rattle.mount_scan.proofs.Facts.{in_table, owner_reached, offset_below, page_at, one_offset, one_entry, entry_directory, entry_page}
 
 none_in_nil : (x : ℕ) → ¬ Contains [] x
 none_in_nil x (k, lt, is) = omega arith
@@ -259,41 +259,6 @@ module _ (P : ℕ) (I : List ℕ) where
     where
       range : (1 ≤ page_owner P I p) × (page_owner P I p ≤ inodes_of P)
       range = in_table P I tidy (page_owner P I p) (owner_reached P I tidy p within owned)
-
-  -- the same for a page with a known owner
-
-  pub owner_in_index : (p d : ℕ) (index : List NodeView) → Tidy P I → p < data_pages_of P → d ≡ page_owner P I p → d ≢ 0 → inodes_of_index index ≡ inodes_of P → d ≤ inodes_of_index index
-  owner_in_index p d index tidy within owner owned size =
-      let most = (in_table P I tidy (page_owner P I p) (owner_reached P I tidy p within (λ zero. owned (owner ∙ zero)))).1 in
-      omega (arith, most, owner, size)
-
-  pub offset_in_file : (p d offset : ℕ) (index : List NodeView) → Tidy P I → p < data_pages_of P → d ≡ page_owner P I p → d ≢ 0 → page_kind P I p ≡ 1 → offset ≡ page_offset P I p → Holds P I p (32 * p) index
-      → offset < length (node_of index d).pages
-  offset_in_file p d offset index tidy within owner owned kind offset_is holds =
-      let range = in_table P I tidy (page_owner P I p) (owner_reached P I tidy p within (λ zero. owned (owner ∙ zero))) in
-      let file = file_owner P I tidy p within (λ zero. owned (owner ∙ zero)) kind in
-      let below = offset_below P I tidy (page_owner P I p) range.0 range.1 file p (record { in_range = within; owner = refl }) in
-      let long = (holds.each (page_owner P I p) range.0 range.1).places file in
-      let same = ap (λ k. length (node_of index k).pages) owner in
-      omega (arith, below, long, same, offset_is)
-
-  pub with_set_page : (p d offset : ℕ) (old new : List NodeView) → Tidy P I → p < data_pages_of P → d ≡ page_owner P I p → d ≢ 0 → page_kind P I p ≡ 1 → offset ≡ page_offset P I p
-      → IsSameElsewhere d old new → (node_of new d).pages ≡ set (node_of old d).pages offset p → (node_of new d).entries ≡ (node_of old d).entries
-      → Holds P I p (32 * p) old → Holds P I (p + 1) (32 * (p + 1)) new
-  with_set_page p d offset old new tidy within owner owned kind offset_is elsewhere pages entries =
-      file_page_set p old new tidy within (λ zero. owned (owner ∙ zero)) (file_owner P I tidy p within (λ zero. owned (owner ∙ zero)) kind)
-      (subst (λ (k : ℕ). IsSameElsewhere k old new) owner elsewhere)
-      (subst (λ (k : ℕ). (node_of new k).pages ≡ set (node_of old k).pages (page_offset P I p) p) owner (pages ∙ ap (λ (o : ℕ). set (node_of old d).pages o p) offset_is))
-      (subst (λ (k : ℕ). (node_of new k).entries ≡ (node_of old k).entries) owner entries)
-
-  pub with_pushed_page : (p d : ℕ) (old new : List NodeView) → Tidy P I → p < data_pages_of P → d ≡ page_owner P I p → d ≢ 0 → page_kind P I p ≢ 1
-      → IsSameElsewhere d old new → (node_of new d).pages ≡ (node_of old d).pages ++ p ∷ [] → (node_of new d).entries ≡ (node_of old d).entries
-      → Holds P I p (32 * p) old → Holds P I (p + 1) (32 * p) new
-  with_pushed_page p d old new tidy within owner owned kind elsewhere pages entries =
-      page_pushed p old new tidy within (λ zero. owned (owner ∙ zero)) (directory_owner P I tidy p within (λ zero. owned (owner ∙ zero)) kind)
-      (subst (λ (k : ℕ). IsSameElsewhere k old new) owner elsewhere)
-      (subst (λ (k : ℕ). (node_of new k).pages ≡ (node_of old k).pages ++ p ∷ []) owner pages)
-      (subst (λ (k : ℕ). (node_of new k).entries ≡ (node_of old k).entries) owner entries)
 
   -- ---- after the last page
 

@@ -3,5 +3,10 @@ mod Frees
 mod Facts
 mod Places
 mod Holding
+mod Carried
 mod Heads
 mod Mounts
+mod Refusals
+pub mod States
+mod Still
+mod Repairing

@@ -1,20 +1,17 @@
--- What a mount rests on: the head of the words, and what they read as.
-use Rattle.std.proofs.Common.{◌≡◌, ◌⊎◌, inl, inr, ℕ, ◌*◌, List, length, Result, Ok, Err, IfOk, refl, sym, subst}
+-- What a mount rests on: the head of the words, and a device that is left as it was.
+use Rattle.std.proofs.Common.{◌≡◌, ℕ, ◌*◌, List, length, Option, refl, sym, ap, subst, arith}
+use Rattle.pm_trait.specs.Trail.{Trail}
+use Rattle.pm_trait.specs.Device.{LeavesOnly, acks_from, moment_of}
 use Rattle.pm_trait.specs.DeviceView.{DeviceView, IsSettledView}
-use Rattle.tree_model.specs.Run.{State}
-use Rattle.image_reading.specs.Reading.{ReadsAs}
+use Rattle.pm_trait.proofs.ContinuesLaws.{continues_here, acks_from-here}
+use Rattle.pm_trait.proofs.DeviceLaws.{leaves_here}
 use Rattle.image_reading.specs.Laws.{IsVolume}
-use Rattle.image_reading.specs.Soundness.{KeepsRule1, IsFirstViolation, pages_in_image}
-use Rattle.image_reading.specs.Tidy.{Tidy}
+use Rattle.image_reading.specs.Soundness.{KeepsRule1, Rule, Sound, pages_in_image}
 use Rattle.image_reading.proofs.Violations.{head_law, pages_law}
-use Rattle.image_laws.proofs.Trees.{tree_law}
-use Rattle.image_laws.proofs.Rooms.{room_law}
-use Rattle.volume.specs.Volume.{VolumeView}
-use Rattle.volume.specs.Stands.{Knows, StandsFor, IsStanding}
-use Rattle.mount_scan.specs.Mounting.{HoldsVolume, IsSound, IsTidy, IsAnswerFor}
-use Rattle.image_reading.specs.declared.Violation.{Violation}
-use Rattle.mount_scan.specs.declared.error.MountError.{MountError}
-use Rattle.mount_scan.specs.declared.error.MountError.TheVariants.{NotVolume, Damaged, PmFault, NoMemory}
+use Rattle.image_laws.specs.Frame.{SameMeaning}
+use Rattle.image_laws.proofs.Meaning.{same_itself}
+use Rattle.mount_scan.specs.Mounting.{HoldsVolume}
+use Rattle.mount_scan.specs.Mounts.{IsLeftAlone, KeepsMeaning}
 
 -- ---- the head
 
@@ -30,33 +27,35 @@ head_whole P W rule = ((head_law P W).0 rule).whole
 pub head_pages : (P : ℕ) (W : List ℕ) → KeepsRule1 P W → pages_in_image W ≡ P
 head_pages P W rule = pages_law P W rule
 
--- ---- a broken rule
+-- a sound volume has a head
+pub sound_holds : {W : List ℕ} → Sound (pages_in_image W) W → HoldsVolume W
+sound_holds {W} sound = head_holds (pages_in_image W) W (sound Rule.head)
 
-pub unsound : (W : List ℕ) (r : Result VolumeView MountError) → IsAnswerFor W r → HoldsVolume W → ¬ IsSound W
-    → (r ≡ Err NoMemory) ⊎ ((violation : Violation) × (r ≡ Err (Damaged violation)) × IsFirstViolation W violation)
-unsound W (Ok volume) answer holds broken = absurd (broken answer.1.sound)
-unsound W (Err NotVolume) answer holds broken = absurd (answer holds)
-unsound W (Err (Damaged violation)) answer holds broken = elim answer.1 [ inl first ↦ inr (violation, refl, first) | inr (is, sound, untidy) ↦ absurd (broken sound) ]
-unsound W (Err PmFault) answer holds broken = absurd answer
-unsound W (Err NoMemory) answer holds broken = inl refl
+-- ---- a device that is left as it was
 
--- ---- what a mounted volume stands for
+pub left_alone : {before after : DeviceView} → after ≡ before → IsLeftAlone before after
+left_alone same = record {
+  words = ap (λ (device : DeviceView). device.words) same;
+  trail = ap (λ (device : DeviceView). device.trail) same;
+  faults = ap (λ (device : DeviceView). device.faults) same;
+  fences = ap (λ (device : DeviceView). device.fences) same;
+  acks = ap (λ (device : DeviceView). device.acks) same;
+  room = let spare = ap (λ (device : DeviceView). device.spare) same in omega (arith, spare);
+  refused = let refused = ap (λ (device : DeviceView). device.refused) same in omega (arith, refused);
+}
 
-module _ (device : DeviceView) (settled : IsSettledView device) where
-  stands : (volume : VolumeView) (state : State) → IsTidy device.words → Knows volume device.words → volume.size ≡ pages_in_image device.words
-      → ReadsAs (pages_in_image device.words) device.words state → StandsFor volume device state
-  stands volume state clean knows size reads = record {
-    settled = settled;
-    tidy = subst (λ (n : ℕ). Tidy n device.words) (sym size) clean;
-    reads = subst (λ (n : ℕ). ReadsAs n device.words state) (sym size) reads;
-    knows = knows;
-  }
+pub keeps_itself : (P : ℕ) (device : DeviceView) → IsSettledView device → Sound P device.words → KeepsMeaning P device device
+keeps_itself P device settled sound = record {
+  any_moment = leaves_here (λ k image. (k ≡ 0) × SameMeaning P device.words image) settled (refl, same_itself P device.words sound);
+  no_ack = acks_from-here (continues_here device.trail);
+  acks = refl;
+}
 
-  pub standing : (r : Result VolumeView MountError) → IsAnswerFor device.words r → IfOk r (λ volume. IsStanding volume device)
-  standing (Ok volume) answer =
-      let P = pages_in_image device.words in
-      let (T, reads, form) = tree_law P device.words answer.1.sound in
-      let (room, has) = room_law P device.words answer.1.sound in
-      let state : State = record { tree = T; room = room } in
-      (state, stands volume state answer.1 answer.2 answer.3 (record { tree = reads; room = has }))
-  standing (Err error) answer = tt
+pub keeps_alone : (P : ℕ) {before after : DeviceView} → IsSettledView before → Sound P before.words → IsLeftAlone before after → KeepsMeaning P before after
+keeps_alone P {before} {after} settled sound alone =
+    let itself = keeps_itself P before settled sound in
+    record {
+      any_moment = subst (λ (trail : Option Trail). LeavesOnly before.trail trail (λ acks image. (acks ≡ 0) × SameMeaning P before.words image)) (sym alone.trail) itself.any_moment;
+      no_ack = subst (λ (trail : Option Trail). acks_from before.trail trail (moment_of trail) ≡ 0) (sym alone.trail) itself.no_ack;
+      acks = alone.acks;
+    }

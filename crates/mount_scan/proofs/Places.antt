@@ -1,5 +1,5 @@
 -- Places for the pages of files.
-use Rattle.std.proofs.Common.{◌≡◌, ◌≢◌, inl, inr, ℕ, ◌+◌, List, [], length, sym, ap, subst, ◌∙◌, arith}
+use Rattle.std.proofs.Common.{◌≡◌, ◌≢◌, inl, inr, ℕ, ◌+◌, List, [], ◌∷◌, length, refl, sym, ap, subst, ◌∙◌, arith}
 use Rattle.std.proofs.lemmas.Bool.{cases_eq}
 use Rattle.std.specs.Int.{div_ceil}
 use Rattle.layout.specs.Geometry.{inodes_of}
@@ -7,6 +7,10 @@ use Rattle.layout.specs.Fields.{inode_kind, inode_size}
 use Rattle.image_reading.specs.Reading.{pages_of_size}
 use Rattle.volatile_index.specs.Index.{NodeView, node_of, inodes_of_index, IsSameElsewhere}
 use Rattle.mount_scan.specs.Building.{HasPlacesOf, HasPlaces}
+
+nothing : (xs : List ℕ) → length xs ≡ 0 → xs ≡ []
+nothing [] none = refl
+nothing (x ∷ xs) none = absurd (omega arith)
 
 module _ (P : ℕ) (I : List ℕ) where
   pub no_places : (index : List NodeView) → inodes_of_index index ≡ inodes_of P → ((i : ℕ) → (node_of index i).entries ≡ []) → ((i : ℕ) → (node_of index i).pages ≡ []) → HasPlaces P I 0 index
@@ -17,25 +21,10 @@ module _ (P : ℕ) (I : List ℕ) where
     pages = λ i low. pages i;
   }
 
-  pub place_skipped : (n : ℕ) (index : List NodeView) → inode_kind I (n + 1) ≢ 1 → HasPlaces P I n index → HasPlaces P I (n + 1) index
-  place_skipped n index other has = record {
-    each_inode = has.each_inode;
-    made = λ i least most. elim (cases_eq i (n + 1)) [
-      | inl same ↦ record {
-        entries = has.entries i (omega (arith, same));
-        of_file = λ file. absurd (other (subst (λ (k : ℕ). inode_kind I k ≡ 1) same file));
-        of_others = λ none. has.pages i (omega (arith, same));
-      }
-      | inr apart ↦ has.made i least (omega (arith, most, apart))
-    ];
-    entries = λ i low. has.entries i (omega (arith, low));
-    pages = λ i low. has.pages i (omega (arith, low));
-  }
-
-  pub places_added : (n count : ℕ) (old new : List NodeView) → inode_kind I (n + 1) ≡ 1 → count ≡ pages_of_size (inode_size I (n + 1)) → IsSameElsewhere (n + 1) old new
+  pub places_added : (n count : ℕ) (old new : List NodeView) → (inode_kind I (n + 1) ≡ 1 → count ≡ pages_of_size (inode_size I (n + 1))) → (inode_kind I (n + 1) ≢ 1 → count ≡ 0) → IsSameElsewhere (n + 1) old new
       → length (node_of new (n + 1)).pages ≡ length (node_of old (n + 1)).pages + count → (node_of new (n + 1)).entries ≡ (node_of old (n + 1)).entries
       → HasPlaces P I n old → HasPlaces P I (n + 1) new
-  places_added n count old new file size elsewhere long entries has = record {
+  places_added n count old new file other elsewhere long entries has = record {
     each_inode = elsewhere.inodes ∙ has.each_inode;
     made = λ i least most. elim (cases_eq i (n + 1)) [
       | inl same ↦ subst (λ (k : ℕ). HasPlacesOf I k (node_of new k)) (sym same) here
@@ -50,8 +39,8 @@ module _ (P : ℕ) (I : List ℕ) where
           let none = ap length (has.pages (n + 1) (omega arith)) in
           record {
             entries = entries ∙ has.entries (n + 1) (omega arith);
-            of_file = λ is. omega (arith, long, none, size);
-            of_others = λ other. absurd (other file);
+            of_file = λ is. let size = file is in omega (arith, long, none, size);
+            of_others = λ is. let zero = other is in nothing (node_of new (n + 1)).pages (omega (arith, long, none, zero));
           }
 
 -- as many pages as bytes of a size take

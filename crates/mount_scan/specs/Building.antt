@@ -1,22 +1,29 @@
--- What an index holds while it is made from the words of a volume. P is the number of pages, I the words, i an inode.
+-- What an index holds while it is made from the words of a volume. P is the number of pages, I the words, i an inode; K is what
+-- recovery makes of the words.
 use Rattle.std.specs.Prelude.{◌≡◌, ◌≢◌, ◌↔◌, ℕ, ◌<◌, ◌≤◌, List, [], length, Contains, Some, slice_get}
 use Rattle.layout.specs.Geometry.{inodes_of}
 use Rattle.layout.specs.Fields.{inode_kind, inode_size, page_offset}
 use Rattle.image_reading.specs.Counts.{IsDistinct}
-use Rattle.image_reading.specs.Reading.{IsDirectory, pages_of_size}
+use Rattle.image_reading.specs.Reading.{IsDirectory, Reached, pages_of_size}
+use Rattle.image_reading.specs.declared.scanned.Scanned.{Scanned}
 use Rattle.image_counts.specs.Entries.{IsEntryOf, IsPageIn, IsSlotIn}
+use Rattle.repair_laws.specs.Mended.{IsMended}
 use Rattle.volatile_index.specs.Index.{NodeView, node_of, inodes_of_index}
 
--- a data page that a directory owns
+-- so of the words that recovery makes of a sound image's
+abbrev pub OfMended : Scanned → (ℕ → List ℕ → Type 0) → Type 0
+OfMended scanned Q = (K : List ℕ) → IsMended scanned.image.geometry.pages scanned.image.words.now K → Q scanned.image.geometry.pages K
+
+-- a data page that a reached directory owns
 pub record IsDirectorysPage (P : ℕ) (I : List ℕ) (d j : ℕ) : Type 0 where
-  pub from_one : 1 ≤ d
+  pub reached : Reached P I d
   pub directory : IsDirectory I d
   pub page : IsPageIn P I d j
   pub open page use *
 
 -- and a slot of such a page
 pub record IsDirectorysSlot (P : ℕ) (I : List ℕ) (d s : ℕ) : Type 0 where
-  pub from_one : 1 ≤ d
+  pub reached : Reached P I d
   pub directory : IsDirectory I d
   pub slot : IsSlotIn P I d s
   pub open slot use *

@@ -1,2 +1,4 @@
 pub mod Building
 pub mod Mounting
+pub mod Mounts
+pub mod Looking

@@ -1,62 +1,62 @@
 // What is known of a volume from its words.
-ghost use Rattle.std.specs.Prelude.{◌≡◌, ◌↔◌, ℕ, ◌*◌, ◌-◌, ◌<◌, ◌≤◌, false, length, IfOk};
+ghost use Rattle.std.specs.Prelude.{◌≡◌, ◌↔◌, ℕ, ◌+◌, ◌<◌, false, length, IfOk};
 ghost use Rattle.layout.specs.Geometry.{inodes_of, data_pages_of};
-ghost use Rattle.layout.specs.Fields.{inode_kind, page_owner};
-ghost use Rattle.image_reading.specs.Tidy.{Tidy};
+ghost use Rattle.image_reading.specs.Images.{In};
+ghost use Rattle.image_reading.specs.Reading.{Reached};
+ghost use Rattle.image_reading.specs.Repairs.{IsKept};
+ghost use Rattle.image_reading.specs.Scanned.{IsScanned};
 ghost use Rattle.allocators.specs.Numbers.{IsFree};
 ghost use Rattle.volume.specs.Stands.{Knows};
+ghost use Rattle.mount_scan.specs.Building.{OfMended};
 
 use crate::index::index_of_words;
 use allocators::Numbers;
-use layout::Geometry;
+use image_reading::Scanned;
 use pm_trait::NoMemory;
 use std::alloc::Global;
 use volume::Volume;
 
-/// The volume of words that need no recovery.
-pub(crate) fn volume_of_words(
-    alloc: Global,
-    geometry: Geometry,
-    words: &[u64],
-) -> Result<Volume, NoMemory>
-    requires whole { length words.now ≡ 512 * geometry.pages }
-    requires tidy { Tidy geometry.pages words.now }
-    ensures knows { IfOk result (λ volume. Knows volume words.now) }
-    ensures size { IfOk result (λ volume. volume.size ≡ geometry.pages) }
+/// The volume of the words that recovery makes of these. It is made of these words alone.
+pub(crate) fn volume_of_words(alloc: Global, scanned: &Scanned<'_>) -> Result<Volume, NoMemory>
+    requires { IsScanned scanned.now }
+    ensures knows { IfOk result (λ volume. OfMended scanned.now (λ P K. Knows volume K)) }
+    ensures size { IfOk result (λ volume. volume.size ≡ scanned.now.image.geometry.pages) }
     ensures going { IfOk result (λ volume. volume.stopped ≡ false) }
 {
-    let index = index_of_words(alloc, &geometry, words)?;
-    let inodes = free_inodes(alloc, &geometry, words)?;
-    let data_pages = free_pages(alloc, &geometry, words)?;
-    Ok(Volume::from_parts(alloc, geometry, index, inodes, data_pages))
+    let index = index_of_words(alloc, scanned)?;
+    let inodes = free_inodes(alloc, scanned)?;
+    let data_pages = free_pages(alloc, scanned)?;
+    Ok(Volume::from_parts(alloc, scanned.image.geometry, index, inodes, data_pages))
 }
 
-// Which inodes are free, inode i as number i - 1.
-fn free_inodes(alloc: Global, geometry: &Geometry, words: &[u64]) -> Result<Numbers, NoMemory>
-    requires { length words.now ≡ 512 * geometry.now.pages }
-    ensures size { IfOk result (λ numbers. length numbers ≡ inodes_of geometry.now.pages) }
-    ensures free { IfOk result (λ numbers. (i : ℕ) → 1 ≤ i → i ≤ inodes_of geometry.now.pages
-        → IsFree numbers (i - 1) ↔ (inode_kind words.now i ≡ 0)) }
+// Which inodes aren't reached, inode i as number i - 1.
+fn free_inodes(alloc: Global, scanned: &Scanned<'_>) -> Result<Numbers, NoMemory>
+    requires { IsScanned scanned.now }
+    ensures size { IfOk result (λ numbers. length numbers ≡ inodes_of scanned.now.image.geometry.pages) }
+    ensures free { IfOk result (λ numbers. (number : ℕ) → number < inodes_of scanned.now.image.geometry.pages
+        → IsFree numbers number ↔ ¬ In scanned.now.image Reached (number + 1)) }
 {
-    let mut numbers = Numbers::new(alloc, geometry.inodes)?;
-    for number in 0..geometry.inodes {
-        if geometry.inode_at(words, number + 1).kind != 0 {
+    let count = scanned.image.geometry.inodes;
+    let mut numbers = Numbers::new(alloc, count)?;
+    for number in 0..count {
+        if scanned.is_reached(number + 1) {
             numbers.take(number);
         }
     }
     Ok(numbers)
 }
 
-// Which data pages are free.
-fn free_pages(alloc: Global, geometry: &Geometry, words: &[u64]) -> Result<Numbers, NoMemory>
-    requires { length words.now ≡ 512 * geometry.now.pages }
-    ensures size { IfOk result (λ numbers. length numbers ≡ data_pages_of geometry.now.pages) }
-    ensures free { IfOk result (λ numbers. (j : ℕ) → j < data_pages_of geometry.now.pages → IsFree numbers j
-        ↔ (page_owner geometry.now.pages words.now j ≡ 0)) }
+// Which data pages aren't kept.
+fn free_pages(alloc: Global, scanned: &Scanned<'_>) -> Result<Numbers, NoMemory>
+    requires { IsScanned scanned.now }
+    ensures size { IfOk result (λ numbers. length numbers ≡ data_pages_of scanned.now.image.geometry.pages) }
+    ensures free { IfOk result (λ numbers. (page : ℕ) → page < data_pages_of scanned.now.image.geometry.pages
+        → IsFree numbers page ↔ ¬ In scanned.now.image IsKept page) }
 {
-    let mut numbers = Numbers::new(alloc, geometry.data_pages)?;
-    for page in 0..geometry.data_pages {
-        if geometry.descriptor_at(words, page).owner != 0 {
+    let count = scanned.image.geometry.data_pages;
+    let mut numbers = Numbers::new(alloc, count)?;
+    for page in 0..count {
+        if scanned.is_kept(page) {
             numbers.take(page);
         }
     }

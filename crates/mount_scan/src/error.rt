@@ -1,9 +1,9 @@
 // How a mount is refused.
 ghost use Rattle.std.specs.Prelude.{◌≡◌};
-ghost use Rattle.mount_scan.specs.declared.error.MountError.TheVariants.{NoMemory};
+ghost use Rattle.mount_scan.specs.declared.error.MountError.TheVariants.{NoMemory, PmFault};
 
 use image_reading::Violation;
-use pm_trait::NoMemory;
+use pm_trait::{NoMemory, PmFault};
 use thiserror::Error;
 
 /// Why a device was not mounted.
@@ -12,13 +12,13 @@ pub enum MountError {
     /// Its length or its first words are no volume's.
     #[error("not a volume")]
     NotVolume,
-    /// It breaks a rule, the first of them at this place. Rule 0 is none: the volume is sound and needs recovery.
+    /// It breaks a rule, the first of them at this place.
     #[error("a damaged volume")]
     Damaged(Violation),
-    /// The device failed. It doesn't come as long as a mount stores nothing.
+    /// The device failed while the volume was repaired.
     #[error("the device failed")]
     PmFault,
-    /// There is no memory for the volume.
+    /// There is no memory for the volume, or no room on the device for its repairs.
     #[error("out of memory")]
     NoMemory,
 }
@@ -28,5 +28,13 @@ impl From<NoMemory> for MountError {
 
     fn from(_refused: NoMemory) -> MountError {
         MountError::NoMemory
+    }
+}
+
+impl From<PmFault> for MountError {
+    ghost from_gives = { λ _ error. error ≡ PmFault };
+
+    fn from(_fault: PmFault) -> MountError {
+        MountError::PmFault
     }
 }

@@ -1,45 +1,61 @@
-// The index of a volume, made from its words.
-ghost use Rattle.std.specs.Prelude.{◌≡◌, ℕ, ◌+◌, ◌*◌, ◌<◌, ◌≤◌, [], length, IfOk, OnOk};
-ghost use Rattle.layout.specs.Geometry.{data_pages_of, page_of_slot};
-ghost use Rattle.image_reading.specs.Tidy.{Tidy};
+// The index of a volume, made from its words. What it holds is said of the words that recovery makes of them.
+ghost use Rattle.std.specs.Prelude.{◌≡◌, ◌≢◌, ℕ, ◌+◌, ◌*◌, ◌<◌, ◌≤◌, length, IfOk, OnOk};
+ghost use Rattle.layout.specs.Geometry.{inodes_of, data_pages_of, page_of_slot};
+ghost use Rattle.layout.specs.Fields.{inode_kind, inode_size};
+ghost use Rattle.image_reading.specs.Images.{In};
+ghost use Rattle.image_reading.specs.Litter.{IsInode};
+ghost use Rattle.image_reading.specs.Reading.{pages_of_size};
+ghost use Rattle.image_reading.specs.Scanned.{IsScanned};
 ghost use Rattle.volatile_index.specs.Index.{inodes_of_index, entries_of, pages_of, IsSameElsewhere};
 ghost use Rattle.volume.specs.Stands.{KnowsNodes};
-ghost use Rattle.mount_scan.specs.Building.{IsDirectorysPage, IsDirectorysSlot, HasPlaces, Holds};
+ghost use Rattle.mount_scan.specs.Building.{OfMended, IsDirectorysPage, IsDirectorysSlot, HasPlaces, Holds};
 
-use layout::{BYTES, FILE, Geometry, PAGE_BYTES, PAGE_SLOTS, name_of_words};
+use image_reading::Scanned;
+use layout::{BYTES, FILE, PAGE_BYTES, PAGE_SLOTS, name_of_words};
 use pm_trait::NoMemory;
 use std::alloc::Global;
 use volatile_index::Index;
 
 /// The entries of each directory, and the pages of each inode.
-pub(crate) fn index_of_words(
-    alloc: Global,
-    geometry: &Geometry,
-    words: &[u64],
-) -> Result<Index, NoMemory>
-    requires { Tidy geometry.now.pages words.now }
-    ensures { IfOk result (λ index. KnowsNodes geometry.now.pages index words.now) }
+pub(crate) fn index_of_words(alloc: Global, scanned: &Scanned<'_>) -> Result<Index, NoMemory>
+    requires { IsScanned scanned.now }
+    ensures { IfOk result (λ index. OfMended scanned.now (λ P K. KnowsNodes P index K)) }
 {
-    let mut index = index_with_places(alloc, geometry, words)?;
-    for page in 0..geometry.data_pages {
-        add_page(&mut index, geometry, words, page)?;
+    let mut index = index_with_places(alloc, scanned)?;
+    for page in 0..scanned.image.geometry.data_pages {
+        add_page(&mut index, scanned, page)?;
     }
     Ok(index)
 }
 
 // An index with a place for each page of a file. No page is known yet.
-fn index_with_places(alloc: Global, geometry: &Geometry, words: &[u64]) -> Result<Index, NoMemory>
-    requires { length words.now ≡ 512 * geometry.now.pages }
-    ensures { IfOk result (λ index. HasPlaces geometry.now.pages words.now geometry.now.inodes index) }
+fn index_with_places(alloc: Global, scanned: &Scanned<'_>) -> Result<Index, NoMemory>
+    requires { IsScanned scanned.now }
+    ensures { IfOk result (λ index. OfMended scanned.now (λ P K. HasPlaces P K (inodes_of P) index)) }
 {
-    let mut index = Index::new(alloc, geometry)?;
-    for number in 0..geometry.inodes {
-        let fields = geometry.inode_at(words, number + 1);
-        if fields.kind == FILE {
-            add_places(&mut index, number + 1, fields.size.div_ceil(PAGE_BYTES))?;
-        }
+    let mut index = Index::new(alloc, &scanned.image.geometry)?;
+    for number in 0..scanned.image.geometry.inodes {
+        let count = file_pages(scanned, number + 1);
+        add_places(&mut index, number + 1, count)?;
     }
     Ok(index)
+}
+
+// How many pages an inode has if it is a file, and else 0.
+fn file_pages(scanned: &Scanned<'_>, inode: u64) -> u64
+    requires scanned { IsScanned scanned.now }
+    requires inode { IsInode scanned.now.image.geometry.pages inode }
+    ensures file { OfMended scanned.now (λ P K. inode_kind K inode ≡ 1 → result ≡ pages_of_size (inode_size K inode)) }
+    ensures other { OfMended scanned.now (λ P K. inode_kind K inode ≢ 1 → result ≡ 0) }
+{
+    if !scanned.is_reached(inode) {
+        return 0;
+    }
+    let fields = scanned.image.geometry.inode_at(scanned.image.words, inode);
+    if fields.kind != FILE {
+        return 0;
+    }
+    fields.size.div_ceil(PAGE_BYTES)
 }
 
 // Gives an inode places for so many more pages.
@@ -57,73 +73,64 @@ fn add_places(index: &mut Index, inode: u64, count: u64) -> Result<(), NoMemory>
     Ok(())
 }
 
-// Adds a page, and a directory's entries in it.
-fn add_page(
-    index: &mut Index,
-    geometry: &Geometry,
-    words: &[u64],
-    page: u64,
-) -> Result<(), NoMemory>
-    requires tidy { Tidy geometry.now.pages words.now }
-    requires in_range { page < data_pages_of geometry.now.pages }
-    requires holds { Holds geometry.now.pages words.now page (32 * page) index.old }
-    ensures { OnOk result (Holds geometry.now.pages words.now (page + 1) (32 * (page + 1)) index.new) }
+// Adds a page that is kept, and a directory's entries in it.
+fn add_page(index: &mut Index, scanned: &Scanned<'_>, page: u64) -> Result<(), NoMemory>
+    requires scanned { IsScanned scanned.now }
+    requires in_range { page < data_pages_of scanned.now.image.geometry.pages }
+    requires holds { OfMended scanned.now (λ P K. Holds P K page (32 * page) index.old) }
+    ensures { OnOk result (OfMended scanned.now (λ P K. Holds P K (page + 1) (32 * (page + 1)) index.new)) }
 {
-    let fields = geometry.descriptor_at(words, page);
-    if fields.owner == 0 {
+    if !scanned.is_kept(page) {
         return Ok(());
     }
+    let fields = scanned
+        .image
+        .geometry
+        .descriptor_at(scanned.image.words, page);
     if fields.kind == BYTES {
         index.set_page(fields.owner, fields.offset, page);
         return Ok(());
     }
     index.reserve_pages(fields.owner, 1)?;
     index.push_page(fields.owner, page);
-    add_entries(index, geometry, words, fields.owner, page)
+    add_entries(index, scanned, fields.owner, page)
 }
 
 // Adds the entries of a directory in one of its pages.
 fn add_entries(
     index: &mut Index,
-    geometry: &Geometry,
-    words: &[u64],
+    scanned: &Scanned<'_>,
     directory: u64,
     page: u64,
 ) -> Result<(), NoMemory>
-    requires tidy { Tidy geometry.now.pages words.now }
-    requires page { IsDirectorysPage geometry.now.pages words.now directory page }
-    requires holds { Holds geometry.now.pages words.now (page + 1) (32 * page) index.old }
-    ensures { OnOk result (Holds geometry.now.pages words.now (page + 1) (32 * (page + 1)) index.new) }
+    requires scanned { IsScanned scanned.now }
+    requires page { IsDirectorysPage scanned.now.image.geometry.pages scanned.now.image.words.now directory page }
+    requires holds { OfMended scanned.now (λ P K. Holds P K (page + 1) (32 * page) index.old) }
+    ensures { OnOk result (OfMended scanned.now (λ P K. Holds P K (page + 1) (32 * (page + 1)) index.new)) }
 {
     for place in 0..PAGE_SLOTS {
-        add_entry(
-            index,
-            geometry,
-            words,
-            directory,
-            geometry.slot_in(page, place),
-        )?;
+        let slot = scanned.image.geometry.slot_in(page, place);
+        add_entry(index, scanned, directory, slot)?;
     }
     Ok(())
 }
 
-// Adds the entry of a directory in a slot, if there is one.
+// Adds the entry of a directory in a slot, if it is live.
 fn add_entry(
     index: &mut Index,
-    geometry: &Geometry,
-    words: &[u64],
+    scanned: &Scanned<'_>,
     directory: u64,
     slot: u64,
 ) -> Result<(), NoMemory>
-    requires tidy { Tidy geometry.now.pages words.now }
-    requires slot { IsDirectorysSlot geometry.now.pages words.now directory slot }
-    requires holds { Holds geometry.now.pages words.now (page_of_slot slot + 1) slot index.old }
-    ensures { OnOk result (Holds geometry.now.pages words.now (page_of_slot slot + 1) (slot + 1) index.new) }
+    requires scanned { IsScanned scanned.now }
+    requires slot { IsDirectorysSlot scanned.now.image.geometry.pages scanned.now.image.words.now directory slot }
+    requires holds { OfMended scanned.now (λ P K. Holds P K (page_of_slot slot + 1) slot index.old) }
+    ensures { OnOk result (OfMended scanned.now (λ P K. Holds P K (page_of_slot slot + 1) (slot + 1) index.new)) }
 {
-    let fields = geometry.slot_at(words, slot);
-    if fields.inode == 0 {
+    if !scanned.is_live(slot) {
         return Ok(());
     }
+    let fields = scanned.image.geometry.slot_at(scanned.image.words, slot);
     let Some(name) = name_of_words(&fields.name) else {
         return Ok(());
     };

@@ -5,6 +5,7 @@ mod build;
 mod error;
 mod head;
 mod index;
+mod look;
 mod mounting;
 
 pub use error::MountError;

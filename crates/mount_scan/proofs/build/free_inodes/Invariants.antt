@@ -1,7 +1,7 @@
-use Rattle.std.proofs.Common.{◌≡◌, ◌+◌}
-use Rattle.layout.specs.Fields.{inode_kind}
+use Rattle.std.proofs.Common.{◌+◌}
+use Rattle.image_reading.specs.Reading.{Reached}
 use Rattle.mount_scan.proofs.Frees.{AreFree}
 use Rattle.mount_scan.proofs.build.free_inodes.Given as goal
 
 abbrev pub invariant-loop-number : goal.invariant-loop-number
-invariant-loop-number l = AreFree (λ x. inode_kind l.words (x + 1) ≡ 0) l.geometry.inodes l.number l.numbers
+invariant-loop-number l = AreFree (λ x. ¬ Reached l.scanned.image.geometry.pages l.scanned.image.words.now (x + 1)) l.count l.number l.numbers

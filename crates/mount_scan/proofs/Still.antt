@@ -1,0 +1,70 @@
+-- A plan has at most four fences, and none where the words are tidy.
+use Rattle.std.proofs.Common.{◌≡◌, inl, inr, ℕ, ◌≤◌, List, length, slice_index, Option, Some, None, refl, ap, arith}
+use Rattle.std.proofs.lemmas.Bool.{cases_eq}
+use Rattle.layout.specs.Fields.{page_owner}
+use Rattle.image_reading.specs.Repairs.{IsPointer, IsLitterSlot, IsLitterPage, IsLitterInode, IsLitterCount, WasLeft}
+use Rattle.image_reading.specs.Tidy.{Tidy}
+use Rattle.image_reading.proofs.Counts.{none_counted}
+use Rattle.repair_laws.specs.Stored.{HasNeedlessOwner, HasDeadName, HasNeedlessKind}
+use Rattle.recovery.specs.declared.repairs.Repairs.{Repairs}
+use Rattle.recovery.specs.Changes.{fences_for, one_changes}
+use Rattle.recovery.specs.Plans.{IsListOf, IsPlanOf}
+use Rattle.recovery.specs.Repairs.{clear_changes, free_changes, fences_of_repairs}
+use Rattle.recovery.proofs.Starting.{one_fence}
+
+pub few_fences : (r : Repairs) → fences_of_repairs r ≤ 4
+few_fences r = omega (arith, one_fence (one_changes r.left), one_fence (one_changes r.pointer), one_fence (clear_changes r), one_fence (free_changes r))
+
+-- ---- a plan of tidy words
+
+no_option : (o : Option ℕ) → ((s : ℕ) → o ≡ Some s → ⊥) → one_changes o ≡ 0
+no_option None none = refl
+no_option (Some s) none = absurd (none s refl)
+
+no_list : (Q : ℕ → Type 0) (numbers : List ℕ) → ((n : ℕ) → Q n → ⊥) → IsListOf Q numbers → length numbers ≡ 0
+no_list Q numbers none list = elim (cases_eq (length numbers) 0) [
+  | inl is ↦ is
+  | inr some ↦ absurd (none (slice_index numbers 0) (list.each 0 (omega (arith, some))))
+]
+
+module _ (P : ℕ) (W : List ℕ) (tidy : Tidy P W) where
+  no_pointer : (d : ℕ) → IsPointer P W d → ⊥
+  no_pointer d pointer = none_counted (IsPointer P W) tidy.repaired.of_pointers d pointer
+
+  no_left : (s d : ℕ) → WasLeft P W s d → ⊥
+  no_left s d left = no_pointer d (record { held = left.held; nonzero = λ none. let points = left.points in omega (arith, points, none) })
+
+  no_page : (j : ℕ) → IsLitterPage P W j → ⊥
+  no_page j page = none_counted (IsLitterPage P W) tidy.repaired.of_pages j page
+
+  no_owner : (j : ℕ) → HasNeedlessOwner P W j → ⊥
+  unfolding page_owner
+  no_owner j needless = no_page j (record { in_range = needless.page.in_range; free = needless.page.free; nonzero = (0, omega arith, needless.owned) })
+
+  no_kind : (j : ℕ) → HasNeedlessKind P W j → ⊥
+  no_kind j needless =
+      let (f, low, small, some) = needless.nonzero in
+      no_page j (record { in_range = needless.page.in_range; free = needless.page.free; nonzero = (f, small, some) })
+
+  no_name : (s : ℕ) → HasDeadName P W s → ⊥
+  no_name s dead =
+      let (f, low, small, some) = dead.nonzero in
+      none_counted (IsLitterSlot P W) tidy.repaired.of_slots s (record { page = dead.slot.page; dead = dead.slot.dead; nonzero = (f, small, some) })
+
+pub no_fences : (W : List ℕ) (r : Repairs) → Tidy r.geometry.pages W → IsPlanOf W r → fences_of_repairs r ≡ 0
+no_fences W r tidy plan =
+    let P = r.geometry.pages in
+    let left = no_option r.left (λ s is. let (d, was) = (plan.left s).0 is in no_left P W tidy s d was) in
+    let pointer = no_option r.pointer (λ d is. no_pointer P W tidy d ((plan.pointer d).0 is)) in
+    let owners = no_list (HasNeedlessOwner P W) r.owners.items (no_owner P W tidy) plan.owners in
+    let slots = no_list (HasDeadName P W) r.slots.items (no_name P W tidy) plan.slots in
+    let links = no_list (IsLitterCount P W) r.links.items (none_counted (IsLitterCount P W) tidy.repaired.of_counts) plan.links in
+    let descriptors = no_list (HasNeedlessKind P W) r.descriptors.items (no_kind P W tidy) plan.descriptors in
+    let inodes = no_list (IsLitterInode P W) r.inodes.items (none_counted (IsLitterInode P W) tidy.repaired.of_inodes) plan.inodes in
+    let clears : clear_changes r ≡ 0 = omega (arith, owners, slots, links) in
+    let frees : free_changes r ≡ 0 = omega (arith, descriptors, inodes) in
+    let one = ap fences_for left in
+    let two = ap fences_for pointer in
+    let three = ap fences_for clears in
+    let four = ap fences_for frees in
+    omega (arith, one, two, three, four)
