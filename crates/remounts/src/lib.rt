@@ -1,0 +1,70 @@
+//! A volume that is mounted again and again, each time cut off by a crash.
+#![tactic(auto)]
+
+ghost use Rattle.std.specs.Prelude.{◌≡◌, ◌⊎◌, IfErr, IfOk};
+ghost use Rattle.image_reading.specs.Soundness.{pages_in_image};
+ghost use Rattle.image_laws.specs.Frame.{SameMeaning};
+ghost use Rattle.mount_scan.specs.Mounting.{IsSound};
+
+use mount_scan::{MountError, mount};
+use pm_memory::RamPm;
+use pm_trait::NoMemory;
+use std::alloc::Global;
+
+/// A crash in a mount.
+#[derive(Clone, Copy, Debug)]
+pub struct Crash<'a> {
+    /// How many events of the mount came before it: all of them, where there are fewer.
+    pub moment: u64,
+    /// Which candidate is kept of each word that has several: one byte a word, and from the first one again behind the
+    /// last. Where there are none, the oldest.
+    pub keep: &'a [u8],
+}
+
+/// A device of these words is mounted, and a crash comes; a device of the words that it leaves is mounted, and the next
+/// crash comes. Answers what the last one leaves: it means what the words mean, however many there were.
+pub fn words_after(
+    alloc: Global,
+    words: &[u64],
+    crashes: &[Crash<'_>],
+) -> Result<Vec<u64>, MountError>
+    ensures means { IsSound words.now → IfOk result (λ after.
+        SameMeaning (pages_in_image words.now) words.now after.items) }
+    ensures fails { IsSound words.now → IfErr result (λ error.
+        (error ≡ MountError.NoMemory) ⊎ (error ≡ MountError.PmFault)) }
+{
+    let mut left = copy_of(alloc, words)?;
+    for crash in crashes {
+        left = words_after_one(alloc, left.as_slice(), crash)?;
+    }
+    Ok(left)
+}
+
+// What one crash leaves in the mount of a device of these words.
+fn words_after_one(alloc: Global, words: &[u64], crash: &Crash<'_>) -> Result<Vec<u64>, MountError>
+    ensures means { IsSound words.now → IfOk result (λ after.
+        SameMeaning (pages_in_image words.now) words.now after.items) }
+    ensures fails { IsSound words.now → IfErr result (λ error.
+        (error ≡ MountError.NoMemory) ⊎ (error ≡ MountError.PmFault)) }
+{
+    let mut pm = RamPm::new(alloc, words)?;
+    let _volume = mount(alloc, &mut pm)?;
+    let oldest = [0];
+    let keep = if crash.keep.is_empty() {
+        oldest.as_slice()
+    } else {
+        crash.keep
+    };
+    let left = pm.image_at(alloc, crash.moment.min(pm.events()), keep)?;
+    Ok(left)
+}
+
+// The words in a list of their own.
+fn copy_of(alloc: Global, words: &[u64]) -> Result<Vec<u64>, NoMemory>
+    ensures { IfOk result (λ copy. copy.items ≡ words.now) }
+{
+    words.to_vec(alloc).map_err(|_| NoMemory)
+}
+
+#[cfg(test)]
+mod tests;
