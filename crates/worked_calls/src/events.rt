@@ -1,7 +1,6 @@
 // How many stores, flushes and fences each call takes, counted on a device in memory. Its root has no name yet, so the
 // first name takes a page, and the second one has place there.
-use crate::entries::{FRESH, create, mkdir, put};
-use mount_scan::mount;
+use crate::entries::{FRESH, create, mkdir, mounted, put};
 use pm_memory::RamPm;
 use std::test::Fail;
 use tree_model::Reply;
@@ -21,7 +20,7 @@ fn the_events_of_a_create(rt: HostRuntime) -> Result<(), Fail> {
     let mut words = vec![in rt.alloc(); 0; 8_192]?;
     put(words.as_mut_slice(), &FRESH);
     let mut pm = RamPm::new(rt.alloc(), words.as_slice())?;
-    let mut volume = mount(rt.alloc(), &mut pm)?;
+    let mut volume = mounted(rt.alloc(), &mut pm)?;
     assert_eq!(rt; pm.events(), 0);
     assert_eq!(rt; create(&mut volume, b"/x", &mut pm)?, Reply::Done);
     assert_eq!(rt; (pm.events(), ENTRY + PAGE), (608, 608));
@@ -35,7 +34,7 @@ fn the_events_of_a_mkdir(rt: HostRuntime) -> Result<(), Fail> {
     let mut words = vec![in rt.alloc(); 0; 8_192]?;
     put(words.as_mut_slice(), &FRESH);
     let mut pm = RamPm::new(rt.alloc(), words.as_slice())?;
-    let mut volume = mount(rt.alloc(), &mut pm)?;
+    let mut volume = mounted(rt.alloc(), &mut pm)?;
     assert_eq!(rt; pm.events(), 0);
     assert_eq!(rt; mkdir(&mut volume, b"/d", &mut pm)?, Reply::Done);
     assert_eq!(rt; (pm.events(), ENTRY + LINKS + PAGE), (610, 610));

@@ -2,8 +2,7 @@
 ghost use Rattle.std.specs.Prelude.{◌≡◌};
 ghost use Rattle.pm_trait.specs.DeviceView.{IsSettledView};
 
-use crate::entries::create;
-use mount_scan::mount;
+use crate::entries::{create, mounted};
 use pm_file::{FileFault, FilePm};
 use pm_memory::RamPm;
 use pm_trait::Pm;
@@ -27,7 +26,7 @@ fn create_on<P: Pm>(alloc: Global, pm: &mut P) -> Result<Reply, Fail>
     requires settled { IsSettledView (P.view pm.old) }
     requires fences { (P.view pm.old).fences ≡ 0 }
 {
-    let mut volume = mount(alloc, pm)?;
+    let mut volume = mounted(alloc, pm)?;
     create(&mut volume, b"/a", pm)
 }
 
