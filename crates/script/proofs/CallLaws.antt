@@ -3,9 +3,10 @@ use Rattle.std.specs.Prelude.{ℕ, Bool, true, false, cond, List, [], ◌∷◌,
 use Rattle.tree_model.specs.PathText.{Route, path_of}
 use Rattle.tree_model.specs.Run.{Line}
 use Rattle.tree_model.specs.Supported.{IsSupported}
-use Rattle.tree_model.specs.declared.command.Command.TheVariants.{Create, Mkdir, Stat, List as Show}
+use Rattle.tree_model.specs.declared.command.Command.TheVariants.{Create, Mkdir, Stat, List as Show, Df}
 use Rattle.tree_model.specs.declared.reply.LineFault.{LineFault}
-use Rattle.script.specs.Lines.{line_limit, words_of, is_word, on_path, of_two, of_words, call_of}
+use Rattle.tree_model.specs.declared.reply.LineFault.TheVariants.{BadLine}
+use Rattle.script.specs.Lines.{line_limit, words_of, is_word, on_path, of_one, of_two, of_words, call_of}
 
 either : (b : Bool) (one other : Line) → IfOk one IsSupported → IfOk other IsSupported → IfOk (cond b one other) IsSupported
 either true one other has has_other = has
@@ -27,6 +28,9 @@ list_is_supported : (path : Result Route LineFault) → IfOk (on_path (λ p. Sho
 list_is_supported (Ok path) = tt
 list_is_supported (Err fault) = tt
 
+one_is_supported : (verb : List ℕ) → IfOk (of_one verb) IsSupported
+one_is_supported verb = either (is_word (codes "df") verb) (Ok Df) (Err BadLine) tt tt
+
 two_are_supported : (verb path : List ℕ) → IfOk (of_two verb path) IsSupported
 two_are_supported verb path =
     either (is_word (codes "create") verb) _ _ (create_is_supported (path_of path))
@@ -36,7 +40,7 @@ two_are_supported verb path =
 
 words_are_supported : (words : List (List ℕ)) → IfOk (of_words words) IsSupported
 words_are_supported [] = tt
-words_are_supported (verb ∷ []) = tt
+words_are_supported (verb ∷ []) = one_is_supported verb
 words_are_supported (verb ∷ path ∷ []) = two_are_supported verb path
 words_are_supported (verb ∷ path ∷ word ∷ more) = tt
 

@@ -1,5 +1,5 @@
-ghost use Rattle.std.specs.Prelude.{◌≡◌, ◌≤◌, [], ◌∷◌, length, Err, MatchOption, MatchResult};
-ghost use Rattle.script.specs.Lines.{words_of, of_words, of_two, on_path, call_of};
+ghost use Rattle.std.specs.Prelude.{◌≡◌, ◌≤◌, length};
+ghost use Rattle.script.specs.Lines.{words_of, of_words, of_one, of_two, on_path, call_of};
 ghost use Rattle.tree_model.specs.PathText.{path_of};
 ghost use Rattle.script.specs.Calls.{line_of_call};
 
@@ -15,9 +15,9 @@ pub enum Call<'a> {
 }
 
 impl<'a> Call<'a> {
-    /// What a line asks for. A line that is too long, of other words than a command and a path, or of a command that is
-    /// not supported is refused before its path is read. `scratch`, of at least 32,768 bytes, is where the bytes of a
-    /// line are to be decoded.
+    /// What a line asks for. A line that is too long, of a command that is not supported, or of another number of words
+    /// than its command takes is refused before its path is read. `scratch`, of at least 32,768 bytes, is where the bytes
+    /// of a line are to be decoded.
     pub fn parse(line: &'a [u8], scratch: &'a mut [u8]) -> Call<'a>
         requires scratch { 32768 ≤ length scratch.old }
         ensures call { line_of_call result ≡ call_of line.now }
@@ -26,27 +26,34 @@ impl<'a> Call<'a> {
         if line.len() > LONGEST_LINE {
             return Call::Refused(LineFault::BadLine);
         }
-        match two_words(line) {
-            Some((verb, path)) => call_on_path(verb, path),
-            None => Call::Refused(LineFault::BadLine),
-        }
+        call_of_words(line)
     }
 }
 
-// The words of a line that has just two.
-fn two_words(line: &[u8]) -> Option<(&[u8], &[u8])>
-    ensures { MatchOption result (of_words (words_of line.now) ≡ Err LineFault.BadLine)
-        (λ words. words_of line.now ≡ words.0.now ∷ words.1.now ∷ []) }
+// What the words of a line ask for.
+fn call_of_words(line: &[u8]) -> Call<'_>
+    ensures { line_of_call result ≡ of_words (words_of line.now) }
 {
-    let Some((first, rest)) = next_word(line) else {
-        return None;
+    let Some((verb, rest)) = next_word(line) else {
+        return Call::Refused(LineFault::BadLine);
     };
-    let Some((second, rest)) = next_word(rest) else {
-        return None;
+    let Some((path, rest)) = next_word(rest) else {
+        return call_alone(verb);
     };
     match next_word(rest) {
-        Some(_) => None,
-        None => Some((first, second)),
+        Some(_) => Call::Refused(LineFault::BadLine),
+        None => call_on_path(verb, path),
+    }
+}
+
+// The call of a command that stands alone.
+fn call_alone(verb: &[u8]) -> Call<'_>
+    ensures { line_of_call result ≡ of_one verb.now }
+{
+    if verb == b"df".as_slice() {
+        Call::Do(Command::Df)
+    } else {
+        Call::Refused(LineFault::BadLine)
     }
 }
 

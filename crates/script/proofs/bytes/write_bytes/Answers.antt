@@ -1,4 +1,4 @@
-use Rattle.std.proofs.Common.{◌≡◌, ◌++◌, [], ◌∷◌, codes, decimal, length, sym}
+use Rattle.std.proofs.Common.{◌++◌, [], ◌∷◌, codes, decimal, length, sym}
 use Rattle.io_edge.proofs.BytesLaws.{writes_as, writes_then, writes_cut, writes_broken}
 use Rattle.tree_model.specs.Step.{Bytes}
 use Rattle.script.specs.Lines.{space, newline}
