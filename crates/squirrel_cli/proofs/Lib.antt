@@ -2,4 +2,3 @@ pub mod Unacknowledged
 pub mod StatusEnds
 pub mod Refusals
 pub mod Mounted
-pub mod AtEntry

@@ -1,34 +1,36 @@
 -- A mount, and the run after it.
-use Rattle.std.proofs.Common.{◌≡◌, inl, inr, ℕ, List, length, refl, sym, ap, subst, arith}
+use Rattle.std.proofs.Common.{◌≡◌, ◌⊎◌, inl, inr, ℕ, ◌≤◌, ◌^◌, List, length, refl, sym, subst, ◌∙◌, arith}
 use Rattle.std.proofs.lemmas.Bool.{cases_lt}
 use Rattle.std.specs.Prelude.{Option, Some, None, IfSome, Ok, Err, slice_get}
 use Rattle.pm_trait.specs.Trail.{Trail}
 use Rattle.pm_trait.specs.Device.{HasRisen, Continues, acks_from, moment_of}
-use Rattle.pm_trait.specs.DeviceView.{DeviceView, IsSettledView}
-use Rattle.pm_trait.proofs.ContinuesLaws.{continues_here, acks_from-here, acks_from-joined}
-use Rattle.pm_trait.proofs.DeviceLaws.{leaves_here, leaves_weaker, leaves_next}
+use Rattle.pm_trait.specs.DeviceView.{DeviceView}
+use Rattle.pm_trait.proofs.ContinuesLaws.{acks_from-joined}
+use Rattle.pm_trait.proofs.DeviceLaws.{leaves_weaker, leaves_next}
 use Rattle.pm_trait.proofs.AckLaws.{acks_none, acks_next}
 use Rattle.tree_model.specs.Run.{Line, State}
 use Rattle.image_reading.specs.Reading.{ReadsAs}
+use Rattle.image_reading.specs.Soundness.{Sound}
+use Rattle.image_reading.specs.Soundness.Rule.{head}
 use Rattle.image_reading.specs.Tidy.{Tidy}
+use Rattle.image_reading.proofs.Readings.{one_tree, one_room}
+use Rattle.image_reading.proofs.Violations.{pages_law}
+use Rattle.image_laws.proofs.Trees.{tree_law}
+use Rattle.image_laws.proofs.Rooms.{room_law}
 use Rattle.script.specs.declared.run_end.RunEnd.{RunEnd}
+use Rattle.script.specs.declared.run_end.RunEnd.TheVariants as run_end
 use Rattle.volume.specs.Crashes.{MayReadAs, MeansState}
+use Rattle.mount_scan.specs.Mounting.{IsTidy}
+use Rattle.mount_scan.specs.Mounts.{Mounts}
 use Rattle.engine.specs.Quiet.{ActsOnly}
 use Rattle.engine.specs.Run.{command_of, IsBetween, IsStateAfter}
-use Rattle.engine.specs.Script.{RunsScript}
+use Rattle.engine.specs.Script.{RunsScript, ExecutesTold}
 use Rattle.engine.proofs.After.{acked_then}
-use Rattle.squirrel_cli.specs.Causes.{IsLeftAlone}
-use Rattle.squirrel_cli.specs.Mounts.{Mounts, ActsAfterMount, MountsAndRuns}
-
--- what a call left as it was it left alone
-pub left_alone : {before after : DeviceView} → after ≡ before → IsLeftAlone before after
-left_alone same = record {
-  words = ap (λ (device : DeviceView). device.words) same;
-  trail = ap (λ (device : DeviceView). device.trail) same;
-  faults = ap (λ (device : DeviceView). device.faults) same;
-  fences = ap (λ (device : DeviceView). device.fences) same;
-  acks = ap (λ (device : DeviceView). device.acks) same;
-}
+use Rattle.squirrel_cli.specs.Causes.{TellsFaults}
+use Rattle.squirrel_cli.specs.Ends.{end_of, GaveAll}
+use Rattle.squirrel_cli.specs.Mounts.{IsOnlyMounted, ActsAfterMount, MountsAndRuns}
+use Rattle.squirrel_cli.specs.declared.status.Status.{Status}
+use Rattle.squirrel_cli.specs.declared.status.Status.TheVariants as status
 
 -- of an end that is told, more may be said
 pub of_end : {F G : RunEnd → Type 0} (told : Option RunEnd) → ((end : RunEnd) → F end → G end) → IfSome told F → IfSome told G
@@ -46,25 +48,6 @@ starts_between : {P : ℕ} (start : State) (states : List State) (lines : List L
 starts_between {P} start states lines k image (none, means) =
     subst (λ (n : ℕ). IsBetween P start states lines n image) (sym none) (start, refl, may_start (slice_get lines 0) means)
 
--- a mount that left the device as it was
-pub mounts_nothing : {P : ℕ} {state : State} (device : DeviceView) → IsSettledView device → Tidy P device.words → ReadsAs P device.words state → Mounts P state device device
-mounts_nothing {P} {state} device settled tidy reads = record {
-  settled = settled;
-  tidy = tidy;
-  reads = reads;
-  keeps = record {
-    any_moment = leaves_here (λ k image. (k ≡ 0) × MeansState P state image) settled (refl, record { sound = tidy.sound; reads = reads });
-    no_ack = acks_from-here (continues_here device.trail);
-    acks = refl;
-  };
-  faults = refl;
-  refused = refl;
-  made = 0;
-  fences = omega arith;
-  few = omega arith;
-  alone = λ is. left_alone refl;
-}
-
 -- what a call does after a mount
 acts_after_mount : {F : ℕ → Type 0} {a b c : Option Trail} → Continues a b → acks_from a b (moment_of b) ≡ 0 → Continues b c → ActsOnly b c F → ActsAfterMount a b c F
 acts_after_mount {F} {a} {b} {c} one none two acts = record {
@@ -77,7 +60,7 @@ acts_after_mount {F} {a} {b} {c} one none two acts = record {
   ];
 }
 
--- THE RUN OF A WHOLE JOB: what a run says from the mount on is said from the entry on.
+-- The run of a whole job: what a run says from the mount on is said from the entry on.
 pub mounts_and_runs : {P : ℕ} {before mounted after : DeviceView} {end : RunEnd} {script rest : Option (List ℕ)} {took now : List ℕ → Type 0} → (run : RunsScript P mounted after end script rest took now)
     → ReadsAs P before.words run.start → Mounts P run.start before mounted → MountsAndRuns P before after end script rest took now
 mounts_and_runs {P} {before} {mounted} {after} run reads mount = record {
@@ -101,9 +84,77 @@ mounts_and_runs {P} {before} {mounted} {after} run reads mount = record {
   fences = λ each. let was = mount.fences in let more = run.fences each in omega (arith, was, more);
 }
 
--- so of a run on a volume that was left as it was
-pub runs_there : {size P : ℕ} {before mounted after : DeviceView} {end : RunEnd} {script rest : Option (List ℕ)} {took now : List ℕ → Type 0} → mounted ≡ before → size ≡ P → IsSettledView before → Tidy P before.words
+-- ---- the state that a run starts with
+
+-- words read as one state
+one_state : {P : ℕ} {W : List ℕ} (state other : State) → ReadsAs P W state → ReadsAs P W other → state ≡ other
+one_state {P} {W} state other reads also =
+    let tree = one_tree P W state.tree other.tree reads.tree also.tree in
+    let room = one_room P W state.room other.room reads.room also.room in
+    λ i. record { tree = tree i; room = room i }
+
+-- A mount tells what it does to each state that the words read as, and sound ones read as one.
+pub only_mounted : {P : ℕ} {before mounted : DeviceView} → Sound P before.words → ((state : State) → ReadsAs P before.words state → Mounts P state before mounted) → IsOnlyMounted P before mounted
+only_mounted {P} {before} sound mounts =
+    let (tree, reads, form) = tree_law P before.words sound in
+    let (room, has) = room_law P before.words sound in
+    let start : State = record { tree = tree; room = room } in
+    let there : ReadsAs P before.words start = record { tree = reads; room = has } in
+    record { start = start; reads = there; mount = mounts start there }
+
+-- What runs on the mounted device starts with the state that the words at entry read as.
+mounted_state : {P : ℕ} {before mounted : DeviceView} (start : State) → IsOnlyMounted P before mounted → ReadsAs P mounted.words start → ReadsAs P before.words start × Mounts P start before mounted
+mounted_state {P} {before} {mounted} start only reads =
+    subst (λ (state : State). ReadsAs P before.words state × Mounts P state before mounted)
+    (one_state only.start start only.mount.reads reads) (only.reads, only.mount)
+
+pub runs_mounted : {size P : ℕ} {before mounted after : DeviceView} {end : RunEnd} {script rest : Option (List ℕ)} {took now : List ℕ → Type 0} → size ≡ P → IsOnlyMounted P before mounted
     → RunsScript size mounted after end script rest took now → MountsAndRuns P before after end script rest took now
-runs_there {size} {P} {before} {mounted} {after} {end} {script} {rest} {took} {now} same pages settled tidy run =
-    let here = subst (λ (p : ℕ). RunsScript p before after end script rest took now) pages (subst (λ (device : DeviceView). RunsScript size device after end script rest took now) same run) in
-    mounts_and_runs here here.reads (mounts_nothing before settled tidy here.reads)
+runs_mounted {mounted = mounted} {after = after} {end} {script} {rest} {took} {now} pages only run =
+    let here = subst (λ (p : ℕ). RunsScript p mounted after end script rest took now) pages run in
+    let (reads, mount) = mounted_state here.start only here.reads in
+    mounts_and_runs here reads mount
+
+-- ---- the counts
+
+-- a cause after the mount is one from the entry on
+pub cause_from_entry : {is : Status} {before mounted after : DeviceView} {reads_before reads writes_before writes : ℕ} → mounted.faults ≡ before.faults
+    → TellsFaults is mounted after reads_before reads writes_before writes → TellsFaults is before after reads_before reads writes_before writes
+cause_from_entry {after = after} same cause = record {
+  device = λ is. subst (λ (faults : ℕ). HasRisen faults after.faults) same (cause.device is);
+  done = λ is. cause.done is ∙ same;
+  read = cause.read;
+  no_read_fault = cause.no_read_fault;
+  write = cause.write;
+  no_write_fault = cause.no_write_fault;
+}
+
+-- and so is a fence that failed after it
+pub risen_from_entry : {A : Type 0} {before mounted after : ℕ} → mounted ≡ before → HasRisen mounted after ⊎ A → HasRisen before after ⊎ A
+risen_from_entry {after = after} same (inl risen) = inl (subst (λ (faults : ℕ). HasRisen faults after) same risen)
+risen_from_entry same (inr holds) = inr holds
+
+-- the mount leaves counts that a run may begin with
+pub few_fences : {P : ℕ} {before mounted : DeviceView} → IsOnlyMounted P before mounted → before.fences ≤ 2 ^ 32 → mounted.fences ≤ 2 ^ 61
+few_fences only few = let made = only.mount.fences in let most = only.mount.few in omega (arith, few, made, most)
+
+pub few_acks : {P : ℕ} {before mounted : DeviceView} → IsOnlyMounted P before mounted → before.acks ≤ 2 ^ 32 → mounted.acks ≤ 2 ^ 61
+few_acks only few = let same = only.mount.acks in omega (arith, few, same)
+
+-- what is tidy at some number of pages is so at its own
+pub tidy_pages : {A : Type 0} {P : ℕ} (W : List ℕ) → A ⊎ Tidy P W → A ⊎ IsTidy W
+tidy_pages W (inl other) = inl other
+tidy_pages {P = P} W (inr tidy) = inr (subst (λ (pages : ℕ). Tidy pages W) (sym (pages_law P W (λ place. tidy.sound head place))) tidy)
+
+-- ---- the limit of a script
+
+limit_gives : (before after : Option (List ℕ)) (lines : List Line) → ExecutesTold run_end.Limit before after lines → GaveAll before after
+limit_gives None after lines executes = tt
+limit_gives (Some before) None lines executes = executes
+limit_gives (Some before) (Some after) lines (bytes, split, long, called) = (bytes, split, long)
+
+-- a run that ends at the limit was given all of its bytes
+pub gave_at_limit : (is : Status) (F : RunEnd → Type 0) (script rest : Option (List ℕ)) → IfSome (end_of is) F → (F run_end.Limit → (lines : List Line) × ExecutesTold run_end.Limit script rest lines) → is ≡ status.ScriptLimit → GaveAll script rest
+gave_at_limit is F script rest runs executes same =
+    let (lines, told) = executes (subst (λ (s : Status). IfSome (end_of s) F) same runs) in
+    limit_gives script rest lines told

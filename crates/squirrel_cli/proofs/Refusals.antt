@@ -1,75 +1,30 @@
 -- What is told of a device that was not mounted.
-use Rattle.std.proofs.Common.{◌≡◌, ◌≢◌, ◌⊎◌, inl, inr, ℕ, List, refl, sym, ap, subst, ◌∙◌}
-use Rattle.std.specs.Prelude.{Result, Ok, Err, IsOk, IfSome, IsSome}
-use Rattle.pm_trait.specs.Device.{HasRisen}
+use Rattle.std.proofs.Common.{◌≡◌, ◌≢◌, ◌⊎◌, inl, inr, ℕ, List, refl, sym, ap, subst, ◌∙◌, arith}
+use Rattle.std.specs.Prelude.{Option, Result, Ok, Err, Some, IfSome, IsSome}
+use Rattle.pm_trait.specs.Trail.{Trail}
+use Rattle.pm_trait.specs.Device.{HasRisen, IsSettledAt}
+use Rattle.pm_trait.specs.DeviceView.{DeviceView, IsSettledView}
 use Rattle.io_edge.specs.declared.sink.WriteFault.{WriteFault}
 use Rattle.io_edge.specs.Bytes.{Takes, TakesPrefix, Writes}
-use Rattle.script.specs.Texts.{not_a_volume_text, damaged_text}
-use Rattle.image_reading.specs.Soundness.{pages_in_image}
+use Rattle.script.specs.Texts.{damaged_text}
+use Rattle.image_reading.specs.Soundness.{IsFirstViolation, pages_in_image}
 use Rattle.image_reading.specs.Soundness.Rule.{head}
-use Rattle.image_reading.specs.Laws.{HeadLaw}
 use Rattle.image_reading.specs.declared.Violation.{Violation}
-use Rattle.mount_scan.specs.Mounting.{HoldsVolume, IsTidy, IsDamage}
+use Rattle.image_reading.proofs.Violations.{head_law, no_fault}
+use Rattle.mount_scan.specs.Mounting.{HoldsVolume, IsSound, IsTidy}
+use Rattle.mount_scan.specs.Mounts.{FailsToMount, IsLeftAlone}
 use Rattle.mount_scan.specs.declared.error.MountError.{MountError}
 use Rattle.mount_scan.specs.declared.error.MountError.TheVariants as refused
 use Rattle.script.specs.declared.run_end.RunEnd.{RunEnd}
+use Rattle.script.specs.declared.run_end.RunEnd.TheVariants.{Faulted}
+use Rattle.squirrel_cli.specs.declared.job.Job.TheVariants.{Run}
 use Rattle.squirrel_cli.specs.declared.status.Status.{Status}
 use Rattle.squirrel_cli.specs.declared.status.Status.TheVariants as status
+use Rattle.squirrel_cli.specs.Answers.{StatusTells, Refuses, IsShortOfMemory}
 use Rattle.squirrel_cli.specs.Ends.{IsMountable, end_of}
 use Rattle.squirrel_cli.specs.Told.{IsToldOrCut, IsToldOf, status_of_write}
 
--- what is mounted is a volume
-pub tidy_volume : {W : List ℕ} → HeadLaw → IsTidy W → HoldsVolume W
-tidy_volume {W} law tidy = (law (pages_in_image W) W).0 (λ place. tidy.sound head place)
-
-pub each_damage : (error : MountError) {A : Type 0} {W : List ℕ} {is : Status} {before after : List ℕ → Type 0} {mounted : Result A MountError} → mounted ≡ Err error → IsToldOf error is before after
-    → (mounted ≡ Err refused.NotVolume → ¬ HoldsVolume W) → ((violation : Violation) → mounted ≡ Err (refused.Damaged violation) → HoldsVolume W × IsDamage W violation)
-    → mounted ≢ Err refused.PmFault → HoldsVolume W → (is ≡ status.NoMemory) ⊎ (violation : Violation) × IsDamage W violation × IsToldOrCut (status.Damaged violation) (damaged_text violation.rule violation.place) is before after
-each_damage refused.NotVolume found told not_volume damaged no_fault volume = absurd (not_volume found volume)
-each_damage (refused.Damaged violation) found told not_volume damaged no_fault volume = inr (violation, (damaged violation found).1, told)
-each_damage refused.PmFault found told not_volume damaged no_fault volume = absurd (no_fault found)
-each_damage refused.NoMemory found told not_volume damaged no_fault volume = inl told
-
--- a volume that is mounted is refused as out of memory alone
-pub lacks_memory : (error : MountError) {A : Type 0} {is : Status} (before after : List ℕ → Type 0) {mounted : Result A MountError} → mounted ≡ Err error → IsToldOf error is before after
-    → (mounted ≡ Err refused.NoMemory) ⊎ IsOk mounted → is ≡ status.NoMemory
-lacks_memory error before after found told (inr mounted) = absurd (let gone = subst IsOk found mounted in cc gone)
-lacks_memory refused.NotVolume before after found told (inl memory) = absurd (cc (found, memory))
-lacks_memory (refused.Damaged violation) before after found told (inl memory) = absurd (cc (found, memory))
-lacks_memory refused.PmFault before after found told (inl memory) = absurd (cc (found, memory))
-lacks_memory refused.NoMemory before after found told (inl memory) = told
-
--- and then no run has ended
-pub no_run : {is : Status} (F : RunEnd → Type 0) → is ≡ status.NoMemory → IfSome (end_of is) F
-no_run F memory = subst (λ (is : Status). IfSome (end_of is) F) (sym memory) tt
-
--- what was refused ends as a run does only where the text was cut, and it is no volume that is mounted
-pub refused_ends : (error : MountError) {A : Type 0} {W : List ℕ} {is : Status} (before after : List ℕ → Type 0) {mounted : Result A MountError} → mounted ≡ Err error → IsToldOf error is before after
-    → mounted ≢ Err refused.PmFault → (IsMountable W → (mounted ≡ Err refused.NoMemory) ⊎ IsOk mounted) → IsSome (end_of is) → IsMountable W ⊎ (is ≡ status.WriteFault) × ¬ IsMountable W
-refused_ends error {is = is} before after {mounted} found told no_fault taken ended =
-    let cut = is_cut error found told in
-    inr (cut, λ mountable. let memory = lacks_memory error before after found told (taken mountable) in cc (memory, cut))
-  where
-    no_end : {other : Status} → is ≡ other → IsSome (end_of other)
-    no_end same = subst (λ (s : Status). IsSome (end_of s)) same ended
-
-    is_cut : (error : MountError) → mounted ≡ Err error → IsToldOf error is before after → is ≡ status.WriteFault
-    is_cut refused.NotVolume found (inl told) = absurd (let none = no_end told.0 in cc none)
-    is_cut refused.NotVolume found (inr cut) = cut.0
-    is_cut (refused.Damaged violation) found (inl told) = absurd (let none = no_end told.0 in cc none)
-    is_cut (refused.Damaged violation) found (inr cut) = cut.0
-    is_cut refused.PmFault found told = absurd (no_fault found)
-    is_cut refused.NoMemory found told = absurd (let none = no_end told in cc none)
-
 -- ---- what was told
-
--- what is no volume is told so
-pub told_no_volume : (error : MountError) {A : Type 0} {W : List ℕ} {is : Status} {before after : List ℕ → Type 0} {mounted : Result A MountError} → mounted ≡ Err error → IsToldOf error is before after
-    → (¬ HoldsVolume W → mounted ≡ Err refused.NotVolume) → ¬ HoldsVolume W → IsToldOrCut status.NotVolume not_a_volume_text is before after
-told_no_volume refused.NotVolume found told each not = told
-told_no_volume (refused.Damaged violation) found told each not = absurd (let other = each not in cc (found, other))
-told_no_volume refused.PmFault found told each not = absurd (let other = each not in cc (found, other))
-told_no_volume refused.NoMemory found told each not = absurd (let other = each not in cc (found, other))
 
 -- a text was written where its status is told
 pub told_whole : {wanted is : Status} {text : List ℕ} {before after : List ℕ → Type 0} → wanted ≢ status.WriteFault → IsToldOrCut wanted text is before after → is ≡ wanted → Takes before text after
@@ -81,35 +36,139 @@ pub told_prefix : {wanted is : Status} {text : List ℕ} {before after : List �
 told_prefix not (inl told) is = absurd (not (sym told.0 ∙ is))
 told_prefix not (inr cut) is = cut.1
 
-pub no_volume_told : (error : MountError) {is : Status} (before after : List ℕ → Type 0) → IsToldOf error is before after → is ≡ status.NotVolume → (error ≡ refused.NotVolume) × Takes before not_a_volume_text after
-no_volume_told refused.NotVolume before after told is = (refl, told_whole (λ e. cc e) told is)
-no_volume_told (refused.Damaged violation) before after (inl told) is = absurd (let other = told.0 in cc (other, is))
-no_volume_told (refused.Damaged violation) before after (inr cut) is = absurd (let other = cut.0 in cc (other, is))
-no_volume_told refused.PmFault before after told is = absurd (cc (told, is))
-no_volume_told refused.NoMemory before after told is = absurd (cc (told, is))
+-- another status than these two isn't told
+not_told : {wanted is other : Status} {text : List ℕ} {before after : List ℕ → Type 0} → wanted ≢ other → other ≢ status.WriteFault → IsToldOrCut wanted text is before after → is ≢ other
+not_told apart uncut (inl told) is = apart (sym told.0 ∙ is)
+not_told apart uncut (inr cut) is = uncut (sym is ∙ cut.0)
 
-pub damage_told : (error : MountError) {is : Status} (before after : List ℕ → Type 0) (violation : Violation) → IsToldOf error is before after → is ≡ status.Damaged violation
-    → (error ≡ refused.Damaged violation) × Takes before (damaged_text violation.rule violation.place) after
-damage_told refused.NotVolume before after violation (inl told) is = absurd (let other = told.0 in cc (other, is))
-damage_told refused.NotVolume before after violation (inr cut) is = absurd (let other = cut.0 in cc (other, is))
-damage_told (refused.Damaged found) {is = answered} before after violation told is =
-    let same : found ≡ violation = same_violation told is in
-    (ap refused.Damaged same, subst (λ (v : Violation). Takes before (damaged_text v.rule v.place) after) same (told_whole (λ e. cc e) told (is ∙ ap status.Damaged (sym same))))
-  where
-    same_violation : IsToldOrCut (status.Damaged found) (damaged_text found.rule found.place) answered before after → answered ≡ status.Damaged violation → found ≡ violation
-    same_violation (inl one) two = let first = one.0 in cc (first, two)
-    same_violation (inr cut) two = absurd (let other = cut.0 in cc (other, two))
-damage_told refused.PmFault before after violation told is = absurd (cc (told, is))
-damage_told refused.NoMemory before after violation told is = absurd (cc (told, is))
+-- and where it is the end of a run, it was cut
+end_is_cut : {wanted is : Status} {text : List ℕ} {before after : List ℕ → Type 0} → (IsSome (end_of wanted) → ⊥) → IsToldOrCut wanted text is before after → IsSome (end_of is) → is ≡ status.WriteFault
+end_is_cut no_end (inl told) ended = absurd (no_end (subst (λ (s : Status). IsSome (end_of s)) told.0 ended))
+end_is_cut no_end (inr cut) ended = cut.0
 
--- a device fault is told of a mount in which a fence failed
-pub fault_told : (error : MountError) {is : Status} (before after : List ℕ → Type 0) → IsToldOf error is before after → is ≡ status.DeviceFault → error ≡ refused.PmFault
-fault_told refused.NotVolume before after (inl told) is = absurd (let other = told.0 in cc (other, is))
-fault_told refused.NotVolume before after (inr cut) is = absurd (let other = cut.0 in cc (other, is))
-fault_told (refused.Damaged violation) before after (inl told) is = absurd (let other = told.0 in cc (other, is))
-fault_told (refused.Damaged violation) before after (inr cut) is = absurd (let other = cut.0 in cc (other, is))
-fault_told refused.PmFault before after told is = refl
-fault_told refused.NoMemory before after told is = absurd (cc (told, is))
+-- ---- why it was refused, and what the mount left
+
+-- what is sound is a volume
+sound_volume : (W : List ℕ) → IsSound W → HoldsVolume W
+sound_volume W sound = (head_law (pages_in_image W) W).0 (λ place. sound head place)
+
+pub data WhyRefused (before after : DeviceView) : MountError → Type 0 where
+  no_volume : ¬ HoldsVolume before.words → after ≡ before → WhyRefused before after refused.NotVolume
+  broken : (violation : Violation) → HoldsVolume before.words → IsFirstViolation before.words violation → after ≡ before → WhyRefused before after (refused.Damaged violation)
+  failed : FailsToMount (pages_in_image before.words) before after → WhyRefused before after refused.PmFault
+  short : HoldsVolume before.words → IsLeftAlone before after → WhyRefused before after refused.NoMemory
+
+-- what is as it was is left alone
+left_alone : {before after : DeviceView} → after ≡ before → IsLeftAlone before after
+left_alone same = record {
+  words = ap (λ (device : DeviceView). device.words) same;
+  trail = ap (λ (device : DeviceView). device.trail) same;
+  faults = ap (λ (device : DeviceView). device.faults) same;
+  fences = ap (λ (device : DeviceView). device.fences) same;
+  acks = ap (λ (device : DeviceView). device.acks) same;
+  room = let spare = ap (λ (device : DeviceView). device.spare) same in omega (arith, spare);
+  refused = let counted = ap (λ (device : DeviceView). device.refused) same in omega (arith, counted);
+}
+
+-- a first violation is none of a sound volume
+not_sound : {W : List ℕ} {violation : Violation} → IsFirstViolation W violation → ¬ IsSound W
+not_sound {W} {violation} is sound = no_fault (pages_in_image W) W is.rule violation.place sound is.first
+
+pub why_refused : (error : MountError) {A : Type 0} {before after : DeviceView} {mounted : Result A MountError} → mounted ≡ Err error → (mounted ≡ Err refused.NotVolume → ¬ HoldsVolume before.words)
+    → ((violation : Violation) → mounted ≡ Err (refused.Damaged violation) → HoldsVolume before.words × IsFirstViolation before.words violation) → (¬ IsSound before.words → after ≡ before)
+    → (mounted ≡ Err refused.PmFault → FailsToMount (pages_in_image before.words) before after) → (mounted ≡ Err refused.NoMemory → HoldsVolume before.words) → (mounted ≡ Err refused.NoMemory → IsLeftAlone before after)
+    → WhyRefused before after error
+why_refused refused.NotVolume {before = before} is not_volume damaged untouched fails volume alone = no_volume (not_volume is) (untouched (λ sound. not_volume is (sound_volume before.words sound)))
+why_refused (refused.Damaged violation) is not_volume damaged untouched fails volume alone = let (holds, first) = damaged violation is in broken violation holds first (untouched (not_sound first))
+why_refused refused.PmFault is not_volume damaged untouched fails volume alone = failed (fails is)
+why_refused refused.NoMemory is not_volume damaged untouched fails volume alone = short (volume is) (alone is)
+
+module _ {before after : DeviceView} {is : Status} (took now : List ℕ → Type 0) where
+  pub refused_tells : {error : MountError} → WhyRefused before after error → IsToldOf error is took now → StatusTells is (Some Run) before.words took now
+  refused_tells (no_volume not same) told = record {
+    not_volume = λ answered. (refl, not, told_whole (λ e. cc e) told answered);
+    damaged = λ violation answered. absurd (not_told (λ e. cc e) (λ e. cc e) told answered);
+    answered = λ job ended. inr (end_is_cut (λ e. cc e) told ended, λ sound. not (sound_volume before.words sound));
+  }
+  refused_tells (broken violation holds first same) told = record {
+    not_volume = λ answered. absurd (not_told (λ e. cc e) (λ e. cc e) told answered);
+    damaged = λ other answered. elim told [
+      | inl whole ↦
+          let one : violation ≡ other = let wanted = whole.0 in cc (wanted, answered) in
+          subst (λ (v : Violation). (Some Run ≡ Some Run) × HoldsVolume before.words × IsFirstViolation before.words v × Takes took (damaged_text v.rule v.place) now) one (refl, holds, first, whole.1)
+      | inr cut ↦ absurd (let written = cut.0 in cc (written, answered))
+    ];
+    answered = λ job ended. inr (end_is_cut (λ e. cc e) told ended, not_sound first);
+  }
+  refused_tells (failed fails) told = record {
+    not_volume = λ answered. absurd (cc (told, answered));
+    damaged = λ violation answered. absurd (cc (told, answered));
+    answered = λ job ended. inl fails.sound;
+  }
+  refused_tells (short holds alone) told = record {
+    not_volume = λ answered. absurd (cc (told, answered));
+    damaged = λ violation answered. absurd (cc (told, answered));
+    answered = λ job ended. absurd (let none = subst (λ (s : Status). IsSome (end_of s)) told ended in cc none);
+  }
+
+  pub refused_refuses : {error : MountError} → WhyRefused before after error → IsToldOf error is took now → ¬ IsMountable before.words → Refuses is before after took now
+  refused_refuses (no_volume not same) told unsound = record { not_volume = λ n. told; damaged = λ holds. absurd (not holds); alone = left_alone same }
+  refused_refuses (broken violation holds first same) told unsound = record { not_volume = λ not. absurd (not holds); damaged = λ h. inr (violation, first, told); alone = left_alone same }
+  refused_refuses (failed fails) told unsound = absurd (unsound fails.sound)
+  refused_refuses (short holds alone) told unsound = record { not_volume = λ not. absurd (not holds); damaged = λ h. inl told; alone = alone }
+
+  pub refused_short : {error : MountError} {S K : Type 0} {script : S} {old_out new_out : K} → WhyRefused before after error → IsToldOf error is took now → is ≡ status.NoMemory → new_out ≡ old_out
+      → IsShortOfMemory (Some Run) before after script script old_out new_out
+  refused_short (no_volume not same) told answered out = absurd (not_told (λ e. cc e) (λ e. cc e) told answered)
+  refused_short (broken violation holds first same) told answered out = absurd (not_told (λ e. cc e) (λ e. cc e) told answered)
+  refused_short (failed fails) told answered out = absurd (cc (told, answered))
+  refused_short (short holds alone) told answered out = record { script = refl; output = out; device = inl alone }
+
+  -- a sound volume is refused for want of memory, or its mount failed
+  pub refused_taken : {error : MountError} → WhyRefused before after error → IsToldOf error is took now → IsMountable before.words → (is ≡ status.NoMemory) ⊎ IsSome (end_of is)
+  refused_taken (no_volume not same) told sound = absurd (not (sound_volume before.words sound))
+  refused_taken (broken violation holds first same) told sound = absurd (not_sound first sound)
+  refused_taken (failed fails) told sound = inr (subst (λ (s : Status). IsSome (end_of s)) (sym told) refl)
+  refused_taken (short holds alone) told sound = inl told
+
+  -- and of a mount that failed is said what is said of a fault in a run
+  pub refused_runs : {error : MountError} (F : RunEnd → Type 0) → WhyRefused before after error → IsToldOf error is took now → (is ≡ status.DeviceFault → FailsToMount (pages_in_image before.words) before after → F Faulted)
+      → IsMountable before.words → IfSome (end_of is) F
+  refused_runs F (no_volume not same) told fault sound = absurd (not (sound_volume before.words sound))
+  refused_runs F (broken violation holds first same) told fault sound = absurd (not_sound first sound)
+  refused_runs F (failed fails) told fault sound = subst (λ (s : Status). IfSome (end_of s) F) (sym told) (fault told fails)
+  refused_runs F (short holds alone) told fault sound = subst (λ (s : Status). IfSome (end_of s) F) (sym told) tt
+
+  -- a device fault is told of a mount in which a fence failed
+  pub refused_fault : {error : MountError} → WhyRefused before after error → IsToldOf error is took now → is ≡ status.DeviceFault → HasRisen before.faults after.faults
+  refused_fault (no_volume not same) told answered = absurd (not_told (λ e. cc e) (λ e. cc e) told answered)
+  refused_fault (broken violation holds first same) told answered = absurd (not_told (λ e. cc e) (λ e. cc e) told answered)
+  refused_fault (failed fails) told answered = fails.cause
+  refused_fault (short holds alone) told answered = absurd (cc (told, answered))
+
+  pub refused_tidy : {error : MountError} → WhyRefused before after error → IsToldOf error is took now → IsMountable before.words → is ≢ status.NoMemory → HasRisen before.faults after.faults ⊎ IsTidy after.words
+  refused_tidy (no_volume not same) told sound memory = absurd (not (sound_volume before.words sound))
+  refused_tidy (broken violation holds first same) told sound memory = absurd (not_sound first sound)
+  refused_tidy (failed fails) told sound memory = inl fails.cause
+  refused_tidy (short holds alone) told sound memory = absurd (memory told)
+
+pub refused_done : (error : MountError) {is : Status} (took now : List ℕ → Type 0) → IsToldOf error is took now → is ≢ status.Done
+refused_done refused.NotVolume took now told answered = not_told (λ e. cc e) (λ e. cc e) told answered
+refused_done (refused.Damaged violation) took now told answered = not_told (λ e. cc e) (λ e. cc e) told answered
+refused_done refused.PmFault took now told answered = cc (told, answered)
+refused_done refused.NoMemory took now told answered = cc (told, answered)
+
+-- a device that was left alone is settled as it was
+alone_settled : {before after : DeviceView} → IsLeftAlone before after → IsSettledView before → IsSettledView after
+alone_settled {before} {after} alone settled =
+    subst (λ (words : List ℕ). IsSettledAt words after.trail) (sym alone.words)
+    (subst (λ (trail : Option Trail). IsSettledAt before.words trail) (sym alone.trail) settled)
+
+pub refused_settled : {before after : DeviceView} {error : MountError} → WhyRefused before after error → IsSettledView before → HasRisen before.faults after.faults ⊎ IsSettledView after
+refused_settled (no_volume not same) settled = inr (subst IsSettledView (sym same) settled)
+refused_settled (broken violation holds first same) settled = inr (subst IsSettledView (sym same) settled)
+refused_settled (failed fails) settled = inl fails.cause
+refused_settled (short holds alone) settled = inr (alone_settled alone settled)
 
 -- ---- by a text that was written
 

@@ -6,15 +6,15 @@ use Rattle.io_edge.specs.Bytes.{Takes, TakesPrefix}
 use Rattle.layout.specs.Format.{IsFormattedFrom}
 use Rattle.script.specs.Texts.{formatted_text, not_a_volume_text, damaged_text}
 use Rattle.image_reading.specs.Laws.{IsFresh}
-use Rattle.image_reading.specs.Soundness.{pages_in_image}
+use Rattle.image_reading.specs.Soundness.{IsFirstViolation, pages_in_image}
 use Rattle.image_reading.specs.declared.Violation.{Violation}
 use Rattle.format_ops.specs.Crashes.{IsOldHiddenOrFormatted}
-use Rattle.mount_scan.specs.Mounting.{HoldsVolume, IsDamage}
+use Rattle.mount_scan.specs.Mounting.{HoldsVolume}
+use Rattle.mount_scan.specs.Mounts.{IsLeftAlone}
 use Rattle.squirrel_cli.specs.declared.job.Job.{Job}
 use Rattle.squirrel_cli.specs.declared.job.Job.TheVariants.{Run}
 use Rattle.squirrel_cli.specs.declared.status.Status.{Status}
 use Rattle.squirrel_cli.specs.declared.status.Status.TheVariants.{Done, NoMemory, NotVolume, Damaged, WriteFault}
-use Rattle.squirrel_cli.specs.Causes.{IsLeftAlone}
 use Rattle.squirrel_cli.specs.Ends.{IsMountable, end_of}
 use Rattle.squirrel_cli.specs.Mounts.{IsOnlyMounted}
 use Rattle.squirrel_cli.specs.Told.{IsToldOrCut}
@@ -23,7 +23,7 @@ use Rattle.squirrel_cli.specs.Told.{IsToldOrCut}
 pub record StatusTells (result : Status) (job : Option Job) (words : List ℕ) (took now : List ℕ → Type 0) : Type 0 where
   pub not_volume : result ≡ NotVolume → (job ≡ Some Run) × ¬ HoldsVolume words × Takes took not_a_volume_text now
   pub damaged : (violation : Violation) → result ≡ Damaged violation
-      → (job ≡ Some Run) × HoldsVolume words × IsDamage words violation × Takes took (damaged_text violation.rule violation.place) now
+      → (job ≡ Some Run) × HoldsVolume words × IsFirstViolation words violation × Takes took (damaged_text violation.rule violation.place) now
   -- a job has ended on a volume that is mounted, or the text of a refusal was cut
   pub answered : job ≡ Some Run → IsSome (end_of result) → IsMountable words ⊎ (result ≡ WriteFault) × ¬ IsMountable words
 
@@ -39,11 +39,11 @@ pub record Makes (pages : ℕ) (result : Status) (before after : DeviceView) (to
   pub fences : after.fences ≤ before.fences + 3
   pub acks : after.acks ≡ before.acks
 
--- `run` tells that the device is no volume, or what is damaged in it first and where, and leaves it alone.
+-- `run` tells that the device is no volume, or which rule it breaks first and where, and leaves it alone.
 pub record Refuses (result : Status) (before after : DeviceView) (took now : List ℕ → Type 0) : Type 0 where
   pub not_volume : ¬ HoldsVolume before.words → IsToldOrCut NotVolume not_a_volume_text result took now
   pub damaged : HoldsVolume before.words → (result ≡ NoMemory)
-      ⊎ (violation : Violation) × IsDamage before.words violation × IsToldOrCut (Damaged violation) (damaged_text violation.rule violation.place) result took now
+      ⊎ (violation : Violation) × IsFirstViolation before.words violation × IsToldOrCut (Damaged violation) (damaged_text violation.rule violation.place) result took now
   pub alone : IsLeftAlone before after
 
 -- Memory was short: nothing was read of the script, written or acknowledged. The device is as before, or `run` had mounted it.

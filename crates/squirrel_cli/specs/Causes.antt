@@ -2,16 +2,9 @@
 use Rattle.std.specs.Prelude.{◌≡◌, ◌≢◌, ℕ}
 use Rattle.pm_trait.specs.Device.{HasRisen}
 use Rattle.pm_trait.specs.DeviceView.{DeviceView}
+use Rattle.mount_scan.specs.Mounts.{IsLeftAlone}
 use Rattle.squirrel_cli.specs.declared.status.Status.{Status}
 use Rattle.squirrel_cli.specs.declared.status.Status.TheVariants.{Done, DeviceFault, ReadFault, WriteFault}
-
--- Nothing was done to the device, but that it may have made room, or refused to.
-pub record IsLeftAlone (before after : DeviceView) : Type 0 where
-  pub words : after.words ≡ before.words
-  pub trail : after.trail ≡ before.trail
-  pub faults : after.faults ≡ before.faults
-  pub fences : after.fences ≡ before.fences
-  pub acks : after.acks ≡ before.acks
 
 -- nothing was read, written or stored
 pub record IsUntouched {S K : Type 0} (before after : DeviceView) (old_script new_script : S) (old_out new_out : K) : Type 0 where

@@ -7,7 +7,7 @@ use Rattle.script.specs.declared.run_end.RunEnd.{RunEnd}
 use Rattle.script.specs.declared.run_end.RunEnd.TheVariants as ends
 use Rattle.squirrel_cli.specs.declared.status.Status.{Status}
 use Rattle.squirrel_cli.specs.declared.status.Status.TheVariants.{Done, Usage, NoMemory, NotVolume, Damaged, DeviceFault, ReadFault, WriteFault, ScriptLimit}
-use Rattle.mount_scan.specs.Mounting.{IsTidy}
+use Rattle.mount_scan.specs.Mounting.{IsSound}
 use Rattle.script.specs.Lines.{script_limit}
 
 -- a device that a job may begin on: it is settled, and its counts are far from the end of their range
@@ -16,9 +16,9 @@ pub record IsStart (device : DeviceView) : Type 0 where
   pub fences : device.fences ≤ 2 ^ 32
   pub acks : device.acks ≤ 2 ^ 32
 
--- the words are a volume that is mounted: one that needs no recovery
+-- the words are a volume that is mounted: a sound one
 abbrev pub IsMountable : List ℕ → Type 0
-IsMountable words = IsTidy words
+IsMountable words = IsSound words
 
 -- how `run` ended that a status tells, where the volume was to be mounted: a device fault is one of the mount or of the run
 abbrev pub end_of : Status → Option RunEnd

@@ -16,8 +16,7 @@ pub enum Status {
     NoMemory,
     /// The device's length or its first words are no volume's.
     NotVolume,
-    /// The volume breaks a rule, the first of them at this place. Rule 0 and place 0 tell that it breaks none and needs
-    /// recovery.
+    /// The volume breaks a rule, the first of them at this place.
     Damaged(Violation),
     /// A fence failed.
     DeviceFault,
