@@ -251,16 +251,16 @@ fn a_read_fails_after_a_fence(rt: HostRuntime) -> Result<(), Fail> {
     Ok(())
 }
 
-// What a run finds on the words that a failed fence left, as they read.
+// What a run finds on the words that a failed fence left, as they read: a name is there once its number is stored.
 #[test]
 fn words_after_a_failed_fence(rt: HostRuntime) -> Result<(), Fail> {
     let volume = small_volume(rt.alloc())?;
     for (fence, told) in [
-        (1, "damaged 0 0\n"),
-        (2, "damaged 0 0\n"),
-        (3, "damaged 0 0\n"),
+        (1, "ok 0\n"),
+        (2, "ok 0\n"),
+        (3, "ok 0\n"),
         (4, "ok 1 a\n"),
-        (5, "damaged 0 0\n"),
+        (5, "ok 1 a\n"),
         (6, "ok 2 a b\n"),
     ] {
         let left = with_fault(

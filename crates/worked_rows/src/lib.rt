@@ -10,6 +10,10 @@ mod limits;
 #[cfg(test)]
 mod lines;
 #[cfg(test)]
+mod recoveries;
+#[cfg(test)]
 mod scarce;
+#[cfg(test)]
+mod space;
 #[cfg(test)]
 mod volumes;

@@ -1,5 +1,5 @@
 // Names and lines at their limits, and a directory that fills its pages.
-use crate::jobs::{job_on, small_volume};
+use crate::jobs::{job_on, set_words, small_volume, volume_with_a};
 use squirrel_cli::Status;
 use std::alloc::Global;
 use std::test::Fail;
@@ -163,30 +163,20 @@ fn a_subdirectory_fills_its_pages(rt: HostRuntime) -> Result<(), Fail> {
     Ok(())
 }
 
-fn set(image: &mut Vec<u64>, word: usize, value: u64) -> Result<(), Fail> {
-    let place = image.get_mut(word).ok_or("no word")?;
-    *place = value;
-    Ok(())
-}
-
 // A file has all pages but the root's one: a name in the root has room, and one in an empty directory has none. Being
 // out of inodes comes before being out of pages.
 #[test]
 fn a_volume_without_free_pages(rt: HostRuntime) -> Result<(), Fail> {
-    let volume = small_volume(rt.alloc())?;
-    let left = job_on(
-        rt.alloc(),
-        "squirrel run v",
-        volume.as_slice(),
-        b"create /a\n",
-    )?;
-    let mut image = left.image;
-    set(&mut image, 530, 49_152)?;
+    let mut image = volume_with_a(rt.alloc())?;
+    set_words(&mut image, &[(530, 49_152)])?;
     // The descriptors of the pages after the root's one: the file's number, its kind, and the place in it.
     for (offset, descriptor) in (1_032usize..1_128).step_by(8).enumerate() {
-        set(&mut image, descriptor, 2)?;
-        set(&mut image, descriptor.saturating_add(1), 1)?;
-        set(&mut image, descriptor.saturating_add(2), offset as u64)?;
+        let kind = descriptor.saturating_add(1);
+        let place = descriptor.saturating_add(2);
+        set_words(
+            &mut image,
+            &[(descriptor, 2), (kind, 1), (place, offset as u64)],
+        )?;
     }
     let script = b"stat /a\nmkdir /d\ncreate /d/x\nmkdir /d/y\ncreate /b\ncreate /d/x\nlist /\n";
     let wanted =

@@ -6,7 +6,7 @@ use std::process::Abort;
 use std::test::Fail;
 
 // Runs each script of the table on a fresh volume, and compares what is told.
-fn compare(rt: &impl Abort, alloc: Global, table: &[(&str, &str)]) -> Result<(), Fail> {
+pub(crate) fn compare(rt: &impl Abort, alloc: Global, table: &[(&str, &str)]) -> Result<(), Fail> {
     let volume = small_volume(alloc)?;
     for (script, wanted) in table {
         let left = job_on(

@@ -1,5 +1,5 @@
 // Making a volume, words that ask for no job, and words of a device that are no volume.
-use crate::jobs::{Left, job_on, small_volume};
+use crate::jobs::{Left, job_on, set_words, small_volume, volume_with_a};
 use squirrel_cli::Status;
 use std::alloc::Global;
 use std::process::Abort;
@@ -121,13 +121,8 @@ fn compare(rt: &impl Abort, alloc: Global, image: &[u64], told: &str) -> Result<
 
 // The words of a volume of 16 pages with the file `/a`, of which some are set.
 fn with_words(alloc: Global, changes: &[(usize, u64)]) -> Result<Vec<u64>, Fail> {
-    let volume = small_volume(alloc)?;
-    let left = job_on(alloc, "squirrel run v", volume.as_slice(), b"create /a\n")?;
-    let mut image = left.image;
-    for (word, value) in changes {
-        let place = image.get_mut(*word).ok_or("no word")?;
-        *place = *value;
-    }
+    let mut image = volume_with_a(alloc)?;
+    set_words(&mut image, changes)?;
     Ok(image)
 }
 
@@ -149,6 +144,23 @@ fn words_that_are_no_volume(rt: HostRuntime) -> Result<(), Fail> {
     Ok(())
 }
 
+// Litter: too many links of the file, a kind of a page without owner, and a name in a slot without a number.
+const LITTER: [(usize, u64); 3] = [(529, 7), (1_049, 3), (1_586, 0x63_0001)];
+
+// The volume with the file `/a` and these words is damaged, also where there is litter besides.
+fn compare_damaged(
+    rt: &impl Abort,
+    alloc: Global,
+    changes: &[(usize, u64)],
+    told: &str,
+) -> Result<(), Fail> {
+    let image = with_words(alloc, changes)?;
+    compare(rt, alloc, image.as_slice(), told)?;
+    let mut image = with_words(alloc, &LITTER)?;
+    set_words(&mut image, changes)?;
+    compare(rt, alloc, image.as_slice(), told)
+}
+
 // Each word is of the root, of the file's inode, of the page's descriptor, or of a slot of the page.
 #[test]
 fn volumes_that_break_a_rule(rt: HostRuntime) -> Result<(), Fail> {
@@ -168,29 +180,7 @@ fn volumes_that_break_a_rule(rt: HostRuntime) -> Result<(), Fail> {
         (513, 1, "damaged 14 1\n"),
         (528, 2, "damaged 14 1\n"),
     ] {
-        let image = with_word(rt.alloc(), word, value)?;
-        compare(&rt, rt.alloc(), image.as_slice(), told)?;
-    }
-    Ok(())
-}
-
-// They break no rule, but a crash left something to be repaired: links that are too high, a rename pointer, and an inode, a
-// page and a slot that nothing names and that aren't zero.
-#[test]
-fn volumes_that_need_recovery(rt: HostRuntime) -> Result<(), Fail> {
-    for (word, value) in [
-        (513, 3),
-        (529, 2),
-        (544, 1),
-        (1_024, 2),
-        (1_033, 2),
-        (1_536, 0),
-        (1_537, 2),
-        (1_553, 1),
-        (1_554, 1),
-    ] {
-        let image = with_word(rt.alloc(), word, value)?;
-        compare(&rt, rt.alloc(), image.as_slice(), "damaged 0 0\n")?;
+        compare_damaged(&rt, rt.alloc(), &[(word, value)], told)?;
     }
     Ok(())
 }
@@ -212,8 +202,7 @@ fn volumes_that_break_a_rule_by_more_words(rt: HostRuntime) -> Result<(), Fail> 
             "damaged 13 2\n",
         ),
     ] {
-        let image = with_words(rt.alloc(), changes)?;
-        compare(&rt, rt.alloc(), image.as_slice(), told)?;
+        compare_damaged(&rt, rt.alloc(), changes, told)?;
     }
     Ok(())
 }
@@ -229,5 +218,32 @@ fn words_that_are_not_read(rt: HostRuntime) -> Result<(), Fail> {
         assert_eq!(rt; left.told.as_slice(), b"ok 1 a\n".as_slice(), "at {word}");
         assert_eq!(rt; left.image.as_slice(), image.as_slice(), "at {word}");
     }
+    Ok(())
+}
+
+// The file `/a` of 4,097 bytes, whose bytes stand in the pages 1 and 2.
+#[test]
+fn a_file_with_bytes_is_told(rt: HostRuntime) -> Result<(), Fail> {
+    let image = with_words(
+        rt.alloc(),
+        &[
+            (530, 4_097),
+            (1_032, 2),
+            (1_033, 1),
+            (1_040, 2),
+            (1_041, 1),
+            (1_042, 1),
+        ],
+    )?;
+    let left = job_on(
+        rt.alloc(),
+        "squirrel run v",
+        image.as_slice(),
+        b"stat /a\ndf\n",
+    )?;
+    assert_eq!(rt;
+        left.told.as_slice(),
+        b"ok file inode 2 links 1 size 4097\nok inodes 2 4 pages 10 13\n".as_slice()
+    );
     Ok(())
 }

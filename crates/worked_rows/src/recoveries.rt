@@ -1,0 +1,331 @@
+// Sound volumes that a crash left with something to repair: what their mount makes of them, and what the run after it finds.
+// All are of 16 pages: inode 2 begins at word 528 and inode 3 at 544, the descriptors at 1,024, and the slots of data page 0
+// at 1,536, each of 16 words.
+use crate::jobs::{
+    crash_at, do_job, events_of, job_on, set_words, sink_of, small_volume, source_of, volume_with_a,
+};
+use mount_scan::mount;
+use pm_memory::RamPm;
+use pm_trait::Pm;
+use squirrel_cli::Status;
+use std::alloc::Global;
+use std::process::Abort;
+use std::test::Fail;
+
+// With the file `/a` it is renamed to `/b`, as far as the commit. Besides a dead slot has a name, inode 2 has too many links,
+// inode 3 isn't named, page 1 is past the end of the file, and page 2 has an owner that no volume of this size has.
+const LITTERED: [(usize, u64); 12] = [
+    (529, 7),
+    (544, 1),
+    (547, 3),
+    (1_032, 2),
+    (1_033, 1),
+    (1_040, 5),
+    (1_041, 3),
+    (1_042, 9),
+    (1_552, 2),
+    (1_553, 1),
+    (1_554, 0x62_0001),
+    (1_570, 0x63_0001),
+];
+
+// The number of each step's fence.
+const FENCES: [u64; 4] = [1, 2, 3, 4];
+
+// Of the words that are old or new by themselves: all old, all new, or one like this and the next like that.
+const MIXES: [[u8; 2]; 4] = [[0, 0], [1, 1], [0, 1], [1, 0]];
+
+// Words that are set in a volume, what the mount takes in fences and in events, and how many words of the volume are
+// others afterwards. Then what a script is answered, and how many inodes and data pages are free.
+#[derive(Clone, Copy)]
+struct Row<'a> {
+    words: &'a [(usize, u64)],
+    fences: u64,
+    events: u64,
+    mended: &'a [(usize, u64)],
+    script: &'a str,
+    told: &'a str,
+    free: (u64, u64),
+}
+
+// The words of a volume, some of them set.
+fn with_words(alloc: Global, volume: &[u64], changes: &[(usize, u64)]) -> Result<Vec<u64>, Fail> {
+    let mut image = volume.to_vec(alloc)?;
+    set_words(&mut image, changes)?;
+    Ok(image)
+}
+
+fn littered(alloc: Global) -> Result<Vec<u64>, Fail> {
+    let volume = volume_with_a(alloc)?;
+    with_words(alloc, volume.as_slice(), &LITTERED)
+}
+
+// How many inodes and data pages a mount finds free.
+fn free_of(alloc: Global, image: &[u64]) -> Result<(u64, u64), Fail> {
+    let mut pm = RamPm::new(alloc, image)?;
+    let volume = mount(alloc, &mut pm)?;
+    let free = volume.free(&pm);
+    Ok((free.inodes, free.pages))
+}
+
+// Runs the script on the volume with the words set, and again on what the first run left, which takes no fence.
+fn compare(rt: &impl Abort, alloc: Global, volume: &[u64], row: &Row<'_>) -> Result<(), Fail> {
+    let image = with_words(alloc, volume, row.words)?;
+    let mut pm = RamPm::new(alloc, image.as_slice())?;
+    let source = source_of(alloc, row.script.as_bytes(), 4_096, 0)?;
+    let left = do_job(
+        alloc,
+        "squirrel run v",
+        &mut pm,
+        source,
+        sink_of(alloc, 4_096, 0)?,
+    )?;
+    assert_eq!(rt; left.told.as_slice(), row.told.as_bytes());
+    assert_eq!(rt; left.status, Status::Done);
+    assert_eq!(rt; left.fences, row.fences, "fences for {}", row.told);
+    assert_eq!(rt;
+        events_of(&pm)?,
+        row.events.saturating_add(left.acks),
+        "events for {}",
+        row.told
+    );
+    let mended = with_words(alloc, volume, row.mended)?;
+    assert_eq!(rt; left.image.as_slice(), mended.as_slice());
+
+    let again = job_on(
+        alloc,
+        "squirrel run v",
+        mended.as_slice(),
+        row.script.as_bytes(),
+    )?;
+    assert_eq!(rt; again.told.as_slice(), row.told.as_bytes());
+    assert_eq!(rt; again.fences, 0, "the second run for {}", row.told);
+    assert_eq!(rt; free_of(alloc, mended.as_slice())?, row.free);
+    Ok(())
+}
+
+// A file's inode that nothing names; a page of the root without a name; a page's kind without an owner.
+#[test]
+fn the_root_alone_is_mended(rt: HostRuntime) -> Result<(), Fail> {
+    let volume = small_volume(rt.alloc())?;
+    for (words, fences, events) in [
+        ([(528, 1), (529, 1), (531, 2)].as_slice(), 1, 6),
+        ([(1_024, 1), (1_025, 2)].as_slice(), 2, 7),
+        ([(1_025, 2), (1_026, 7)].as_slice(), 1, 4),
+    ] {
+        let row = Row {
+            words,
+            fences,
+            events,
+            mended: &[],
+            script: "list /\nstat /\n",
+            told: "ok 0\nok dir inode 1 links 2 names 0\n",
+            free: (3, 13),
+        };
+        compare(&rt, rt.alloc(), volume.as_slice(), &row)?;
+    }
+    Ok(())
+}
+
+// A pointer in an empty slot, and in the file's own; a name without a number, by itself and with a pointer; an inode that nothing names; pages that are past
+// the file's end or have a kind alone; links that are too high.
+#[test]
+fn a_file_is_left_as_it_was(rt: HostRuntime) -> Result<(), Fail> {
+    let volume = volume_with_a(rt.alloc())?;
+    for (words, fences, events) in [
+        ([(1_553usize, 1u64)].as_slice(), 1u64, 3u64),
+        ([(1_537, 2)].as_slice(), 1, 3),
+        ([(1_554, 0x62_0001)].as_slice(), 1, 18),
+        ([(1_553, 1), (1_554, 0x62_0001)].as_slice(), 2, 21),
+        ([(544, 1)].as_slice(), 1, 6),
+        ([(1_033, 2)].as_slice(), 1, 4),
+        ([(1_032, 2), (1_033, 1)].as_slice(), 2, 7),
+        ([(513, 9), (529, 7)].as_slice(), 1, 5),
+    ] {
+        let row = Row {
+            words,
+            fences,
+            events,
+            mended: &[],
+            script: "list /\nstat /\nstat /a\n",
+            told: "ok 1 a\nok dir inode 1 links 2 names 1\nok file inode 2 links 1 size 0\n",
+            free: (2, 12),
+        };
+        compare(&rt, rt.alloc(), volume.as_slice(), &row)?;
+    }
+    Ok(())
+}
+
+// A rename to `/b` after its commit: alone, with the old name's number cleared already, and with all that can be litter besides.
+#[test]
+fn a_rename_is_completed(rt: HostRuntime) -> Result<(), Fail> {
+    let volume = volume_with_a(rt.alloc())?;
+    for (words, fences, events) in [
+        (
+            [(1_552usize, 2u64), (1_553, 1), (1_554, 0x62_0001)].as_slice(),
+            3u64,
+            24u64,
+        ),
+        (
+            [(1_536, 0), (1_552, 2), (1_553, 1), (1_554, 0x62_0001)].as_slice(),
+            2,
+            21,
+        ),
+        (LITTERED.as_slice(), 4, 59),
+    ] {
+        let row = Row {
+            words,
+            fences,
+            events,
+            mended: &[(1_536, 0), (1_538, 0), (1_552, 2), (1_554, 0x62_0001)],
+            script: "list /\nstat /b\n",
+            told: "ok 1 b\nok file inode 2 links 1 size 0\n",
+            free: (2, 12),
+        };
+        compare(&rt, rt.alloc(), volume.as_slice(), &row)?;
+    }
+    Ok(())
+}
+
+// The file's slot gives up its number, is in a page that is a file's, or is hidden by a slot of a directory that nothing names:
+// then nothing leads to the file. A page that goes keeps the words of its slots but for a pointer and what it points at.
+#[test]
+fn what_nothing_leads_to_goes(rt: HostRuntime) -> Result<(), Fail> {
+    let volume = volume_with_a(rt.alloc())?;
+    let gone = [(528, 0), (529, 0), (531, 0), (1_024, 0), (1_025, 0)];
+    for (words, fences, events, kept) in [
+        (
+            [(1_536usize, 0u64)].as_slice(),
+            2u64,
+            12u64,
+            [(1_536usize, 0u64)].as_slice(),
+        ),
+        ([(1_024, 2)].as_slice(), 2, 12, [].as_slice()),
+        (
+            [
+                (544, 2),
+                (545, 2),
+                (547, 3),
+                (1_032, 3),
+                (1_033, 2),
+                (2_048, 2),
+                (2_049, 1),
+                (2_050, 0x78_0001),
+            ]
+            .as_slice(),
+            4,
+            28,
+            [(1_536, 0), (2_048, 2), (2_050, 0x78_0001)].as_slice(),
+        ),
+    ] {
+        let mut mended = gone.to_vec(rt.alloc())?;
+        mended.extend_from_slice(kept)?;
+        let row = Row {
+            words,
+            fences,
+            events,
+            mended: mended.as_slice(),
+            script: "list /\n",
+            told: "ok 0\n",
+            free: (3, 13),
+        };
+        compare(&rt, rt.alloc(), volume.as_slice(), &row)?;
+    }
+    Ok(())
+}
+
+// What a run finds on the words that a crash left: the tree and what is free.
+fn finds(
+    rt: &impl Abort,
+    alloc: Global,
+    image: &[u64],
+    told: &str,
+    free: (u64, u64),
+) -> Result<(), Fail> {
+    let left = job_on(alloc, "squirrel run v", image, b"list /\n")?;
+    assert_eq!(rt; left.told.as_slice(), told.as_bytes());
+    assert_eq!(rt; left.status, Status::Done);
+    assert_eq!(rt; free_of(alloc, left.image.as_slice())?, free);
+    Ok(())
+}
+
+// The words that a crash at any moment of a device's trail may leave are found with the file under its new name.
+fn finds_the_file_everywhere(
+    rt: &impl Abort,
+    alloc: Global,
+    pm: &RamPm,
+    mixes: &[[u8; 2]],
+) -> Result<(), Fail> {
+    for moment in 0..events_of(pm)?.saturating_add(1) {
+        for keep in mixes {
+            let image = crash_at(alloc, pm, moment, keep)?;
+            finds(rt, alloc, image.as_slice(), "ok 1 b\n", (2, 12))?;
+        }
+    }
+    Ok(())
+}
+
+#[test]
+fn a_crash_at_each_moment_of_a_mount(rt: HostRuntime) -> Result<(), Fail> {
+    let image = littered(rt.alloc())?;
+    let mut pm = RamPm::new(rt.alloc(), image.as_slice())?;
+    let source = source_of(rt.alloc(), b"", 4_096, 0)?;
+    let sink = sink_of(rt.alloc(), 4_096, 0)?;
+    let left = do_job(rt.alloc(), "squirrel run v", &mut pm, source, sink)?;
+    assert_eq!(rt; left.status, Status::Done);
+    assert_eq!(rt; events_of(&pm)?, 59);
+    finds_the_file_everywhere(&rt, rt.alloc(), &pm, MIXES.as_slice())
+}
+
+// The first read of the script would fail, if there were one.
+#[test]
+fn a_fence_of_a_mount_fails(rt: HostRuntime) -> Result<(), Fail> {
+    let image = littered(rt.alloc())?;
+    for fence in FENCES {
+        let failing = [fence].to_vec(rt.alloc())?;
+        let mut pm = RamPm::with_failing(rt.alloc(), image.as_slice(), failing)?;
+        let source = source_of(rt.alloc(), b"list /\n", 4_096, 1)?;
+        let sink = sink_of(rt.alloc(), 4_096, 0)?;
+        let left = do_job(rt.alloc(), "squirrel run v", &mut pm, source, sink)?;
+        assert_eq!(rt; left.status, Status::DeviceFault, "at {fence}");
+        assert_eq!(rt; left.status.number(), 5);
+        assert!(rt; left.told.is_empty(), "at {fence}");
+        assert_eq!(rt;
+            (left.fences, left.acks),
+            (fence.saturating_sub(1), 0),
+            "at {fence}"
+        );
+        finds_the_file_everywhere(&rt, rt.alloc(), &pm, &[MIXES[2]])?;
+    }
+    Ok(())
+}
+
+// Crashes in the making of `/a`, whose page is the root's first, just before each of its fences: with the words as they were
+// settled, and with all that was stored since.
+#[test]
+fn a_crash_before_each_fence_of_a_create(rt: HostRuntime) -> Result<(), Fail> {
+    let volume = small_volume(rt.alloc())?;
+    for (fence, old, new, told, free) in [
+        (1u64, 0u64, 1u64, "ok 0\n", (3u64, 13u64)),
+        (2, 1, 2, "ok 0\n", (3, 13)),
+        (3, 2, 2, "ok 0\n", (3, 13)),
+        (4, 2, 0, "ok 1 a\n", (2, 12)),
+    ] {
+        let failing = [fence].to_vec(rt.alloc())?;
+        let mut pm = RamPm::with_failing(rt.alloc(), volume.as_slice(), failing)?;
+        let source = source_of(rt.alloc(), b"create /a\n", 4_096, 0)?;
+        let sink = sink_of(rt.alloc(), 4_096, 0)?;
+        let left = do_job(rt.alloc(), "squirrel run v", &mut pm, source, sink)?;
+        assert_eq!(rt; left.status, Status::DeviceFault, "at {fence}");
+        let end = events_of(&pm)?;
+        let before = crash_at(rt.alloc(), &pm, end, &MIXES[0])?;
+        finds(&rt, rt.alloc(), before.as_slice(), "ok 0\n", (3, 13))?;
+        let behind = crash_at(rt.alloc(), &pm, end, &MIXES[1])?;
+        finds(&rt, rt.alloc(), behind.as_slice(), told, free)?;
+        for (image, fences) in [(before, old), (behind, new)] {
+            let mounted = job_on(rt.alloc(), "squirrel run v", image.as_slice(), b"")?;
+            assert_eq!(rt; mounted.fences, fences, "at {fence}");
+        }
+    }
+    Ok(())
+}
