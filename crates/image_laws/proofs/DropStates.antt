@@ -10,14 +10,14 @@ use Rattle.tree_model.specs.Step.{without_path, without_unnamed, room_after, tre
 use Rattle.tree_model.specs.Table.{get, remove}
 use Rattle.tree_model.specs.Tree.{Tree, Room, IsRoom, root_id, parent, id_at, is_directory, is_number, pages_in}
 use Rattle.tree_model.proofs.TreeLaws.{same_room}
-use Rattle.image_reading.specs.Reading.{slot_owner, Names, Reads, HasRoom, ReadsAs}
+use Rattle.image_reading.specs.Reading.{slot_owner, Names, Reads, IsRoomOf, HasRoom, ReadsAs}
 use Rattle.image_reading.specs.Soundness.{IsCoherent}
 use Rattle.image_counts.proofs.Decided.{room_counted}
 use Rattle.image_counts.proofs.States.{is_room}
 use Rattle.image_laws.specs.CreateStep.{IsStepped}
 use Rattle.image_laws.specs.Drop.{CanDrop, Drops}
 use Rattle.image_laws.specs.DropStep.{Removal, removing, DropStepLaw}
-use Rattle.image_laws.specs.Remove.{without_page}
+use Rattle.image_laws.specs.Remove.{HasRoomRemoved, without_page}
 use Rattle.image_laws.proofs.AddRoom.{get-here, get-other}
 use Rattle.image_laws.proofs.CreateSteps.{parent_is}
 use Rattle.image_laws.proofs.DropTidy.{drop_law, owner_after}
@@ -117,9 +117,9 @@ module _ (P : ℕ) (W I J K : List ℕ) (old : State) (p path : Route) (s y n : 
           none x (get (remove R (slot_inode P W s)) x) refl dir
           ∙ sym (ap (λ c. cond c (Some (left_pages old.tree old.room (slot_owner P W s) gives x)) None) dir)
 
-  stepped : (gives : Bool) (R : Room) → HasRoom P K (remove R (slot_inode P W s)) → ((x : ℕ) → is_directory old.tree x ≡ true → get R x ≡ Some (left_pages old.tree old.room (slot_owner P W s) gives x))
+  stepped : (gives : Bool) (R : Room) → HasRoom P K (remove R (slot_inode P W s)) → remove R (slot_inode P W s) ≡ room_after n old.tree old.room (removing kind path) gives
       → IsStepped P K old (removing kind path) n
-  stepped gives R has each =
+  stepped gives R has follows =
       let tree : without_unnamed (without_path old.tree path) ≡ tree_after n old.tree (removing kind path) = sym (tree_is kind old.tree path n) in
       record {
         new = record { tree = without_unnamed (without_path old.tree path); room = remove R (slot_inode P W s) };
@@ -127,7 +127,7 @@ module _ (P : ℕ) (W I J K : List ℕ) (old : State) (p path : Route) (s y n : 
         tree = tree;
         room = (
           gives,
-          same_after gives R has each,
+          follows,
           subst (λ T. IsRoom T (remove R (slot_inode P W s))) tree (is_room P K (without_unnamed (without_path old.tree path)) tidy_coherent read (remove R (slot_inode P W s)) has),
         );
       }
@@ -143,13 +143,25 @@ module _ (P : ℕ) (W I J K : List ℕ) (old : State) (p path : Route) (s y n : 
         ∙ ap Some (sym (given_other old.tree old.room (slot_owner P W s) x ne))
   ]
 
+  less_room : HasRoomRemoved P W K (slot_owner P W s) s (slot_inode P W s)
+  less_room = (drop_law P W I J K p s y can h).room
+
+  -- the room after, where the slot's page keeps a name
+  pub drop_room_kept : IsRoomOf P K (slot_owner P W s) (page_of_slot s) → remove old.room (slot_inode P W s) ≡ room_after n old.tree old.room (removing kind path) false
+  drop_room_kept here =
+      same_after false old.room (less_room.kept old.room reads.room here) (λ x dir. old_entry x dir ∙ ap Some (sym (kept_pages old.tree old.room (slot_owner P W s) x)))
+
+  -- and where it is given back
+  pub drop_room_given : (IsRoomOf P K (slot_owner P W s) (page_of_slot s) → ⊥)
+      → remove (without_page old.room (slot_owner P W s)) (slot_inode P W s) ≡ room_after n old.tree old.room (removing kind path) true
+  drop_room_given none = same_after true (without_page old.room (slot_owner P W s)) (less_room.given old.room reads.room none) less_entry
+
   pub drop_stepped : IsStepped P K old (removing kind path) n
   drop_stepped =
-      let room = (drop_law P W I J K p s y can h).room in
       let (reached, directory) = owner_after P W I J K p s y can h in
       elim (dec_room P K (slot_owner P W s) reached directory (page_of_slot s)) [
-        | yes here ↦ stepped false old.room (room.kept old.room reads.room here) (λ x dir. old_entry x dir ∙ ap Some (sym (kept_pages old.tree old.room (slot_owner P W s) x)))
-        | no none ↦ stepped true (without_page old.room (slot_owner P W s)) (room.given old.room reads.room none) less_entry
+        | yes here ↦ stepped false old.room (less_room.kept old.room reads.room here) (drop_room_kept here)
+        | no none ↦ stepped true (without_page old.room (slot_owner P W s)) (less_room.given old.room reads.room none) (drop_room_given none)
       ]
 
 pub drop_step_law : DropStepLaw

@@ -1,6 +1,6 @@
 -- What follows from the regions' sizes: which numbers are in range, and that addresses differ.
-use Rattle.std.proofs.Common.{◌≡◌, ◌≢◌, ℕ, ◌+◌, ◌*◌, ◌/◌, ◌%◌, ◌<◌, ◌≤◌, arith}
-use Rattle.layout.specs.Geometry.{IsVolumeSize, inodes_of, inode_pages_of, descriptor_pages_of, data_pages_of, slots_of, page_of_slot, first_data_word_of, inode_word_of, descriptor_word_of, slot_word_of, page_word_of, AddressesDiffer, AddressesInRange}
+use Rattle.std.proofs.Common.{◌≡◌, ◌≢◌, ℕ, ◌+◌, ◌*◌, ◌%◌, ◌<◌, ◌≤◌, arith}
+use Rattle.layout.specs.Geometry.{IsVolumeSize, inodes_of, inode_pages_of, data_pages_of, slots_of, page_of_slot, first_data_word_of, inode_word_of, descriptor_word_of, slot_word_of, page_word_of, AddressesDiffer, AddressesInRange}
 
 -- ---- sizes
 
