@@ -1,0 +1,325 @@
+-- One file's bytes, pages and size may change: what stays beside them, and that nothing is to be repaired then.
+use Rattle.std.proofs.Common.{◌≡◌, ◌≢◌, ◌↔◌, ◌⊎◌, inl, inr, ℕ, ◌+◌, ◌<◌, ◌≤◌, List, sym, ap, subst, ◌∙◌, arith}
+use Rattle.std.proofs.lemmas.Bool.{cases_eq, cases_lt}
+use Rattle.layout.specs.Fields.{word, inode_kind, inode_links, inode_size, page_owner, page_kind, page_offset, slot_inode, slot_pointer, slot_name}
+use Rattle.layout.specs.Geometry.{inodes_of, data_pages_of, page_of_slot, inode_word_of, descriptor_word_of, slot_word_of}
+use Rattle.layout.proofs.GeometryLaws.{page_of_slot_below, slot_below}
+use Rattle.layout.specs.Name.{name_in_words}
+use Rattle.tree_model.specs.PathText.{Route}
+use Rattle.image_reading.specs.Reading.{HasBytes, slot_owner, IsHeld, IsLive, Names, Reached, IsReachedSlot, IsNameOf, IsChildOf, IsLinkCount, IsRoomOf, pages_of_size}
+use Rattle.image_reading.specs.Repairs.{IsKeptFilePage, IsKept, IsPointer, IsLitterSlot, IsLitterPage, IsLitterInode, IsLitterCount}
+use Rattle.image_reading.specs.Soundness.{Rule, IsCoherent}
+use Rattle.image_reading.specs.Tidy.{IsTidied}
+use Rattle.image_reading.proofs.Credits.{count_same}
+use Rattle.image_counts.specs.Entries.{IsEntryOf, IsSlotOf}
+use Rattle.image_counts.proofs.Counting.{none_counted}
+use Rattle.image_counts.proofs.Decided.{room_owner}
+use Rattle.image_counts.proofs.Paths.{inode_reached}
+use Rattle.image_laws.proofs.Paths.{reached_pos, reached-le}
+use Rattle.image_laws.proofs.Ready.{tidy_but, tidy_from, no_pointer}
+use Rattle.image_laws.proofs.Words.{slot_words-same}
+
+-- From W to K nothing changes but the size of file i, the descriptors of some pages, which are free or the file's, and words
+-- that no slot of a directory has.
+pub record KeepsOthers (P : ℕ) (W K : List ℕ) (i : ℕ) (Changes : ℕ → Type 0) : Type 0 where
+  pub tidy : IsTidied P W
+  pub reached : Reached P W i
+  pub file : HasBytes W i
+  pub coherent : IsCoherent P K
+  pub names : (q : Route) (x : ℕ) → Names P W q x ↔ Names P K q x
+  pub inodes : (x f : ℕ) → 1 ≤ x → x ≤ inodes_of P → f < 16 → (x ≢ i) ⊎ (f ≢ 2) → word K (inode_word_of x f) ≡ word W (inode_word_of x f)
+  pub slots : (t f : ℕ) → IsHeld P W t → f < 16 → word K (slot_word_of P t f) ≡ word W (slot_word_of P t f)
+  pub descriptors : (j f : ℕ) → j < data_pages_of P → f < 3 → (Changes j → ⊥) → word K (descriptor_word_of P j f) ≡ word W (descriptor_word_of P j f)
+  pub before : (j : ℕ) → Changes j → (page_owner P W j ≡ 0) ⊎ (page_owner P W j ≡ i)
+  pub after : (j : ℕ) → Changes j → (page_owner P K j ≡ 0) ⊎ (page_owner P K j ≡ i)
+
+-- a page of a file of a tidy image is below its end
+pub tidy_below : (P : ℕ) (W : List ℕ) (i : ℕ) → IsTidied P W → Reached P W i → HasBytes W i → (j : ℕ) → j < data_pages_of P → page_owner P W j ≡ i → page_offset P W j < pages_of_size (inode_size W i)
+unfolding page_owner
+tidy_below P W i tidy reached file j lt own = elim (cases_lt (page_offset P W j) (pages_of_size (inode_size W i))) [
+  | inl low ↦ low
+  | inr past ↦ absurd (none_counted (IsLitterPage P W) tidy.repaired.of_pages j (record {
+    in_range = lt;
+    free = λ kept. elim kept [
+      | inl page ↦ (let low = subst (λ x. page_offset P W j < pages_of_size (inode_size W x)) own page.below in omega (arith, past, low))
+      | inr room ↦ (let two = room.directory in let one = subst (λ x. inode_kind W x ≡ 1) (sym own) file in omega (arith, one, two))
+    ];
+    nonzero = (0, omega arith, λ zero. reached_pos P W i reached (sym own ∙ zero));
+  }))
+]
+
+module _ (P : ℕ) (W K : List ℕ) (i : ℕ) (Changes : ℕ → Type 0) (h : KeepsOthers P W K i Changes) where
+  -- ---- pages
+
+  pub owner_same : (j : ℕ) → j < data_pages_of P → (Changes j → ⊥) → page_owner P K j ≡ page_owner P W j
+  unfolding page_owner
+  owner_same j lt none = h.descriptors j 0 lt (omega arith) none
+
+  pub kind_same : (j : ℕ) → j < data_pages_of P → (Changes j → ⊥) → page_kind P K j ≡ page_kind P W j
+  unfolding page_kind
+  kind_same j lt none = h.descriptors j 1 lt (omega arith) none
+
+  pub offset_same : (j : ℕ) → j < data_pages_of P → (Changes j → ⊥) → page_offset P K j ≡ page_offset P W j
+  unfolding page_offset
+  offset_same j lt none = h.descriptors j 2 lt (omega arith) none
+
+  -- ---- inodes
+
+  pub in_table : (x : ℕ) → Reached P W x → (1 ≤ x) × (x ≤ inodes_of P)
+  in_table x r = ((let some = reached_pos P W x r in omega (arith, some)), reached-le P W h.tidy.coherent x r)
+
+  pub inode_kind_same : (x : ℕ) → 1 ≤ x → x ≤ inodes_of P → inode_kind K x ≡ inode_kind W x
+  unfolding inode_kind
+  inode_kind_same x some high = h.inodes x 0 some high (omega arith) (inr (λ e. omega (arith, e)))
+
+  links_same : (x : ℕ) → 1 ≤ x → x ≤ inodes_of P → inode_links K x ≡ inode_links W x
+  unfolding inode_links
+  links_same x some high = h.inodes x 1 some high (omega arith) (inr (λ e. omega (arith, e)))
+
+  pub size_same : (x : ℕ) → 1 ≤ x → x ≤ inodes_of P → x ≢ i → inode_size K x ≡ inode_size W x
+  unfolding inode_size
+  size_same x some high ne = h.inodes x 2 some high (omega arith) (inl ne)
+
+  pub reached_kind : (x : ℕ) → Reached P W x → inode_kind K x ≡ inode_kind W x
+  reached_kind x r = let (some, high) = in_table x r in inode_kind_same x some high
+
+  pub forth : (x : ℕ) → Reached P W x → Reached P K x
+  forth x (q, b) = (q, (h.names q x).0 b)
+
+  pub back : (x : ℕ) → Reached P K x → Reached P W x
+  back x (q, b) = (q, (h.names q x).1 b)
+
+  -- ---- slots
+
+  -- a page of a directory doesn't change
+  of_file : (j : ℕ) → j < data_pages_of P → page_owner P W j ≡ i → page_kind P W j ≡ 1
+  of_file j lt own = (h.tidy.coherent Rule.page_kinds j).file lt (subst (Reached P W) (sym own) h.reached) (subst (HasBytes W) (sym own) h.file)
+
+  of_file_after : (j : ℕ) → j < data_pages_of P → page_owner P K j ≡ i → page_kind P K j ≡ 1
+  of_file_after j lt own = (h.coherent Rule.page_kinds j).file lt (subst (Reached P K) (sym own) (forth i h.reached)) (subst (HasBytes K) (sym own) (reached_kind i h.reached ∙ h.file))
+
+  held_stays : (t : ℕ) → IsHeld P W t → Changes (page_of_slot t) → ⊥
+  unfolding slot_owner
+  held_stays t held c = elim (h.before (page_of_slot t) c) [
+    | inl free ↦ held.owned free
+    | inr own ↦ let one = of_file (page_of_slot t) (page_of_slot_below P t held.in_range) own in let two = held.kind in omega (arith, one, two)
+  ]
+
+  stayed : (t : ℕ) → IsHeld P K t → Changes (page_of_slot t) → ⊥
+  unfolding slot_owner
+  stayed t held c = elim (h.after (page_of_slot t) c) [
+    | inl free ↦ held.owned free
+    | inr own ↦ let one = of_file_after (page_of_slot t) (page_of_slot_below P t held.in_range) own in let two = held.kind in omega (arith, one, two)
+  ]
+
+  pub slot_owner_same : (t : ℕ) → IsHeld P W t → slot_owner P K t ≡ slot_owner P W t
+  unfolding slot_owner
+  slot_owner_same t held = owner_same (page_of_slot t) (page_of_slot_below P t held.in_range) (held_stays t held)
+
+  held_forth : (t : ℕ) → IsHeld P W t → IsHeld P K t
+  held_forth t held = record {
+    in_range = held.in_range;
+    kind = kind_same (page_of_slot t) (page_of_slot_below P t held.in_range) (held_stays t held) ∙ held.kind;
+    owned = λ e. held.owned (sym (slot_owner_same t held) ∙ e);
+  }
+
+  held_back : (t : ℕ) → IsHeld P K t → IsHeld P W t
+  unfolding slot_owner
+  held_back t held =
+      let lt = page_of_slot_below P t held.in_range in record {
+        in_range = held.in_range;
+        kind = sym (kind_same (page_of_slot t) lt (stayed t held)) ∙ held.kind;
+        owned = λ e. held.owned (owner_same (page_of_slot t) lt (stayed t held) ∙ e);
+      }
+
+  number_same : (t : ℕ) → IsHeld P W t → slot_inode P K t ≡ slot_inode P W t
+  unfolding slot_inode
+  number_same t held = h.slots t 0 held (omega arith)
+
+  pointer_same : (t : ℕ) → IsHeld P W t → slot_pointer P K t ≡ slot_pointer P W t
+  unfolding slot_pointer
+  pointer_same t held = h.slots t 1 held (omega arith)
+
+  name_of_held : (t : ℕ) → IsHeld P W t → slot_name P K t ≡ slot_name P W t
+  unfolding slot_name
+  name_of_held t held = ap name_in_words (slot_words-same P W K t (λ f lt. h.slots t (2 + f) held (omega (arith, lt))))
+
+  pub number_kept : (t : ℕ) → IsReachedSlot P W t → slot_inode P K t ≡ slot_inode P W t
+  number_kept t r = number_same t r.live.held
+
+  pub name_kept : (t : ℕ) → IsReachedSlot P W t → slot_name P K t ≡ slot_name P W t
+  name_kept t r = name_of_held t r.live.held
+
+  live_forth : (t : ℕ) → IsLive P W t → IsLive P K t
+  live_forth t live = record {
+    held = held_forth t live.held;
+    names = λ e. live.names (sym (number_same t live.held) ∙ e);
+    stays = λ q held points same. let was = held_back q held in live.stays q was (sym (pointer_same q was) ∙ points) (sym (number_same q was) ∙ same ∙ number_same t live.held);
+  }
+
+  live_back : (t : ℕ) → IsLive P K t → IsLive P W t
+  live_back t live =
+      let was = held_back t live.held in record {
+        held = was;
+        names = λ e. live.names (number_same t was ∙ e);
+        stays = λ q held points same. live.stays q (held_forth q held) (pointer_same q held ∙ points) (number_same q held ∙ same ∙ sym (number_same t was));
+      }
+
+  pub slot_forth : (t : ℕ) → IsReachedSlot P W t → IsReachedSlot P K t
+  slot_forth t r = let own = slot_owner_same t r.live.held in record {
+    owner = subst (Reached P K) (sym own) (forth (slot_owner P W t) r.owner);
+    directory = ap (inode_kind K) own ∙ reached_kind (slot_owner P W t) r.owner ∙ r.directory;
+    live = live_forth t r.live;
+  }
+
+  pub slot_back : (t : ℕ) → IsReachedSlot P K t → IsReachedSlot P W t
+  slot_back t r =
+      let own = slot_owner_same t (held_back t r.live.held) in
+      let was = subst (Reached P W) own (back (slot_owner P K t) r.owner) in record {
+        owner = was;
+        directory = sym (reached_kind (slot_owner P W t) was) ∙ ap (inode_kind K) (sym own) ∙ r.directory;
+        live = live_back t r.live;
+      }
+
+  room_forth : (d j : ℕ) → IsRoomOf P W d j → IsRoomOf P K d j
+  room_forth d j room = let (t, at, own, live) = room.slot in record {
+    reached = forth d room.reached;
+    directory = reached_kind d room.reached ∙ room.directory;
+    slot = (t, at, slot_owner_same t live.held ∙ own, live_forth t live);
+  }
+
+  room_back : (d j : ℕ) → IsRoomOf P K d j → IsRoomOf P W d j
+  room_back d j room =
+      let (t, at, own, live) = room.slot in
+      let was = back d room.reached in record {
+        reached = was;
+        directory = sym (reached_kind d was) ∙ room.directory;
+        slot = (t, at, sym (slot_owner_same t (held_back t live.held)) ∙ own, live_back t live);
+      }
+
+  -- ---- what an index holds
+
+  pub entries_kept : (d s : ℕ) (bytes : List ℕ) → IsEntryOf P K d bytes s ↔ IsEntryOf P W d bytes s
+  entries_kept d s bytes = (
+    (λ e. let was = slot_back s e.slot in record { slot = was; owner = sym (slot_owner_same s was.live.held) ∙ e.owner; name = sym (name_kept s was) ∙ e.name }),
+    (λ e. record { slot = slot_forth s e.slot; owner = slot_owner_same s e.slot.live.held ∙ e.owner; name = name_kept s e.slot ∙ e.name }),
+  )
+
+  pub slots_kept : (d s : ℕ) → IsSlotOf P K d s ↔ IsSlotOf P W d s
+  slots_kept d s = (
+    (λ (r, own). let was = slot_back s r in (was, sym (slot_owner_same s was.live.held) ∙ own)),
+    (λ (r, own). (slot_forth s r, slot_owner_same s r.live.held ∙ own)),
+  )
+
+  -- ---- nothing to be repaired
+
+  no_pointers : (t : ℕ) → IsPointer P K t → ⊥
+  no_pointers t l = let was = held_back t l.held in l.nonzero (pointer_same t was ∙ no_pointer P W 0 (tidy_but P W 0 h.tidy) t was)
+
+  -- a slot beside a live one is held
+  held_beside : (t d : ℕ) → IsRoomOf P W d (page_of_slot t) → IsHeld P W t
+  unfolding slot_owner
+  held_beside t d room = let (u, at, own, live) = room.slot in record {
+    in_range = slot_below P t (subst (λ j. j < data_pages_of P) at (page_of_slot_below P u live.held.in_range));
+    kind = ap (page_kind P W) (sym at) ∙ live.held.kind;
+    owned = λ e. live.held.owned (ap (page_owner P W) at ∙ e);
+  }
+
+  no_slot : (t : ℕ) → IsLitterSlot P K t → ⊥
+  no_slot t l =
+      let here = page_of_slot t in
+      let (f, lt, nonzero) = l.nonzero in
+      let was = room_back (page_owner P K here) here l.page in
+      let held = held_beside t (page_owner P K here) was in
+      (tidy_but P W 0 h.tidy).slots t (record {
+        page = subst (λ d. IsRoomOf P W d here) (sym (room_owner P W (page_owner P K here) here was)) was;
+        dead = λ live. l.dead (live_forth t live);
+        nonzero = (f, lt, λ e. nonzero (h.slots t f held lt ∙ e));
+      })
+
+  named_kind : (t : ℕ) → IsReachedSlot P W t → inode_kind K (slot_inode P K t) ≡ inode_kind W (slot_inode P W t)
+  named_kind t r = ap (inode_kind K) (number_kept t r) ∙ reached_kind (slot_inode P W t) (inode_reached P W h.tidy.coherent t r)
+
+  names_same : (x t : ℕ) → IsNameOf P W x t ↔ IsNameOf P K x t
+  names_same x t = (
+    (λ n. record { slot = slot_forth t n.slot; inode = number_kept t n.slot ∙ n.inode }),
+    (λ n. let was = slot_back t n.slot in record { slot = was; inode = sym (number_kept t was) ∙ n.inode }),
+  )
+
+  children_same : (x t : ℕ) → IsChildOf P W x t ↔ IsChildOf P K x t
+  children_same x t = (
+    (λ n. record { slot = slot_forth t n.slot; owner = slot_owner_same t n.slot.live.held ∙ n.owner; directory = named_kind t n.slot ∙ n.directory }),
+    (λ n. let was = slot_back t n.slot in
+        record { slot = was; owner = sym (slot_owner_same t was.live.held) ∙ n.owner; directory = sym (named_kind t was) ∙ n.directory }),
+  )
+
+  same_count : (x n : ℕ) → Reached P W x → IsLinkCount P W x n → IsLinkCount P K x n
+  same_count x n r count = record {
+    file = λ one. count_same (IsNameOf P W x) (IsNameOf P K x) n (names_same x) (count.file (sym (reached_kind x r) ∙ one));
+    directory = λ two. let (m, children, e) = count.directory (sym (reached_kind x r) ∙ two) in (m, count_same (IsChildOf P W x) (IsChildOf P K x) m (children_same x) children, e);
+  }
+
+  no_inode : (x : ℕ) → IsLitterInode P K x → ⊥
+  no_inode x l =
+      let (f, lt, nonzero) = l.nonzero in
+      let other : x ≢ i = λ e. l.unreached (forth x (subst (Reached P W) (sym e) h.reached)) in
+      (tidy_but P W 0 h.tidy).inodes x (record {
+        least = l.least;
+        most = l.most;
+        unreached = λ r. l.unreached (forth x r);
+        nonzero = (f, lt, λ e. nonzero (h.inodes x f l.least l.most (omega (arith, lt)) (inl other) ∙ e));
+      })
+
+  no_count : (x : ℕ) → IsLitterCount P K x → ⊥
+  no_count x l =
+      let r = back x l.reached in
+      let (some, high) = in_table x r in
+      (tidy_but P W 0 h.tidy).counts x (record {
+        reached = r;
+        other = λ count. l.other (subst (IsLinkCount P K x) (sym (links_same x some high)) (same_count x (inode_links W x) r count));
+      })
+
+  -- the file's pages that don't change stay below its end
+  module _ (below : (j : ℕ) → j < data_pages_of P → (Changes j → ⊥) → page_owner P W j ≡ i → page_offset P W j < pages_of_size (inode_size K i)) where
+    below_size : (j : ℕ) → (Changes j → ⊥) → IsKeptFilePage P W j → page_offset P W j < pages_of_size (inode_size K (page_owner P W j))
+    below_size j none kept = elim (cases_eq (page_owner P W j) i) [
+      | inl own ↦ subst (λ x. page_offset P W j < pages_of_size (inode_size K x)) (sym own) (below j kept.in_range none own)
+      | inr ne ↦
+          let (some, high) = in_table (page_owner P W j) kept.owner in
+          subst (λ y. page_offset P W j < pages_of_size y) (sym (size_same (page_owner P W j) some high ne)) kept.below
+    ]
+
+    kept_file : (j : ℕ) → (Changes j → ⊥) → IsKeptFilePage P W j → IsKeptFilePage P K j
+    kept_file j none kept =
+        let own = owner_same j kept.in_range none in
+        let low = subst (λ x. page_offset P W j < pages_of_size (inode_size K x)) (sym own) (below_size j none kept) in
+        record {
+          in_range = kept.in_range;
+          owner = subst (Reached P K) (sym own) (forth (page_owner P W j) kept.owner);
+          file = ap (inode_kind K) own ∙ reached_kind (page_owner P W j) kept.owner ∙ kept.file;
+          below = subst (λ k. k < pages_of_size (inode_size K (page_owner P K j))) (sym (offset_same j kept.in_range none)) low;
+        }
+
+    kept_page : (j : ℕ) → j < data_pages_of P → (Changes j → ⊥) → IsKept P W j → IsKept P K j
+    kept_page j lt none kept = elim kept [
+      | inl file ↦ inl (kept_file j none file)
+      | inr room ↦ inr (subst (λ d. IsRoomOf P K d j) (sym (owner_same j lt none)) (room_forth (page_owner P W j) j room))
+    ]
+
+    no_page : (dec : (j : ℕ) → Dec (Changes j)) → ((j : ℕ) → Changes j → IsLitterPage P K j → ⊥) → (j : ℕ) → IsLitterPage P K j → ⊥
+    no_page dec changed j l =
+        let (f, lt, nonzero) = l.nonzero in
+        elim (dec j) [
+          | yes c ↦ changed j c l
+          | no none ↦ none_counted (IsLitterPage P W) h.tidy.repaired.of_pages j (record {
+            in_range = l.in_range;
+            free = λ kept. l.free (kept_page j l.in_range none kept);
+            nonzero = (f, lt, λ e. nonzero (h.descriptors j f l.in_range lt none ∙ e));
+          })
+        ]
+
+    -- where no page that changed is to be repaired, the last image is tidy
+    pub kept_tidy : ((j : ℕ) → Dec (Changes j)) → ((j : ℕ) → Changes j → IsLitterPage P K j → ⊥) → IsTidied P K
+    kept_tidy dec changed = tidy_from P K 0 h.coherent
+        (record { pointers = no_pointers; slots = no_slot; pages = λ x l. absurd (no_page dec changed x l); inodes = no_inode; counts = no_count })
+        (no_page dec changed 0)

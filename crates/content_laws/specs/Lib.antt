@@ -1,0 +1,9 @@
+pub mod Mix
+pub mod Range
+pub mod Torn
+pub mod Gained
+pub mod Inside
+pub mod Growth
+pub mod Cut
+pub mod Steps
+pub mod Moments
