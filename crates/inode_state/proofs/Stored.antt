@@ -122,3 +122,19 @@ links_stored n links fields a b w at is stands =
           (kept a b w links (inode_word_of n 2) is (differs n 2 1 w at (λ same. omega (arith, same))) ∙ ap (λ (f : InodeFields). f.size) stands.reads)
           (kept a b w links (inode_word_of n 3) is (differs n 3 1 w at (λ same. omega (arith, same))) ∙ ap (λ (f : InodeFields). f.own) stands.reads);
     }
+
+-- the size stored alone
+pub size_stored : (n size : ℕ) (fields : InodeFields) (a b : List ℕ) (w : ℕ) → w ≡ inode_word_of n 2 → b ≡ slice_set a w size
+    → Stands (IsInodeWord n) (λ words. fields_at words n ≡ fields) a → Stands (IsInodeWord n) (λ words. fields_at words n ≡ record fields { size = size }) b
+unfolding inode_kind inode_links inode_size inode_own word
+size_stored n size fields a b w at is stands =
+    let long = same_length a b w size is in
+    let in2 = word_inside n 2 w a at (omega arith) stands.inside in
+    record {
+      inside = λ word own. let before = stands.inside word own in omega (arith, before, long);
+      reads = same_fields (fields_at b n) (record fields { size = size })
+          (kept a b w size (inode_word_of n 0) is (differs n 0 2 w at (λ same. omega (arith, same))) ∙ ap (λ (f : InodeFields). f.kind) stands.reads)
+          (kept a b w size (inode_word_of n 1) is (differs n 1 2 w at (λ same. omega (arith, same))) ∙ ap (λ (f : InodeFields). f.links) stands.reads)
+          (put a b w size (inode_word_of n 2) is at in2)
+          (kept a b w size (inode_word_of n 3) is (differs n 3 2 w at (λ same. omega (arith, same))) ∙ ap (λ (f : InodeFields). f.own) stands.reads);
+    }

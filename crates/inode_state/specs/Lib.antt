@@ -2,3 +2,4 @@ pub mod States
 pub mod Inode
 pub mod Laws
 pub mod Unused
+pub mod Covered

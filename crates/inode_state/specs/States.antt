@@ -22,6 +22,10 @@ linked_fields fields = record { kind = fields.kind; links = fields.links + 1; si
 abbrev pub unlinked_fields : InodeFields → InodeFields
 unlinked_fields fields = record { kind = fields.kind; links = fields.links - 1; size = fields.size; own = fields.own }
 
+-- the fields with another size
+abbrev pub sized_fields : InodeFields → ℕ → InodeFields
+sized_fields fields size = record { kind = fields.kind; links = fields.links; size = size; own = fields.own }
+
 abbrev pub IsFree : ℕ → InodeFields → Type 0
 IsFree number fields = fields ≡ free_fields
 

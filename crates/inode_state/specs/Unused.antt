@@ -21,6 +21,8 @@ pub record IsUnnamed (P number : ℕ) (device : DeviceView) : Type 0 where
   pub other : (slot : ℕ) → IsHeldSlot P device.words slot → slot_inode P device.words slot ≢ number
   pub settled : (slot : ℕ) → IsHeldSlot P device.words slot → IsClean device.words device.trail (slot_word_of P slot 0)
 
+-- Nothing leads to the inode, and a crash leaves the same slots held.
 pub record IsUnused (P number : ℕ) (device : DeviceView) : Type 0 where
   pub unowned : IsUnowned P number device
   pub unnamed : IsUnnamed P number device
+  pub kinds : (page : ℕ) → page < data_pages_of P → IsClean device.words device.trail (descriptor_word_of P page 1)

@@ -29,6 +29,14 @@ pub struct Linked;
 #[derive(Drop)]
 pub struct Unlinked;
 
+/// A file whose size was raised over pages that it has.
+#[derive(Drop)]
+pub struct Grown;
+
+/// A file whose size was lowered.
+#[derive(Drop)]
+pub struct Cut;
+
 impl InodeState for Free {
     ghost Reads = { IsFree };
 }
@@ -46,5 +54,13 @@ impl InodeState for Linked {
 }
 
 impl InodeState for Unlinked {
+    ghost Reads = { IsLive };
+}
+
+impl InodeState for Grown {
+    ghost Reads = { IsLive };
+}
+
+impl InodeState for Cut {
     ghost Reads = { IsLive };
 }

@@ -1,4 +1,12 @@
 pub mod PageLaws
+pub mod SpanLaws
+pub mod Steps
+pub mod Pieces
+pub mod Counted
+pub mod NewBytes
+pub mod NewStores
+pub mod NewPages
+pub mod NewFlushes
 pub mod Contents
 pub mod Lines
 pub mod Told
@@ -7,4 +15,5 @@ pub mod Changes
 pub mod Zeros
 pub mod Releases
 mod Unlinked
+mod Cut
 mod Written

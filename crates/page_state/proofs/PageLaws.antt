@@ -102,6 +102,7 @@ pages_are_local view = record {
 pub dirty_stays : {W : ℕ → Type 0} {a b : DeviceView} (view : PageView) → StoresOnly W a b → ((word : ℕ) → IsWordOf view word → ¬ W word) → PageIsDirty view a → PageIsDirty view b
 dirty_stays view run apart dirty = record {
   stands = stands_stays (pages_are_local view) run apart dirty.stands;
+  touched = dirty.touched;
   untouched = λ word own kept. clean_stays word run (apart word own) (dirty.untouched word own kept);
 }
 
@@ -111,6 +112,7 @@ dirty_events view events none words trail dirty =
     let goes = goes_on_as events (pages_are_local view) none words trail in
     record {
       stands = goes.stands dirty.stands;
+      touched = dirty.touched;
       untouched = λ word own kept. clean_as_events events word (none.each word own) words trail (dirty.untouched word own kept);
     }
 

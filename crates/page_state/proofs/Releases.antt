@@ -92,6 +92,7 @@ released_dirty {b = b} volume_pages pages fields touched ticket later released c
           (without.each index inside).kind (without.each index inside).offset;
     };
   };
+  touched = tt;
   untouched = λ word own kept. clean_stays word run.interval (λ stored. kept (record {
     index = stored.index;
     before = stored.before;

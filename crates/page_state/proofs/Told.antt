@@ -50,12 +50,13 @@ all_zeros volume_pages page count is so_far =
     (ap (λ (n : ℕ). first_zeros volume_pages page n) is) (omega (arith, is)) so_far
 
 -- then its kind and its offset
-pub fill_told : {a b c d : DeviceView} (volume_pages page w1 w2 : ℕ) → page < data_pages_of volume_pages → w1 ≡ descriptor_word_of volume_pages page 1 → w2 ≡ descriptor_word_of volume_pages page 2
-    → StoresExactly (IsContentWord volume_pages page) a b (page_zeros volume_pages page) 512 → Performs b c (Store w1 2 ∷ []) → Performs c d (Store w2 0 ∷ []) → StoresExactly (IsFilledWord volume_pages page) a d (fill_of_page volume_pages page) 514
-fill_told volume_pages page w1 w2 in_range at1 at2 contents kind offset =
+pub described_told : {a b c d : DeviceView} {events : List Event} (volume_pages page w1 w2 kind offset : ℕ) → page < data_pages_of volume_pages → w1 ≡ descriptor_word_of volume_pages page 1 → w2 ≡ descriptor_word_of volume_pages page 2
+    → StoresExactly (IsContentWord volume_pages page) a b events 512 → Performs b c (Store w1 kind ∷ []) → Performs c d (Store w2 offset ∷ [])
+    → StoresExactly (IsFilledWord volume_pages page) a d (events ++ Store (descriptor_word_of volume_pages page 1) kind ∷ Store (descriptor_word_of volume_pages page 2) offset ∷ []) 514
+described_told {events = events} volume_pages page w1 w2 kind offset in_range at1 at2 contents kind_stored offset_stored =
     let apart : (field w : ℕ) → field < 8 → w ≡ descriptor_word_of volume_pages page field → ¬ IsContentWord volume_pages page w = λ field w few at content. descriptor_word_not_page_word volume_pages page page field content.place in_range few (sym at ∙ content.at) in
     let differ : w1 ≢ w2 = λ same. let fields = (same_descriptor_word volume_pages page page 1 2 (omega arith) (omega arith) (sym at1 ∙ same ∙ at2)).1 in omega (arith, fields) in
-    exactly_as (fill_of_page volume_pages page) 514
+    exactly_as (events ++ Store (descriptor_word_of volume_pages page 1) kind ∷ Store (descriptor_word_of volume_pages page 2) offset ∷ []) 514
     (λ word either. elim either [
       | inr is2 ↦ inr (inr (is2 ∙ at2))
       | inl before ↦ elim before [
@@ -63,12 +64,16 @@ fill_told volume_pages page w1 w2 in_range at1 at2 contents kind offset =
         | inl content ↦ inl content
       ]
     ])
-    (append_assoc (page_zeros volume_pages page) (Store w1 2 ∷ []) (Store w2 0 ∷ [])
-    ∙ ap (λ (word : ℕ). page_zeros volume_pages page ++ Store word 2 ∷ Store w2 0 ∷ []) at1
-    ∙ ap (λ (word : ℕ). page_zeros volume_pages page ++ Store (descriptor_word_of volume_pages page 1) 2 ∷ Store word 0 ∷ []) at2)
+    (append_assoc events (Store w1 kind ∷ []) (Store w2 offset ∷ [])
+    ∙ ap (λ (word : ℕ). events ++ Store word kind ∷ Store w2 offset ∷ []) at1
+    ∙ ap (λ (word : ℕ). events ++ Store (descriptor_word_of volume_pages page 1) kind ∷ Store word offset ∷ []) at2)
     (omega arith)
-    (exactly_then (exactly_then contents (exactly_store kind) (λ word content is1. apart 1 word (omega arith) (is1 ∙ at1) content)) (exactly_store offset)
+    (exactly_then (exactly_then contents (exactly_store kind_stored) (λ word content is1. apart 1 word (omega arith) (is1 ∙ at1) content)) (exactly_store offset_stored)
     (λ word either is2. ⊎_elim (λ content. apart 2 word (omega arith) (is2 ∙ at2) content) (λ is1. differ (sym is1 ∙ is2)) either))
+
+pub fill_told : {a b c d : DeviceView} (volume_pages page w1 w2 : ℕ) → page < data_pages_of volume_pages → w1 ≡ descriptor_word_of volume_pages page 1 → w2 ≡ descriptor_word_of volume_pages page 2
+    → StoresExactly (IsContentWord volume_pages page) a b (page_zeros volume_pages page) 512 → Performs b c (Store w1 2 ∷ []) → Performs c d (Store w2 0 ∷ []) → StoresExactly (IsFilledWord volume_pages page) a d (fill_of_page volume_pages page) 514
+fill_told volume_pages page w1 w2 in_range at1 at2 contents kind offset = described_told volume_pages page w1 w2 2 0 in_range at1 at2 contents kind offset
 
 -- the store of an owner
 pub claim_told : {a b : DeviceView} (volume_pages page owner w : ℕ) → w ≡ descriptor_word_of volume_pages page 0 → Performs a b (Store w owner ∷ []) → StoresExactly (IsOwnerWord volume_pages page) a b (claim_of_page volume_pages owner page) 1

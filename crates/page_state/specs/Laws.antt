@@ -1,11 +1,13 @@
 -- What a caller may rest on of all pages.
-use Rattle.std.specs.Prelude.{◌≡◌, ◌≢◌, ℕ, ◌<◌, ◌≤◌, List}
+use Rattle.std.specs.Prelude.{◌≡◌, ◌≢◌, ℕ, ◌+◌, ◌-◌, ◌*◌, ◌/◌, ◌<◌, ◌≤◌, min, List}
 use Rattle.pm_trait.specs.declared.event.Event.{Event}
 use Rattle.pm_trait.specs.Trail.{after_stores}
 use Rattle.pm_trait.specs.Device.{with_events}
 use Rattle.pm_trait.specs.DeviceView.{DeviceView, StoresOnly}
-use Rattle.layout.specs.Geometry.{data_pages_of, inodes_of, inode_word_of, page_of_slot, slot_word_of}
+use Rattle.layout.specs.Geometry.{pieces, data_pages_of, inodes_of, inode_word_of, page_of_slot, slot_word_of}
 use Rattle.fence_token.specs.Objects.{StoreNoneOf}
+use Rattle.page_state.specs.declared.span.FileSpan.{FileSpan}
+use Rattle.page_state.specs.Spans.{new_words, new_lines}
 use Rattle.page_state.specs.Page.{PageView, EachPage, AreDataPages, IsWordOf, PageIsDirty, PageIsClean, PageIsInFlight}
 
 -- On the new device the pages are dirty, clean and in flight wherever they were so on the old one.
@@ -50,3 +52,18 @@ pub record IsOfSlot (volume_pages slot word : ℕ) : Type 0 where
 -- and over one of a slot in another page
 abbrev pub SlotsLaw : Type 0
 SlotsLaw = (view : PageView) (slot : ℕ) (old new : DeviceView) → OfVolume view → EachPage view.pages (λ page. page_of_slot slot ≢ page) → StoresOnly (IsOfSlot view.volume_pages slot) old new → PageGoesOn view old new
+
+-- ---- how much is new
+
+-- Of these pages the words and lines that hold a byte from `from` to before `end` have a new byte, and no other.
+pub record CountsNew (span : FileSpan) (pages from end : ℕ) : Type 0 where
+  pub words : new_words span pages ≡ pieces end 8 - from / 8
+  pub lines : new_lines span pages ≡ pieces end 64 - from / 64
+
+-- so where a range lies in the pages, and no byte of them is to become zero
+abbrev pub InsideLaw : Type 0
+InsideLaw = (span : FileSpan) (pages : ℕ) → 4096 * span.first ≤ span.offset → 0 < span.length → span.offset + span.length ≤ 4096 * (span.first + pages) → 4096 * (span.first + pages) ≤ span.zero_from → CountsNew span pages span.offset (span.offset + span.length)
+
+-- and where all bytes behind the range become zero, or stand behind the pages
+abbrev pub BeyondLaw : Type 0
+BeyondLaw = (span : FileSpan) (pages : ℕ) → span.zero_from ≤ span.offset + span.length → 4096 * span.first ≤ min span.offset span.zero_from → min span.offset span.zero_from ≤ 4096 * (span.first + pages) → CountsNew span pages (min span.offset span.zero_from) (4096 * (span.first + pages))

@@ -1,5 +1,5 @@
 -- One or more data pages as a value that stands for their words and for those of their descriptors.
-use Rattle.std.specs.Prelude.{◌≡◌, ◌⊎◌, ℕ, ◌+◌, ◌==◌, ◌<◌, if◌then◌else◌, List, length, slice_index, Option, None}
+use Rattle.std.specs.Prelude.{◌≡◌, ◌⊎◌, ℕ, ◌+◌, ◌*◌, ◌==◌, ◌<◌, true, if◌then◌else◌, List, length, slice_index, Option, None}
 use Rattle.pm_trait.specs.Device.{IsClean}
 use Rattle.pm_trait.specs.DeviceView.{DeviceView}
 use Rattle.layout.specs.declared.fields.DescriptorFields.{DescriptorFields}
@@ -7,7 +7,9 @@ use Rattle.layout.specs.Geometry.{descriptor_word_of, page_word_of, page_of_slot
 use Rattle.layout.specs.Fields.{page_owner, page_kind, page_offset, slot_inode}
 use Rattle.fence_token.specs.Objects.{Stands, StandsClean, StandsInFlight}
 use Rattle.page_state.specs.declared.page.Touched.{Touched}
-use Rattle.page_state.specs.declared.page.Touched.TheVariants.{Descriptors, Whole}
+use Rattle.page_state.specs.declared.page.Touched.TheVariants.{Descriptors, Whole, Words}
+use Rattle.page_state.specs.declared.span.FileSpan.{FileSpan}
+use Rattle.page_state.specs.Spans.{has_new, new_lines, IsWithinLimits}
 
 -- the volume's number of pages, the data pages, what the first one's descriptor says, what was stored since they were clean, and the ticket of their flush
 pub record PageView : Type 0 where
@@ -43,6 +45,12 @@ pub record OfFirst (pages : List ℕ) (count : ℕ) (Q : ℕ → ℕ → Type 0)
 abbrev pub OfSome : List ℕ → (ℕ → ℕ → Type 0) → ℕ → Type 0
 OfSome pages Q word = OfFirst pages (length pages) Q word
 
+-- the word is one that Q says of one of so many numbers from 0 on
+pub record OfSomeBelow (count : ℕ) (Q : ℕ → ℕ → Type 0) (word : ℕ) : Type 0 where
+  pub index : ℕ
+  pub below : index < count
+  pub is : Q index word
+
 -- ---- words of a page
 
 -- one of the page's own 512
@@ -72,15 +80,36 @@ IsOwnerWord volume_pages page word = word ≡ descriptor_word_of volume_pages pa
 abbrev pub IsReleasedWord : ℕ → ℕ → ℕ → Type 0
 IsReleasedWord volume_pages page word = (word ≡ descriptor_word_of volume_pages page 1) ⊎ (word ≡ descriptor_word_of volume_pages page 2)
 
--- those of the lines that were stored to
-abbrev pub IsTouched : Touched → ℕ → ℕ → ℕ → Type 0
-IsTouched Descriptors volume_pages page word = IsDescriptorWord volume_pages page word
-IsTouched Whole volume_pages page word = IsOwnWord volume_pages page word
+-- the word at this place of the page of this offset, where it has a new byte of the file
+pub record IsNewPlace (span : FileSpan) (volume_pages offset page place word : ℕ) : Type 0 where
+  pub at : word ≡ page_word_of volume_pages page place
+  pub has : has_new span (4096 * offset + 8 * place) 8 ≡ true
 
--- the number of those lines
-abbrev pub touched_lines : Touched → ℕ
-touched_lines Descriptors = 1
-touched_lines Whole = 65
+-- a word of the page that has one
+abbrev pub IsNewWord : FileSpan → ℕ → ℕ → ℕ → ℕ → Type 0
+IsNewWord span volume_pages offset page word = OfSomeBelow 512 (IsNewPlace span volume_pages offset page) word
+
+-- and one of these pages, whose offsets follow one another
+abbrev pub IsNewWordOf : FileSpan → ℕ → List ℕ → ℕ → Type 0
+IsNewWordOf span volume_pages pages word = OfSomeBelow (length pages) (λ index. IsNewWord span volume_pages (span.first + index) (slice_index pages index)) word
+
+-- those that were stored since the pages were clean
+abbrev pub AreTouched : Touched → ℕ → List ℕ → ℕ → Type 0
+AreTouched Descriptors volume_pages pages word = OfSome pages (IsDescriptorWord volume_pages) word
+AreTouched Whole volume_pages pages word = OfSome pages (IsOwnWord volume_pages) word
+AreTouched (Words span) volume_pages pages word = IsNewWordOf span volume_pages pages word
+
+-- the number of the lines, in so many pages, that hold one of them
+abbrev pub touched_lines : Touched → ℕ → ℕ
+touched_lines Descriptors pages = pages
+touched_lines Whole pages = 65 * pages
+touched_lines (Words span) pages = new_lines span pages
+
+-- such a span is one of a file, and some word has a new byte
+abbrev pub IsTouchable : Touched → ℕ → Type 0
+IsTouchable Descriptors pages = Unit {0}
+IsTouchable Whole pages = Unit {0}
+IsTouchable (Words span) pages = IsWithinLimits span pages × (0 < new_lines span pages)
 
 -- each of the page's 512 words is 0
 pub record IsZeroPage (volume_pages : ℕ) (words : List ℕ) (page : ℕ) : Type 0 where
@@ -91,6 +120,15 @@ pub record IsSlotPage (volume_pages : ℕ) (words : List ℕ) (page : ℕ) : Typ
   pub zero : IsZeroPage volume_pages words page
   pub kind : page_kind volume_pages words page ≡ 2
   pub offset : page_offset volume_pages words page ≡ 0
+
+-- a page of a file's bytes at this offset, whoever its owner is
+pub record IsBytesPage (volume_pages : ℕ) (words : List ℕ) (at page : ℕ) : Type 0 where
+  pub kind : page_kind volume_pages words page ≡ 1
+  pub offset : page_offset volume_pages words page ≡ at
+
+-- pages of a file's bytes from this offset on
+pub record AreBytesPages (volume_pages : ℕ) (words : List ℕ) (first : ℕ) (pages : List ℕ) : Type 0 where
+  pub each : (index : ℕ) → index < length pages → IsBytesPage volume_pages words (first + index) (slice_index pages index)
 
 -- its descriptor says no kind and no offset, whoever its owner is
 pub record IsWithoutKind (volume_pages : ℕ) (words : List ℕ) (page : ℕ) : Type 0 where
@@ -143,10 +181,11 @@ pages_at volume_pages pages words =
 abbrev pub PageStands : PageView → List ℕ → Type 0
 PageStands view now = Stands (IsWordOf view) (ReadAs view) now
 
--- and a crash leaves all of its words so but those of the lines that were stored to
+-- and a crash leaves all of its words so but those that were stored
 pub record PageIsDirty (view : PageView) (device : DeviceView) : Type 0 where
   pub stands : PageStands view device.words
-  pub untouched : (word : ℕ) → IsWordOf view word → ¬ OfSome view.pages (IsTouched view.touched view.volume_pages) word → IsClean device.words device.trail word
+  pub touched : IsTouchable view.touched (length view.pages)
+  pub untouched : (word : ℕ) → IsWordOf view word → ¬ AreTouched view.touched view.volume_pages view.pages word → IsClean device.words device.trail word
 
 -- and a crash leaves all of its words so
 abbrev pub PageIsClean : PageView → DeviceView → Type 0

@@ -10,6 +10,10 @@ free_fields = record { owner = 0; kind = 0; offset = 0 }
 abbrev pub slots_fields : DescriptorFields
 slots_fields = record { owner = 0; kind = 2; offset = 0 }
 
+-- a page of a file's bytes at this offset, and no owner yet
+abbrev pub bytes_fields : ℕ → DescriptorFields
+bytes_fields offset = record { owner = 0; kind = 1; offset = offset }
+
 -- the fields with this owner
 abbrev pub owned_fields : DescriptorFields → ℕ → DescriptorFields
 owned_fields fields owner = record { owner = owner; kind = fields.kind; offset = fields.offset }

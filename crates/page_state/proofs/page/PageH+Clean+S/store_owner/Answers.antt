@@ -1,5 +1,6 @@
 use Rattle.std.proofs.Common.{sym, subst}
 use Rattle.std.specs.Prelude.{None}
+use Rattle.layout.specs.Geometry.{IsVolumeSize}
 use Rattle.page_state.specs.Page.{PageView, fields_of_page, PageIsClean, PageIsDirty}
 use Rattle.page_state.proofs.Changes.{claimed_dirty}
 use Rattle.page_state.proofs.page.PageH+Clean+S.store_owner.Goals as goal
@@ -11,6 +12,9 @@ claim_pages-requires-clause-inside g c =
 
 pub of-requires-clause-reads : goal.of-requires-clause-reads
 of-requires-clause-reads g c = record { each = λ index inside. c.requires.means (fields_of_page c.self.inside.fields index) (c.self.invariant.1.each index inside) }
+
+pub returns-clause-volume : goal.returns-clause-volume
+returns-clause-volume g c = subst (λ (view : PageView). IsVolumeSize view.volume_pages) c.self.view_is c.self.inside.geometry.volume_size
 
 pub returns-clause-dirty : goal.returns-clause-dirty
 returns-clause-dirty g c =

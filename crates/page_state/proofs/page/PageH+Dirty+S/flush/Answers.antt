@@ -11,6 +11,11 @@ flush_pages-ticket-requires-clause-inside g c =
     let dirty = subst (λ (view : PageView). PageIsDirty view (g.P.Pm.view c.args.pm.now)) (sym c.self.view_is) c.requires.dirty in
     dirty.stands.inside
 
+pub flush_pages-ticket-requires-clause-touched : goal.flush_pages-ticket-requires-clause-touched
+flush_pages-ticket-requires-clause-touched g c =
+    let dirty = subst (λ (view : PageView). PageIsDirty view (g.P.Pm.view c.args.pm.now)) (sym c.self.view_is) c.requires.dirty in
+    dirty.touched
+
 pub returns-clause-flushed : goal.returns-clause-flushed
 returns-clause-flushed g c =
     let inside = c.self.inside in

@@ -2,42 +2,39 @@ use Rattle.std.proofs.Common.{◌≡◌, inl, inr, ℕ, ◌+◌, ◌*◌, length
 use Rattle.std.specs.Prelude.{Some}
 use Rattle.std.proofs.lemmas.Bool.{cases_eq}
 use Rattle.pm_trait.proofs.DeviceLaws.{flushed_stays, interval_length}
-use Rattle.page_state.specs.Page.{IsTouched, touched_lines}
-use Rattle.page_state.specs.Events.{flushes_of_page}
+use Rattle.page_state.specs.Page.{IsOwnWord}
+use Rattle.page_state.specs.Events.{whole_flush}
 use Rattle.page_state.proofs.Told.{no_flushes, flushes_more, flushes_done}
-use Rattle.page_state.proofs.words.flush_pages.Goals as goal
+use Rattle.page_state.proofs.flushes.flush_wholes.Goals as goal
 
 pub loop-page-init : goal.loop-page-init
 loop-page-init g c = record {
   ticket = λ some. absurd (omega (arith, some));
   flushed = λ word is. let before = is.before in absurd (omega (arith, before));
-  device = no_flushes (flushes_of_page c.args.touched c.args.geometry.now.pages) (touched_lines c.args.touched * 0) c.args.pages.now (g.P.Pm.view c.args.pm.now);
+  device = no_flushes (whole_flush c.args.geometry.now.pages) 0 c.args.pages.now (g.P.Pm.view c.args.pm.now);
 }
 
-pub flush_page-requires-clause-inside : goal.flush_page-requires-clause-inside
-flush_page-requires-clause-inside g c = λ word own.
+pub flush_whole-requires-clause-inside : goal.flush_whole-requires-clause-inside
+flush_whole-requires-clause-inside g c = λ word own.
     let before = c.requires.inside word (record { index = c.loop-page.page-index; before = omega arith; is = own }) in
     omega (arith, before, interval_length c.loop-page.invariant.device.stores_none)
 
 pub loop-page-preserved : goal.loop-page-preserved
 loop-page-preserved g c =
     let so_far = c.loop-page.invariant in
-    let step = c.flush_page.ensures in
+    let step = c.flush_whole.ensures in
     let pages = c.args.pages.now in
     let index = c.loop-page.page-index in
     record {
       ticket = λ some. ap (λ (fences : ℕ). Some fences) step.ticket_is;
       flushed = λ word is. elim (cases_eq is.index index) [
-        | inl here ↦ step.flushed word (subst (λ (k : ℕ). IsTouched c.args.touched c.args.geometry.now.pages (slice_index pages k) word) here is.is)
+        | inl here ↦ step.flushed word (subst (λ (k : ℕ). IsOwnWord c.args.geometry.now.pages (slice_index pages k) word) here is.is)
         | inr other ↦ let before = is.before in flushed_stays word step.stores_none (λ none. none) (so_far.flushed word (record { index = is.index; before = omega (arith, other, before); is = is.is }))
       ];
-      device = flushes_more (flushes_of_page c.args.touched c.args.geometry.now.pages) index (touched_lines c.args.touched * (index + 1)) pages (omega arith) (omega arith) so_far.device step.flushes;
+      device = flushes_more (whole_flush c.args.geometry.now.pages) index (65 * (index + 1)) pages (omega arith) (omega arith) so_far.device step.flushes;
     }
 
 pub returns-clause-device : goal.returns-clause-device
 returns-clause-device g c =
     let pages = c.args.pages.now in
-    let lines = touched_lines c.args.touched in
-    let all : length pages ≡ c.loop-page.page-index = omega arith in
-    let same = ap (λ (n : ℕ). lines * n) all in
-    flushes_done (flushes_of_page c.args.touched c.args.geometry.now.pages) pages c.loop-page.page-index (lines * length pages) all (omega (arith, same)) c.loop-page.invariant.device
+    flushes_done (whole_flush c.args.geometry.now.pages) pages c.loop-page.page-index (65 * length pages) (omega arith) (omega arith) c.loop-page.invariant.device

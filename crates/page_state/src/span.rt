@@ -1,0 +1,68 @@
+// Which bytes of a file get new values, and what its words become.
+ghost use Rattle.std.specs.Prelude.{◌≡◌, ◌↔◌, ◌+◌, ◌^◌, ◌<◌, ◌≤◌, IsTrue, length};
+ghost use Rattle.page_state.specs.Spans.{has_new as has_new_byte, byte_after as byte_that_becomes, word_after as word_that_becomes};
+
+/// The bytes of a file that get new values: those of a range, and every byte beside it from one on, which becomes zero.
+#[derive(Clone, Copy)]
+pub struct FileSpan {
+    /// The offset of the first page, in pages. The offsets of the others follow.
+    pub first: u64,
+    /// The byte of the file at which the range begins.
+    pub offset: u64,
+    /// The bytes of the range.
+    pub length: u64,
+    /// The byte of the file from which on bytes beside the range become zero.
+    pub zero_from: u64,
+}
+
+impl FileSpan {
+    // Whether one of the `count` bytes from byte `at` on gets a new value.
+    pub fn has_new(&self, at: u64, count: u64) -> bool
+        requires range { self.now.offset + self.now.length ≤ 2 ^ 40 }
+        requires place { at ≤ 2 ^ 40 }
+        requires some { 0 < count }
+        requires few { count ≤ 64 }
+        ensures { result ≡ has_new_byte self.now at count }
+    {
+        let end = at + count;
+        self.meets_range(at, end) || self.zero_from < end
+    }
+
+    // Whether a byte of the range is not before `first`, and before `end`.
+    fn meets_range(&self, first: u64, end: u64) -> bool
+        requires range { self.now.offset + self.now.length ≤ 2 ^ 40 }
+        ensures { IsTrue result ↔ ((0 < self.now.length) × (first < self.now.offset + self.now.length)
+            × (self.now.offset < end)) }
+    {
+        self.length > 0 && first < self.offset + self.length && self.offset < end
+    }
+
+    // What byte `at` becomes.
+    fn byte_after(&self, bytes: &[u8], at: u64, old: u8) -> u8
+        requires range { self.now.offset + self.now.length ≤ 2 ^ 40 }
+        requires long { length bytes.now ≡ self.now.length }
+        ensures { result ≡ byte_that_becomes self.now bytes.now at old }
+    {
+        if self.offset <= at && at < self.offset + self.length {
+            bytes[(at - self.offset) as usize]
+        } else if self.zero_from <= at {
+            0
+        } else {
+            old
+        }
+    }
+
+    // What the word becomes whose bytes are those from byte `at` on.
+    pub fn word_after(&self, bytes: &[u8], at: u64, old: u64) -> u64
+        requires range { self.now.offset + self.now.length ≤ 2 ^ 40 }
+        requires long { length bytes.now ≡ self.now.length }
+        requires place { at ≤ 2 ^ 40 }
+        ensures { result ≡ word_that_becomes self.now bytes.now at old }
+    {
+        let mut parts = old.to_le_bytes();
+        for place in 0..8 {
+            parts[place] = self.byte_after(bytes, at + place as u64, parts[place]);
+        }
+        u64::from_le_bytes(parts)
+    }
+}
