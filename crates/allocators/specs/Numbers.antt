@@ -10,6 +10,12 @@ pub record IsLowest (numbers : List Bool) (k : ℕ) : Type 0 where
   pub free : IsFree numbers k
   pub least : (other : ℕ) → IsFree numbers other → k ≤ other
 
+-- the number is free and not below this one, and no such smaller one is free
+pub record IsNextFree (numbers : List Bool) (from k : ℕ) : Type 0 where
+  pub reached : from ≤ k
+  pub free : IsFree numbers k
+  pub least : (other : ℕ) → from ≤ other → IsFree numbers other → k ≤ other
+
 -- how many numbers are free
 abbrev pub free_in : List Bool → ℕ
 free_in numbers = count_by (λ is_free. is_free) numbers

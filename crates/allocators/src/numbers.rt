@@ -1,5 +1,5 @@
 ghost use Rattle.std.specs.Prelude.{◌≡◌, ◌<◌, ◌≤◌, ℕ, true, length, replicate, IfOk, MatchOption};
-ghost use Rattle.allocators.specs.Numbers.{IsFree, IsLowest, free_in, Takes, Gives};
+ghost use Rattle.allocators.specs.Numbers.{IsFree, IsLowest, IsNextFree, free_in, Takes, Gives};
 ghost use Rattle.allocators.specs.NumbersKept.{IsLowestPlace};
 
 use pm_trait::NoMemory;
@@ -52,6 +52,20 @@ impl Numbers {
         }
     }
 
+    /// The least free number at or after `from`, or `None` where none is free there. It looks at the numbers from the greater of
+    /// `from` and the least free number on.
+    pub fn next_free(&self, from: u64) -> Option<u64>
+        ensures { MatchOption result ((k : ℕ) → from ≤ k → ¬ IsFree self.now k) (λ k. IsNextFree self.now from k) }
+    {
+        let start = self.lowest.max(from as usize).min(self.is_free.len());
+        let place = free_place(&self.is_free, start);
+        if place < self.is_free.len() {
+            Some(place as u64)
+        } else {
+            None
+        }
+    }
+
     /// Takes a free number.
     pub fn take(&mut self, k: u64)
         requires free { IsFree self.old k }
@@ -61,7 +75,7 @@ impl Numbers {
         self.is_free[place] = false;
         self.count -= 1;
         if place == self.lowest {
-            self.lowest = next_free(&self.is_free, place);
+            self.lowest = free_place(&self.is_free, place);
         }
     }
 
@@ -88,7 +102,7 @@ impl Numbers {
 }
 
 // The least free number from one on, or how many numbers there are.
-fn next_free(is_free: &[bool], from: usize) -> usize
+fn free_place(is_free: &[bool], from: usize) -> usize
     requires start { from ≤ length is_free.now }
     ensures from { from ≤ result }
     ensures within { result ≤ length is_free.now }

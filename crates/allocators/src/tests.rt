@@ -14,8 +14,16 @@ fn takes_and_gives(rt: HostRuntime) -> Result<(), Fail> {
     numbers.give(2);
     numbers.give(0);
     assert_eq!(rt; (numbers.lowest(), numbers.free_count()), (Some(0), 2));
+    assert_eq!(rt;
+        (numbers.next_free(0), numbers.next_free(1)),
+        (Some(0), Some(2))
+    );
     numbers.take(0);
     assert_eq!(rt; numbers.lowest(), Some(2));
+    assert_eq!(rt;
+        (numbers.next_free(0), numbers.next_free(3)),
+        (Some(2), None)
+    );
     Ok(())
 }
 

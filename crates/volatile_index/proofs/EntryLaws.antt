@@ -1,11 +1,11 @@
 -- Laws of sorted entries.
-use Rattle.std.proofs.Common.{◌≡◌, ◌≢◌, ◌⊎◌, inl, inr, ℕ, zero, suc, List, [], ◌∷◌, Contains, All, refl, sym, ap, subst, ◌∙◌, arith, Ordering, Less, Equal, Greater}
+use Rattle.std.proofs.Common.{◌≡◌, ◌≢◌, ◌⊎◌, inl, inr, ℕ, zero, suc, List, [], ◌∷◌, ◌++◌, Contains, All, refl, sym, ap, subst, ◌∙◌, arith, Ordering, Less, Equal, Greater}
 use Rattle.std.specs.Cmp.{tied_itself}
 use Rattle.std.specs.Cmp.Lexicographic.{nat_list_cmp_total}
 use Rattle.std.specs.Ordering.{ordering_reverse}
 use Rattle.std.proofs.lemmas.List.Elements.{Contains-append_left, Contains-append_right, Contains-append_cases}
 use Rattle.volatile_index.specs.declared.entry.Entry.{Entry}
-use Rattle.volatile_index.specs.Entries.{name_cmp, IsSorted, IsWithEntry}
+use Rattle.volatile_index.specs.Entries.{name_cmp, IsSorted, IsAbsent, IsWithEntry}
 
 -- ---- names
 
@@ -116,3 +116,17 @@ contains_before shorter longer entry other with there =
         | inr back ↦ inr (subst (λ es. Contains es other) (sym with.shorter_is) (Contains-append_right with.front with.back other back))
       ]
     ]
+
+-- sorted entries have no other of its name
+others_differ : (front back : List Entry) (entry other : Entry) → IsSorted (front ++ entry ∷ back) → Contains (front ++ back) other → other.name ≢ entry.name
+others_differ [] back entry other sorted there same = differs entry.name other.name Less (less_than_contained entry back other sorted there) (λ e. (cc)) (sym same)
+others_differ (first ∷ front) back entry other sorted there same = elim (contains_cases first (front ++ back) other there) [
+  | inl is ↦
+      let among = Contains-append_right front (entry ∷ back) entry (contains_here entry back) in
+      differs first.name entry.name Less (less_than_contained first (front ++ entry ∷ back) entry sorted among) (λ e. (cc)) (ap (λ (e : Entry). e.name) (sym is) ∙ same)
+  | inr later ↦ others_differ front back entry other (sorted_tail first (front ++ entry ∷ back) sorted) later same
+]
+
+pub absent_without : (shorter longer : List Entry) (entry : Entry) → IsWithEntry shorter longer entry → IsSorted longer → IsAbsent shorter entry.name
+absent_without shorter longer entry with sorted other there =
+    others_differ with.front with.back entry other (subst IsSorted with.longer_is sorted) (subst (λ es. Contains es other) with.shorter_is there)

@@ -1,7 +1,7 @@
 -- What the index holds of each inode, and what its calls do to that.
 use Rattle.std.specs.Prelude.{◌≡◌, ◌≢◌, ℕ, zero, suc, ◌+◌, ◌<◌, ◌≤◌, List, [], ◌∷◌, ◌++◌, length, slice_index_or, Result, IsOk, OnOk, OnErr}
 use Rattle.volatile_index.specs.declared.entry.Entry.{Entry}
-use Rattle.volatile_index.specs.Entries.{IsSorted, IsWithEntry}
+use Rattle.volatile_index.specs.Entries.{IsSorted, IsAbsent, IsWithEntry}
 
 -- what is held of one inode, and how many entries and pages its lists hold before they need memory
 pub record NodeView : Type 0 where
@@ -58,9 +58,10 @@ pub record PutsEntry (entry : Entry) (old new : NodeView) : Type 0 where
   pub pages : new.pages ≡ old.pages
   pub page_places : new.page_places ≡ old.page_places
 
--- The entry of the name is taken out.
+-- The entry of the name is taken out, and there is no other.
 pub record RemovesEntry (name : List ℕ) (old new : NodeView) : Type 0 where
   pub entries : (slot : ℕ) × IsWithEntry new.entries old.entries (record { name = name; slot = slot })
+  pub absent : IsAbsent new.entries name
   pub sorted : IsSorted new.entries
   pub places : new.places ≡ old.places
   pub pages : new.pages ≡ old.pages

@@ -8,8 +8,15 @@ pub mod Holders
 pub mod Rows
 pub mod LinkRows
 pub mod PageLists
+pub mod Given
+pub mod Removed
+pub mod FilePages
 pub mod RemovalRows
 pub mod Readings
+pub mod LowestPages
+pub mod ContentRows
+pub mod ContentPlans
+pub mod Grown
 pub mod Plans
 pub mod PlanDeeds
 pub mod Listed

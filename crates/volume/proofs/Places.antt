@@ -26,7 +26,7 @@ pub slots_of_page : (page slot : ℕ) → page_of_slot slot ≡ page → (32 * p
 unfolding page_of_slot
 slots_of_page page slot is = (omega (arith, is), omega (arith, is))
 
-owner_is : (P : ℕ) (I : List ℕ) (slot : ℕ) → slot_owner P I slot ≡ page_owner P I (page_of_slot slot)
+pub owner_is : (P : ℕ) (I : List ℕ) (slot : ℕ) → slot_owner P I slot ≡ page_owner P I (page_of_slot slot)
 unfolding slot_owner
 owner_is P I slot = refl
 

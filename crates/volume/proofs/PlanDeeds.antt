@@ -15,15 +15,16 @@ use Rattle.volume.specs.Volume.{VolumeView}
 use Rattle.volume.specs.Stands.{StandsFor}
 use Rattle.volume.specs.Deed.{Deed, MakesNode, AddsName, RemovesName, MovesName, WritesBytes, SetsSize, ChangesNothing, ReadsBytes, TellsNode, ListsNames, TellsSpace, deed_of}
 use Rattle.volume.specs.Planned.{IsLinkFor, IsRemovalFor, IsMovingFor, IsWritingFor, IsResizingFor, IsPlanOf, IsPlanned}
-use Rattle.volume.specs.Prepared.{making, IsChange, TakesPlace, IsNamedIn, HasFewPages, IsShort, LacksRoom}
+use Rattle.volume.specs.Prepared.{making, IsChange, TakesPlace, IsNamedIn, IsBounded, IsShort, LacksRoom}
 use Rattle.volume.specs.declared.plan.NewEntry.{NewEntry}
 use Rattle.volume.specs.declared.plan.NewName.{NewName}
 use Rattle.volume.specs.declared.plan.Removal.{Removal}
 use Rattle.volume.specs.declared.plan.Action.{Action}
-use Rattle.volume.specs.declared.plan.Action.TheVariants.{Make, Name, Remove, Status, Names, Space}
+use Rattle.volume.specs.declared.plan.Action.TheVariants.{Make, Name, Remove, Write as WriteBytes, Resize, Nothing, Read as ReadBytes, Status, Names, Space}
 use Rattle.volume.proofs.Plans.{is_change, change_is, same_entry, nothing_or, planned_making}
 use Rattle.volume.proofs.Walked.{reached_at, in_table}
 use Rattle.volume.proofs.PageLists.{few_lost}
+use Rattle.volume.proofs.ContentPlans.{IsOfWriting, planned_writing, IsOfResizing, planned_resizing, writing_needs, resizing_needs, bounded_writing, bounded_resizing}
 
 -- ---- the command of a deed
 
@@ -70,7 +71,7 @@ planned_linking P I state (Show path) link is = apart adds_name (AddsName link) 
 planned_linking P I state Df link is = apart adds_name (AddsName link) TellsSpace is refl refl
 
 -- an unlink or a rmdir removes one
-abbrev IsOfRemoval : ℕ → List ℕ → State → Command → Removal → Type 0
+abbrev pub IsOfRemoval : ℕ → List ℕ → State → Command → Removal → Type 0
 IsOfRemoval P I state command removal = (path : Route) × ((command ≡ Unlink path) ⊎ (command ≡ Rmdir path)) × IsRemovalFor P I state command path removal
 
 pub planned_removing : (P : ℕ) (I : List ℕ) (state : State) (command : Command) (removal : Removal) → IsPlanOf P I state command (RemovesName removal) → IsOfRemoval P I state command removal
@@ -103,16 +104,24 @@ pub places_needed : (P : ℕ) (I : List ℕ) (state : State) (command : Command)
 places_needed P I state command (Make entry) plan takes = let (path, is) = planned_making P I state command entry plan in ap (needs_places state) is ∙ making_needs state entry.kind path
 places_needed P I state command (Name link) plan takes = let (from, to, is, for) = planned_linking P I state command link plan in ap (needs_places state) is
 places_needed P I state command (Remove removal) plan takes = absurd takes
+places_needed P I state command (WriteBytes writing) plan takes = writing_needs P I state command writing plan takes
+places_needed P I state command (Resize resizing) plan takes = resizing_needs P I state command resizing plan takes
+places_needed P I state command Nothing plan takes = absurd takes
+places_needed P I state command (ReadBytes reading) plan takes = absurd takes
 places_needed P I state command (Status inode) plan takes = absurd takes
 places_needed P I state command (Names inode) plan takes = absurd takes
 places_needed P I state command Space plan takes = absurd takes
 
 -- ---- where memory is short
 
-change_made : (action : Action) → IsChange action → is_change (deed_of action) ≡ true
+pub change_made : (action : Action) → IsChange action → is_change (deed_of action) ≡ true
 change_made (Make entry) is = refl
 change_made (Name link) is = refl
 change_made (Remove removal) is = refl
+change_made (WriteBytes writing) is = refl
+change_made (Resize resizing) is = refl
+change_made Nothing is = refl
+change_made (ReadBytes reading) is = absurd is
 change_made (Status inode) is = absurd is
 change_made (Names inode) is = absurd is
 change_made Space is = absurd is
@@ -152,16 +161,28 @@ module _ (volume : VolumeView) (device : DeviceView) (state : State) (stands : S
   directory_within (Remove removal) planned =
       let (path, is, for) = planned_removing volume.size device.words state command removal planned.plan_is in
       within_index (parent path) removal.directory for.named.directory_is
+  directory_within (WriteBytes writing) planned =
+      let (path, offset, bytes, is, for) = planned_writing volume.size device.words state command writing planned.plan_is in
+      within_index path writing.inode for.inode_is
+  directory_within (Resize resizing) planned =
+      let (path, size, is, for) = planned_resizing volume.size device.words state command resizing planned.plan_is in
+      within_index path resizing.inode for.inode_is
+  directory_within Nothing planned = tt
+  directory_within (ReadBytes reading) planned = tt
   directory_within (Status inode) planned = tt
   directory_within (Names inode) planned = tt
   directory_within Space planned = tt
 
-  pub pages_few : (action : Action) → IsPlanned volume.size device.words state command (deed_of action) → HasFewPages action
+  pub pages_few : (action : Action) → IsPlanned volume.size device.words state command (deed_of action) → IsBounded action
   pages_few (Make entry) planned = tt
   pages_few (Name link) planned = tt
   pages_few (Remove removal) planned =
       let (path, is, for) = planned_removing volume.size device.words state command removal planned.plan_is in
       few_lost volume device state command removal.loss stands for.loss
+  pages_few (WriteBytes writing) planned = bounded_writing volume device state stands command writing planned
+  pages_few (Resize resizing) planned = bounded_resizing volume device state stands command resizing planned
+  pages_few Nothing planned = tt
+  pages_few (ReadBytes reading) planned = tt
   pages_few (Status inode) planned = tt
   pages_few (Names inode) planned = tt
   pages_few Space planned = tt

@@ -1,5 +1,5 @@
 -- What a plan says of its command.
-use Rattle.std.proofs.Common.{◌≡◌, ℕ, ◌+◌, ◌≤◌, Bool, true, false, cond, ◌||◌, nat_lt, nat_le, List, [], ◌∷◌, Option, is_some, refl, sym, ap, ◌∙◌, arith}
+use Rattle.std.proofs.Common.{◌≡◌, ℕ, ◌+◌, ◌≤◌, Bool, true, false, cond, ◌||◌, nat_lt, nat_le, List, [], ◌∷◌, Option, is_some, refl, sym, ap, ◌∙◌, arith, true≢false}
 use Rattle.tree_model.specs.PathText.{Route}
 use Rattle.tree_model.specs.Run.{State, is_changing}
 use Rattle.tree_model.specs.Fences.{most_fences}
@@ -7,12 +7,12 @@ use Rattle.tree_model.specs.declared.command.Command.{Command}
 use Rattle.tree_model.specs.declared.command.Command.TheVariants.{Create, Mkdir, Link, Unlink, Rmdir, Rename, Write, Truncate, Read, Stat as Tell, List as Show, Df}
 use Rattle.volume.specs.Deed.{Deed, MakesNode, AddsName, RemovesName, MovesName, WritesBytes, SetsSize, ChangesNothing, ReadsBytes, TellsNode, ListsNames, TellsSpace, deed_of}
 use Rattle.volume.specs.Planned.{IsMovingFor, IsWritingFor, IsResizingFor, IsNothingOr, IsPlanOf}
-use Rattle.volume.specs.Costs.{pages_removed, pages_replaced, goes_of, fences_for_page, fences_for_loss, fences_for_growth, fences_of_plan}
+use Rattle.volume.specs.Costs.{events_of, pages_removed, pages_replaced, goes_of, fences_for_page, fences_for_loss, fences_for_growth, fences_of_plan}
 use Rattle.volume.specs.Prepared.{making, IsChange}
 use Rattle.layout.specs.declared.kinds.NodeKind.{NodeKind}
 use Rattle.volume.specs.declared.plan.NewEntry.{NewEntry}
 use Rattle.volume.specs.declared.plan.Action.{Action}
-use Rattle.volume.specs.declared.plan.Action.TheVariants.{Make, Name, Remove, Status, Names, Space}
+use Rattle.volume.specs.declared.plan.Action.TheVariants.{Make, Name, Remove, Write as WriteBytes, Resize, Nothing, Read as ReadBytes, Status, Names, Space}
 
 -- ---- by the deed
 
@@ -68,9 +68,26 @@ pub telling_reads : (P : ℕ) (I : List ℕ) (state : State) (command : Command)
 telling_reads P I state command (Make entry) plan not = absurd (not tt)
 telling_reads P I state command (Name link) plan not = absurd (not tt)
 telling_reads P I state command (Remove removal) plan not = absurd (not tt)
+telling_reads P I state command (WriteBytes writing) plan not = absurd (not tt)
+telling_reads P I state command (Resize resizing) plan not = absurd (not tt)
+telling_reads P I state command Nothing plan not = absurd (not tt)
+telling_reads P I state command (ReadBytes reading) plan not = change_is P I state command (ReadsBytes reading) plan
 telling_reads P I state command (Status inode) plan not = change_is P I state command (TellsNode inode) plan
 telling_reads P I state command (Names inode) plan not = change_is P I state command (ListsNames inode) plan
 telling_reads P I state command Space plan not = change_is P I state command TellsSpace plan
+
+-- what changes nothing has no event
+pub reads_idle : (action : Action) → is_change (deed_of action) ≡ false → events_of (deed_of action) ≡ 0
+reads_idle (Make entry) is = absurd (true≢false is)
+reads_idle (Name link) is = absurd (true≢false is)
+reads_idle (Remove removal) is = absurd (true≢false is)
+reads_idle (WriteBytes writing) is = absurd (true≢false is)
+reads_idle (Resize resizing) is = absurd (true≢false is)
+reads_idle Nothing is = refl
+reads_idle (ReadBytes reading) is = refl
+reads_idle (Status inode) is = refl
+reads_idle (Names inode) is = refl
+reads_idle Space is = refl
 
 -- ---- an entry
 
@@ -122,6 +139,15 @@ pub fences_of_plan-le : (action : Action) → fences_of_plan (deed_of action) �
 fences_of_plan-le (Make entry) = let page = page-le entry.new_page in omega (arith, page)
 fences_of_plan-le (Name link) = let page = page-le link.new_page in omega (arith, page)
 fences_of_plan-le (Remove removal) = let loss = loss-le (pages_removed removal) removal.loss.goes in omega (arith, loss)
+fences_of_plan-le (WriteBytes writing) =
+    let growth = growth-le writing.new_pages in
+    at_most (nat_le (writing.offset + writing.count) writing.old_size) 1 (fences_for_growth writing.new_pages) 4 (omega arith) (omega (arith, growth))
+fences_of_plan-le (Resize resizing) =
+    let growth = growth-le resizing.new_pages in
+    let loss = loss-le resizing.cut false in
+    at_most (nat_lt resizing.old_size resizing.new_size) (fences_for_growth resizing.new_pages) (1 + fences_for_loss resizing.cut false) 4 (omega (arith, growth)) (omega (arith, loss))
+fences_of_plan-le Nothing = omega arith
+fences_of_plan-le (ReadBytes reading) = omega arith
 fences_of_plan-le (Status inode) = omega arith
 fences_of_plan-le (Names inode) = omega arith
 fences_of_plan-le Space = omega arith

@@ -38,12 +38,12 @@ use Rattle.volume.proofs.Holders.{WouldHold, held, named_there}
 abbrev begun : Option Refusal → Bool → Option Refusal
 begun walked is_the_root = first (walked ∷ at Root is_the_root ∷ [])
 
-fails_first : (a b : Option Refusal) (rest : List (Option Refusal)) (fault : Refusal) → first (a ∷ b ∷ []) ≡ Some fault → first (a ∷ b ∷ rest) ≡ Some fault
+pub fails_first : (a b : Option Refusal) (rest : List (Option Refusal)) (fault : Refusal) → first (a ∷ b ∷ []) ≡ Some fault → first (a ∷ b ∷ rest) ≡ Some fault
 fails_first (Some found) b rest fault e = e
 fails_first None (Some found) rest fault e = e
 fails_first None None rest fault e = cc
 
-passes_first : (a b : Option Refusal) (rest : List (Option Refusal)) → first (a ∷ b ∷ []) ≡ None → first (a ∷ b ∷ rest) ≡ first rest
+pub passes_first : (a b : Option Refusal) (rest : List (Option Refusal)) → first (a ∷ b ∷ []) ≡ None → first (a ∷ b ∷ rest) ≡ first rest
 passes_first (Some found) b rest e = cc
 passes_first None (Some found) rest e = cc
 passes_first None None rest e = refl

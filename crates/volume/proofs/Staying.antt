@@ -13,7 +13,7 @@ use Rattle.volume.proofs.Ways.{whole_path}
 shorter : (p : Route) → is_root p ≡ false → length p ≡ length (parent p) + 1
 shorter p below = ap length (whole_path p below) ∙ length-append (parent p) (last_name p ∷ [])
 
-other_path : (p : Route) → is_root p ≡ false → parent p ≢ p
+pub other_path : (p : Route) → is_root p ≡ false → parent p ≢ p
 other_path p below same = let less = shorter p below in let long = ap length same in omega (arith, less, long)
 
 -- a path begins not its parent

@@ -4,9 +4,11 @@ use Rattle.layout.specs.Geometry.{pieces}
 use Rattle.layout.specs.declared.kinds.NodeKind.{NodeKind}
 use Rattle.layout.specs.declared.kinds.NodeKind.TheVariants.{File, Directory}
 use Rattle.tree_model.specs.Tree.{page_bytes}
-use Rattle.volume.specs.Deed.{rising_of, falling_of, Deed, Moving, Writing, Resizing, MakesNode, AddsName, RemovesName, MovesName, WritesBytes, SetsSize, ChangesNothing, ReadsBytes, TellsNode, ListsNames, TellsSpace}
+use Rattle.volume.specs.Deed.{rising_of, falling_of, Deed, Moving, MakesNode, AddsName, RemovesName, MovesName, WritesBytes, SetsSize, ChangesNothing, ReadsBytes, TellsNode, ListsNames, TellsSpace}
 use Rattle.volume.specs.declared.plan.Loss.{Loss}
 use Rattle.volume.specs.declared.plan.Removal.{Removal}
+use Rattle.volume.specs.declared.plan.Writing.{Writing}
+use Rattle.volume.specs.declared.plan.Resizing.{Resizing}
 
 -- ---- parts
 

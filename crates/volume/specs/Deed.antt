@@ -6,6 +6,9 @@ use Rattle.volume.specs.declared.plan.NewEntry.{NewEntry}
 use Rattle.volume.specs.declared.plan.NewName.{NewName}
 use Rattle.volume.specs.declared.plan.Loss.{Loss}
 use Rattle.volume.specs.declared.plan.Removal.{Removal}
+use Rattle.volume.specs.declared.plan.Writing.{Writing}
+use Rattle.volume.specs.declared.plan.Resizing.{Resizing}
+use Rattle.volume.specs.declared.plan.Reading.{Reading}
 use Rattle.volume.specs.declared.plan.Action.{Action}
 use Rattle.volume.specs.declared.plan.Action.TheVariants as actions
 
@@ -44,28 +47,6 @@ falling_of moving =
     then (if not (moving.from_directory == moving.to_directory) || is_some moving.replaced then Some moving.from_directory else None)
     else inode_of_loss moving.replaced
 
--- so many bytes are written from an offset on, and the file grows by the new pages
-pub record Writing : Type 0 where
-  pub inode : ℕ
-  pub offset : ℕ
-  pub count : ℕ
-  pub old_size : ℕ
-  pub new_pages : List ℕ
-
--- a file gets another size: it grows by the new pages, or loses so many of its last ones
-pub record Resizing : Type 0 where
-  pub inode : ℕ
-  pub old_size : ℕ
-  pub new_size : ℕ
-  pub new_pages : List ℕ
-  pub cut : ℕ
-
--- at most so many bytes are read from an offset on
-pub record Reading : Type 0 where
-  pub inode : ℕ
-  pub offset : ℕ
-  pub count : ℕ
-
 pub data Deed : Type 0 where
   MakesNode : NewEntry → Deed
   AddsName : NewName → Deed
@@ -84,6 +65,10 @@ abbrev pub deed_of : Action → Deed
 deed_of (actions.Make entry) = MakesNode entry
 deed_of (actions.Name link) = AddsName link
 deed_of (actions.Remove removal) = RemovesName removal
+deed_of (actions.Write writing) = WritesBytes writing
+deed_of (actions.Resize resizing) = SetsSize resizing
+deed_of actions.Nothing = ChangesNothing
+deed_of (actions.Read reading) = ReadsBytes reading
 deed_of (actions.Status inode) = TellsNode inode
 deed_of (actions.Names inode) = ListsNames inode
 deed_of actions.Space = TellsSpace

@@ -1,12 +1,14 @@
 -- What a volume knows once a deed is done: what its index and its sets of free numbers gained and lost.
-use Rattle.std.specs.Prelude.{◌≡◌, ℕ, ◌+◌, ◌-◌, ◌<◌, ◌≤◌, Bool, true, false, List, [], ◌∷◌, ◌++◌, length, Option, Some, None, slice_set}
+use Rattle.std.specs.Prelude.{◌≡◌, ℕ, ◌+◌, ◌-◌, ◌<◌, ◌≤◌, Bool, true, false, List, [], ◌∷◌, ◌++◌, length, Contains, Option, Some, None, slice_set}
+use Rattle.image_reading.specs.Counts.{IsDistinct}
 use Rattle.allocators.specs.Numbers.{IsFree}
 use Rattle.volatile_index.specs.Entries.{IsAbsent}
 use Rattle.volatile_index.specs.Index.{inodes_of_index, entries_of, places_of, pages_of, page_places_of, IsWithPages, DropsPage, PutsEntry, RemovesEntry, ChangesNode}
 use Rattle.volume.specs.Volume.{VolumeView}
-use Rattle.volume.specs.Deed.{Deed, Moving, Resizing, MakesNode, AddsName, RemovesName, MovesName, WritesBytes, SetsSize, ChangesNothing, ReadsBytes, TellsNode, ListsNames, TellsSpace}
+use Rattle.volume.specs.Deed.{Deed, Moving, MakesNode, AddsName, RemovesName, MovesName, WritesBytes, SetsSize, ChangesNothing, ReadsBytes, TellsNode, ListsNames, TellsSpace}
 use Rattle.volume.specs.declared.plan.Loss.{Loss}
 use Rattle.volume.specs.declared.plan.Removal.{Removal}
+use Rattle.volume.specs.declared.plan.Resizing.{Resizing}
 
 -- ---- pages of a plan
 
@@ -72,6 +74,13 @@ pub record MayEnterName (volume : VolumeView) (directory : ℕ) (name : List ℕ
   pub absent : IsAbsent (entries_of volume.index directory) name
   pub page : IsFreePlace volume.data_pages new_page
 
+-- The inode is one of the index, and each page is free and stands once.
+pub record MayEnterPages (volume : VolumeView) (inode : ℕ) (pages : List ℕ) : Type 0 where
+  pub least : 1 ≤ inode
+  pub most : inode ≤ inodes_of_index volume.index
+  pub once : IsDistinct pages
+  pub free : (page : ℕ) → Contains pages page → IsFree volume.data_pages page
+
 -- ---- what is entered
 
 -- The inode gets these pages at the end of its own, in the places that were there, and they are taken.
@@ -89,6 +98,33 @@ pub record EntersName (old new : VolumeView) (directory : ℕ) (name : List ℕ)
 -- the inode is taken
 abbrev pub EntersInode : VolumeView → VolumeView → ℕ → Type 0
 EntersInode old new inode = new ≡ record old { inodes = slice_set old.inodes (inode - 1) false }
+
+-- ---- what may leave
+
+-- the number is one of the set's, and not free
+abbrev pub IsTaken : List Bool → ℕ → Type 0
+IsTaken free k = (k < length free) × ¬ IsFree free k
+
+-- the page is one of the directory's, where there is one
+abbrev pub MayGiveBack : VolumeView → ℕ → Option ℕ → Type 0
+MayGiveBack volume directory None = Unit {0}
+MayGiveBack volume directory (Some page) = Contains (pages_of volume.index directory) page × IsTaken volume.data_pages page
+
+-- The inode is one of the index, and taken, and so are its pages.
+pub record MayGo (volume : VolumeView) (inode : ℕ) : Type 0 where
+  pub least : 1 ≤ inode
+  pub most : inode ≤ inodes_of_index volume.index
+  pub inode_taken : IsTaken volume.inodes (inode - 1)
+  pub once : IsDistinct (pages_of volume.index inode)
+  pub pages_taken : (page : ℕ) → Contains (pages_of volume.index inode) page → IsTaken volume.data_pages page
+
+-- The inode is one of the index and has so many pages, and they are taken.
+pub record MayLosePages (volume : VolumeView) (inode count : ℕ) : Type 0 where
+  pub least : 1 ≤ inode
+  pub most : inode ≤ inodes_of_index volume.index
+  pub enough : count ≤ length (pages_of volume.index inode)
+  pub once : IsDistinct (pages_of volume.index inode)
+  pub pages_taken : (page : ℕ) → Contains (pages_of volume.index inode) page → IsTaken volume.data_pages page
 
 -- ---- what leaves
 

@@ -13,11 +13,14 @@ use Rattle.tree_model.specs.declared.command.Command.TheVariants.{Create, Mkdir,
 use Rattle.image_reading.specs.Counts.{Count}
 use Rattle.image_counts.specs.Entries.{IsEntryOf, IsSlotIn, IsPageIn, IsFreePage}
 use Rattle.volume.specs.Lowest.{AreLowestOf}
-use Rattle.volume.specs.Deed.{Deed, is_directory_kind, Moving, Writing, Resizing, Reading, MakesNode, AddsName, RemovesName, MovesName, WritesBytes, SetsSize, ChangesNothing, ReadsBytes, TellsNode, ListsNames, TellsSpace}
+use Rattle.volume.specs.Deed.{Deed, is_directory_kind, Moving, MakesNode, AddsName, RemovesName, MovesName, WritesBytes, SetsSize, ChangesNothing, ReadsBytes, TellsNode, ListsNames, TellsSpace}
 use Rattle.volume.specs.declared.plan.NewName.{NewName}
 use Rattle.volume.specs.declared.plan.Loss.{Loss}
 use Rattle.volume.specs.declared.plan.Removal.{Removal}
 use Rattle.volume.specs.declared.plan.NewEntry.{NewEntry}
+use Rattle.volume.specs.declared.plan.Writing.{Writing}
+use Rattle.volume.specs.declared.plan.Resizing.{Resizing}
+use Rattle.volume.specs.declared.plan.Reading.{Reading}
 
 -- ---- the place of a new name
 

@@ -1,26 +1,31 @@
 -- What preparing a command answers and leaves.
-use Rattle.std.specs.Prelude.{◌≡◌, ◌≢◌, ◌⊎◌, ℕ, ◌^◌, ◌<◌, ◌≤◌, false, List, IsTrue, Some, Result, Ok, Err, OnOk, IfOk, IfErr}
+use Rattle.std.specs.Prelude.{◌≡◌, ◌≢◌, ◌⊎◌, ℕ, ◌+◌, ◌^◌, ◌<◌, ◌≤◌, Bool, false, List, length, IsTrue, Some, Result, Ok, Err, OnOk, IfOk, IfErr}
 use Rattle.pm_trait.specs.Device.{HasRisen}
 use Rattle.pm_trait.specs.DeviceView.{DeviceView}
 use Rattle.tree_model.specs.PathText.{Route}
 use Rattle.tree_model.specs.Step.{refusal_of}
+use Rattle.tree_model.specs.Capacity.{file_limit}
 use Rattle.tree_model.specs.Run.{State, is_changing, may_fail}
 use Rattle.tree_model.specs.Places.{needs_places}
 use Rattle.tree_model.specs.declared.command.Command.{Command}
 use Rattle.tree_model.specs.declared.command.Command.TheVariants.{Create, Mkdir, Link, Unlink, Rmdir, Rename, Write, Truncate, Read, Stat as Tell, List as Show, Df}
 use Rattle.tree_model.specs.declared.reply.Refusal.{Refusal}
-use Rattle.tree_model.specs.declared.reply.Refusal.TheVariants.{NoMemory}
+use Rattle.tree_model.specs.declared.reply.Refusal.TheVariants.{NoPages, NoMemory}
 use Rattle.volatile_index.specs.Index.{NodeView, inodes_of_index, entries_of, places_of, pages_of, page_places_of}
 use Rattle.volume.specs.Volume.{VolumeView}
 use Rattle.volume.specs.Costs.{events_of}
 use Rattle.volume.specs.Deed.{deed_of}
+use Rattle.allocators.specs.Numbers.{IsFree, free_in}
+use Rattle.volume.specs.Lowest.{AreLowestOf}
 use Rattle.volume.specs.Stands.{StandsFor}
 use Rattle.volume.specs.Planned.{IsPlanned}
 use Rattle.volume.specs.Carried.{HasReserved}
 use Rattle.layout.specs.declared.kinds.NodeKind.{NodeKind}
 use Rattle.layout.specs.declared.kinds.NodeKind.TheVariants.{File, Directory}
+use Rattle.volume.specs.declared.plan.Writing.{Writing}
+use Rattle.volume.specs.declared.plan.Resizing.{Resizing}
 use Rattle.volume.specs.declared.plan.Action.{Action}
-use Rattle.volume.specs.declared.plan.Action.TheVariants.{Make, Name, Remove, Status, Names, Space}
+use Rattle.volume.specs.declared.plan.Action.TheVariants.{Make, Name, Remove, Write as WriteBytes, Resize, Nothing, Read as ReadBytes, Status, Names, Space}
 
 -- the commands that `prepare` plans
 abbrev pub HasPlan : Command → Type 0
@@ -30,9 +35,9 @@ HasPlan (Link from to) = Unit {0}
 HasPlan (Unlink path) = Unit {0}
 HasPlan (Rmdir path) = Unit {0}
 HasPlan (Rename from to) = ⊥
-HasPlan (Write path offset bytes) = ⊥
-HasPlan (Truncate path size) = ⊥
-HasPlan (Read path offset count) = ⊥
+HasPlan (Write path offset bytes) = Unit {0}
+HasPlan (Truncate path size) = Unit {0}
+HasPlan (Read path offset count) = Unit {0}
 HasPlan (Tell path) = Unit {0}
 HasPlan (Show path) = Unit {0}
 HasPlan Df = Unit {0}
@@ -59,6 +64,20 @@ abbrev pub IsPlanOrRefusal : VolumeView → DeviceView → Command → Result Ac
 IsPlanOrRefusal volume device command (Ok action) = (state : State) → StandsFor volume device state → IsPlanned volume.size device.words state command (deed_of action)
 IsPlanOrRefusal volume device command (Err refusal) = (state : State) → StandsFor volume device state → refusal_of volume.size state.tree state.room command ≡ Some refusal
 
+-- The command's plan; or the first refusal of its row, or memory is short for the list of its new pages.
+abbrev pub IsPlanOrShort : VolumeView → DeviceView → Command → Result Action Refusal → Type 0
+IsPlanOrShort volume device command (Ok action) = (state : State) → StandsFor volume device state → IsPlanned volume.size device.words state command (deed_of action)
+IsPlanOrShort volume device command (Err refusal) = (state : State) → StandsFor volume device state → IsRefusal volume.size state command refusal device device
+
+-- why so many new pages can't be listed: too few are free, or memory is short for a list that isn't empty
+abbrev pub LacksPages : ℕ → ℕ → Refusal → Type 0
+LacksPages free need refusal = ((refusal ≡ NoPages) × (free < need)) ⊎ ((refusal ≡ NoMemory) × (need ≤ free) × (0 < need))
+
+-- the new pages that a file needs, or why they can't be listed
+abbrev pub AreNewPagesOr : List Bool → ℕ → Result (List ℕ) Refusal → Type 0
+AreNewPagesOr free need (Ok pages) = AreLowestOf (IsFree free) need pages × (need ≤ free_in free)
+AreNewPagesOr free need (Err refusal) = LacksPages (free_in free) need refusal
+
 -- ---- what a plan does
 
 -- it makes an entry and its node
@@ -66,6 +85,10 @@ abbrev pub IsMaking : Action → Type 0
 IsMaking (Make entry) = Unit {0}
 IsMaking (Name link) = ⊥
 IsMaking (Remove removal) = ⊥
+IsMaking (WriteBytes writing) = ⊥
+IsMaking (Resize resizing) = ⊥
+IsMaking Nothing = ⊥
+IsMaking (ReadBytes reading) = ⊥
 IsMaking (Status inode) = ⊥
 IsMaking (Names inode) = ⊥
 IsMaking Space = ⊥
@@ -75,6 +98,10 @@ abbrev pub IsNaming : Action → Type 0
 IsNaming (Make entry) = ⊥
 IsNaming (Name link) = Unit {0}
 IsNaming (Remove removal) = ⊥
+IsNaming (WriteBytes writing) = ⊥
+IsNaming (Resize resizing) = ⊥
+IsNaming Nothing = ⊥
+IsNaming (ReadBytes reading) = ⊥
 IsNaming (Status inode) = ⊥
 IsNaming (Names inode) = ⊥
 IsNaming Space = ⊥
@@ -84,6 +111,10 @@ abbrev pub IsRemoving : Action → Type 0
 IsRemoving (Make entry) = ⊥
 IsRemoving (Name link) = ⊥
 IsRemoving (Remove removal) = Unit {0}
+IsRemoving (WriteBytes writing) = ⊥
+IsRemoving (Resize resizing) = ⊥
+IsRemoving Nothing = ⊥
+IsRemoving (ReadBytes reading) = ⊥
 IsRemoving (Status inode) = ⊥
 IsRemoving (Names inode) = ⊥
 IsRemoving Space = ⊥
@@ -93,6 +124,10 @@ abbrev pub IsChange : Action → Type 0
 IsChange (Make entry) = Unit {0}
 IsChange (Name link) = Unit {0}
 IsChange (Remove removal) = Unit {0}
+IsChange (WriteBytes writing) = Unit {0}
+IsChange (Resize resizing) = Unit {0}
+IsChange Nothing = Unit {0}
+IsChange (ReadBytes reading) = ⊥
 IsChange (Status inode) = ⊥
 IsChange (Names inode) = ⊥
 IsChange Space = ⊥
@@ -102,29 +137,52 @@ abbrev pub TakesPlace : Action → Type 0
 TakesPlace (Make entry) = Unit {0}
 TakesPlace (Name link) = Unit {0}
 TakesPlace (Remove removal) = ⊥
+TakesPlace (WriteBytes writing) = 0 < length writing.new_pages
+TakesPlace (Resize resizing) = 0 < length resizing.new_pages
+TakesPlace Nothing = ⊥
+TakesPlace (ReadBytes reading) = ⊥
 TakesPlace (Status inode) = ⊥
 TakesPlace (Names inode) = ⊥
 TakesPlace Space = ⊥
 
 -- ---- what is reserved
 
--- the directory of the name that comes or goes is one of so many inodes
+-- the directory of the name that comes or goes, or the file, is one of so many inodes
 abbrev pub IsNamedIn : ℕ → Action → Type 0
 IsNamedIn inodes (Make entry) = (1 ≤ entry.directory) × (entry.directory ≤ inodes)
 IsNamedIn inodes (Name link) = (1 ≤ link.directory) × (link.directory ≤ inodes)
 IsNamedIn inodes (Remove removal) = (1 ≤ removal.directory) × (removal.directory ≤ inodes)
+IsNamedIn inodes (WriteBytes writing) = (1 ≤ writing.inode) × (writing.inode ≤ inodes)
+IsNamedIn inodes (Resize resizing) = (1 ≤ resizing.inode) × (resizing.inode ≤ inodes)
+IsNamedIn inodes Nothing = Unit {0}
+IsNamedIn inodes (ReadBytes reading) = Unit {0}
 IsNamedIn inodes (Status inode) = Unit {0}
 IsNamedIn inodes (Names inode) = Unit {0}
 IsNamedIn inodes Space = Unit {0}
 
--- a node that goes gives up no more pages than a volume may have
-abbrev pub HasFewPages : Action → Type 0
-HasFewPages (Make entry) = Unit {0}
-HasFewPages (Name link) = Unit {0}
-HasFewPages (Remove removal) = removal.loss.pages < 2 ^ 16
-HasFewPages (Status inode) = Unit {0}
-HasFewPages (Names inode) = Unit {0}
-HasFewPages Space = Unit {0}
+-- The sizes are no greater than a file's may be, and the new pages no more than a volume may have.
+pub record IsBoundedWriting (writing : Writing) : Type 0 where
+  pub old_size : writing.old_size ≤ file_limit
+  pub end : writing.offset + writing.count ≤ file_limit
+  pub new_pages : length writing.new_pages < 2 ^ 16
+
+pub record IsBoundedResizing (resizing : Resizing) : Type 0 where
+  pub old_size : resizing.old_size ≤ file_limit
+  pub cut : resizing.cut ≤ 2 ^ 28
+  pub new_pages : length resizing.new_pages < 2 ^ 16
+
+-- the pages and bytes of a plan are no more than a volume and a file may have
+abbrev pub IsBounded : Action → Type 0
+IsBounded (Make entry) = Unit {0}
+IsBounded (Name link) = Unit {0}
+IsBounded (Remove removal) = removal.loss.pages < 2 ^ 16
+IsBounded (WriteBytes writing) = IsBoundedWriting writing
+IsBounded (Resize resizing) = IsBoundedResizing resizing
+IsBounded Nothing = Unit {0}
+IsBounded (ReadBytes reading) = Unit {0}
+IsBounded (Status inode) = Unit {0}
+IsBounded (Names inode) = Unit {0}
+IsBounded Space = Unit {0}
 
 -- Memory is short for a change: for one that takes no place in the index only where the device refused room.
 pub record IsShort (action : Action) (before after : DeviceView) : Type 0 where
@@ -157,19 +215,22 @@ pub record IsSameButRoom (before after : DeviceView) : Type 0 where
   pub fences : after.fences ≡ before.fences
   pub acks : after.acks ≡ before.acks
 
--- What the action adds has its room, or memory was short. One without an event takes nothing.
+-- What the action adds has its room, or memory was short. One that takes no place leaves the volume, and one without an event takes
+-- nothing.
 pub record TakesRoom {E : Type 0} (old new : VolumeView) (before after : DeviceView) (action : Action) (result : Result (Unit {0}) E) : Type 0 where
   pub view : IsSameButPlaces old new
   pub device : IsSameButRoom before after
   pub accepted : OnOk result (HasReserved new after action × (after.refused ≡ before.refused))
+  pub no_place : ¬ TakesPlace action → new ≡ old
   pub idle : events_of (deed_of action) ≡ 0 → (new ≡ old) × (after ≡ before)
 
--- A plan has its room. A refusal takes no memory unless memory is what was short, nor does a plan without an event, nor a command
--- that reads.
+-- A plan has its room. A command that needs no place leaves the volume, whatever the answer. A refusal takes no memory unless memory
+-- is what was short, nor does a plan without an event, nor a command that reads.
 pub record Prepares (old new : VolumeView) (before after : DeviceView) (command : Command) (result : Result Action Refusal) : Type 0 where
   pub view : IsSameButPlaces old new
   pub device : IsSameButRoom before after
   pub accepted : IfOk result (λ plan. HasReserved new after plan × (after.refused ≡ before.refused))
+  pub no_place : (state : State) → StandsFor old before state → needs_places state command ≡ false → new ≡ old
   pub refused : IfErr result (λ refusal. refusal ≢ NoMemory → (new ≡ old) × (after ≡ before))
   pub idle : IfOk result (λ plan. events_of (deed_of plan) ≡ 0 → (new ≡ old) × (after ≡ before))
   pub reading : is_changing command ≡ false → (new ≡ old) × (after ≡ before)

@@ -1,11 +1,11 @@
 -- Where a path leads.
-use Rattle.std.specs.Prelude.{◌≡◌, ℕ, [], ◌∷◌, false, Option, Some, None, Result, Ok, Err}
+use Rattle.std.specs.Prelude.{◌≡◌, ℕ, [], ◌∷◌, false, length, Option, Some, None, Result, Ok, Err}
 use Rattle.tree_model.specs.PathText.{Route}
-use Rattle.tree_model.specs.Tree.{Tree, is_root, parent, last_name}
+use Rattle.tree_model.specs.Tree.{Tree, is_root, parent, last_name, id_at, is_directory, bytes_of}
 use Rattle.tree_model.specs.Walk.{Place, root_place, walk}
-use Rattle.tree_model.specs.Step.{first, at, fault_of}
+use Rattle.tree_model.specs.Step.{first, at, fault_of, id_of}
 use Rattle.tree_model.specs.declared.reply.Refusal.{Refusal}
-use Rattle.tree_model.specs.declared.reply.Refusal.TheVariants.{NotFound as IsMissing, NotDir as IsNoDirectory, Root}
+use Rattle.tree_model.specs.declared.reply.Refusal.TheVariants.{NotFound as IsMissing, NotDir as IsNoDirectory, Root, IsDir}
 use Rattle.volume.specs.declared.resolve.Walk.{Walk}
 use Rattle.volume.specs.declared.resolve.Walk.TheVariants.{NotFound, NotDir}
 use Rattle.volume.specs.declared.resolve.LastName.{LastName}
@@ -33,3 +33,13 @@ IsLastName path (Some last) = (is_root path ≡ false) × (last.name ≡ last_na
 -- how the row of a command begins that takes a name away
 abbrev pub name_row : Tree → Route → Option Refusal
 name_row T path = first (fault_of (walk T path) ∷ at Root (is_root path) ∷ [])
+
+-- and of one that reads or writes a file
+abbrev pub file_row : Tree → Route → Option Refusal
+file_row T path = first (fault_of (walk T path) ∷ at IsDir (is_directory T (id_of T path)) ∷ [])
+
+-- The path names a file of this inode, which has so many bytes.
+pub record IsSizedFile (T : Tree) (path : Route) (inode size : ℕ) : Type 0 where
+  pub row : file_row T path ≡ None
+  pub inode_is : id_at T path ≡ Some inode
+  pub size_is : size ≡ length (bytes_of T inode)

@@ -1,8 +1,10 @@
 //! A mounted volume: what it stands for, and the plans of commands on it.
 #![tactic(auto)]
 
+mod contents;
 mod costs;
 mod laws;
+mod leaving;
 mod names;
 mod place;
 mod plan;
@@ -16,7 +18,10 @@ pub use costs::{
     NEW_PAGE_EVENTS, PAGE_EVENTS, SLOT_REST_EVENTS, WORD_EVENTS,
 };
 pub use laws::plan_fences_law;
-pub use plan::{Action, Loss, NewEntry, NewName, Plan, Removal};
+pub use plan::{
+    Action, Loss, NewEntry, NewName, NewPages, Plan, Reading, Removal, Resizing, Writing,
+};
+pub use prepare::{LONGEST_FILE, LONGEST_READ};
 pub use resolve::Walk;
 pub use volume::Volume;
 

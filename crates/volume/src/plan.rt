@@ -1,13 +1,17 @@
 // Plans of accepted commands. A plan can't be copied, and none is made but by `prepare`.
-ghost use Rattle.std.specs.Prelude.{◌≡◌, ◌^◌, ◌<◌, ◌≤◌};
-ghost use Rattle.volume.specs.Costs.{events_of, new_page_events as events_of_new_page, loss_events as events_of_loss};
+ghost use Rattle.std.specs.Prelude.{◌≡◌, ◌+◌, ◌^◌, ◌<◌, ◌≤◌, length};
+ghost use Rattle.layout.specs.Geometry.{pieces as pieces_in};
+ghost use Rattle.tree_model.specs.Capacity.{file_limit};
+ghost use Rattle.volume.specs.Costs.{events_of, new_page_events as events_of_new_page, loss_events as events_of_loss, span_events as events_of_span, growth_events as events_of_growth};
 
 use crate::costs::{
     COMMIT_EVENTS, DESCRIPTOR_REST_EVENTS, FENCE_EVENTS, INODE_EVENTS, NAME_EVENTS,
-    NEW_PAGE_EVENTS, SLOT_REST_EVENTS, WORD_EVENTS,
+    NEW_PAGE_EVENTS, PAGE_EVENTS, SLOT_REST_EVENTS, WORD_EVENTS,
 };
-use layout::{Name, NodeKind};
+use layout::{LINE_BYTES, Name, NodeKind, PAGE_BYTES};
 use std::marker::Model;
+
+const WORD_BYTES: u64 = 8;
 
 /// An entry that is to be made, and the node that it names.
 #[derive(Drop)]
@@ -115,6 +119,159 @@ impl Removal {
     }
 }
 
+/// Data pages that a plan takes for a file, in rising order. They are numbered from 0.
+#[derive(Drop)]
+pub struct NewPages {
+    pages: Vec<u64>,
+}
+
+impl Model for NewPages {
+    ghost use Rattle.std.specs.Prelude.{List, ℕ};
+
+    ghost Value = { List ℕ };
+
+    ghost view = { λ new_pages. new_pages.pages.items };
+}
+
+impl NewPages {
+    // These pages.
+    pub(crate) fn of(pages: Vec<u64>) -> NewPages
+        ensures { result ≡ pages.items }
+    {
+        NewPages { pages }
+    }
+
+    /// The pages.
+    pub fn as_slice(&self) -> &[u64]
+        ensures { result.now ≡ self.now }
+    {
+        &self.pages
+    }
+
+    /// How many pages there are.
+    pub fn count(&self) -> u64
+        ensures { result ≡ length self.now }
+    {
+        self.pages.len() as u64
+    }
+}
+
+/// Bytes that are written into a file.
+#[derive(Drop)]
+pub struct Writing {
+    /// The file's inode. Inodes are numbered from 1.
+    pub inode: u64,
+    /// Where the bytes begin in the file, in bytes.
+    pub offset: u64,
+    /// How many bytes are written, at least one.
+    pub count: u64,
+    /// The file's size before, in bytes.
+    pub old_size: u64,
+    /// The data pages by which the file grows.
+    pub new_pages: NewPages,
+}
+
+impl Writing {
+    ghost use Rattle.volume.specs.Deed.{WritesBytes};
+    ghost use Rattle.volume.specs.Prepared.{IsBoundedWriting};
+
+    /// How many stores, flushes and fences the writing takes.
+    pub fn events(&self) -> u64
+        requires { IsBoundedWriting self.now }
+        ensures { result ≡ events_of (WritesBytes self.now) }
+    {
+        let end = self.offset + self.count;
+        if end <= self.old_size {
+            span_events(self.offset, end) + FENCE_EVENTS
+        } else {
+            growth_events(self.old_size, self.offset, self.new_pages.count())
+        }
+    }
+}
+
+/// A file's change to another size.
+#[derive(Drop)]
+pub struct Resizing {
+    /// The file's inode. Inodes are numbered from 1.
+    pub inode: u64,
+    /// The size before, in bytes.
+    pub old_size: u64,
+    /// The size after, in bytes: another one.
+    pub new_size: u64,
+    /// The data pages by which the file grows.
+    pub new_pages: NewPages,
+    /// How many of its last data pages it loses.
+    pub cut: u64,
+}
+
+impl Resizing {
+    ghost use Rattle.volume.specs.Deed.{SetsSize};
+    ghost use Rattle.volume.specs.Prepared.{IsBoundedResizing};
+
+    /// How many stores, flushes and fences the change takes.
+    pub fn events(&self) -> u64
+        requires { IsBoundedResizing self.now }
+        ensures { result ≡ events_of (SetsSize self.now) }
+    {
+        if self.old_size < self.new_size {
+            growth_events(self.old_size, self.old_size, self.new_pages.count())
+        } else {
+            COMMIT_EVENTS + loss_events(self.cut, false)
+        }
+    }
+}
+
+/// Bytes of a file that are read.
+#[derive(Clone, Copy, Debug, PartialEq, Eq)]
+pub struct Reading {
+    /// The file's inode. Inodes are numbered from 1.
+    pub inode: u64,
+    /// Where the bytes begin in the file, in bytes. It may be past the end.
+    pub offset: u64,
+    /// At most so many bytes are read, up to `LONGEST_READ`.
+    pub count: u64,
+}
+
+// How many pieces of a size, at most a page, hold so many bytes.
+fn pieces(bytes: u64, size: u64) -> u64
+    requires some { 1 ≤ size }
+    requires small { size ≤ 4096 }
+    requires bytes { bytes ≤ 2 ^ 41 }
+    ensures { result ≡ pieces_in bytes size }
+{
+    (bytes + (size - 1)) / size
+}
+
+// The events by which the words of the bytes from `first` to before `end` are stored.
+fn span_events(first: u64, end: u64) -> u64
+    requires { end ≤ 2 ^ 41 }
+    ensures { result ≡ events_of_span first end }
+{
+    if first < end {
+        let words = pieces(end, WORD_BYTES) - first / WORD_BYTES;
+        let lines = pieces(end, LINE_BYTES) - first / LINE_BYTES;
+        words + lines
+    } else {
+        0
+    }
+}
+
+// The events by which a file grows over so many new pages, and gets bytes from an offset on.
+fn growth_events(old_size: u64, offset: u64, new_pages: u64) -> u64
+    requires size { old_size ≤ file_limit }
+    requires pages { new_pages < 2 ^ 16 }
+    ensures { result ≡ events_of_growth old_size offset new_pages }
+{
+    let old_end = pieces(old_size, PAGE_BYTES) * PAGE_BYTES;
+    let old_pages = span_events(offset.min(old_size), old_end);
+    let owners = if new_pages > 0 {
+        new_pages * WORD_EVENTS + FENCE_EVENTS
+    } else {
+        0
+    };
+    old_pages + new_pages * PAGE_EVENTS + FENCE_EVENTS + owners + COMMIT_EVENTS
+}
+
 // The events of a directory's new page, where it takes one.
 fn new_page_events(page: Option<u64>) -> u64
     ensures { result ≡ events_of_new_page page }
@@ -127,7 +284,7 @@ fn new_page_events(page: Option<u64>) -> u64
 
 // The events by which so many pages lose their owners, and then the rest of their descriptors, with an inode that goes.
 fn loss_events(pages: u64, goes: bool) -> u64
-    requires { pages ≤ 2 ^ 16 }
+    requires { pages ≤ 2 ^ 28 }
     ensures { result ≡ events_of_loss pages goes }
 {
     let inode = if goes { INODE_EVENTS } else { 0 };
@@ -150,6 +307,14 @@ pub enum Action {
     Name(NewName),
     /// Takes a name away, and its node where that was the last one.
     Remove(Removal),
+    /// Writes bytes into a file.
+    Write(Writing),
+    /// Gives a file another size.
+    Resize(Resizing),
+    /// Changes nothing: no bytes are written, or a file keeps its size.
+    Nothing,
+    /// Reads bytes of a file.
+    Read(Reading),
     /// Tells what the node of an inode is.
     Status(u64),
     /// Gives the names of the directory of an inode.
@@ -199,9 +364,13 @@ impl Plan {
             Action::Make(entry) => entry,
             Action::Name(_)
             | Action::Remove(_)
+            | Action::Nothing
+            | Action::Read(_)
             | Action::Status(_)
             | Action::Names(_)
             | Action::Space => unreachable!(),
+            Action::Write(_writing) => unreachable!(),
+            Action::Resize(_resizing) => unreachable!(),
         }
     }
 
@@ -214,9 +383,13 @@ impl Plan {
             Action::Name(link) => link,
             Action::Make(_)
             | Action::Remove(_)
+            | Action::Nothing
+            | Action::Read(_)
             | Action::Status(_)
             | Action::Names(_)
             | Action::Space => unreachable!(),
+            Action::Write(_writing) => unreachable!(),
+            Action::Resize(_resizing) => unreachable!(),
         }
     }
 
@@ -229,9 +402,20 @@ impl Plan {
             Action::Remove(removal) => removal,
             Action::Make(_)
             | Action::Name(_)
+            | Action::Nothing
+            | Action::Read(_)
             | Action::Status(_)
             | Action::Names(_)
             | Action::Space => unreachable!(),
+            Action::Write(_writing) => unreachable!(),
+            Action::Resize(_resizing) => unreachable!(),
         }
+    }
+
+    /// What the command does. The plan is spent.
+    pub fn into_action(self) -> Action
+        ensures { result ≡ self }
+    {
+        self.action
     }
 }

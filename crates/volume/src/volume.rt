@@ -1,6 +1,6 @@
 ghost use Rattle.std.specs.Prelude.{◌≡◌, ◌-◌, ◌≤◌, false, true};
 ghost use Rattle.allocators.specs.Numbers.{IsFree};
-ghost use Rattle.volatile_index.specs.Index.{inodes_of_index};
+ghost use Rattle.volatile_index.specs.Index.{inodes_of_index, pages_of};
 ghost use Rattle.volume.specs.Entered.{pages_of_option, HasPagePlaces, HasNamePlace, IsFreePlace, MayEnterName, EntersPages, EntersName, EntersInode};
 
 use allocators::Numbers;
@@ -76,6 +76,15 @@ impl Volume {
         ensures { result.now.pages ≡ self.now.size }
     {
         &self.geometry
+    }
+
+    /// The pages of an inode: a file's by offset, a directory's in no order that is told.
+    pub fn pages(&self, inode: u64) -> &[u64]
+        requires from_one { 1 ≤ inode }
+        requires in_range { inode ≤ inodes_of_index self.now.index }
+        ensures { result.now ≡ pages_of self.now.index inode }
+    {
+        self.index.pages(inode)
     }
 
     /// Takes in a name that a directory was given, with the new page that it may have needed. It takes no memory:

@@ -20,7 +20,7 @@ invariant_of-self c =
     let within = slice_get_within numbers c.args.k true free in
     let change = count_after_take numbers c.args.k free in
     let all = c.self.invariant.1 in
-    let search = c.next_free-self-inside.ensures in
+    let search = c.free_place-self-inside.ensures in
     (next_is_lowest numbers c.deref.result.now c.args.k _ c.deref.ensures.value within (subst (IsLowestPlace numbers) (sym c.if-place-self.true) c.self.invariant.0) search.within search.passed search.free, omega (arith, change, all))
 
 pub invariant_of-self-else-place-self : goal.invariant_of-self-else-place-self

@@ -1,6 +1,7 @@
 use Rattle.std.proofs.Common.{◌≡◌, ℕ, ◌++◌, suc, take, drop, ap, sym, subst, ◌∙◌, rules}
-use Rattle.volatile_index.specs.Entries.{IsWithEntry}
+use Rattle.volatile_index.specs.Entries.{IsSorted, IsAbsent, IsWithEntry}
 use Rattle.volatile_index.specs.Index.{NodeView}
+use Rattle.volatile_index.proofs.EntryLaws.{absent_without}
 use Rattle.volatile_index.proofs.Places.{without_entry, gap_not_present}
 use Rattle.volatile_index.proofs.node.Node.remove.Goals as goal
 
@@ -8,10 +9,11 @@ pub returns-in-Ok : goal.returns-in-Ok
 returns-in-Ok c =
     let same : c.self.inside.entries.items ≡ c.args.self.now.entries = ap (λ (held : NodeView). held.entries) c.self.view_is in
     let without = ap (λ entries. take c.in-Ok.place entries ++ drop (suc c.in-Ok.place) entries) same in
+    let removed = without_entry c.args.self.now.entries c.in-Ok.place c.args.name.now c.in-Ok.ensures.found in
+    let sorted = subst IsSorted same c.self.invariant in
     record {
-      entries = subst (λ entries. (slot : ℕ) × IsWithEntry entries c.args.self.now.entries (record { name = c.args.name.now; slot = slot }))
-          (sym (c.remove.ensures.items ∙ without))
-          (without_entry c.args.self.now.entries c.in-Ok.place c.args.name.now c.in-Ok.ensures.found);
+      entries = subst (λ entries. (slot : ℕ) × IsWithEntry entries c.args.self.now.entries (record { name = c.args.name.now; slot = slot })) (sym (c.remove.ensures.items ∙ without)) removed;
+      absent = subst (λ entries. IsAbsent entries c.args.name.now) (sym (c.remove.ensures.items ∙ without)) (absent_without _ _ _ removed.1 sorted);
       sorted = search rules;
       places = search rules;
       pages = search rules;

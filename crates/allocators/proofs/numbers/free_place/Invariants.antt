@@ -1,6 +1,6 @@
 use Rattle.std.proofs.Common.{ℕ, ◌-◌, ◌≤◌, length}
 use Rattle.allocators.specs.Numbers.{IsFree}
-use Rattle.allocators.proofs.numbers.next_free.Given as goal
+use Rattle.allocators.proofs.numbers.free_place.Given as goal
 
 abbrev pub invariant-loop-place : goal.invariant-loop-place
 invariant-loop-place l = record {
