@@ -23,6 +23,7 @@ use Rattle.entry_steps.specs.Steps.{IsOpened}
 use Rattle.create_ops.specs.Making.{node_of, IsPlannedAt}
 use Rattle.entry_steps.proofs.Opened
 use Rattle.create_ops.proofs.Placed
+use Rattle.entry_steps.proofs.Lists.{not_none, one_page}
 use Rattle.create_ops.proofs.Plans
 use Rattle.entry_steps.proofs.Places
 
@@ -51,12 +52,6 @@ entry_by_words P I state tidy reads e bytes t has = record {
   owner = has.owner;
   name = has.name;
 }
-
-pub not_none : (j : ℕ) → ◌≢◌ {A = Option ℕ} None (Some j)
-not_none j e = cc
-
-pub one_page : (x y : ℕ) → ◌≡◌ {A = Option ℕ} (Some x) (Some y) → x ≡ y
-one_page x y e = cc
 
 module _ (P : ℕ) (W : List ℕ) (state : State) (path : Route) (entry : NewEntry) (at : IsPlannedAt P W state path entry) where
   pub plan : IsEntryFor P W state path entry.kind entry

@@ -28,7 +28,6 @@ use Rattle.create_ops.specs.Making.{node_of, room_of, IsReady, IsPlannedAt}
 use Rattle.entry_steps.proofs.Moments.{is_mix}
 use Rattle.create_ops.proofs.Plans
 use Rattle.entry_steps.proofs.Places
-use Rattle.entry_steps.proofs.Opened
 
 empty_node : (kind : NodeKind) → IsEmptyNode (node_of kind)
 empty_node AFile = refl

@@ -1,8 +1,7 @@
 -- What a volume knows once an entry is made and taken in.
-use Rattle.std.proofs.Common.{◌≡◌, ◌≢◌, ◌↔◌, ◌⊎◌, inl, inr, ℕ, ◌-◌, ◌*◌, ◌<◌, ◌≤◌, Bool, false, List, [], ◌∷◌, ◌++◌, length, slice_get, set, Option, Some, None, refl, sym, ap, subst, ◌∙◌, arith, length-set}
+use Rattle.std.proofs.Common.{◌≡◌, ◌≢◌, ◌↔◌, inl, inr, ℕ, ◌-◌, ◌<◌, ◌≤◌, Bool, false, List, length, slice_get, set, Option, Some, None, refl, sym, ap, subst, ◌∙◌, arith, length-set}
 use Rattle.std.specs.Prelude.{Contains}
 use Rattle.std.proofs.lemmas.Bool.{cases_eq}
-use Rattle.std.proofs.lemmas.List.{append-nil}
 use Rattle.std.proofs.lemmas.Option.{slice_get_within}
 use Rattle.layout.specs.Geometry.{inodes_of, data_pages_of}
 use Rattle.layout.specs.Fields.{inode_kind, page_owner, page_offset}
@@ -29,52 +28,13 @@ use Rattle.volume.specs.Stands.{Knows, KnowsNodes}
 use Rattle.image_counts.proofs.Inodes.{inode_count_law}
 use Rattle.entry_steps.specs.Steps.{IsOpened}
 use Rattle.create_ops.specs.Making.{node_of, IsPlannedAt}
-use Rattle.entry_steps.proofs.Lists.{contains_at, contains_last, contains_before, contains_either, distinct_with}
+use Rattle.entry_steps.proofs.Lists.{contains_at, not_none, one_page, pages_with, distinct_pages}
+use Rattle.entry_steps.proofs.Naming.{knows_by, zero_through}
 use Rattle.create_ops.proofs.After
 use Rattle.create_ops.proofs.Entering.{HasEntered}
 use Rattle.entry_steps.proofs.Opened
 use Rattle.create_ops.proofs.Plans
 use Rattle.entry_steps.proofs.Places
-
--- ---- lists of pages
-
-pages_with : (xs : List ℕ) (new_page : Option ℕ) (x : ℕ) → Contains (xs ++ pages_of_option new_page) x ↔ (Contains xs x ⊎ (new_page ≡ Some x))
-pages_with xs None x = (
-  (λ has. inl (subst (λ (l : List ℕ). Contains l x) (append-nil xs) has)),
-  (λ either. elim either [
-    | inl has ↦ subst (λ (l : List ℕ). Contains l x) (sym (append-nil xs)) has
-    | inr e ↦ absurd (After.not_none x e)
-  ]),
-)
-pages_with xs (Some page) x = (
-  (λ has. elim (contains_either xs page x has) [ inl old ↦ inl old | inr same ↦ inr (ap (λ (k : ℕ). Some k) (sym same)) ]),
-  (λ either. elim either [
-    | inl old ↦ contains_before xs page x old
-    | inr e ↦ subst (λ (k : ℕ). Contains (xs ++ page ∷ []) k) (After.one_page page x e) (contains_last xs page)
-  ]),
-)
-
-distinct_pages : (xs : List ℕ) (new_page : Option ℕ) → IsDistinct xs → ((x : ℕ) → new_page ≡ Some x → Contains xs x → ⊥) → IsDistinct (xs ++ pages_of_option new_page)
-distinct_pages xs None distinct new = subst IsDistinct (sym (append-nil xs)) distinct
-distinct_pages xs (Some page) distinct new = distinct_with xs page distinct (new page refl)
-
--- what is known by the number of pages is known by the volume's
-knows_by : (volume : VolumeView) (P : ℕ) (J : List ℕ) → volume.size ≡ P → length J ≡ 512 * P → KnowsNodes P volume.index J → length volume.inodes ≡ inodes_of P
-    → ((i : ℕ) → 1 ≤ i → i ≤ inodes_of P → IsFree volume.inodes (i - 1) ↔ (inode_kind J i ≡ 0)) → length volume.data_pages ≡ data_pages_of P
-    → ((j : ℕ) → j < data_pages_of P → IsFree volume.data_pages j ↔ (page_owner P J j ≡ 0)) → Knows volume J
-knows_by volume P J size whole nodes each_inode inodes each_page pages =
-    let back = sym size in
-    record {
-      whole = subst (λ (p : ℕ). length J ≡ 512 * p) back whole;
-      nodes = subst (λ (p : ℕ). KnowsNodes p volume.index J) back nodes;
-      each_inode = subst (λ (p : ℕ). length volume.inodes ≡ inodes_of p) back each_inode;
-      inodes = subst (λ (p : ℕ). (i : ℕ) → 1 ≤ i → i ≤ inodes_of p → IsFree volume.inodes (i - 1) ↔ (inode_kind J i ≡ 0)) back inodes;
-      each_page = subst (λ (p : ℕ). length volume.data_pages ≡ data_pages_of p) back each_page;
-      data_pages = subst (λ (p : ℕ). (j : ℕ) → j < data_pages_of p → IsFree volume.data_pages j ↔ (page_owner p J j ≡ 0)) back pages;
-    }
-
-zero_through : (a b : ℕ) → a ≡ b → (b ≡ 0) ↔ (a ≡ 0)
-zero_through a b same = ((λ is. same ∙ is), (λ is. sym same ∙ is))
 
 module _ (P : ℕ) (W : List ℕ) (state : State) (path : Route) (entry : NewEntry) (at : IsPlannedAt P W state path entry) (volume : VolumeView) (size : volume.size ≡ P) (knows : Knows volume W) where
   nodes : KnowsNodes P volume.index W
@@ -256,7 +216,7 @@ module _ (P : ℕ) (W : List ℕ) (state : State) (path : Route) (entry : NewEnt
     pages_free : (new_page : Option ℕ) → entry.new_page ≡ new_page → IsFreePlace volume.data_pages new_page → (j : ℕ) → j < data_pages_of P → IsFree (with_taken volume.data_pages (pages_of_option new_page)) j ↔ (page_owner P J j ≡ 0)
     pages_free None is free j low =
         let old = data_pages j low in
-        let same = zero_through (page_owner P J j) (page_owner P W j) (After.after_owner P W state path entry at B I J opened made commit j low (λ e. After.not_none j (sym is ∙ e))) in
+        let same = zero_through (page_owner P J j) (page_owner P W j) (After.after_owner P W state path entry at B I J opened made commit j low (λ e. not_none j (sym is ∙ e))) in
         ((λ r. same.0 (old.0 r)), (λ r. old.1 (same.1 r)))
     pages_free (Some page) is free j low = elim (cases_eq j page) [
       | inl here ↦
@@ -267,7 +227,7 @@ module _ (P : ℕ) (W : List ℕ) (state : State) (path : Route) (entry : NewEnt
       | inr other ↦
           let old = data_pages j low in
           let same = zero_through (page_owner P J j) (page_owner P W j)
-          (After.after_owner P W state path entry at B I J opened made commit j low (λ e. other (sym (After.one_page page j (sym is ∙ e))))) in
+          (After.after_owner P W state path entry at B I J opened made commit j low (λ e. other (sym (one_page page j (sym is ∙ e))))) in
           ((λ r. same.0 (old.0 (free_before volume.data_pages page j false other r))), (λ r. free_still volume.data_pages page j false other (old.1 (same.1 r))))
     ]
 

@@ -1,16 +1,13 @@
 -- An entry that is made leaves a volume that stands for what its command leaves.
-use Rattle.std.proofs.Common.{◌≡◌, ℕ, ◌+◌, List, refl, sym, ap, subst, ◌∙◌, arith}
-use Rattle.std.specs.Prelude.{Result, Ok, Err}
-use Rattle.pm_trait.specs.DeviceView.{DeviceView, MakesIntervals, IsSettledView}
-use Rattle.pm_trait.proofs.DeviceViewLaws.{intervals_failed}
+use Rattle.std.proofs.Common.{◌≡◌, ℕ, ◌+◌, List, refl, sym, ap, subst, ◌∙◌}
+use Rattle.std.specs.Prelude.{Result, Ok}
+use Rattle.pm_trait.specs.DeviceView.{DeviceView, IsSettledView}
 use Rattle.layout.specs.Name.{IsName, IsBytes}
 use Rattle.tree_model.specs.PathText.{Route}
 use Rattle.tree_model.specs.Tree.{Tree, IsRoom}
 use Rattle.tree_model.specs.Step.{Answer, Done, step, least_free_id, with_new}
 use Rattle.tree_model.specs.Run.{State, Steps}
 use Rattle.tree_model.specs.Fences.{fences_of}
-use Rattle.tree_model.specs.declared.command.Command.{Command}
-use Rattle.tree_model.specs.declared.reply.Reply.{Reply}
 use Rattle.image_reading.specs.Reading.{Reads, HasRoom, ReadsAs}
 use Rattle.image_reading.specs.Tidy.{Tidy}
 use Rattle.image_reading.proofs.Tidied.{tidied, as_tidy}
@@ -22,7 +19,7 @@ use Rattle.volume.specs.Deed.{MakesNode}
 use Rattle.volume.specs.declared.plan.Action.TheVariants.{Make}
 use Rattle.volume.specs.Volume.{VolumeView}
 use Rattle.volume.specs.Stands.{Knows}
-use Rattle.volume.specs.Carried.{IsPlanFor, LeavesState, Follows}
+use Rattle.volume.specs.Carried.{IsPlanFor, LeavesState}
 use Rattle.volume.specs.Prepared.{making}
 use Rattle.volume.proofs.PlanFences.{plan_fences_law}
 use Rattle.image_counts.proofs.States.{state_law}
@@ -33,15 +30,7 @@ use Rattle.create_ops.proofs.Knowing
 use Rattle.create_ops.proofs.Plans
 use Rattle.create_ops.proofs.Rooms
 
--- another fault is told
-pub failed_as : {T U E F : Type 0} {a b : DeviceView} {events made : ℕ} {failed : F} (fault : E) → MakesIntervals {T = U} a b events made (Err failed) → MakesIntervals {T = T} a b events made (Err fault)
-failed_as {events = events} {made = made} fault intervals = intervals_failed events made (Err fault) refl (omega arith) (omega arith) intervals
-
--- by another name of the command
-pub follows_as : {E : Type 0} {old new : VolumeView} {before after : DeviceView} {state : State} {result : Result Reply E} (one other : Command) → other ≡ one → Follows old new before after state one Done result → Follows old new before after state other Done result
-follows_as {old = old} {new} {before} {after} {state} {result} one other is follows = subst (λ (c : Command). Follows old new before after state c Done result) (sym is) follows
-
--- and of the number of pages
+-- by another name of the number of pages
 pub stored_as : {T E : Type 0} {before after : DeviceView} {entry : NewEntry} {result : Result T E} (P Q : ℕ) → P ≡ Q → HasStored P before after entry result → HasStored Q before after entry result
 stored_as {before = before} {after} {entry} {result} P Q is stored = subst (λ (p : ℕ). HasStored p before after entry result) is stored
 

@@ -8,3 +8,5 @@ pub mod Counts
 pub mod Zeros
 pub mod Lists
 pub mod Places
+pub mod Naming
+pub mod Answered

@@ -1,8 +1,10 @@
 -- What a list has, and what it has with one more at its end.
-use Rattle.std.proofs.Common.{◌≡◌, ◌⊎◌, inl, inr, ℕ, zero, suc, List, [], ◌∷◌, ◌++◌, Some, slice_get, refl, sym, arith}
+use Rattle.std.proofs.Common.{◌≡◌, ◌≢◌, ◌↔◌, ◌⊎◌, inl, inr, ℕ, zero, suc, List, [], ◌∷◌, ◌++◌, Option, Some, None, slice_get, refl, sym, ap, subst, arith}
 use Rattle.std.specs.Prelude.{Contains}
 use Rattle.std.proofs.lemmas.Option.{slice_get_within, get_or_from_slice_get}
+use Rattle.std.proofs.lemmas.List.{append-nil}
 use Rattle.image_reading.specs.Counts.{IsIn, IsDistinct}
+use Rattle.volume.specs.Entered.{pages_of_option}
 
 pub contains_at : (xs : List ℕ) (k x : ℕ) → slice_get xs k ≡ Some x → Contains xs x
 contains_at xs k x is = (k, slice_get_within xs k x is, get_or_from_slice_get xs k x x is)
@@ -63,3 +65,31 @@ distinct_with (y ∷ xs) last distinct new = (
   ]),
   distinct_with xs last distinct.1 (λ has. new (contains_later y xs last has)),
 )
+
+pub not_none : (j : ℕ) → ◌≢◌ {A = Option ℕ} None (Some j)
+not_none j e = cc
+
+pub one_page : (x y : ℕ) → ◌≡◌ {A = Option ℕ} (Some x) (Some y) → x ≡ y
+one_page x y e = cc
+
+-- ---- with the page that a directory may have taken
+
+pub pages_with : (xs : List ℕ) (new_page : Option ℕ) (x : ℕ) → Contains (xs ++ pages_of_option new_page) x ↔ (Contains xs x ⊎ (new_page ≡ Some x))
+pages_with xs None x = (
+  (λ has. inl (subst (λ (l : List ℕ). Contains l x) (append-nil xs) has)),
+  (λ either. elim either [
+    | inl has ↦ subst (λ (l : List ℕ). Contains l x) (sym (append-nil xs)) has
+    | inr e ↦ absurd (not_none x e)
+  ]),
+)
+pages_with xs (Some page) x = (
+  (λ has. elim (contains_either xs page x has) [ inl old ↦ inl old | inr same ↦ inr (ap (λ (k : ℕ). Some k) (sym same)) ]),
+  (λ either. elim either [
+    | inl old ↦ contains_before xs page x old
+    | inr e ↦ subst (λ (k : ℕ). Contains (xs ++ page ∷ []) k) (one_page page x e) (contains_last xs page)
+  ]),
+)
+
+pub distinct_pages : (xs : List ℕ) (new_page : Option ℕ) → IsDistinct xs → ((x : ℕ) → new_page ≡ Some x → Contains xs x → ⊥) → IsDistinct (xs ++ pages_of_option new_page)
+distinct_pages xs None distinct new = subst IsDistinct (sym (append-nil xs)) distinct
+distinct_pages xs (Some page) distinct new = distinct_with xs page distinct (new page refl)

@@ -97,8 +97,7 @@ fill_stores V pages one filled = stores_weaker 514 (λ word is. is) (omega (arit
 pub claim_stores : {a b : DeviceView} (V : ℕ) (pages : List ℕ) (d : ℕ) → length pages ≡ 1 → ClaimsPages V pages d a b → Stores (OfSome pages (IsOwnerWord V)) a b 1
 claim_stores V pages d one claimed = stores_weaker 1 (λ word is. is) (omega (arith, one)) (exactly_stores claimed)
 
-pub page_flushes : {a b : DeviceView} (V : ℕ) (pages : List ℕ) (touched : Touched) (lines : ℕ) → touched_lines touched ≡ lines → length pages ≡ 1 → FlushesPages V pages touched a b → Stores (λ _. ⊥) a b lines
+pub page_flushes : {a b : DeviceView} (V : ℕ) (pages : List ℕ) (touched : Touched) (lines : ℕ) → touched_lines touched 1 ≡ lines → length pages ≡ 1 → FlushesPages V pages touched a b → Stores (λ _. ⊥) a b lines
 page_flushes V pages touched lines many one flushes =
-    let all = ap (λ (n : ℕ). n * length pages) many in
-    let of_one = ap (λ (n : ℕ). lines * n) one in
-    stores_weaker lines (λ word is. is) (omega (arith, all, of_one)) (flushes_stores flushes)
+    let all = ap (λ (n : ℕ). touched_lines touched n) one in
+    stores_weaker lines (λ word is. is) (omega (arith, all, many)) (flushes_stores flushes)

@@ -1,7 +1,7 @@
 -- Words of zeros.
-use Rattle.std.proofs.Common.{◌≡◌, ℕ, zero, suc, ◌+◌, ◌<◌, List, ◌∷◌, ◌++◌, length, slice_index, replicate, refl, sym, ap, ◌∙◌, arith}
-use Rattle.std.proofs.lemmas.List.{get_or-replicate, get_or_append_left, length-replicate}
-use Rattle.layout.specs.Geometry.{inodes_of, inode_pages_of, descriptor_pages_of, data_pages_of, first_data_word_of, descriptor_word_of, inode_word_of, slot_word_of}
+use Rattle.std.proofs.Common.{◌≡◌, ℕ, zero, suc, ◌+◌, ◌-◌, ◌<◌, ◌≤◌, length-append, List, ◌∷◌, ◌++◌, length, slice_index, replicate, refl, sym, ap, ◌∙◌, arith}
+use Rattle.std.proofs.lemmas.List.{get_or-replicate, get_or_append_left, get_or-append_right, length-replicate}
+use Rattle.layout.specs.Geometry.{inodes_of, inode_pages_of, descriptor_pages_of, data_pages_of, first_data_word_of, descriptor_word_of, inode_word_of, slot_word_of, slots_of}
 use Rattle.layout.proofs.GeometryLaws.{descriptor_word_below}
 use Rattle.layout.specs.Fields.{word, words_from, inode_kind, inode_links, inode_size, inode_own, page_owner, page_kind, page_offset, slot_inode, slot_pointer, slot_words}
 use Rattle.inode_state.specs.States.{free_fields}
@@ -60,3 +60,33 @@ free_page volume_pages count page words zeros rest in_range first joined are =
 pub sixteen_pages : first_data_word_of 16 ≡ 1536
 unfolding first_data_word_of descriptor_pages_of inode_pages_of inodes_of
 sixteen_pages = refl
+
+pub four_inodes : inodes_of 16 ≡ 4
+unfolding inodes_of
+four_inodes = refl
+
+pub all_slots : slots_of 16 ≡ 416
+unfolding slots_of data_pages_of descriptor_pages_of inode_pages_of inodes_of
+all_slots = refl
+
+-- ---- one inode's words among zeros
+
+module _ (words front node rest : List ℕ) (before few : ℕ) (is : words ≡ (front ++ node) ++ rest) (zeros : front ≡ replicate before 0) (four : length node ≡ 4) (others : rest ≡ replicate few 0) where
+  long_front : length front ≡ before
+  long_front = ap length zeros ∙ length-replicate {A = ℕ} before 0
+
+  long_both : length (front ++ node) ≡ before + 4
+  long_both = let both = length-append front node in omega (arith, both, long_front, four)
+
+  pub at_node : (k : ℕ) → k < 4 → slice_index words (before + k) ≡ slice_index node k
+  at_node k low =
+      ap (λ (l : List ℕ). slice_index l (before + k)) is ∙ get_or_append_left (front ++ node) rest 0 (before + k) (omega (arith, long_both, low))
+      ∙ get_or-append_right front node before (before + k) 0 long_front (omega arith) ∙ ap (λ (j : ℕ). slice_index node j) (let less : before + k - before ≡ k = omega arith in less)
+
+  pub past_node : (w : ℕ) → before + 4 ≤ w → w < before + 4 + few → slice_index words w ≡ 0
+  past_node w high low =
+      ap (λ (l : List ℕ). slice_index l w) is ∙ get_or-append_right (front ++ node) rest (before + 4) w 0 long_both high
+      ∙ ap (λ (l : List ℕ). slice_index l (w - (before + 4))) others ∙ get_or-replicate few (w - (before + 4)) 0 0 (omega (arith, high, low))
+
+  pub long_image : length words ≡ before + 4 + few
+  long_image = let both = length-append (front ++ node) rest in let more = ap length others ∙ length-replicate {A = ℕ} few 0 in omega (arith, ap length is, both, long_both, more)

@@ -5,3 +5,7 @@ mod Emptied
 mod Given
 mod Unused
 mod Resting
+pub mod Stages
+mod Few
+mod Named
+mod Freed

@@ -26,6 +26,7 @@ unused {device} P i Q n kind size volume number whole settled may =
         other = may.unnamed;
         settled = λ slot held. let within = slot_word_in_volume P slot _ held.in_range (slot_word_is P slot 0 (omega arith)) in settled.each _ (omega (arith, within, whole));
       };
+      kinds = λ page in_range. let within = descriptor_word_within P page 1 size in_range (omega arith) in settled.each _ (omega (arith, within, whole));
     }))
 
 pub node_stored : {a b c : DeviceView} {line : ℕ} {events : List _} (goes : Bool) (i n : ℕ) → goes ≡ true → n ≡ i → StoresExactly (IsInodeWord n) a b events 4 → Performs b c (Flush line ∷ []) → Stores (IsGoneWord goes i) a c (where_true goes inode_events)

@@ -8,3 +8,6 @@ mod rest;
 pub use name::{clear_name, unname};
 pub use owners::disown;
 pub use rest::clear_rest;
+
+#[cfg(test)]
+mod tests;

@@ -61,7 +61,7 @@ fn cut_slots<P: Pm>(pm: &mut P, geometry: &Geometry, emptied: Option<u64>)
 }
 
 // Whether there is no page among these.
-pub fn is_nothing(pages: &[u64], emptied: Option<u64>) -> bool
+pub(crate) fn has_no_pages(pages: &[u64], emptied: Option<u64>) -> bool
     ensures { result ≡ not (nat_lt 0 (count_cut pages.now emptied)) }
 {
     pages.is_empty() && emptied.is_none()
@@ -88,7 +88,7 @@ pub fn disown<P: Pm>(
     ensures device { StoresWhere (nat_lt 0 (count_cut pages.now emptied)) (P.view pm.old) (P.view pm.new)
         (cut_events (count_cut pages.now emptied)) result }
 {
-    if is_nothing(pages, emptied) {
+    if has_no_pages(pages, emptied) {
         return Ok(());
     }
     cut_file(pm, geometry, node, pages);

@@ -11,7 +11,7 @@ ghost use Rattle.volume.specs.Entered.{pages_of_option};
 ghost use Rattle.entry_steps.specs.Steps.{MayFence};
 ghost use Rattle.removal_steps.specs.Steps.{WereFilePages, MayBeEmptied, MayClear, IsCut, IsGoneWord, count_cut, rest_events, StoresWhere};
 
-use crate::owners::is_nothing;
+use crate::owners::has_no_pages;
 use fence_token::{Clean, fence};
 use inode_state::{InodeH, Live, Unlinked};
 use layout::{Geometry, NodeKind};
@@ -93,7 +93,7 @@ fn release_slots<P: Pm>(pm: &mut P, geometry: &Geometry, emptied: Option<u64>)
 fn is_nothing_left(pages: &[u64], emptied: Option<u64>, goes: bool) -> bool
     ensures { result ≡ not (nat_lt 0 (count_cut pages.now emptied) || goes) }
 {
-    is_nothing(pages, emptied) && !goes
+    has_no_pages(pages, emptied) && !goes
 }
 
 /// Zeroes kind and offset of pages that lost their owner, those of a file and one of slots, and the inode of a node that goes. It

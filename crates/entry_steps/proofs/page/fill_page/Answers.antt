@@ -28,7 +28,7 @@ returns-in-Ok-clause-device g c =
     let volume = ap (λ (view : PageView). view.volume_pages) dirty.ensures.object in
     let pages = ap (λ (view : PageView). view.pages) dirty.ensures.object in
     let one = ap (λ (view : PageView). length view.pages) free.ensures.object ∙ c.requires.one in
-    let lines = ap (λ (view : PageView). touched_lines view.touched) dirty.ensures.object in
+    let lines = ap (λ (view : PageView). touched_lines view.touched 1) dirty.ensures.object in
     let stores = fill_stores free.result.volume_pages free.result.pages one dirty.ensures.device in
     let flushes = page_flushes dirty.result.volume_pages dirty.result.pages dirty.result.touched 65 lines (ap length pages ∙ one) c.flush-filled.ensures.device in
     ok_ends c.settle.result c.requires.begins.settled (stores_flushed stores flushes)
@@ -42,7 +42,7 @@ returns-in-Err-clause-device g c =
     let volume = ap (λ (view : PageView). view.volume_pages) dirty.ensures.object in
     let pages = ap (λ (view : PageView). view.pages) dirty.ensures.object in
     let one = ap (λ (view : PageView). length view.pages) free.ensures.object ∙ c.requires.one in
-    let lines = ap (λ (view : PageView). touched_lines view.touched) dirty.ensures.object in
+    let lines = ap (λ (view : PageView). touched_lines view.touched 1) dirty.ensures.object in
     let stores = fill_stores free.result.volume_pages free.result.pages one dirty.ensures.device in
     let flushes = page_flushes dirty.result.volume_pages dirty.result.pages dirty.result.touched 65 lines (ap length pages ∙ one) c.flush-filled.ensures.device in
     err_ends c.in-Err.fault c.requires.begins.settled (stores_flushed stores flushes)

@@ -1,5 +1,5 @@
 use Rattle.std.proofs.Common.{inr, ap, ◌∙◌, arith}
-use Rattle.page_state.specs.Page.{PageView, IsOwnerWord, touched_lines}
+use Rattle.page_state.specs.Page.{PageView, IsOwnerWord}
 use Rattle.removal_steps.proofs.Pages.{pages_settled, words_flushed, pages_stored}
 use Rattle.removal_steps.proofs.owners.cut_file.Goals as goal
 
@@ -23,4 +23,4 @@ returns-then-not-is_empty-clause-device g c =
     pages_stored IsOwnerWord c.args.geometry.now.pages live.result.volume_pages 1 c.args.pages.now live.result.pages cut.result.pages cut.result.volume_pages cut.result.touched
     (ap (λ (v : PageView). v.volume_pages) live.ensures.object) (ap (λ (v : PageView). v.pages) live.ensures.object)
     (ap (λ (v : PageView). v.pages) cut.ensures.object ∙ ap (λ (v : PageView). v.pages) live.ensures.object)
-    (ap (λ (v : PageView). touched_lines v.touched) cut.ensures.object) (omega arith) cut.ensures.device c.flush-flushed.ensures.device
+    (ap (λ (v : PageView). v.touched) cut.ensures.object) (omega arith) cut.ensures.device c.flush-flushed.ensures.device

@@ -2,7 +2,7 @@ use Rattle.std.proofs.Common.{ℕ, inr, ◌*◌, [], ◌∷◌, length, sym, sub
 use Rattle.std.specs.Prelude.{Option}
 use Rattle.pm_trait.specs.Device.{IsFlushed}
 use Rattle.pm_trait.specs.DeviceView.{Stores}
-use Rattle.page_state.specs.Page.{PageView, OfSome, IsOwnerWord, touched_lines}
+use Rattle.page_state.specs.Page.{PageView, OfSome, IsOwnerWord}
 use Rattle.volume.specs.Entered.{pages_of_option}
 use Rattle.removal_steps.specs.Steps.{MayEmpty}
 use Rattle.removal_steps.proofs.Pages.{words_flushed, pages_stored}
@@ -37,4 +37,4 @@ returns-in-Some-clause-device g c =
     (pages_stored IsOwnerWord P live.result.volume_pages 1 (c.in-Some.page ∷ []) live.result.pages cut.result.pages cut.result.volume_pages cut.result.touched
     (ap (λ (v : PageView). v.volume_pages) live.ensures.object) (ap (λ (v : PageView). v.pages) live.ensures.object)
     (ap (λ (v : PageView). v.pages) cut.ensures.object ∙ ap (λ (v : PageView). v.pages) live.ensures.object)
-    (ap (λ (v : PageView). touched_lines v.touched) cut.ensures.object) (omega arith) cut.ensures.device c.flush-flushed.ensures.device)
+    (ap (λ (v : PageView). v.touched) cut.ensures.object) (omega arith) cut.ensures.device c.flush-flushed.ensures.device)

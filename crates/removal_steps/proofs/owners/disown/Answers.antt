@@ -68,7 +68,7 @@ returns-in-Ok-clause-device g c =
     let two = c.cut_slots.ensures in
     let old = g.P.Pm.view c.args.pm.now in
     let new = g.P.Pm.view c.fence.new.pm in
-    subst (λ (some : Bool). StoresWhere {E = PmFault} some old new (cut_events (count_cut pages emptied)) (Ok tt)) (sym (some_page c.is_nothing.result (count_cut pages emptied) c.is_nothing.ensures c.if-is_nothing.false))
+    subst (λ (some : Bool). StoresWhere {E = PmFault} some old new (cut_events (count_cut pages emptied)) (Ok tt)) (sym (some_page c.has_no_pages.result (count_cut pages emptied) c.has_no_pages.ensures c.if-has_no_pages.false))
     (ok_ends tt c.requires.begins.settled (all_given pages emptied one.device two.device (apart P i pages emptied geometry.volume_size c.requires.whole c.requires.begins.settled file c.requires.emptied))
     (given_flushed P i pages emptied geometry.volume_size c.requires.whole c.requires.begins.settled file c.requires.emptied one.device.stores two.device.stores one.flushed two.flushed) c.in-Ok.ensures.device)
 
@@ -84,6 +84,6 @@ returns-in-Err-clause-device g c =
     let two = c.cut_slots.ensures in
     let old = g.P.Pm.view c.args.pm.now in
     let new = g.P.Pm.view c.fence.new.pm in
-    subst (λ (some : Bool). StoresWhere {T = Unit {0}} some old new (cut_events (count_cut pages emptied)) (Err c.in-Err.fault)) (sym (some_page c.is_nothing.result (count_cut pages emptied) c.is_nothing.ensures c.if-is_nothing.false))
+    subst (λ (some : Bool). StoresWhere {T = Unit {0}} some old new (cut_events (count_cut pages emptied)) (Err c.in-Err.fault)) (sym (some_page c.has_no_pages.result (count_cut pages emptied) c.has_no_pages.ensures c.if-has_no_pages.false))
     (err_ends c.in-Err.fault c.requires.begins.settled (all_given pages emptied one.device two.device (apart P i pages emptied geometry.volume_size c.requires.whole c.requires.begins.settled file c.requires.emptied))
     (given_flushed P i pages emptied geometry.volume_size c.requires.whole c.requires.begins.settled file c.requires.emptied one.device.stores two.device.stores one.flushed two.flushed) c.in-Err.ensures.device)

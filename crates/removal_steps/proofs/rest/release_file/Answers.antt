@@ -1,5 +1,5 @@
 use Rattle.std.proofs.Common.{ap, ◌∙◌, arith}
-use Rattle.page_state.specs.Page.{PageView, IsReleasedWord, touched_lines}
+use Rattle.page_state.specs.Page.{PageView, IsReleasedWord}
 use Rattle.page_state.proofs.Releases.{released_is_own}
 use Rattle.removal_steps.proofs.Pages.{words_flushed, pages_stored}
 use Rattle.removal_steps.proofs.rest.release_file.Goals as goal
@@ -19,4 +19,4 @@ returns-then-not-is_empty-clause-device g c =
     pages_stored IsReleasedWord c.args.geometry.now.pages released.result.volume_pages 2 c.args.pages.now released.result.pages free.result.pages free.result.volume_pages free.result.touched
     (ap (λ (v : PageView). v.volume_pages) released.ensures.object) (ap (λ (v : PageView). v.pages) released.ensures.object)
     (ap (λ (v : PageView). v.pages) free.ensures.object ∙ ap (λ (v : PageView). v.pages) released.ensures.object)
-    (ap (λ (v : PageView). touched_lines v.touched) free.ensures.object) (omega arith) free.ensures.device c.flush-flushed.ensures.device
+    (ap (λ (v : PageView). v.touched) free.ensures.object) (omega arith) free.ensures.device c.flush-flushed.ensures.device

@@ -2,7 +2,7 @@ use Rattle.std.proofs.Common.{ℕ, ◌*◌, [], ◌∷◌, length, sym, subst, a
 use Rattle.std.specs.Prelude.{Option}
 use Rattle.pm_trait.specs.Device.{IsFlushed}
 use Rattle.pm_trait.specs.DeviceView.{Stores}
-use Rattle.page_state.specs.Page.{PageView, OfSome, IsReleasedWord, touched_lines}
+use Rattle.page_state.specs.Page.{PageView, OfSome, IsReleasedWord}
 use Rattle.page_state.proofs.Releases.{released_is_own}
 use Rattle.volume.specs.Entered.{pages_of_option}
 use Rattle.removal_steps.proofs.Pages.{words_flushed, pages_stored}
@@ -30,4 +30,4 @@ returns-in-Some-clause-device g c =
     (pages_stored IsReleasedWord P released.result.volume_pages 2 (c.in-Some.page ∷ []) released.result.pages free.result.pages free.result.volume_pages free.result.touched
     (ap (λ (v : PageView). v.volume_pages) released.ensures.object) (ap (λ (v : PageView). v.pages) released.ensures.object)
     (ap (λ (v : PageView). v.pages) free.ensures.object ∙ ap (λ (v : PageView). v.pages) released.ensures.object)
-    (ap (λ (v : PageView). touched_lines v.touched) free.ensures.object) (omega arith) free.ensures.device c.flush-flushed.ensures.device)
+    (ap (λ (v : PageView). v.touched) free.ensures.object) (omega arith) free.ensures.device c.flush-flushed.ensures.device)

@@ -1,0 +1,7 @@
+use Rattle.image_laws.specs.DropStep as steps
+use Rattle.unlink_ops.proofs.removal.apply_rmdir.Goals as goal
+
+pub remove_name-requires-clause-planned : goal.remove_name-requires-clause-planned
+remove_name-requires-clause-planned g c =
+    let (state, path, plan) = c.requires.planned in
+    (state, steps.directory, path, plan)
