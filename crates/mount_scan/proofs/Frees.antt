@@ -11,23 +11,7 @@ pub record AreFree (Q : ℕ → Type 0) (count limit : ℕ) (numbers : List Bool
   pub passed : (x : ℕ) → x < limit → IsFree numbers x ↔ Q x
   pub later : (x : ℕ) → limit ≤ x → x < count → IsFree numbers x
 
-all_free : (n x : ℕ) → x < n → IsFree (replicate n true) x
-all_free zero x lt = absurd (omega arith)
-all_free (suc n) zero lt = refl
-all_free (suc n) (suc x) lt = all_free n x (omega arith)
-
-length_all : (n : ℕ) → length (replicate n true) ≡ n
-length_all zero = refl
-length_all (suc n) = ap suc (length_all n)
-
 module _ (Q : ℕ → Type 0) (count : ℕ) where
-  pub free_start : (numbers : List Bool) → numbers ≡ replicate count true → AreFree Q count 0 numbers
-  free_start numbers is = subst (AreFree Q count 0) (sym is) (record {
-    long = length_all count;
-    passed = λ x below. absurd (omega (arith, below));
-    later = λ x low high. all_free count x high;
-  })
-
   pub free_skipped : (k : ℕ) (numbers : List Bool) → k < count → Q k → AreFree Q count k numbers → AreFree Q count (k + 1) numbers
   free_skipped k numbers within q free = record {
     long = free.long;
@@ -56,6 +40,3 @@ module _ (Q : ℕ → Type 0) (count : ℕ) where
     ];
     later = λ x low high. free_still numbers k x false (λ same. omega (arith, low, same)) (free.later x (omega (arith, low)) high);
   }
-
-  pub free_end : (limit : ℕ) (numbers : List Bool) → limit ≡ count → AreFree Q count limit numbers → (x : ℕ) → x < count → IsFree numbers x ↔ Q x
-  free_end limit numbers is free x below = free.passed x (omega (arith, is, below))

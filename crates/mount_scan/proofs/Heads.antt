@@ -36,9 +36,6 @@ module _ (P : ℕ) (I : List ℕ) where
     pub whole : length I ≡ 512 * P
     whole = (h 0).whole refl
 
-    pub pages_are : length I / 512 ≡ P
-    pages_are = let long = whole in omega arith
-
     pub begins_with_head : starts_with nat_eq I (head_of P) ≡ true
     unfolding word
     begins_with_head =

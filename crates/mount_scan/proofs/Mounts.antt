@@ -33,17 +33,6 @@ sound_holds {W} sound = head_holds (pages_in_image W) W (sound Rule.head)
 
 -- ---- a device that is left as it was
 
-pub left_alone : {before after : DeviceView} → after ≡ before → IsLeftAlone before after
-left_alone same = record {
-  words = ap (λ (device : DeviceView). device.words) same;
-  trail = ap (λ (device : DeviceView). device.trail) same;
-  faults = ap (λ (device : DeviceView). device.faults) same;
-  fences = ap (λ (device : DeviceView). device.fences) same;
-  acks = ap (λ (device : DeviceView). device.acks) same;
-  room = let spare = ap (λ (device : DeviceView). device.spare) same in omega (arith, spare);
-  refused = let refused = ap (λ (device : DeviceView). device.refused) same in omega (arith, refused);
-}
-
 pub keeps_itself : (P : ℕ) (device : DeviceView) → IsSettledView device → Sound P device.words → KeepsMeaning P device device
 keeps_itself P device settled sound = record {
   any_moment = leaves_here (λ k image. (k ≡ 0) × SameMeaning P device.words image) settled (refl, same_itself P device.words sound);
