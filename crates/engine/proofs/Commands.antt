@@ -1,21 +1,19 @@
--- What a line leaves by what was done for it: nothing, or an entry that was made.
-use Rattle.std.proofs.Common.{◌≡◌, ◌≢◌, inl, inr, ℕ, true, false, Option, Some, None, is_none, ◌&&◌, refl, sym, ap, subst, ◌∙◌, arith}
-use Rattle.std.specs.Prelude.{IsTrue, ◌⊎◌, Result, Ok, Err, OnOk, OnErr, IfOk}
+-- What a line leaves for which nothing was done, and what preparing it adds to what was done.
+use Rattle.std.proofs.Common.{◌≡◌, inl, inr, ℕ, false, Option, Some, None, refl, sym, ap, subst, ◌∙◌, arith}
+use Rattle.std.specs.Prelude.{IsTrue, ◌⊎◌, Result, Ok, Err, OnErr, IfOk}
 use Rattle.pm_trait.specs.Trail.{Trail}
-use Rattle.pm_trait.specs.DeviceView.{DeviceView, MakesIntervals}
-use Rattle.pm_trait.specs.Device.{HasRisen, LeavesOnly, StaysOnce, EndsInFault, acks_from, moment_of}
+use Rattle.pm_trait.specs.DeviceView.{DeviceView}
+use Rattle.pm_trait.specs.Device.{HasRisen, LeavesOnly, StaysOnce, acks_from, moment_of}
 use Rattle.pm_trait.proofs.ContinuesLaws.{continues_here, acks_from-here}
 use Rattle.pm_trait.proofs.DeviceLaws.{leaves_here}
 use Rattle.pm_trait.specs.declared.event.PmFault.{PmFault}
-use Rattle.tree_model.specs.PathText.{Route}
 use Rattle.tree_model.specs.Capacity.{untaken}
-use Rattle.tree_model.specs.Step.{Answer, Done, Refused, Fault, least_free_id, refusal_of, outcome_of, step, RoomAfterWith}
-use Rattle.tree_model.specs.Run.{Line, State, Steps, LineStep, LineFails, is_changing, may_fail}
+use Rattle.tree_model.specs.Step.{Answer, Refused, Fault, least_free_id, refusal_of, outcome_of, step, RoomAfterWith}
+use Rattle.tree_model.specs.Run.{Line, State, Steps, LineStep, LineFails, is_changing}
 use Rattle.tree_model.specs.Fences.{fences_of as fences_of_line}
 use Rattle.tree_model.specs.Places.{needs_places, line_needs_places}
 use Rattle.tree_model.proofs.RefusalLaws.{refusal_other}
 use Rattle.tree_model.proofs.FenceLaws.{no_fences-reading}
-use Rattle.tree_model.specs.Replies.{reply_of}
 use Rattle.tree_model.specs.declared.command.Command.{Command}
 use Rattle.tree_model.specs.declared.reply.Refusal.{Refusal}
 use Rattle.tree_model.specs.declared.reply.Refusal.TheVariants.{NoMemory}
@@ -25,14 +23,8 @@ use Rattle.image_reading.specs.Reading.{Reads}
 use Rattle.volume.specs.Volume.{VolumeView}
 use Rattle.volume.specs.Stands.{StandsFor}
 use Rattle.volume.specs.Crashes.{MayReadAs}
-use Rattle.volume.specs.Carried.{LeavesState, Follows, Answers}
-use Rattle.volume.specs.Prepared.{IsRefusal, IsSameButPlaces, IsSameButRoom, Prepares, making}
-use Rattle.volume.specs.Costs.{fences_of_plan}
-use Rattle.volume.specs.Deed.{deed_of}
+use Rattle.volume.specs.Prepared.{IsRefusal, IsSameButPlaces, IsSameButRoom, Prepares}
 use Rattle.volume.specs.declared.plan.Action.{Action}
-use Rattle.volume.proofs.Plans.{fences_of_plan-le}
-use Rattle.layout.specs.declared.kinds.NodeKind.{NodeKind}
-use Rattle.layout.specs.declared.kinds.NodeKind.TheVariants.{File, Directory}
 use Rattle.engine.specs.Exec.{Executed, HasFailed, Does, LeavesVolume}
 use Rattle.engine.specs.Replies.{IsReplyOf, IsChangeReply}
 use Rattle.engine.specs.Session.{SessionView}
@@ -99,99 +91,6 @@ module _ (old new : SessionView) (before after : DeviceView) (size : new.volume.
       (inl (subst (λ (p : ℕ). Steps p state c (step new.volume.size state.tree state.room c).answer state) size (told_steps new.volume.size state c reads (state_is new.volume after stands).room accepted)))
       (no_fences-reading state c (step new.volume.size state.tree state.room c).answer state reads)
       (λ is. absurd (not_refused new.volume.size state c NoMemory accepted is))
-
--- ---- an entry was made, or a fence failed
-
-accepted_change : (P : ℕ) (state : State) (c : Command) → is_changing c ≡ true → refusal_of P state.tree state.room c ≡ None → IsTrue (may_fail P state c)
-accepted_change P state c changes accepted = let none = ap is_none accepted in ap (λ b. b && is_none (refusal_of P state.tree state.room c)) changes ∙ none
-
--- what makes a node changes the tree
-making_changes : (kind : NodeKind) (path : Route) → is_changing (making kind path) ≡ true
-making_changes File path = refl
-making_changes Directory path = refl
-
--- it takes a fence
-making_fences : (state later : State) (kind : NodeKind) (path : Route) → fences_of_line state (Ok (making kind path)) Done later ≢ 0
-making_fences state later File path none = omega (arith, none)
-making_fences state later Directory path none = omega (arith, none)
-
-module _ (old new : SessionView) (before after : DeviceView) where
-  pub does_made : {events made : ℕ} {action : Action} (state : State) (c : Command) (kind : NodeKind) (path : Route) (result : Result Reply PmFault) → c ≡ making kind path → refusal_of old.volume.size state.tree state.room c ≡ None
-      → Follows old.volume new.volume before after state c Done result → Answers old.volume new.volume action Done result → MakesIntervals before after events made result
-      → Does old new before after state (Ok c) result
-  does_made state c kind path result is accepted follows answers device = record {
-    executed = executed result follows.made answers.reply;
-    failed = failed result device.halts;
-    stays = follows.stays;
-  }
-    where
-      changes : is_changing c ≡ true
-      changes = ap is_changing is ∙ making_changes kind path
-
-      executed : (result : Result Reply PmFault) → OnOk result (LeavesState old.volume new.volume before after state c Done)
-          → IfOk result (λ replied. replied ≡ reply_of Done) → IfOk result (λ replied. Executed old.volume.size state (Ok c) new replied before after)
-      executed (Ok replied) left is_done = record {
-        answer = Done;
-        new = left.later;
-        replied = record { reply_is = is_done; told = tt };
-        step = inl left.steps;
-        stands = left.stands;
-        any_moment = follows.any_moment;
-        no_ack = device.no_ack;
-        fences = left.fences;
-        quiet = λ none. absurd (making_fences state left.later kind path (ap (λ (asked : Command). fences_of_line state (Ok asked) Done left.later) (sym is) ∙ none));
-        no_memory = λ lacks. absurd (cc lacks);
-      }
-      executed (Err fault) left is_done = tt
-
-      failed : (result : Result Reply PmFault) → OnErr result (EndsInFault after.trail) → OnErr result (HasFailed old.volume.size state (Ok c) before after)
-      failed (Ok replied) last = tt
-      failed (Err fault) last = record {
-        fails = record { accepted = accepted_change old.volume.size state c changes accepted; answered = refl };
-        any_moment = follows.any_moment;
-        no_ack = device.no_ack;
-        last = last;
-      }
-
-module _ (old new : VolumeView) (before after : DeviceView) where
-  pub leaves_made : {events : ℕ} (action : Action) (result : Result Reply PmFault) → Answers old new action Done result → MakesIntervals before after events (fences_of_plan (deed_of action)) result
-      → LeavesVolume old new before after result
-  leaves_made action (Ok replied) answers device =
-      let few = fences_of_plan-le action in
-      let most = device.most_fences in
-      record {
-        quiet = λ not. absurd (not (subst IsChangeReply (sym answers.reply) tt));
-        same = λ not not_memory. absurd (not (subst IsChangeReply (sym answers.reply) tt));
-        size = answers.size;
-        going = answers.going;
-        stopped = tt;
-        faults = device.faults;
-        no_fault = device.no_fault;
-        cause = tt;
-        refused = let same = device.refused in omega (arith, same);
-        not_refused = λ not. device.refused;
-        fault_not_refused = tt;
-        fences = omega (arith, few, most);
-        acks = device.acks;
-      }
-  leaves_made action (Err fault) answers device =
-      let few = fences_of_plan-le action in
-      let most = device.most_fences in
-      record {
-        quiet = tt;
-        same = tt;
-        size = answers.size;
-        going = tt;
-        stopped = answers.stopped;
-        faults = device.faults;
-        no_fault = tt;
-        cause = device.cause;
-        refused = let same = device.refused in omega (arith, same);
-        not_refused = tt;
-        fault_not_refused = device.refused;
-        fences = omega (arith, few, most);
-        acks = device.acks;
-      }
 
 -- ---- after a preparation
 
@@ -315,11 +214,6 @@ leaves_refused old mid before between c refusal goes prepared = record {
 }
 
 -- ---- by the reply
-
--- a plan that was carried out is answered Done
-pub made_reads : (X : Type 0) (result : Result Reply PmFault) → IfOk result (λ replied. replied ≡ reply_of Done) → IfOk result (λ replied. ¬ IsChangeReply replied → X)
-made_reads X (Ok replied) is = λ not. absurd (not (subst IsChangeReply (sym is) tt))
-made_reads X (Err fault) is = tt
 
 pub reads_by : {X Y : Type 0} (result : Result Reply PmFault) → (X → Y) → IfOk result (λ replied. ¬ IsChangeReply replied → X) → IfOk result (λ replied. ¬ IsChangeReply replied → Y)
 reads_by (Ok replied) by reads = λ not. by (reads not)

@@ -12,6 +12,9 @@ pub mod Acknowledged
 pub mod Told
 pub mod Causes
 pub mod Commands
+pub mod Carried
+pub mod Removals
+pub mod Lines
 pub mod Sessions
 pub mod TurnLaws
 pub mod RunStarts

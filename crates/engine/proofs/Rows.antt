@@ -2,7 +2,7 @@
 use Rattle.std.proofs.Common.{◌≡◌, ℕ, inl, inr, true, false, List, [], ◌∷◌, map, codes, refl, arith}
 use Rattle.std.specs.Prelude.{Ok, Err}
 use Rattle.layout.specs.Geometry.{inodes_of, data_pages_of}
-use Rattle.tree_model.specs.Step.{Answer, Done, Fault, Stopped}
+use Rattle.tree_model.specs.Step.{Answer, Fault, Stopped}
 use Rattle.tree_model.specs.Run.{Line, State, fresh_state, plain_answers, plain_states}
 use Rattle.tree_model.specs.declared.command.Command.TheVariants.{Create, Rename, Write, Stat}
 use Rattle.tree_model.specs.declared.reply.LineFault.TheVariants.{BadLine}

@@ -8,3 +8,4 @@ pub mod Listing
 pub mod Script
 pub mod Turns
 pub mod Laws
+pub mod Deeds

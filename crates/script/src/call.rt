@@ -1,5 +1,5 @@
 ghost use Rattle.std.specs.Prelude.{◌≡◌, ◌≤◌, length};
-ghost use Rattle.script.specs.Lines.{words_of, of_words, of_one, of_two, on_path, call_of};
+ghost use Rattle.script.specs.Lines.{words_of, of_words, of_one, of_two, of_three, both_paths as both_paths_of, first_fault as first_fault_of, call_of};
 ghost use Rattle.tree_model.specs.PathText.{path_of};
 ghost use Rattle.script.specs.Calls.{line_of_call};
 
@@ -16,96 +16,115 @@ pub enum Call<'a> {
 
 impl<'a> Call<'a> {
     /// What a line asks for. A line that is too long, of a command that is not supported, or of another number of words
-    /// than its command takes is refused before its path is read. `scratch`, of at least 32,768 bytes, is where the bytes
-    /// of a line are to be decoded.
+    /// than its command takes is refused before any path is read. Of two paths a fault of form in either comes before a
+    /// name that is too long. `scratch`, of at least 32,768 bytes, is where the bytes of a line are to be decoded.
     pub fn parse(line: &'a [u8], scratch: &'a mut [u8]) -> Call<'a>
         requires scratch { 32768 ≤ length scratch.old }
         ensures call { line_of_call result ≡ call_of line.now }
     {
         let _ = scratch;
-        if line.len() > LONGEST_LINE {
-            return Call::Refused(LineFault::BadLine);
+        match command_of(line) {
+            Ok(command) => Call::Do(command),
+            Err(fault) => Call::Refused(fault),
         }
-        call_of_words(line)
     }
+}
+
+fn command_of(line: &[u8]) -> Result<Command<'_>, LineFault>
+    ensures { result ≡ call_of line.now }
+{
+    if line.len() > LONGEST_LINE {
+        return Err(LineFault::BadLine);
+    }
+    command_of_words(line)
 }
 
 // What the words of a line ask for.
-fn call_of_words(line: &[u8]) -> Call<'_>
-    ensures { line_of_call result ≡ of_words (words_of line.now) }
+fn command_of_words(line: &[u8]) -> Result<Command<'_>, LineFault>
+    ensures { result ≡ of_words (words_of line.now) }
 {
     let Some((verb, rest)) = next_word(line) else {
-        return Call::Refused(LineFault::BadLine);
+        return Err(LineFault::BadLine);
     };
-    let Some((path, rest)) = next_word(rest) else {
-        return call_alone(verb);
+    let Some((first, rest)) = next_word(rest) else {
+        return command_alone(verb);
+    };
+    let Some((second, rest)) = next_word(rest) else {
+        return command_on_path(verb, first);
     };
     match next_word(rest) {
-        Some(_) => Call::Refused(LineFault::BadLine),
-        None => call_on_path(verb, path),
+        Some(_) => Err(LineFault::BadLine),
+        None => command_on_paths(verb, first, second),
     }
 }
 
-// The call of a command that stands alone.
-fn call_alone(verb: &[u8]) -> Call<'_>
-    ensures { line_of_call result ≡ of_one verb.now }
+fn command_alone(verb: &[u8]) -> Result<Command<'_>, LineFault>
+    ensures { result ≡ of_one verb.now }
 {
     if verb == b"df".as_slice() {
-        Call::Do(Command::Df)
+        Ok(Command::Df)
     } else {
-        Call::Refused(LineFault::BadLine)
+        Err(LineFault::BadLine)
     }
 }
 
-// The call of a command with a path.
-fn call_on_path<'a>(verb: &[u8], path: &'a [u8]) -> Call<'a>
-    ensures { line_of_call result ≡ of_two verb.now path.now }
+fn command_on_path<'a>(verb: &[u8], path: &'a [u8]) -> Result<Command<'a>, LineFault>
+    ensures { result ≡ of_two verb.now path.now }
 {
     if verb == b"create".as_slice() {
-        create(path)
+        let path = Path::parse(path)?;
+        Ok(Command::Create { path })
     } else if verb == b"mkdir".as_slice() {
-        mkdir(path)
+        let path = Path::parse(path)?;
+        Ok(Command::Mkdir { path })
+    } else if verb == b"unlink".as_slice() {
+        let path = Path::parse(path)?;
+        Ok(Command::Unlink { path })
+    } else if verb == b"rmdir".as_slice() {
+        let path = Path::parse(path)?;
+        Ok(Command::Rmdir { path })
     } else if verb == b"stat".as_slice() {
-        stat(path)
+        let path = Path::parse(path)?;
+        Ok(Command::Stat { path })
     } else if verb == b"list".as_slice() {
-        list(path)
+        let path = Path::parse(path)?;
+        Ok(Command::List { path })
     } else {
-        Call::Refused(LineFault::BadLine)
+        Err(LineFault::BadLine)
     }
 }
 
-fn create(path: &[u8]) -> Call<'_>
-    ensures { line_of_call result ≡ on_path (λ p. Command.Create p) (path_of path.now) }
+fn command_on_paths<'a>(
+    verb: &[u8],
+    first: &'a [u8],
+    second: &'a [u8],
+) -> Result<Command<'a>, LineFault>
+    ensures { result ≡ of_three verb.now first.now second.now }
 {
-    match Path::parse(path) {
-        Ok(path) => Call::Do(Command::Create { path }),
-        Err(fault) => Call::Refused(fault),
+    if verb == b"link".as_slice() {
+        let (from, to) = both_paths(first, second)?;
+        Ok(Command::Link { from, to })
+    } else {
+        Err(LineFault::BadLine)
     }
 }
 
-fn mkdir(path: &[u8]) -> Call<'_>
-    ensures { line_of_call result ≡ on_path (λ p. Command.Mkdir p) (path_of path.now) }
+fn both_paths<'a>(first: &'a [u8], second: &'a [u8]) -> Result<(Path<'a>, Path<'a>), LineFault>
+    ensures { result ≡ both_paths_of (path_of first.now) (path_of second.now) }
 {
-    match Path::parse(path) {
-        Ok(path) => Call::Do(Command::Mkdir { path }),
-        Err(fault) => Call::Refused(fault),
+    match (Path::parse(first), Path::parse(second)) {
+        (Ok(first), Ok(second)) => Ok((first, second)),
+        (Ok(_), Err(fault)) | (Err(fault), Ok(_)) => Err(fault),
+        (Err(fault), Err(other)) => Err(first_fault(fault, other)),
     }
 }
 
-fn stat(path: &[u8]) -> Call<'_>
-    ensures { line_of_call result ≡ on_path (λ p. Command.Stat p) (path_of path.now) }
+// The fault that is told of two: a fault of form before a name that is too long.
+fn first_fault(fault: LineFault, other: LineFault) -> LineFault
+    ensures { result ≡ first_fault_of fault other }
 {
-    match Path::parse(path) {
-        Ok(path) => Call::Do(Command::Stat { path }),
-        Err(fault) => Call::Refused(fault),
-    }
-}
-
-fn list(path: &[u8]) -> Call<'_>
-    ensures { line_of_call result ≡ on_path (λ p. Command.List p) (path_of path.now) }
-{
-    match Path::parse(path) {
-        Ok(path) => Call::Do(Command::List { path }),
-        Err(fault) => Call::Refused(fault),
+    match fault {
+        LineFault::NameTooLong => other,
+        LineFault::BadLine | LineFault::BadPath => fault,
     }
 }

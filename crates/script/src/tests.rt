@@ -16,6 +16,9 @@ fn word_of(alloc: Global, line: &[u8]) -> Result<&'static str, Fail> {
     let word = match Call::parse(line, &mut scratch) {
         Call::Do(Command::Create { .. }) => "create",
         Call::Do(Command::Mkdir { .. }) => "mkdir",
+        Call::Do(Command::Link { .. }) => "link",
+        Call::Do(Command::Unlink { .. }) => "unlink",
+        Call::Do(Command::Rmdir { .. }) => "rmdir",
         Call::Do(Command::Stat { .. }) => "stat",
         Call::Do(Command::List { .. }) => "list",
         Call::Do(Command::Df) => "df",
@@ -47,7 +50,17 @@ fn calls(rt: HostRuntime) -> Result<(), Fail> {
         ("mkdir /a /b", "BadLine"),
         ("Mkdir /a", "BadLine"),
         ("mkdir/a", "BadLine"),
-        ("rmdir /a", "BadLine"),
+        ("link /a  /b", "link"),
+        ("link /a", "BadLine"),
+        ("link /a /b /c", "BadLine"),
+        ("link a /%", "BadPath"),
+        ("link /a b", "BadPath"),
+        ("link a /b", "BadPath"),
+        ("unlink /a", "unlink"),
+        ("unlink /a 1", "BadLine"),
+        ("rmdir /a", "rmdir"),
+        ("rmdir", "BadLine"),
+        ("rename /a /b", "BadLine"),
         ("frob a", "BadLine"),
         ("create a", "BadPath"),
         ("create /%4", "BadPath"),
@@ -71,6 +84,8 @@ fn long_calls(rt: HostRuntime) -> Result<(), Fail> {
         ("mkdir /", 111, "NameTooLong"),
         ("mkdir /", 65_529, "NameTooLong"),
         ("mkdir /", 65_530, "BadLine"),
+        ("link /a /", 111, "NameTooLong"),
+        ("link a /", 111, "BadPath"),
     ] {
         let mut line = Vec::from_slice(rt.alloc(), start.as_bytes())?;
         line.extend_from_slice(vec![in rt.alloc(); b'n'; count]?.as_slice())?;

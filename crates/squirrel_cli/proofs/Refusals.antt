@@ -1,5 +1,5 @@
 -- What is told of a device that was not mounted.
-use Rattle.std.proofs.Common.{◌≡◌, ◌≢◌, ◌⊎◌, inl, inr, ℕ, List, refl, sym, ap, subst, ◌∙◌, arith}
+use Rattle.std.proofs.Common.{◌≡◌, ◌≢◌, ◌⊎◌, inl, inr, ℕ, List, refl, sym, subst, ◌∙◌}
 use Rattle.std.specs.Prelude.{Option, Result, Ok, Err, Some, IfSome, IsSome}
 use Rattle.pm_trait.specs.Trail.{Trail}
 use Rattle.pm_trait.specs.Device.{HasRisen, IsSettledAt}
@@ -56,19 +56,7 @@ pub data WhyRefused (before after : DeviceView) : MountError → Type 0 where
   no_volume : ¬ HoldsVolume before.words → after ≡ before → WhyRefused before after refused.NotVolume
   broken : (violation : Violation) → HoldsVolume before.words → IsFirstViolation before.words violation → after ≡ before → WhyRefused before after (refused.Damaged violation)
   failed : FailsToMount (pages_in_image before.words) before after → WhyRefused before after refused.PmFault
-  short : HoldsVolume before.words → IsLeftAlone before after → WhyRefused before after refused.NoMemory
-
--- what is as it was is left alone
-left_alone : {before after : DeviceView} → after ≡ before → IsLeftAlone before after
-left_alone same = record {
-  words = ap (λ (device : DeviceView). device.words) same;
-  trail = ap (λ (device : DeviceView). device.trail) same;
-  faults = ap (λ (device : DeviceView). device.faults) same;
-  fences = ap (λ (device : DeviceView). device.fences) same;
-  acks = ap (λ (device : DeviceView). device.acks) same;
-  room = let spare = ap (λ (device : DeviceView). device.spare) same in omega (arith, spare);
-  refused = let counted = ap (λ (device : DeviceView). device.refused) same in omega (arith, counted);
-}
+  short : HoldsVolume before.words → IsLeftAlone before after → (¬ IsSound before.words → after ≡ before) → WhyRefused before after refused.NoMemory
 
 -- a first violation is none of a sound volume
 not_sound : {W : List ℕ} {violation : Violation} → IsFirstViolation W violation → ¬ IsSound W
@@ -81,7 +69,7 @@ pub why_refused : (error : MountError) {A : Type 0} {before after : DeviceView} 
 why_refused refused.NotVolume {before = before} is not_volume damaged untouched fails volume alone = no_volume (not_volume is) (untouched (λ sound. not_volume is (sound_volume before.words sound)))
 why_refused (refused.Damaged violation) is not_volume damaged untouched fails volume alone = let (holds, first) = damaged violation is in broken violation holds first (untouched (not_sound first))
 why_refused refused.PmFault is not_volume damaged untouched fails volume alone = failed (fails is)
-why_refused refused.NoMemory is not_volume damaged untouched fails volume alone = short (volume is) (alone is)
+why_refused refused.NoMemory is not_volume damaged untouched fails volume alone = short (volume is) (alone is) untouched
 
 module _ {before after : DeviceView} {is : Status} (took now : List ℕ → Type 0) where
   pub refused_tells : {error : MountError} → WhyRefused before after error → IsToldOf error is took now → StatusTells is (Some Run) before.words took now
@@ -105,31 +93,31 @@ module _ {before after : DeviceView} {is : Status} (took now : List ℕ → Type
     damaged = λ violation answered. absurd (cc (told, answered));
     answered = λ job ended. inl fails.sound;
   }
-  refused_tells (short holds alone) told = record {
+  refused_tells (short holds alone same) told = record {
     not_volume = λ answered. absurd (cc (told, answered));
     damaged = λ violation answered. absurd (cc (told, answered));
     answered = λ job ended. absurd (let none = subst (λ (s : Status). IsSome (end_of s)) told ended in cc none);
   }
 
   pub refused_refuses : {error : MountError} → WhyRefused before after error → IsToldOf error is took now → ¬ IsMountable before.words → Refuses is before after took now
-  refused_refuses (no_volume not same) told unsound = record { not_volume = λ n. told; damaged = λ holds. absurd (not holds); alone = left_alone same }
-  refused_refuses (broken violation holds first same) told unsound = record { not_volume = λ not. absurd (not holds); damaged = λ h. inr (violation, first, told); alone = left_alone same }
+  refused_refuses (no_volume not same) told unsound = record { not_volume = λ n. told; damaged = λ holds. absurd (not holds); alone = same }
+  refused_refuses (broken violation holds first same) told unsound = record { not_volume = λ not. absurd (not holds); damaged = λ h. inr (violation, first, told); alone = same }
   refused_refuses (failed fails) told unsound = absurd (unsound fails.sound)
-  refused_refuses (short holds alone) told unsound = record { not_volume = λ not. absurd (not holds); damaged = λ h. inl told; alone = alone }
+  refused_refuses (short holds alone same) told unsound = record { not_volume = λ not. absurd (not holds); damaged = λ h. inl told; alone = same unsound }
 
   pub refused_short : {error : MountError} {S K : Type 0} {script : S} {old_out new_out : K} → WhyRefused before after error → IsToldOf error is took now → is ≡ status.NoMemory → new_out ≡ old_out
       → IsShortOfMemory (Some Run) before after script script old_out new_out
   refused_short (no_volume not same) told answered out = absurd (not_told (λ e. cc e) (λ e. cc e) told answered)
   refused_short (broken violation holds first same) told answered out = absurd (not_told (λ e. cc e) (λ e. cc e) told answered)
   refused_short (failed fails) told answered out = absurd (cc (told, answered))
-  refused_short (short holds alone) told answered out = record { script = refl; output = out; device = inl alone }
+  refused_short (short holds alone same) told answered out = record { script = refl; output = out; device = inl alone }
 
   -- a sound volume is refused for want of memory, or its mount failed
   pub refused_taken : {error : MountError} → WhyRefused before after error → IsToldOf error is took now → IsMountable before.words → (is ≡ status.NoMemory) ⊎ IsSome (end_of is)
   refused_taken (no_volume not same) told sound = absurd (not (sound_volume before.words sound))
   refused_taken (broken violation holds first same) told sound = absurd (not_sound first sound)
   refused_taken (failed fails) told sound = inr (subst (λ (s : Status). IsSome (end_of s)) (sym told) refl)
-  refused_taken (short holds alone) told sound = inl told
+  refused_taken (short holds alone same) told sound = inl told
 
   -- and of a mount that failed is said what is said of a fault in a run
   pub refused_runs : {error : MountError} (F : RunEnd → Type 0) → WhyRefused before after error → IsToldOf error is took now → (is ≡ status.DeviceFault → FailsToMount (pages_in_image before.words) before after → F Faulted)
@@ -137,20 +125,20 @@ module _ {before after : DeviceView} {is : Status} (took now : List ℕ → Type
   refused_runs F (no_volume not same) told fault sound = absurd (not (sound_volume before.words sound))
   refused_runs F (broken violation holds first same) told fault sound = absurd (not_sound first sound)
   refused_runs F (failed fails) told fault sound = subst (λ (s : Status). IfSome (end_of s) F) (sym told) (fault told fails)
-  refused_runs F (short holds alone) told fault sound = subst (λ (s : Status). IfSome (end_of s) F) (sym told) tt
+  refused_runs F (short holds alone same) told fault sound = subst (λ (s : Status). IfSome (end_of s) F) (sym told) tt
 
   -- a device fault is told of a mount in which a fence failed
   pub refused_fault : {error : MountError} → WhyRefused before after error → IsToldOf error is took now → is ≡ status.DeviceFault → HasRisen before.faults after.faults
   refused_fault (no_volume not same) told answered = absurd (not_told (λ e. cc e) (λ e. cc e) told answered)
   refused_fault (broken violation holds first same) told answered = absurd (not_told (λ e. cc e) (λ e. cc e) told answered)
   refused_fault (failed fails) told answered = fails.cause
-  refused_fault (short holds alone) told answered = absurd (cc (told, answered))
+  refused_fault (short holds alone same) told answered = absurd (cc (told, answered))
 
   pub refused_tidy : {error : MountError} → WhyRefused before after error → IsToldOf error is took now → IsMountable before.words → is ≢ status.NoMemory → HasRisen before.faults after.faults ⊎ IsTidy after.words
   refused_tidy (no_volume not same) told sound memory = absurd (not (sound_volume before.words sound))
   refused_tidy (broken violation holds first same) told sound memory = absurd (not_sound first sound)
   refused_tidy (failed fails) told sound memory = inl fails.cause
-  refused_tidy (short holds alone) told sound memory = absurd (memory told)
+  refused_tidy (short holds alone same) told sound memory = absurd (memory told)
 
 pub refused_done : (error : MountError) {is : Status} (took now : List ℕ → Type 0) → IsToldOf error is took now → is ≢ status.Done
 refused_done refused.NotVolume took now told answered = not_told (λ e. cc e) (λ e. cc e) told answered
@@ -168,7 +156,7 @@ pub refused_settled : {before after : DeviceView} {error : MountError} → WhyRe
 refused_settled (no_volume not same) settled = inr (subst IsSettledView (sym same) settled)
 refused_settled (broken violation holds first same) settled = inr (subst IsSettledView (sym same) settled)
 refused_settled (failed fails) settled = inl fails.cause
-refused_settled (short holds alone) settled = inr (alone_settled alone settled)
+refused_settled (short holds alone same) settled = inr (alone_settled alone settled)
 
 -- ---- by a text that was written
 

@@ -44,7 +44,7 @@ pub record Refuses (result : Status) (before after : DeviceView) (took now : Lis
   pub not_volume : ¬ HoldsVolume before.words → IsToldOrCut NotVolume not_a_volume_text result took now
   pub damaged : HoldsVolume before.words → (result ≡ NoMemory)
       ⊎ (violation : Violation) × IsFirstViolation before.words violation × IsToldOrCut (Damaged violation) (damaged_text violation.rule violation.place) result took now
-  pub alone : IsLeftAlone before after
+  pub alone : after ≡ before
 
 -- Memory was short: nothing was read of the script, written or acknowledged. The device is as before, or `run` had mounted it.
 pub record IsShortOfMemory {S K : Type 0} (job : Option Job) (before after : DeviceView) (old_script new_script : S) (old_out new_out : K) : Type 0 where

@@ -2,13 +2,12 @@
 use Rattle.std.specs.Prelude.{◌≡◌, ◌≢◌, ℕ}
 use Rattle.pm_trait.specs.Device.{HasRisen}
 use Rattle.pm_trait.specs.DeviceView.{DeviceView}
-use Rattle.mount_scan.specs.Mounts.{IsLeftAlone}
 use Rattle.squirrel_cli.specs.declared.status.Status.{Status}
 use Rattle.squirrel_cli.specs.declared.status.Status.TheVariants.{Done, DeviceFault, ReadFault, WriteFault}
 
 -- nothing was read, written or stored
 pub record IsUntouched {S K : Type 0} (before after : DeviceView) (old_script new_script : S) (old_out new_out : K) : Type 0 where
-  pub device : IsLeftAlone before after
+  pub device : after ≡ before
   pub script : new_script ≡ old_script
   pub output : new_out ≡ old_out
 
