@@ -7,3 +7,7 @@ mod entries;
 mod events;
 #[cfg(test)]
 mod files;
+#[cfg(test)]
+mod links;
+#[cfg(test)]
+mod removals;

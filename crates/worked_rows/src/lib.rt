@@ -2,6 +2,8 @@
 #![tactic(auto)]
 
 #[cfg(test)]
+mod crashes;
+#[cfg(test)]
 mod faults;
 #[cfg(test)]
 mod jobs;
@@ -10,7 +12,11 @@ mod limits;
 #[cfg(test)]
 mod lines;
 #[cfg(test)]
+mod links;
+#[cfg(test)]
 mod recoveries;
+#[cfg(test)]
+mod removals;
 #[cfg(test)]
 mod scarce;
 #[cfg(test)]

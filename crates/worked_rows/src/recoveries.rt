@@ -235,7 +235,7 @@ fn what_nothing_leads_to_goes(rt: HostRuntime) -> Result<(), Fail> {
 }
 
 // What a run finds on the words that a crash left: the tree and what is free.
-fn finds(
+pub(crate) fn finds(
     rt: &impl Abort,
     alloc: Global,
     image: &[u64],
@@ -296,36 +296,6 @@ fn a_fence_of_a_mount_fails(rt: HostRuntime) -> Result<(), Fail> {
             "at {fence}"
         );
         finds_the_file_everywhere(&rt, rt.alloc(), &pm, &[MIXES[2]])?;
-    }
-    Ok(())
-}
-
-// Crashes in the making of `/a`, whose page is the root's first, just before each of its fences: with the words as they were
-// settled, and with all that was stored since.
-#[test]
-fn a_crash_before_each_fence_of_a_create(rt: HostRuntime) -> Result<(), Fail> {
-    let volume = small_volume(rt.alloc())?;
-    for (fence, old, new, told, free) in [
-        (1u64, 0u64, 1u64, "ok 0\n", (3u64, 13u64)),
-        (2, 1, 2, "ok 0\n", (3, 13)),
-        (3, 2, 2, "ok 0\n", (3, 13)),
-        (4, 2, 0, "ok 1 a\n", (2, 12)),
-    ] {
-        let failing = [fence].to_vec(rt.alloc())?;
-        let mut pm = RamPm::with_failing(rt.alloc(), volume.as_slice(), failing)?;
-        let source = source_of(rt.alloc(), b"create /a\n", 4_096, 0)?;
-        let sink = sink_of(rt.alloc(), 4_096, 0)?;
-        let left = do_job(rt.alloc(), "squirrel run v", &mut pm, source, sink)?;
-        assert_eq!(rt; left.status, Status::DeviceFault, "at {fence}");
-        let end = events_of(&pm)?;
-        let before = crash_at(rt.alloc(), &pm, end, &MIXES[0])?;
-        finds(&rt, rt.alloc(), before.as_slice(), "ok 0\n", (3, 13))?;
-        let behind = crash_at(rt.alloc(), &pm, end, &MIXES[1])?;
-        finds(&rt, rt.alloc(), behind.as_slice(), told, free)?;
-        for (image, fences) in [(before, old), (behind, new)] {
-            let mounted = job_on(rt.alloc(), "squirrel run v", image.as_slice(), b"")?;
-            assert_eq!(rt; mounted.fences, fences, "at {fence}");
-        }
     }
     Ok(())
 }
