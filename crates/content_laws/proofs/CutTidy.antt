@@ -14,7 +14,7 @@ use Rattle.image_laws.specs.Quiet.{IsMix}
 use Rattle.image_laws.proofs.Free.{stores_law, mix_one}
 use Rattle.image_laws.proofs.Meaning.{same_chained}
 use Rattle.image_laws.proofs.Resizes.{resize_tree_law, resize_room_law}
-use Rattle.content_laws.specs.Cut.{CanCut, IsPastCut, Cuts, with_size, IsCutting, CutLaw, HasCut, CutIndexLaw}
+use Rattle.content_laws.specs.Cut.{CanCut, IsPastCut, Cuts, with_size, LeavesCut, CutLaw, HasCut, CutIndexLaw}
 use Rattle.content_laws.specs.Growth.{sized}
 use Rattle.content_laws.proofs.Bytes.{length-resized}
 use Rattle.content_laws.proofs.CutQuiet as quiet
@@ -90,7 +90,7 @@ module _ (P : ℕ) (W : List ℕ) (i z : ℕ) (can : CanCut P W i z) (J K : List
       let less = can.less in
       omega (arith, size, long, less)
 
-  pub cut : IsCutting P W J K i z
+  pub cut : LeavesCut P W J K i z
   cut =
       let coherent = (words.resized_file P W i z can).coherent in
       let given = quiet.same_give P W i z can J K h in

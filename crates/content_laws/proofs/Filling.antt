@@ -12,8 +12,8 @@ use Rattle.image_laws.proofs.Addresses.{descriptor-ne_page, descriptor_word-one,
 use Rattle.image_laws.proofs.Making.{mix_itself}
 use Rattle.image_laws.proofs.Paths.{reached_pos}
 use Rattle.image_laws.proofs.Quiet.{write_law}
-use Rattle.content_laws.specs.Growth.{CanGrow, IsFillWord, FillsBytes}
-use Rattle.content_laws.specs.Mix.{IsContentWord, StoresContent}
+use Rattle.content_laws.specs.Growth.{CanGrow, IsFillWord, FillsFile}
+use Rattle.content_laws.specs.Mix.{IsBytesWord, StoresContent}
 use Rattle.content_laws.specs.Range.{IsInRange}
 use Rattle.content_laws.specs.Torn.{ReadsTorn}
 use Rattle.content_laws.proofs.Inside.{byte_word}
@@ -21,14 +21,14 @@ use Rattle.content_laws.proofs.Quiet.{inode_same, descriptor_same, slot_same, qu
 use Rattle.content_laws.proofs.Ranges.{in_or_beside}
 use Rattle.content_laws.proofs.Torn.{torn_law}
 
-module _ (P : ℕ) (W A : List ℕ) (i z offset : ℕ) (bytes pages : List ℕ) (can : CanGrow P W i z offset bytes pages) (fills : FillsBytes P W A i offset bytes pages) where
+module _ (P : ℕ) (W A : List ℕ) (i z offset : ℕ) (bytes pages : List ℕ) (can : CanGrow P W i z offset bytes pages) (fills : FillsFile P W A i offset bytes pages) where
   coherent : IsCoherent P W
   coherent = can.tidy.coherent
 
-  content : {a : ℕ} → IsFillWord P W i pages a → IsContentWord P W a
-  content (IsFillWord.old k j w g lt) = IsContentWord.bytes j w g.in_range lt g.kind
-  content (IsFillWord.new j w c lt) = IsContentWord.free j w (can.free j c).0 lt (can.free j c).1
-  content (IsFillWord.descriptor j f c l m) = IsContentWord.descriptor j f (can.free j c).0 l m (can.free j c).1
+  content : {a : ℕ} → IsFillWord P W i pages a → IsBytesWord P W a
+  content (IsFillWord.old k j w g lt) = IsBytesWord.bytes j w g.in_range lt g.kind
+  content (IsFillWord.new j w c lt) = IsBytesWord.free j w (can.free j c).0 lt (can.free j c).1
+  content (IsFillWord.descriptor j f c l m) = IsBytesWord.descriptor j f (can.free j c).0 l m (can.free j c).1
 
   pub fill_stores : StoresContent P W A
   fill_stores = record { size = fills.size; others = λ a none. fills.others a (λ c. none (content c)) }

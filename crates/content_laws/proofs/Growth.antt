@@ -17,7 +17,7 @@ use Rattle.image_laws.proofs.Addresses.{descriptor-ne_inode, inode-ne_inode, ino
 use Rattle.image_laws.proofs.Free.{mix_one}
 use Rattle.image_laws.proofs.Paths.{reached_pos}
 use Rattle.image_laws.proofs.Resizes.{resize_law, resize_room_law}
-use Rattle.content_laws.specs.Growth.{CanGrow, FillsBytes, TakesPages, sized, GrowthLaw}
+use Rattle.content_laws.specs.Growth.{CanGrow, FillsFile, TakesPages, sized, GrowthLaw}
 use Rattle.content_laws.specs.Range.{IsWrittenByte}
 use Rattle.content_laws.proofs.Bytes.{length-resized, resized_at}
 use Rattle.content_laws.proofs.Filling.{filled, fill_mixes, fill_torn, fill_quiet, fill_slot}
@@ -27,7 +27,7 @@ use Rattle.content_laws.proofs.Ranges.{written_at}
 use Rattle.content_laws.proofs.Taking.{pos, most, take_mix, taken, take_byte, taken_inode, taken_slot, taken_descriptor, new_page, which_page, can_resize}
 use Rattle.content_laws.proofs.Torn.{content_of, same_torn_law}
 
-module _ (P : ℕ) (W A B : List ℕ) (i z offset : ℕ) (bytes pages : List ℕ) (can : CanGrow P W i z offset bytes pages) (fills : FillsBytes P W A i offset bytes pages) (takes : TakesPages P A B i pages) where
+module _ (P : ℕ) (W A B : List ℕ) (i z offset : ℕ) (bytes pages : List ℕ) (can : CanGrow P W i z offset bytes pages) (fills : FillsFile P W A i offset bytes pages) (takes : TakesPages P A B i pages) where
   i_pos : 1 ≤ i
   i_pos = pos P W A B i z offset bytes pages can fills takes
 

@@ -13,7 +13,7 @@ use Rattle.image_laws.proofs.Addresses.{descriptor-ne_page, page_word-one}
 use Rattle.image_laws.proofs.Making.{mix_itself}
 use Rattle.image_laws.proofs.Quiet.{write_law}
 use Rattle.content_laws.specs.Inside.{CanWrite, WritesInside, InsideLaw}
-use Rattle.content_laws.specs.Mix.{IsContentWord, StoresContent}
+use Rattle.content_laws.specs.Mix.{IsBytesWord, StoresContent}
 use Rattle.content_laws.proofs.Bytes.{length-overwritten}
 use Rattle.content_laws.proofs.Keeps.{Keeps, keeps_tidy, keeps_index, keeps_page}
 use Rattle.content_laws.proofs.Lists.{contains_none}
@@ -32,7 +32,7 @@ module _ (P : ℕ) (W J : List ℕ) (i offset : ℕ) (bytes : List ℕ) (can : C
   stores : StoresContent P W J
   stores = record {
     size = h.size;
-    others = λ a none. h.others a (λ k j w g lt e. none (subst (IsContentWord P W) (sym e) (IsContentWord.bytes j w g.in_range lt g.kind)));
+    others = λ a none. h.others a (λ k j w g lt e. none (subst (IsBytesWord P W) (sym e) (IsBytesWord.bytes j w g.in_range lt g.kind)));
   }
 
   -- the bytes of another file

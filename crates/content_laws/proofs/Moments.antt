@@ -11,7 +11,7 @@ use Rattle.image_laws.specs.Frame.{SameMeaning}
 use Rattle.image_laws.specs.Quiet.{IsMix}
 use Rattle.image_laws.proofs.Free.{mix_one}
 use Rattle.image_laws.proofs.Making.{mix_itself}
-use Rattle.content_laws.specs.Growth.{CanGrow, FillsBytes, TakesPages, sized}
+use Rattle.content_laws.specs.Growth.{CanGrow, FillsFile, TakesPages, sized}
 use Rattle.content_laws.specs.Inside.{CanWrite, WritesInside}
 use Rattle.content_laws.specs.Moments.{IsLeftEarly, IsLeft, InsideOnceLaw, GrowthHangsLaw, GrowthOnceLaw}
 use Rattle.content_laws.specs.Torn.{SameRange}
@@ -64,7 +64,7 @@ inside_once_law P W J M i offset bytes T can h mix reads done = inside_once P W 
 
 -- ---- past the size
 
-module _ (P : ℕ) (W A B : List ℕ) (i z offset : ℕ) (bytes pages : List ℕ) (can : CanGrow P W i z offset bytes pages) (fills : FillsBytes P W A i offset bytes pages) (takes : TakesPages P A B i pages) where
+module _ (P : ℕ) (W A B : List ℕ) (i z offset : ℕ) (bytes pages : List ℕ) (can : CanGrow P W i z offset bytes pages) (fills : FillsFile P W A i offset bytes pages) (takes : TakesPages P A B i pages) where
   -- M means what A means, and has its bytes and the old size
   record IsTaken (M : List ℕ) : Type 0 where
     means : SameMeaning P A M

@@ -10,30 +10,30 @@ use Rattle.image_laws.proofs.Addresses.{head-ne_page, head-ne_descriptor, page-n
 use Rattle.image_laws.proofs.NewPage.{links_kept}
 use Rattle.image_laws.proofs.Paths.{reached_pos, reached-le}
 use Rattle.image_laws.proofs.Quiet.{mix_law}
-use Rattle.content_laws.specs.Mix.{IsContentWord, StoresContent, ContentQuietLaw, ByteMixLaw}
+use Rattle.content_laws.specs.Mix.{IsBytesWord, StoresContent, ContentQuietLaw, ByteMixLaw}
 
 module _ (P : ℕ) (I : List ℕ) where
-  not_head : (a : ℕ) → a < 512 → {b : ℕ} → IsContentWord P I b → b ≡ a → ⊥
-  not_head a lt (IsContentWord.bytes j w l m k) e = head-ne_page P j w a lt (sym e)
-  not_head a lt (IsContentWord.free j w l m z) e = head-ne_page P j w a lt (sym e)
-  not_head a lt (IsContentWord.descriptor j f l m n z) e = head-ne_descriptor P j f a lt (sym e)
+  not_head : (a : ℕ) → a < 512 → {b : ℕ} → IsBytesWord P I b → b ≡ a → ⊥
+  not_head a lt (IsBytesWord.bytes j w l m k) e = head-ne_page P j w a lt (sym e)
+  not_head a lt (IsBytesWord.free j w l m z) e = head-ne_page P j w a lt (sym e)
+  not_head a lt (IsBytesWord.descriptor j f l m n z) e = head-ne_descriptor P j f a lt (sym e)
 
-  not_inode : (i f : ℕ) → 1 ≤ i → i ≤ inodes_of P → f < 16 → {b : ℕ} → IsContentWord P I b → b ≡ inode_word_of i f → ⊥
-  not_inode i f p m lt (IsContentWord.bytes j w l n k) e = page-ne_inode P j w i f p m lt e
-  not_inode i f p m lt (IsContentWord.free j w l n z) e = page-ne_inode P j w i f p m lt e
-  not_inode i f p m lt (IsContentWord.descriptor j g l n o z) e = descriptor-ne_inode P j g i f p m lt e
+  not_inode : (i f : ℕ) → 1 ≤ i → i ≤ inodes_of P → f < 16 → {b : ℕ} → IsBytesWord P I b → b ≡ inode_word_of i f → ⊥
+  not_inode i f p m lt (IsBytesWord.bytes j w l n k) e = page-ne_inode P j w i f p m lt e
+  not_inode i f p m lt (IsBytesWord.free j w l n z) e = page-ne_inode P j w i f p m lt e
+  not_inode i f p m lt (IsBytesWord.descriptor j g l n o z) e = descriptor-ne_inode P j g i f p m lt e
 
-  not_descriptor : (j f : ℕ) → j < data_pages_of P → f < 8 → (page_owner P I j ≢ 0) ⊎ (f ≡ 0) → {b : ℕ} → IsContentWord P I b → b ≡ descriptor_word_of P j f → ⊥
-  not_descriptor j f lt l8 why (IsContentWord.bytes h w l n k) e = descriptor-ne_page P j f h w lt l8 (sym e)
-  not_descriptor j f lt l8 why (IsContentWord.free h w l n z) e = descriptor-ne_page P j f h w lt l8 (sym e)
-  not_descriptor j f lt l8 why (IsContentWord.descriptor h g l n o z) e =
+  not_descriptor : (j f : ℕ) → j < data_pages_of P → f < 8 → (page_owner P I j ≢ 0) ⊎ (f ≡ 0) → {b : ℕ} → IsBytesWord P I b → b ≡ descriptor_word_of P j f → ⊥
+  not_descriptor j f lt l8 why (IsBytesWord.bytes h w l n k) e = descriptor-ne_page P j f h w lt l8 (sym e)
+  not_descriptor j f lt l8 why (IsBytesWord.free h w l n z) e = descriptor-ne_page P j f h w lt l8 (sym e)
+  not_descriptor j f lt l8 why (IsBytesWord.descriptor h g l n o z) e =
       let (x, y) = descriptor_word-one P h g j f (omega (arith, o)) l8 e in
       elim why [ inl owned ↦ owned (ap (page_owner P I) (sym x) ∙ z) | inr first ↦ omega (arith, y, first, n) ]
 
-  not_slot : (s f : ℕ) → f < 16 → page_kind P I (page_of_slot s) ≢ 1 → page_owner P I (page_of_slot s) ≢ 0 → {b : ℕ} → IsContentWord P I b → b ≡ slot_word_of P s f → ⊥
-  not_slot s f lt kind owned (IsContentWord.bytes j w l n k) e = kind (ap (page_kind P I) (slot_in_page P s f j w lt n (sym e)) ∙ k)
-  not_slot s f lt kind owned (IsContentWord.free j w l n z) e = owned (ap (page_owner P I) (slot_in_page P s f j w lt n (sym e)) ∙ z)
-  not_slot s f lt kind owned (IsContentWord.descriptor h g l n o z) e = descriptor-ne_slot P h g s f l (omega (arith, o)) e
+  not_slot : (s f : ℕ) → f < 16 → page_kind P I (page_of_slot s) ≢ 1 → page_owner P I (page_of_slot s) ≢ 0 → {b : ℕ} → IsBytesWord P I b → b ≡ slot_word_of P s f → ⊥
+  not_slot s f lt kind owned (IsBytesWord.bytes j w l n k) e = kind (ap (page_kind P I) (slot_in_page P s f j w lt n (sym e)) ∙ k)
+  not_slot s f lt kind owned (IsBytesWord.free j w l n z) e = owned (ap (page_owner P I) (slot_in_page P s f j w lt n (sym e)) ∙ z)
+  not_slot s f lt kind owned (IsBytesWord.descriptor h g l n o z) e = descriptor-ne_slot P h g s f l (omega (arith, o)) e
 
 module _ (P : ℕ) (I J : List ℕ) (stores : StoresContent P I J) where
   pub head_same : (a : ℕ) → a < 512 → word J a ≡ word I a

@@ -18,7 +18,7 @@ use Rattle.image_laws.proofs.NewPage.{links_kept}
 use Rattle.image_laws.proofs.Paths.{reached_pos, reached-le}
 use Rattle.image_laws.proofs.Quiet.{mix_law}
 use Rattle.image_laws.proofs.Ready.{tidy_but}
-use Rattle.content_laws.specs.Growth.{CanGrow, FillsBytes, TakesPages}
+use Rattle.content_laws.specs.Growth.{CanGrow, FillsFile, TakesPages}
 use Rattle.content_laws.proofs.Filling.{filled, fill_inode, fill_owner, fill_descriptor}
 use Rattle.content_laws.proofs.Lists.{contains_at, place_of, contains_or_not}
 use Rattle.content_laws.proofs.Meaning.{forth}
@@ -38,7 +38,7 @@ used_not_owner P I coherent j lt (IsUsed.node_kind x r) e = let some = reached_p
 used_not_owner P I coherent j lt (IsUsed.size x r) e = let some = reached_pos P I x r in descriptor-ne_inode P j 0 x 2 (omega (arith, some)) (reached-le P I coherent x r) (omega arith) (sym e)
 used_not_owner P I coherent j lt (IsUsed.own x r) e = let some = reached_pos P I x r in descriptor-ne_inode P j 0 x 3 (omega (arith, some)) (reached-le P I coherent x r) (omega arith) (sym e)
 
-module _ (P : ℕ) (W A B : List ℕ) (i z offset : ℕ) (bytes pages : List ℕ) (can : CanGrow P W i z offset bytes pages) (fills : FillsBytes P W A i offset bytes pages) (takes : TakesPages P A B i pages) where
+module _ (P : ℕ) (W A B : List ℕ) (i z offset : ℕ) (bytes pages : List ℕ) (can : CanGrow P W i z offset bytes pages) (fills : FillsFile P W A i offset bytes pages) (takes : TakesPages P A B i pages) where
   range : (j : ℕ) → Contains pages j → j < data_pages_of P
   range j c = (can.free j c).0
 

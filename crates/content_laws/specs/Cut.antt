@@ -48,7 +48,7 @@ with_size T i z = with_bytes T i (resized (bytes_of T i) z)
 
 -- A crash leaves W, which has not the new tree yet, or the new size, by the size word alone, and then what means what the new
 -- size leaves: tree and room are those of W, but for the file's bytes past its end. The last image is tidy, and means that too.
-pub record IsCutting (P : ℕ) (W J K : List ℕ) (i z : ℕ) : Type 0 where
+pub record LeavesCut (P : ℕ) (W J K : List ℕ) (i z : ℕ) : Type 0 where
   pub commit : (M : List ℕ) → IsMix W (sized W i z) M → (M ≡ W) ⊎ (M ≡ sized W i z)
   pub hangs : (M N : List ℕ) → IsMix W (sized W i z) M → IsMix W (sized W i z) N → inode_size N i ≡ inode_size M i → N ≡ M
   pub not_yet : (T : Tree) → ¬ Reads P W (with_size T i z)
@@ -60,7 +60,7 @@ pub record IsCutting (P : ℕ) (W J K : List ℕ) (i z : ℕ) : Type 0 where
   pub room : (room : Room) → HasRoom P W room → HasRoom P (sized W i z) room
 
 abbrev pub CutLaw : Type 0
-CutLaw = (P : ℕ) (W J K : List ℕ) (i z : ℕ) → CanCut P W i z → Cuts P W J K i z → IsCutting P W J K i z
+CutLaw = (P : ℕ) (W J K : List ℕ) (i z : ℕ) → CanCut P W i z → Cuts P W J K i z → LeavesCut P W J K i z
 
 -- The last image reads as the state after the command: its tree, and the room of W.
 pub record IsTruncated (P : ℕ) (K : List ℕ) (old : State) (path : Route) (z n : ℕ) : Type 0 where

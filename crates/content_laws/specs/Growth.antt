@@ -10,7 +10,7 @@ use Rattle.image_reading.specs.Tidy.{IsTidied}
 use Rattle.image_counts.specs.Entries.{IsFreePage}
 use Rattle.image_laws.specs.Frame.{SameMeaning}
 use Rattle.image_laws.specs.Quiet.{IsMix}
-use Rattle.content_laws.specs.Range.{IsInRange, IsWrittenByte, WritesBelow}
+use Rattle.content_laws.specs.Range.{IsInRange, IsWrittenByte, WritesBelow, WritesTail}
 use Rattle.content_laws.specs.Gained.{HasGained}
 use Rattle.content_laws.specs.Torn.{ReadsTorn, SameRange}
 
@@ -34,10 +34,10 @@ pub data IsFillWord (P : ℕ) (W : List ℕ) (i : ℕ) (pages : List ℕ) : ℕ 
 
 -- From W to A the range is written below the size, and past it in the file's old pages and in the new ones, which follow them;
 -- beside it there are zeros past the size. No other word changes.
-pub record FillsBytes (P : ℕ) (W A : List ℕ) (i offset : ℕ) (bytes pages : List ℕ) : Type 0 where
+pub record FillsFile (P : ℕ) (W A : List ℕ) (i offset : ℕ) (bytes pages : List ℕ) : Type 0 where
   pub size : length A ≡ length W
   pub below : WritesBelow P W A i offset bytes
-  pub tail : (o j : ℕ) → inode_size W i ≤ o → IsPageOf P W i (o / 4096) j → IsWrittenByte offset bytes o 0 (page_byte P A j (o % 4096))
+  pub tail : WritesTail P W A i offset bytes
   pub kinds : (k j : ℕ) → slice_get pages k ≡ Some j → page_kind P A j ≡ 1
   pub offsets : (k j : ℕ) → slice_get pages k ≡ Some j → page_offset P A j ≡ pages_of_size (inode_size W i) + k
   pub filled : (k j o : ℕ) → slice_get pages k ≡ Some j → o / 4096 ≡ pages_of_size (inode_size W i) + k → IsWrittenByte offset bytes o 0 (page_byte P A j (o % 4096))
@@ -55,7 +55,7 @@ sized B i z = set B (inode_word_of i 2) z
 
 -- A crash leaves the part of the range below the size torn, which hangs on those bytes alone, and where there is none what means
 -- W; then what means A, with the whole part and the old size; then that or the end. The end is tidy, with all the bytes.
-pub record IsGrowth (P : ℕ) (W A B C : List ℕ) (i z offset : ℕ) (bytes pages : List ℕ) : Type 0 where
+pub record LeavesGrown (P : ℕ) (W A B C : List ℕ) (i z offset : ℕ) (bytes pages : List ℕ) : Type 0 where
   pub torn : (M : List ℕ) → IsMix W A M → ReadsTorn P W M i offset bytes
   pub hangs : (M N : List ℕ) → IsMix W A M → IsMix W A N → SameRange P W M N i offset bytes → SameMeaning P M N
   pub filling : (M : List ℕ) → IsMix W A M → ((o : ℕ) → IsInRange offset bytes o → inode_size W i ≤ o) → SameMeaning P W M
@@ -68,4 +68,4 @@ pub record IsGrowth (P : ℕ) (W A B C : List ℕ) (i z offset : ℕ) (bytes pag
 
 abbrev pub GrowthLaw : Type 0
 GrowthLaw = (P : ℕ) (W A B : List ℕ) (i z offset : ℕ) (bytes pages : List ℕ) → CanGrow P W i z offset bytes pages
-    → FillsBytes P W A i offset bytes pages → TakesPages P A B i pages → IsGrowth P W A B (sized B i z) i z offset bytes pages
+    → FillsFile P W A i offset bytes pages → TakesPages P A B i pages → LeavesGrown P W A B (sized B i z) i z offset bytes pages

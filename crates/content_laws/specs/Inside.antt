@@ -27,7 +27,7 @@ pub record WritesInside (P : ℕ) (W J : List ℕ) (i offset : ℕ) (bytes : Lis
 
 -- A crash leaves the range torn and all else as it was, and what it leaves hangs on the bytes of the range alone. The end is
 -- tidy, and the file has the range.
-pub record IsWritten (P : ℕ) (W J : List ℕ) (i offset : ℕ) (bytes : List ℕ) : Type 0 where
+pub record LeavesWritten (P : ℕ) (W J : List ℕ) (i offset : ℕ) (bytes : List ℕ) : Type 0 where
   pub torn : (M : List ℕ) → IsMix W J M → ReadsTorn P W M i offset bytes
   pub hangs : (M N : List ℕ) → IsMix W J M → IsMix W J N → SameRange P W M N i offset bytes → SameMeaning P M N
   pub tidy : IsTidied P J
@@ -36,4 +36,4 @@ pub record IsWritten (P : ℕ) (W J : List ℕ) (i offset : ℕ) (bytes : List �
   pub index : HasGained P W J i []
 
 abbrev pub InsideLaw : Type 0
-InsideLaw = (P : ℕ) (W J : List ℕ) (i offset : ℕ) (bytes : List ℕ) → CanWrite P W i offset bytes → WritesInside P W J i offset bytes → IsWritten P W J i offset bytes
+InsideLaw = (P : ℕ) (W J : List ℕ) (i offset : ℕ) (bytes : List ℕ) → CanWrite P W i offset bytes → WritesInside P W J i offset bytes → LeavesWritten P W J i offset bytes

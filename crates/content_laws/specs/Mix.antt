@@ -7,15 +7,15 @@ use Rattle.image_laws.specs.Frame.{AllSameBytes, SameMeaning}
 use Rattle.image_laws.specs.Quiet.{IsMix, IsQuiet}
 
 -- a word of a page that holds bytes, or of a page without an owner, or such a page's kind or offset
-pub data IsContentWord (P : ℕ) (I : List ℕ) : ℕ → Type 0 where
-  bytes : (j w : ℕ) → j < data_pages_of P → w < 512 → page_kind P I j ≡ 1 → IsContentWord P I (page_word_of P j w)
-  free : (j w : ℕ) → j < data_pages_of P → w < 512 → page_owner P I j ≡ 0 → IsContentWord P I (page_word_of P j w)
-  descriptor : (j f : ℕ) → j < data_pages_of P → 1 ≤ f → f < 3 → page_owner P I j ≡ 0 → IsContentWord P I (descriptor_word_of P j f)
+pub data IsBytesWord (P : ℕ) (I : List ℕ) : ℕ → Type 0 where
+  bytes : (j w : ℕ) → j < data_pages_of P → w < 512 → page_kind P I j ≡ 1 → IsBytesWord P I (page_word_of P j w)
+  free : (j w : ℕ) → j < data_pages_of P → w < 512 → page_owner P I j ≡ 0 → IsBytesWord P I (page_word_of P j w)
+  descriptor : (j f : ℕ) → j < data_pages_of P → 1 ≤ f → f < 3 → page_owner P I j ≡ 0 → IsBytesWord P I (descriptor_word_of P j f)
 
 -- From I to J no other word changes.
 pub record StoresContent (P : ℕ) (I J : List ℕ) : Type 0 where
   pub size : length J ≡ length I
-  pub others : (a : ℕ) → ¬ IsContentWord P I a → word J a ≡ word I a
+  pub others : (a : ℕ) → ¬ IsBytesWord P I a → word J a ≡ word I a
 
 -- Such an interval changes no word that is used,
 abbrev pub ContentQuietLaw : Type 0

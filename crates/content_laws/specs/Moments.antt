@@ -6,7 +6,7 @@ use Rattle.tree_model.specs.Tree.{Tree, bytes_of}
 use Rattle.image_reading.specs.Reading.{Reads}
 use Rattle.image_laws.specs.Frame.{SameMeaning}
 use Rattle.image_laws.specs.Quiet.{IsMix}
-use Rattle.content_laws.specs.Growth.{CanGrow, FillsBytes, TakesPages, sized}
+use Rattle.content_laws.specs.Growth.{CanGrow, FillsFile, TakesPages, sized}
 use Rattle.content_laws.specs.Inside.{CanWrite, WritesInside}
 use Rattle.content_laws.specs.Torn.{SameRange}
 
@@ -29,10 +29,10 @@ IsLeft W A B C M = IsLeftEarly W A B M ⊎ IsMix B C M
 -- The reading hangs on the size and the bytes of the range below the old one.
 abbrev pub GrowthHangsLaw : Type 0
 GrowthHangsLaw = (P : ℕ) (W A B M N : List ℕ) (i z offset : ℕ) (bytes pages : List ℕ) (T : Tree) → CanGrow P W i z offset bytes pages
-    → FillsBytes P W A i offset bytes pages → TakesPages P A B i pages → IsLeft W A B (sized B i z) M → IsLeft W A B (sized B i z) N
+    → FillsFile P W A i offset bytes pages → TakesPages P A B i pages → IsLeft W A B (sized B i z) M → IsLeft W A B (sized B i z) N
     → inode_size N i ≡ inode_size M i → SameRange P W M N i offset bytes → Reads P M T → Reads P N T
 
 -- Before the third interval nothing reads as a tree in which the file has the new size.
 abbrev pub GrowthOnceLaw : Type 0
 GrowthOnceLaw = (P : ℕ) (W A B M : List ℕ) (i z offset : ℕ) (bytes pages new : List ℕ) (T : Tree) → CanGrow P W i z offset bytes pages
-    → FillsBytes P W A i offset bytes pages → TakesPages P A B i pages → IsLeftEarly W A B M → length new ≡ z → ¬ Reads P M (with_bytes T i new)
+    → FillsFile P W A i offset bytes pages → TakesPages P A B i pages → IsLeftEarly W A B M → length new ≡ z → ¬ Reads P M (with_bytes T i new)

@@ -21,3 +21,7 @@ pub record IsWrittenByte (offset : ℕ) (bytes : List ℕ) (o before after : ℕ
 abbrev pub WritesBelow : ℕ → List ℕ → List ℕ → ℕ → ℕ → List ℕ → Type 0
 WritesBelow P I J i offset bytes =
     (o j : ℕ) → o < inode_size I i → IsPageOf P I i (o / 4096) j → IsWrittenByte offset bytes o (page_byte P I j (o % 4096)) (page_byte P J j (o % 4096))
+
+-- From I to J each byte of the pages of file i behind its size is the range's, and beside it zero.
+abbrev pub WritesTail : ℕ → List ℕ → List ℕ → ℕ → ℕ → List ℕ → Type 0
+WritesTail P I J i offset bytes = (o j : ℕ) → inode_size I i ≤ o → IsPageOf P I i (o / 4096) j → IsWrittenByte offset bytes o 0 (page_byte P J j (o % 4096))

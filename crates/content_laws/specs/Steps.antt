@@ -7,7 +7,7 @@ use Rattle.tree_model.specs.declared.command.Command.TheVariants.{Write, Truncat
 use Rattle.image_reading.specs.Reading.{ReadsAs}
 use Rattle.image_laws.specs.CreateStep.{IsStepped}
 use Rattle.content_laws.specs.Inside.{CanWrite, WritesInside}
-use Rattle.content_laws.specs.Growth.{CanGrow, FillsBytes, TakesPages, sized}
+use Rattle.content_laws.specs.Growth.{CanGrow, FillsFile, TakesPages, sized}
 
 -- (No node is new: id n is not read.)
 abbrev pub InsideStepLaw : Type 0
@@ -16,10 +16,10 @@ InsideStepLaw = (P : ℕ) (W J : List ℕ) (old : State) (path : Route) (i offse
 
 abbrev pub WritePastStepLaw : Type 0
 WritePastStepLaw = (P : ℕ) (W A B : List ℕ) (old : State) (path : Route) (i offset n : ℕ) (bytes pages : List ℕ) → CanGrow P W i (offset + length bytes) offset bytes pages
-    → FillsBytes P W A i offset bytes pages → TakesPages P A B i pages → 0 < length bytes → id_at old.tree path ≡ Some i → ReadsAs P W old
+    → FillsFile P W A i offset bytes pages → TakesPages P A B i pages → 0 < length bytes → id_at old.tree path ≡ Some i → ReadsAs P W old
     → IsStepped P (sized B i (offset + length bytes)) old (Write path offset bytes) n
 
 abbrev pub LengthenStepLaw : Type 0
 LengthenStepLaw = (P : ℕ) (W A B : List ℕ) (old : State) (path : Route) (i z offset n : ℕ) (pages : List ℕ) → CanGrow P W i z offset [] pages
-    → FillsBytes P W A i offset [] pages → TakesPages P A B i pages → id_at old.tree path ≡ Some i → ReadsAs P W old
+    → FillsFile P W A i offset [] pages → TakesPages P A B i pages → id_at old.tree path ≡ Some i → ReadsAs P W old
     → IsStepped P (sized B i z) old (Truncate path z) n

@@ -2,3 +2,4 @@ pub mod InodeLaws
 mod Stored
 mod Line
 mod Zeros
+mod Covered

@@ -17,3 +17,5 @@ pub mod Releases
 mod Unlinked
 mod Cut
 mod Written
+mod FilePages
+mod FewBytes

@@ -17,7 +17,7 @@ pub struct FileSpan {
 
 impl FileSpan {
     // Whether one of the `count` bytes from byte `at` on gets a new value.
-    pub fn has_new(&self, at: u64, count: u64) -> bool
+    pub(crate) fn has_new(&self, at: u64, count: u64) -> bool
         requires range { self.now.offset + self.now.length ≤ 2 ^ 40 }
         requires place { at ≤ 2 ^ 40 }
         requires some { 0 < count }
@@ -53,7 +53,7 @@ impl FileSpan {
     }
 
     // What the word becomes whose bytes are those from byte `at` on.
-    pub fn word_after(&self, bytes: &[u8], at: u64, old: u64) -> u64
+    pub(crate) fn word_after(&self, bytes: &[u8], at: u64, old: u64) -> u64
         requires range { self.now.offset + self.now.length ≤ 2 ^ 40 }
         requires long { length bytes.now ≡ self.now.length }
         requires place { at ≤ 2 ^ 40 }

@@ -1,7 +1,7 @@
-// Pages on a volume of 16 pages: made pages of slots and given to an inode, and taken from one and freed.
+// Pages on a volume of 16 pages: made pages of slots or bytes and given to an inode, written to, and taken from one and freed.
 use crate::{Free, Live, PageH};
 use fence_token::{Clean, fence};
-use inode_state::{InodeH, Unlinked};
+use inode_state::{Cut, InodeH, Unlinked};
 use layout::Geometry;
 use pm_memory::RamPm;
 use pm_trait::{Event, Pm};
@@ -141,5 +141,90 @@ fn a_page_without_names(rt: HostRuntime) -> Result<(), Fail> {
     assert_eq!(rt; pm.image().get(1_064).copied(), Some(0));
     assert_eq!(rt; pm.image().get(1_065).copied(), Some(2));
     assert_eq!(rt; pm.events(), 2);
+    Ok(())
+}
+
+#[test]
+fn new_bytes_of_a_file(rt: HostRuntime) -> Result<(), Fail> {
+    let alloc = rt.alloc();
+    let mut old = vec![in alloc; 0; 1_536]?;
+    let data_pages = vec![in alloc; 7; 6_656]?;
+    old.extend_from_slice(data_pages.as_slice())?;
+    let mut pm = RamPm::new(alloc, old.as_slice())?;
+    pm.reserve(1_745)?;
+    let geometry = Geometry::of(16).ok_or("no volume")?;
+    assert_eq!(rt; geometry.data_pages, 13);
+    let numbers = [4, 2];
+    let free: PageH<Clean, Free> = PageH::at(&pm, &geometry, &numbers);
+    let filled = free
+        .fill_bytes(&mut pm, 0, 4_093, &[1, 2, 3, 4, 5, 6, 7, 8, 9])
+        .flush(&mut pm);
+    let token = fence(&mut pm)?;
+    let filled = filled.settle(&pm, &token);
+    let live = filled.claim(&mut pm, 3).flush(&mut pm);
+    let token = fence(&mut pm)?;
+    let live = live.settle(&pm, &token);
+    assert_eq!(rt; pm.events(), 1_164);
+    let written = live
+        .write_span(&mut pm, 0, 8_192, 4_095, &[170, 187])
+        .flush(&mut pm);
+    let token = fence(&mut pm)?;
+    let written = written.settle(&pm, &token);
+    assert_eq!(rt; pm.events(), 1_169);
+    let table = [
+        (1_040, 3),
+        (1_041, 1),
+        (1_042, 1),
+        (1_056, 3),
+        (1_057, 1),
+        (1_058, 0),
+        (2_559, 7),
+        (2_560, 0x0000_0908_0706_05bb),
+        (2_561, 0),
+        (3_584, 0),
+        (4_094, 0),
+        (4_095, 0xaa02_0100_0000_0000),
+        (4_096, 7),
+    ];
+    for (word, value) in table {
+        assert_eq!(rt; pm.image().get(word).copied(), Some(value), "at {word}");
+    }
+    assert_eq!(rt; pm.event(1_166), Event::Flush { line: 511 });
+    assert_eq!(rt; pm.event(1_167), Event::Flush { line: 320 });
+    let zeroed = written
+        .write_span(&mut pm, 0, 4_100, 4_100, &[])
+        .flush(&mut pm);
+    assert_eq!(rt; zeroed.pages(), [4, 2].as_slice());
+    assert_eq!(rt; pm.image().get(2_560).copied(), Some(0x0706_05bb));
+    assert_eq!(rt; pm.image().get(4_095).copied(), Some(0xaa02_0100_0000_0000));
+    assert_eq!(rt; pm.events(), 1_745);
+    Ok(())
+}
+
+#[test]
+fn pages_behind_the_end(rt: HostRuntime) -> Result<(), Fail> {
+    let alloc = rt.alloc();
+    let mut old = vec![in alloc; 0; 8_192]?;
+    old[544] = 1;
+    old[547] = 3;
+    old[1_040] = 3;
+    old[1_041] = 1;
+    old[1_042] = 1;
+    old[1_056] = 3;
+    old[1_057] = 1;
+    let mut pm = RamPm::new(alloc, old.as_slice())?;
+    pm.reserve(4)?;
+    let geometry = Geometry::of(16).ok_or("no volume")?;
+    assert_eq!(rt; geometry.inodes, 4);
+    assert_eq!(rt; geometry.data_pages, 13);
+    let numbers = [4, 2];
+    let file: InodeH<Clean, Cut> = InodeH::at(&pm, &geometry, 3);
+    let live: PageH<Clean, Live> = PageH::at(&pm, &geometry, &numbers);
+    let cut = live.cut_owner(&mut pm, &file).flush(&mut pm);
+    assert_eq!(rt; cut.pages(), [4, 2].as_slice());
+    for (word, value) in [(1_040, 0), (1_041, 1), (1_042, 1), (1_056, 0), (1_057, 1)] {
+        assert_eq!(rt; pm.image().get(word).copied(), Some(value), "at {word}");
+    }
+    assert_eq!(rt; pm.events(), 4);
     Ok(())
 }
