@@ -1,5 +1,5 @@
 -- What a medium of words holds once it was given some lines, of eight words each.
-use Rattle.std.specs.Prelude.{◌≡◌, ◌≢◌, ℕ, ◌+◌, ◌*◌, ◌<◌, Bool, true, false, ◌==◌, List, slice_index, Option, Some, None, ⊤}
+use Rattle.std.specs.Prelude.{◌≡◌, ◌⊎◌, ℕ, ◌+◌, ◌*◌, ◌<◌, ◌≤◌, Bool, true, false, ◌==◌, List, length, slice_index, Option, Some, None, ⊤}
 use Rattle.std.specs.List.{list_any}
 
 -- whether the line is one of these
@@ -10,10 +10,14 @@ is_listed lines line = list_any (λ listed. listed == line) lines
 abbrev pub KeepsListed : List ℕ → List ℕ → Type 0
 KeepsListed old new = (line : ℕ) → is_listed old line ≡ true → is_listed new line ≡ true
 
--- one line has these eight words, and all else is as it was
-pub record AddsLine (before after : List ℕ) (line : ℕ) (eight : List ℕ) : Type 0 where
-  pub given : (k : ℕ) → k < 8 → slice_index after (8 * line + k) ≡ slice_index eight k
-  pub kept : (other k : ℕ) → other ≢ line → k < 8 → slice_index after (8 * other + k) ≡ slice_index before (8 * other + k)
+-- these lines follow one another, from a line on
+abbrev pub IsRun : List ℕ → ℕ → Type 0
+IsRun lines line = (k : ℕ) → k < length lines → slice_index lines k ≡ line + k
+
+-- from a line on these words stand, and all else is as it was
+pub record AddsRun (before after : List ℕ) (line : ℕ) (run : List ℕ) : Type 0 where
+  pub given : (k : ℕ) → k < length run → slice_index after (8 * line + k) ≡ slice_index run k
+  pub kept : (k : ℕ) → (k < 8 * line) ⊎ (8 * line + length run ≤ k) → slice_index after k ≡ slice_index before k
 
 -- the listed lines have their words of these, and all else is as it was
 pub record AddsLines (before after words lines : List ℕ) : Type 0 where
@@ -21,10 +25,10 @@ pub record AddsLines (before after words lines : List ℕ) : Type 0 where
   pub kept : (line k : ℕ) → is_listed lines line ≡ false → k < 8 → slice_index after (8 * line + k) ≡ slice_index before (8 * line + k)
 
 -- the same where the medium tells its words
-abbrev pub HasLine : Option (List ℕ) → Option (List ℕ) → ℕ → List ℕ → Type 0
-HasLine None after line eight = ⊤
-HasLine (Some before) None line eight = ⊥
-HasLine (Some before) (Some after) line eight = AddsLine before after line eight
+abbrev pub HasRun : Option (List ℕ) → Option (List ℕ) → ℕ → List ℕ → Type 0
+HasRun None after line run = ⊤
+HasRun (Some before) None line run = ⊥
+HasRun (Some before) (Some after) line run = AddsRun before after line run
 
 abbrev pub HasLines : Option (List ℕ) → Option (List ℕ) → List ℕ → List ℕ → Type 0
 HasLines None after words lines = ⊤

@@ -2,7 +2,7 @@
 ghost use Rattle.std.specs.Prelude.{◌≡◌, ◌*◌, ◌^◌, ◌<◌, length};
 ghost use Rattle.pm_file.specs.Bytes.{place_of_line as line_place, place_of_page as page_place, bytes_of_words, HoldsWords};
 
-use crate::sizes::{BYTES_OF_A_LINE, BYTES_OF_A_PAGE, WORDS_OF_A_PAGE};
+use crate::sizes::{BYTES_OF_A_PAGE, WORDS_OF_A_PAGE};
 use byteorder::{ByteOrder, LittleEndian};
 use layout::{LINE_BYTES, PAGE_BYTES};
 
@@ -22,14 +22,12 @@ pub fn place_of_page(page: u64) -> u64
     PAGE_BYTES * page
 }
 
-/// The bytes of a line's words.
-pub fn bytes_of_line(words: &[u64]) -> [u8; BYTES_OF_A_LINE]
-    requires { length words.now ≡ 8 }
-    ensures { result ≡ bytes_of_words words.now }
+/// Puts the bytes of words into a buffer of just as many.
+pub fn put_words(words: &[u64], bytes: &mut [u8])
+    requires { length bytes.old ≡ 8 * length words.now }
+    ensures { bytes.new ≡ bytes_of_words words.now }
 {
-    let mut bytes = [0u8; BYTES_OF_A_LINE];
-    LittleEndian::write_u64_into(words, &mut bytes);
-    bytes
+    LittleEndian::write_u64_into(words, bytes);
 }
 
 /// The words of a page's bytes.

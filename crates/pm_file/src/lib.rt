@@ -1,4 +1,4 @@
-//! Persistent memory in a file: its words are read once, kept in memory, and given back line by line at each fence.
+//! Persistent memory in a file: its words are read once and kept in memory, and each fence gives it the flushed lines back.
 #![tactic(auto)]
 
 mod bytes;

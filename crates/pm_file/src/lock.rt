@@ -2,9 +2,9 @@
 ghost use Rattle.std.specs.Prelude.{◌≡◌, Bool, true, None, IsTrue, IfOk, OnErr};
 ghost use Rattle.pm_file.specs.Faults.{CountsFaults};
 
-use crate::bytes::{bytes_of_line, place_of_line, place_of_page, words_of_page};
+use crate::bytes::{place_of_line, place_of_page, put_words, words_of_page};
 use crate::medium::Medium;
-use crate::sizes::{BYTES_OF_A_PAGE, WORDS_OF_A_PAGE};
+use crate::sizes::{BYTES_OF_A_PAGE, BYTES_OF_A_RUN, BYTES_OF_A_WORD, WORDS_OF_A_PAGE};
 use std::fs::{File, OpenFile};
 use std::io;
 use std::io::{Read, Seek, SeekFrom, Write};
@@ -113,8 +113,11 @@ impl<F: Read + Write + Seek + OpenFile> Medium for Locked<F> {
         Ok(words_of_page(&bytes))
     }
 
-    fn write_line(&mut self, line: u64, words: &[u64]) -> io::Result<()> {
-        let written = write_at(&mut self.file, place_of_line(line), &bytes_of_line(words));
+    fn write_run(&mut self, line: u64, words: &[u64]) -> io::Result<()> {
+        let mut buffer = [0u8; BYTES_OF_A_RUN];
+        let bytes = &mut buffer[..BYTES_OF_A_WORD * words.len()];
+        put_words(words, bytes);
+        let written = write_at(&mut self.file, place_of_line(line), bytes);
         self.counted(written)
     }
 

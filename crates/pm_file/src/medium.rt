@@ -1,12 +1,12 @@
 // Where the words come from and go to.
-ghost use Rattle.std.specs.Prelude.{◌≡◌, ◌+◌, ◌*◌, ◌^◌, ◌<◌, ℕ, List, Option, length, IfOk, OnOk};
+ghost use Rattle.std.specs.Prelude.{◌≡◌, ◌+◌, ◌*◌, ◌^◌, ◌<◌, ◌≤◌, ℕ, List, Option, length, IfOk, OnOk};
 ghost use Rattle.pm_file.specs.Faults.{CountsFaults};
-ghost use Rattle.pm_file.specs.Given.{HasLine, ReadsFrom};
+ghost use Rattle.pm_file.specs.Given.{HasRun, ReadsFrom};
 
 use crate::sizes::WORDS_OF_A_PAGE;
 use std::io;
 
-/// A medium of words, which is read by pages and written by lines.
+/// A medium of words, which is read by pages and written by runs of lines.
 pub trait Medium {
     /// The words as a read finds them, where it tells them.
     ghost held: { Self → Option (List ℕ) };
@@ -25,11 +25,11 @@ pub trait Medium {
         ensures safe { safe self.new ≡ safe self.old }
         ensures faults { CountsFaults (faults self.old) (faults self.new) result };
 
-    /// Writes one line.
-    fn write_line(&mut self, line: u64, words: &[u64]) -> io::Result<()>
-        requires whole { length words.now ≡ 8 }
+    /// Writes words from a line on, at most those of 512 lines.
+    fn write_run(&mut self, line: u64, words: &[u64]) -> io::Result<()>
+        requires most { length words.now ≤ 8 * 512 }
         requires in_range { 64 * line < 2 ^ 63 }
-        ensures line { OnOk result (HasLine (held self.old) (held self.new) line words.now) }
+        ensures run { OnOk result (HasRun (held self.old) (held self.new) line words.now) }
         ensures faults { CountsFaults (faults self.old) (faults self.new) result };
 
     /// Waits until what was written is safe.

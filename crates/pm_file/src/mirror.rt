@@ -1,13 +1,13 @@
 // The words of a file in memory, and which of their lines the file has still to be given.
-ghost use Rattle.std.specs.Prelude.{◌≡◌, ◌+◌, ◌-◌, ◌*◌, ◌^◌, ◌<◌, ◌≤◌, ℕ, List, [], ◌∷◌, ◌++◌, ◌==◌, length, slice_index, slice_set, vec_len, count_by, IfOk, OnOk, OnErr, true};
+ghost use Rattle.std.specs.Prelude.{◌≡◌, ◌+◌, ◌-◌, ◌*◌, ◌^◌, ◌<◌, ◌≤◌, ℕ, List, [], ◌∷◌, ◌++◌, ◌==◌, length, slice_index, slice_set, vec_len, count_by, take, IfOk, OnOk, OnErr, true};
 ghost use Rattle.std.specs.Vec.{vec_capacity};
 ghost use Rattle.pm_file.specs.Faults.{CountsFaults};
-ghost use Rattle.pm_file.specs.Given.{is_listed, KeepsListed, HasLines, ReadsFrom};
+ghost use Rattle.pm_file.specs.Given.{is_listed, IsRun, KeepsListed, HasLines, ReadsFrom};
 ghost use Rattle.pm_file.specs.Room.{IsRoomFor};
 
 use crate::FileFault;
 use crate::medium::Medium;
-use crate::sizes::{LINES_OF_A_PAGE, WORDS_OF_A_LINE, WORDS_OF_A_PAGE};
+use crate::sizes::{LINES_OF_A_PAGE, LINES_OF_A_RUN, WORDS_OF_A_LINE, WORDS_OF_A_PAGE};
 use std::alloc::{AllocError, Global};
 use std::io;
 
@@ -50,16 +50,40 @@ fn read_pages<F: Medium>(
     Ok(())
 }
 
-/// Gives a medium each of the listed lines.
+/// How many lines at the front go to a medium in one write: each is the one after the line before it, and there are at
+/// most 512 of them.
+fn next_run(lines: &[u64]) -> usize
+    requires any { 0 < length lines.now }
+    requires in_range { 64 * slice_index lines.now 0 < 2 ^ 63 }
+    ensures any { 0 < result }
+    ensures within { result ≤ length lines.now }
+    ensures most { result ≤ 512 }
+    ensures run { IsRun (take result lines.now) (slice_index lines.now 0) }
+    ensures longest { result < length lines.now → result < 512 → ¬ IsRun (take (result + 1) lines.now) (slice_index lines.now 0) }
+{
+    let most = lines.len().min(LINES_OF_A_RUN);
+    for count in 1..most {
+        if lines[count] != lines[0] + count as u64 {
+            return count;
+        }
+    }
+    most
+}
+
+/// Gives a medium each of the listed lines, and those that follow one another in one write.
 fn write_lines<F: Medium>(medium: &mut F, words: &[u64], lines: &[u64]) -> io::Result<()>
     requires in_file { 8 * length words.now < 2 ^ 63 }
     requires in_range { (k : ℕ) → k < length lines.now → 8 * slice_index lines.now k + 8 ≤ length words.now }
     ensures lines { OnOk result (HasLines (F.held medium.old) (F.held medium.new) words.now lines.now) }
     ensures faults { CountsFaults (F.faults medium.old) (F.faults medium.new) result }
 {
-    for line in lines {
-        let first = *line as usize * WORDS_OF_A_LINE;
-        medium.write_line(*line, &words[first..first + WORDS_OF_A_LINE])?;
+    let mut done = 0;
+    while done < lines.len() {
+        let line = lines[done];
+        let count = next_run(&lines[done..]);
+        let first = line as usize * WORDS_OF_A_LINE;
+        medium.write_run(line, &words[first..first + count * WORDS_OF_A_LINE])?;
+        done += count;
     }
     Ok(())
 }

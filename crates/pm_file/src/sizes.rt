@@ -7,6 +7,11 @@ pub const LINES_OF_A_PAGE: usize = PAGE_LINES as usize;
 
 pub const WORDS_OF_A_PAGE: usize = PAGE_WORDS as usize;
 
-pub const BYTES_OF_A_LINE: usize = LINE_BYTES as usize;
+pub const BYTES_OF_A_WORD: usize = (LINE_BYTES / LINE_WORDS) as usize;
+
+/// The most lines that one write takes.
+pub const LINES_OF_A_RUN: usize = 512;
+
+pub const BYTES_OF_A_RUN: usize = LINES_OF_A_RUN * LINE_BYTES as usize;
 
 pub const BYTES_OF_A_PAGE: usize = PAGE_BYTES as usize;

@@ -152,13 +152,42 @@ fn a_file_that_gives_and_takes_few_bytes(rt: HostRuntime) -> Result<(), Fail> {
         rt,
         gives: 4_093,
         takes: 5,
+        takes_in_all: 65_536,
     };
     let mut device = FilePm::make(&few, rt.alloc(), path.as_str(), 16)?;
     assert!(rt; has_words(&rt, path.as_str(), device.image())?);
     device.store(8, 1);
     device.store(15, 2);
+    device.store(23, 3);
     device.flush(1);
+    device.flush(2);
     assert!(rt; device.fence().is_ok());
+    assert!(rt; has_words(&rt, path.as_str(), device.image())?);
+    Ok(fs::remove_file(&rt, path.as_path())?)
+}
+
+#[test]
+fn a_file_that_fails_within_the_second_run(rt: HostRuntime) -> Result<(), Fail> {
+    let path = fresh_path(&rt, "within")?;
+    let brief = Scanty {
+        rt,
+        gives: 4_096,
+        takes: 4_096,
+        takes_in_all: 128,
+    };
+    let mut device = FilePm::make(&brief, rt.alloc(), path.as_str(), 16)?;
+    device.store(40, 3);
+    device.store(15, 1);
+    device.store(16, 2);
+    device.store(8191, 4);
+    device.flush(5);
+    device.flush(1);
+    device.flush(2);
+    device.flush(1023);
+    assert!(rt; device.fence().is_err());
+    assert_eq!(rt; device.fences(), 0);
+    device.store(16, 0);
+    device.store(8191, 0);
     assert!(rt; has_words(&rt, path.as_str(), device.image())?);
     Ok(fs::remove_file(&rt, path.as_path())?)
 }
@@ -170,6 +199,7 @@ fn a_file_that_gives_or_takes_nothing(rt: HostRuntime) -> Result<(), Fail> {
         rt,
         gives: 4_096,
         takes: 0,
+        takes_in_all: 0,
     };
     let mut device = FilePm::make(&full, rt.alloc(), path.as_str(), 16)?;
     device.store(0, 1);
@@ -184,6 +214,7 @@ fn a_file_that_gives_or_takes_nothing(rt: HostRuntime) -> Result<(), Fail> {
         rt,
         gives: 0,
         takes: 64,
+        takes_in_all: 64,
     };
     let unread = FilePm::from_path(&empty, rt.alloc(), path.as_str());
     assert!(rt; matches!(unread, Err(FileFault::Failed)));

@@ -9,11 +9,12 @@ use std::io;
 use std::io::{Error, ErrorKind};
 use std::test::Fail;
 
-/// Words in memory, and those of them that are safe.
+/// Words in memory, and those of them that are safe. It takes so many writes more.
 #[derive(Drop)]
 struct Ram {
     words: Vec<u64>,
     safe: Vec<u64>,
+    writes_left: u64,
     faults: u64,
     ghost same_length: { length words.items ≡ length safe.items },
 }
@@ -36,12 +37,13 @@ impl Medium for Ram {
         Ok(words)
     }
 
-    fn write_line(&mut self, line: u64, words: &[u64]) -> io::Result<()> {
+    fn write_run(&mut self, line: u64, words: &[u64]) -> io::Result<()> {
         let first = WORDS_OF_A_LINE * line as usize;
-        if first + WORDS_OF_A_LINE > self.words.len() {
+        if self.writes_left == 0 || first + words.len() > self.words.len() {
             self.faults = self.faults.saturating_add(1);
             return Err(Error::from(ErrorKind::WriteZero));
         }
+        self.writes_left -= 1;
         put(&mut self.words, first, words);
         Ok(())
     }
@@ -60,32 +62,56 @@ fn put(all: &mut [u64], first: usize, words: &[u64])
     all[first..first + words.len()].copy_from_slice(words);
 }
 
-/// What a medium of so many zeros has safe once words were set and their lines written back.
-fn written_back(alloc: Global) -> Result<Vec<u64>, Fail> {
+/// The words of 16 pages, zeros, over a medium that takes so many writes. Five lines were flushed, which are three runs.
+fn flushed(alloc: Global, writes: u64) -> Result<Mirror<Ram>, Fail> {
     let words = vec![in alloc; 0u64; 8192]?;
     let safe = vec![in alloc; 0u64; 8192]?;
     let room = take_room(alloc, 16)?;
     let ram = Ram {
         words,
         safe,
+        writes_left: writes,
         faults: 0,
     };
     let mut mirror = Mirror::read_from(ram, room, 16)?;
+    mirror.set(48, 2);
     mirror.set(9, 3);
     mirror.set(8191, 4);
-    mirror.set(16, 5);
+    mirror.set(32, 5);
+    mirror.flush(6);
     mirror.flush(1);
+    mirror.flush(2);
+    mirror.flush(3);
     mirror.flush(1023);
-    mirror.write_back()?;
-    Ok(mirror.medium.safe.clone()?)
+    Ok(mirror)
+}
+
+/// How many of these words aren't zero.
+fn set_words(words: &[u64]) -> usize {
+    words.iter().filter(|word| **word != 0).count()
 }
 
 #[test]
-fn a_medium_in_memory_has_the_flushed_lines(rt: HostRuntime) -> Result<(), Fail> {
-    let safe = written_back(rt.alloc())?;
-    assert_eq!(rt; safe.len(), 8192);
-    assert_eq!(rt; safe[9], 3);
-    assert_eq!(rt; safe[8191], 4);
-    assert_eq!(rt; safe.iter().filter(|word| **word != 0).count(), 2);
+fn a_run_of_lines_is_one_write(rt: HostRuntime) -> Result<(), Fail> {
+    let mut mirror = flushed(rt.alloc(), 3)?;
+    mirror.write_back()?;
+    assert_eq!(rt; mirror.medium.writes_left, 0);
+    let safe = mirror.medium.safe.as_slice();
+    assert_eq!(rt; set_words(safe), 3);
+    assert!(rt; safe.get(48) == Some(&2) && safe.get(9) == Some(&3) && safe.get(8191) == Some(&4));
+    Ok(())
+}
+
+#[test]
+fn a_write_fails_between_runs(rt: HostRuntime) -> Result<(), Fail> {
+    let mut mirror = flushed(rt.alloc(), 2)?;
+    assert!(rt; mirror.write_back().is_err());
+    assert_eq!(rt; mirror.medium.faults, 1);
+    assert_eq!(rt; set_words(mirror.medium.words.as_slice()), 2);
+    assert_eq!(rt; set_words(mirror.medium.safe.as_slice()), 0);
+    mirror.medium.writes_left = 3;
+    mirror.write_back()?;
+    assert_eq!(rt; mirror.medium.faults, 1);
+    assert_eq!(rt; set_words(mirror.medium.safe.as_slice()), 3);
     Ok(())
 }

@@ -6,12 +6,14 @@ use std::io;
 use std::io::{Read, Seek, SeekFrom, Write};
 use std::rt::Files;
 
-/// Files of another file system of which a read gives at most so many bytes and a write takes at most so many.
+/// Files of another file system of which a read gives at most so many bytes and a write takes at most so many, and which
+/// take at most so many in all.
 #[derive(Drop)]
 pub struct Scanty<R> {
     pub rt: R,
     pub gives: usize,
     pub takes: usize,
+    pub takes_in_all: usize,
 }
 
 /// A file that shows whether its lock was taken.
@@ -20,6 +22,7 @@ pub struct ScantyFile<F> {
     file: F,
     gives: usize,
     takes: usize,
+    left: usize,
     is_taken: bool,
 }
 
@@ -32,8 +35,10 @@ impl<F: Read> Read for ScantyFile<F> {
 
 impl<F: Write> Write for ScantyFile<F> {
     fn write(&mut self, buf: &[u8]) -> io::Result<usize> {
-        let end = buf.len().min(self.takes);
-        self.file.write(&buf[..end])
+        let end = buf.len().min(self.takes).min(self.left);
+        let taken = self.file.write(&buf[..end])?;
+        self.left = self.left.saturating_sub(taken);
+        Ok(taken)
     }
 
     fn flush(&mut self) -> io::Result<()> {
@@ -75,12 +80,14 @@ impl<F: Lockable> Lockable for ScantyFile<F> {
             file,
             gives,
             takes,
+            left,
             is_taken: _,
         } = self;
         Ok(ScantyFile {
             file: file.lock()?,
             gives,
             takes,
+            left,
             is_taken: true,
         })
     }
@@ -96,6 +103,7 @@ impl<R: Files> Files for Scanty<R> {
             file: self.rt.open_file(how, path)?,
             gives: self.gives,
             takes: self.takes,
+            left: self.takes_in_all,
             is_taken: false,
         })
     }
