@@ -1,0 +1,176 @@
+-- A write of no bytes: nothing is to be done.
+use Rattle.std.proofs.Common.{◌≡◌, ◌≢◌, ◌⊎◌, ℕ, Bool, true, false, ◌==◌, cond, List, length, inl, inr, refl, sym, ap, subst, ◌∙◌, arith, true≢false}
+use Rattle.std.specs.Prelude.{Option, Some, Ok}
+use Rattle.std.proofs.lemmas.Bool.Decides.{nat_tests}
+use Rattle.pm_trait.specs.DeviceView.{DeviceView, IsSettledView}
+use Rattle.pm_trait.proofs.DeviceLaws.{leaves_here}
+use Rattle.pm_trait.proofs.DeviceViewLaws.{intervals_none}
+use Rattle.tree_model.specs.Capacity.{untaken}
+use Rattle.tree_model.specs.PathText.{Route}
+use Rattle.tree_model.specs.Run.{State}
+use Rattle.tree_model.specs.Step.{Count, step, id_of, least_free_id, tree_after, with_bytes, overwritten, outcome_of}
+use Rattle.tree_model.specs.Tree.{Tree, IsRoom, is_directory, bytes_of}
+use Rattle.tree_model.specs.declared.command.Command.{Command}
+use Rattle.tree_model.specs.declared.command.Command.TheVariants.{Write}
+use Rattle.tree_model.specs.declared.reply.Refusal.{Refusal}
+use Rattle.tree_model.specs.declared.reply.Reply.{Reply}
+use Rattle.tree_model.specs.declared.reply.Reply.TheVariants.{Count as Told}
+use Rattle.tree_model.proofs.RoomLaws.{room_after-same}
+use Rattle.image_reading.specs.Reading.{Reads}
+use Rattle.image_reading.specs.Soundness.{IsCoherent}
+use Rattle.image_reading.proofs.Tidied.{tidied}
+use Rattle.image_counts.proofs.States.{state_law}
+use Rattle.image_laws.specs.CreateStep.{IsStepped}
+use Rattle.volume.specs.Carried.{IsPlanFor, IsAtomic, LeavesState, Follows, Carries}
+use Rattle.volume.specs.Crashes.{MayReadAs}
+use Rattle.volume.specs.Deed.{Deed, WritesBytes, ChangesNothing, deed_of}
+use Rattle.volume.specs.Planned.{IsWritingFor, IsNothingOr}
+use Rattle.volume.specs.Stands.{StandsFor}
+use Rattle.volume.specs.Volume.{VolumeView}
+use Rattle.volume.specs.declared.plan.NewEntry.{NewEntry}
+use Rattle.volume.specs.declared.plan.NewName.{NewName}
+use Rattle.volume.specs.declared.plan.Reading.{Reading}
+use Rattle.volume.specs.declared.plan.Removal.{Removal}
+use Rattle.volume.specs.declared.plan.Writing.{Writing}
+use Rattle.volume.specs.declared.plan.Action.{Action}
+use Rattle.volume.specs.declared.plan.Action.TheVariants.{Nothing}
+use Rattle.volume.specs.declared.plan.Action.TheVariants as actions
+use Rattle.entry_steps.proofs.Answered.{follows_as}
+use Rattle.entry_steps.proofs.Moments.{Quietly}
+use Rattle.data_ops.specs.Writing.{IsWriteOf}
+use Rattle.data_ops.proofs.Stepping
+use Rattle.data_ops.proofs.Wheres.{stays_all}
+
+nothing_written : (writing : Writing) → ChangesNothing ≢ WritesBytes writing
+nothing_written writing e = cc
+
+none_by : (nothing : Bool) (For : Writing → Type 0) → IsNothingOr nothing (λ deed. (x : Writing) × (deed ≡ WritesBytes x) × For x) ChangesNothing → nothing ≡ true
+none_by true For plan = refl
+none_by false For (writing, is, for) = absurd (nothing_written writing is)
+
+zero : (n : ℕ) → (n == 0) ≡ true → n ≡ 0
+zero n test = grind (arith, nat_tests)
+
+module _ (volume : VolumeView) (device : DeviceView) (state : State) (path : Route) (offset : ℕ) (bytes : List ℕ) (plan : IsPlanFor volume device state (Write path offset bytes) Nothing) where
+  stands : StandsFor volume device state
+  stands = plan.stands
+
+  coherent : IsCoherent volume.size device.words
+  coherent = (tidied stands.tidy).coherent
+
+  test : (length bytes == 0) ≡ true
+  test = none_by (length bytes == 0) (IsWritingFor volume.size device.words state path offset bytes) plan.planned.plan_is
+
+  pub none : length bytes ≡ 0
+  none = zero (length bytes) test
+
+  -- the tree is as it was
+  same_tree : state.tree ≡ tree_after (least_free_id state.tree) state.tree (Write path offset bytes)
+  same_tree = sym (ap (λ (t : Bool). cond t state.tree (with_bytes state.tree (id_of state.tree path) (overwritten (bytes_of state.tree (id_of state.tree path)) offset bytes))) test)
+
+  is_stepped : IsStepped volume.size device.words state (Write path offset bytes) (least_free_id state.tree)
+  is_stepped =
+      let fits = (state_law volume.size device.words state coherent stands.reads).room in
+      record {
+        new = state;
+        reads = stands.reads;
+        tree = same_tree;
+        room = (
+          false,
+          sym (room_after-same (least_free_id state.tree) state.tree state.room (Write path offset bytes) false fits refl refl (λ x. ap (λ (tree : Tree). is_directory tree x) (sym same_tree))),
+          subst (λ (tree : Tree). IsRoom tree state.room) same_tree fits,
+        );
+      }
+
+  made : LeavesState volume volume device device state (Write path offset bytes) (Count (length bytes))
+  made = Stepping.leaves_state volume device state (Write path offset bytes) (Count (length bytes)) ChangesNothing stands plan.planned refl (λ gives. refl) device.words stands.tidy is_stepped volume device refl stands.knows refl stands.settled (omega arith)
+
+  reads_after : Reads volume.size device.words (step volume.size state.tree state.room (Write path offset bytes)).tree
+  reads_after =
+      subst (λ (tree : Tree). Reads volume.size device.words tree)
+      (same_tree ∙ sym (ap (λ (o : Option Refusal). (outcome_of o (untaken volume.size) (least_free_id state.tree) state.tree state.room (Write path offset bytes)).tree) plan.planned.accepted))
+      stands.reads.tree
+
+  atomic : IsAtomic volume.size device device state (Write path offset bytes)
+  atomic = record {
+    any_moment = leaves_here (Quietly (MayReadAs volume.size state (Some (Write path offset bytes)))) stands.settled (refl, record { sound = coherent; tree = state.tree; reads = stands.reads.tree; allowed = inl refl });
+    stays = stays_all (λ image. Reads volume.size image (step volume.size state.tree state.room (Write path offset bytes)).tree)
+        (leaves_here (Quietly (λ image. Reads volume.size image (step volume.size state.tree state.room (Write path offset bytes)).tree)) stands.settled (refl, reads_after)) (λ image has. has);
+  }
+
+  pub follows : {E : Type 0} (reply : Reply) → Follows {E = E} volume volume device device state (Write path offset bytes) (Count (length bytes)) (Ok reply)
+  follows reply = record { made = made; atomic = atomic }
+
+-- the plan of a write that has nothing to do
+pub carried_nothing : {E : Type 0} (volume : VolumeView) (device : DeviceView) (bytes : List ℕ) → length bytes ≡ 0 → IsSettledView device → volume.stopped ≡ false → Carries {E = E} volume volume device device Nothing (Count (length bytes)) (IsWriteOf bytes) (Ok (Told 0))
+carried_nothing {E} volume device bytes none settled going = record {
+  meaning = λ state command ours plan.
+      let (path, offset, is) = ours in
+      follows_as (Write path offset bytes) command is (follows volume device state path offset bytes (subst (λ (c : Command). IsPlanFor volume device state c Nothing) is plan) {E = E} (Told 0));
+  answered = record { reply = ap (λ (n : ℕ). let reply : Reply = Told n in reply) (sym none); going = going; knows = refl; stopped = tt; size = refl };
+  device = intervals_none device (Told 0) settled;
+  idle = λ none. (refl, refl);
+}
+
+-- ---- the actions of a write
+
+abbrev pub is_writing : Action → Bool
+is_writing (actions.Write writing) = true
+is_writing actions.Nothing = true
+is_writing (actions.Make entry) = false
+is_writing (actions.Name link) = false
+is_writing (actions.Remove removal) = false
+is_writing (actions.Resize resizing) = false
+is_writing (actions.Read reading) = false
+is_writing (actions.Status inode) = false
+is_writing (actions.Names inode) = false
+is_writing actions.Space = false
+
+-- an action of another call, that has no size either
+abbrev pub IsOther : Action → Type 0
+IsOther action =
+    ((entry : NewEntry) × (action ≡ actions.Make entry))
+    ⊎ (((link : NewName) × (action ≡ actions.Name link))
+    ⊎ (((removal : Removal) × (action ≡ actions.Remove removal))
+    ⊎ (((reading : Reading) × (action ≡ actions.Read reading))
+    ⊎ (((inode : ℕ) × (action ≡ actions.Status inode))
+    ⊎ (((inode : ℕ) × (action ≡ actions.Names inode))
+    ⊎ (action ≡ actions.Space))))))
+
+pub other_writes_none : (action : Action) → IsOther action → is_writing action ≡ false
+other_writes_none action (inl (entry, is)) = ap is_writing is
+other_writes_none action (inr (inl (link, is))) = ap is_writing is
+other_writes_none action (inr (inr (inl (removal, is)))) = ap is_writing is
+other_writes_none action (inr (inr (inr (inl (reading, is))))) = ap is_writing is
+other_writes_none action (inr (inr (inr (inr (inl (inode, is)))))) = ap is_writing is
+other_writes_none action (inr (inr (inr (inr (inr (inl (inode, is))))))) = ap is_writing is
+other_writes_none action (inr (inr (inr (inr (inr (inr is)))))) = ap is_writing is
+
+-- a test of deeds, of which those of a write pass
+abbrev writes_or_nothing : Deed → Bool
+writes_or_nothing (WritesBytes writing) = true
+writes_or_nothing ChangesNothing = true
+writes_or_nothing _ = false
+
+deed_by : (nothing : Bool) (For : Writing → Type 0) (deed : Deed) → IsNothingOr nothing (λ deed. (x : Writing) × (deed ≡ WritesBytes x) × For x) deed → writes_or_nothing deed ≡ true
+deed_by true For deed plan = ap writes_or_nothing plan
+deed_by false For deed (x, is, for) = ap writes_or_nothing is
+
+action_by : (action : Action) → writes_or_nothing (deed_of action) ≡ true → is_writing action ≡ true
+action_by (actions.Write writing) is = refl
+action_by actions.Nothing is = refl
+action_by (actions.Make entry) is = is
+action_by (actions.Name link) is = is
+action_by (actions.Remove removal) is = is
+action_by (actions.Resize resizing) is = is
+action_by (actions.Read reading) is = is
+action_by (actions.Status inode) is = is
+action_by (actions.Names inode) is = is
+action_by actions.Space is = is
+
+-- no other action is the plan of one
+pub no_other : (volume : VolumeView) (device : DeviceView) (state : State) (path : Route) (offset : ℕ) (bytes : List ℕ) (plan action : Action) → plan ≡ action → is_writing action ≡ false → IsPlanFor volume device state (Write path offset bytes) plan → ⊥
+no_other volume device state path offset bytes plan action is other planned =
+    let writes = action_by plan (deed_by (length bytes == 0) (IsWritingFor volume.size device.words state path offset bytes) (deed_of plan) planned.planned.plan_is) in
+    let clash : true ≡ false = sym writes ∙ ap is_writing is ∙ other in
+    absurd (true≢false clash)

@@ -1,0 +1,149 @@
+// Bytes are written into a file: in one interval inside its size, or with its growth.
+ghost use Rattle.std.specs.Prelude.{◌≡◌, ◌+◌, ◌*◌, ◌≤◌, ℕ, length};
+ghost use Rattle.pm_trait.specs.DeviceView.{StoresAndFences, MakesIntervals};
+ghost use Rattle.tree_model.specs.PathText.{Route};
+ghost use Rattle.tree_model.specs.Run.{State};
+ghost use Rattle.tree_model.specs.Step.{Count};
+ghost use Rattle.tree_model.specs.declared.command.Command.TheVariants.{Write};
+ghost use Rattle.volume.specs.Carried.{IsPlanFor, MayCarry, IsAtomic, Carries};
+ghost use Rattle.volume.specs.Costs.{span_events, fence_events, events_of_write, fences_of_write};
+ghost use Rattle.volume.specs.declared.plan.Writing.{Writing as Written};
+ghost use Rattle.volume.specs.declared.plan.Action.TheVariants.{Write as Writes};
+ghost use Rattle.entry_steps.specs.Steps.{MayFence};
+ghost use Rattle.data_ops.specs.Writing.{IsWriteOf, MayWriteInside, MayWriteBytes, IsWritingAt, StoresInside, HasStoredBytes};
+
+use crate::grow::{Growth, grow};
+use fence_token::{Clean, fence};
+use layout::{Geometry, PAGE_BYTES};
+use page_state::{Live, PageH};
+use pm_trait::{Pm, PmFault};
+use tree_model::Reply;
+use volume::{Action, LONGEST_FILE, Plan, Volume, Writing};
+
+// Writes bytes below the size of a file, whose pages these are.
+fn write_inside<P: Pm>(
+    pm: &mut P,
+    geometry: &Geometry,
+    inode: u64,
+    pages: &[u64],
+    offset: u64,
+    bytes: &[u8],
+) -> Result<(), PmFault>
+    requires whole { length (P.view pm.old).words ≡ 512 * geometry.now.pages }
+    requires may { MayWriteInside geometry.now.pages (P.view pm.old).words inode offset bytes.now pages.now }
+    requires begins { MayFence (P.view pm.old) (span_events offset (offset + length bytes.now) + fence_events) 1 }
+    ensures written { StoresInside geometry.now.pages (P.view pm.old).words (P.view pm.new).words inode offset
+        bytes.now }
+    ensures device { StoresAndFences (P.view pm.old) (P.view pm.new)
+        (span_events offset (offset + length bytes.now) + fence_events) result }
+{
+    let first = offset / PAGE_BYTES;
+    let end = (offset + bytes.len() as u64).div_ceil(PAGE_BYTES);
+    let part = &pages[first as usize..end as usize];
+    let live: PageH<Clean, Live> = PageH::at(pm, geometry, part);
+    let written = live.write_span(pm, first, LONGEST_FILE, offset, bytes);
+    let _flushed = written.flush(pm);
+    match fence(pm) {
+        Ok(_settled) => Ok(()),
+        Err(fault) => Err(fault),
+    }
+}
+
+// Writes bytes into a file on the device, whose pages these are.
+fn write_bytes<P: Pm>(
+    pm: &mut P,
+    geometry: &Geometry,
+    writing: &Writing,
+    pages: &[u64],
+    bytes: &[u8],
+) -> Result<(), PmFault>
+    requires whole { length (P.view pm.old).words ≡ 512 * geometry.now.pages }
+    requires may { MayWriteBytes geometry.now.pages (P.view pm.old).words writing.now bytes.now pages.now }
+    requires begins { MayFence (P.view pm.old) (events_of_write writing.now) 3 }
+    ensures stored { HasStoredBytes geometry.now.pages (P.view pm.old) (P.view pm.new) writing.now bytes.now result }
+    ensures atomic { (state : State) (path : Route) → IsWritingAt geometry.now.pages (P.view pm.old).words state path
+        bytes.now writing.now → IsAtomic geometry.now.pages (P.view pm.old) (P.view pm.new) state
+        (Write path writing.now.offset bytes.now) }
+    ensures device { MakesIntervals (P.view pm.old) (P.view pm.new) (events_of_write writing.now)
+        (fences_of_write writing.now) result }
+{
+    let end = writing.offset + writing.count;
+    if end <= writing.old_size {
+        return write_inside(pm, geometry, writing.inode, pages, writing.offset, bytes);
+    }
+    let growth = Growth {
+        inode: writing.inode,
+        old_size: writing.old_size,
+        new_size: end,
+        offset: writing.offset,
+    };
+    grow(
+        pm,
+        geometry,
+        &growth,
+        pages,
+        writing.new_pages.as_slice(),
+        bytes,
+    )
+}
+
+// Carries out a plan that writes bytes.
+fn carry_write<P: Pm>(
+    volume: &mut Volume,
+    writing: &Writing,
+    bytes: &[u8],
+    pm: &mut P,
+) -> Result<Reply, PmFault>
+    requires planned { (state : State) × (path : Route) × IsPlanFor volume.old (P.view pm.old) state
+        (Write path writing.now.offset bytes.now) (Writes writing.now) }
+    requires ready { MayCarry volume.old (P.view pm.old) (Writes writing.now) }
+    ensures carries { Carries volume.old volume.new (P.view pm.old) (P.view pm.new) (Writes writing.now)
+        (Count (length bytes.now)) (IsWriteOf bytes.now) result }
+    ensures stored { HasStoredBytes volume.old.size (P.view pm.old) (P.view pm.new) writing.now bytes.now result }
+{
+    let geometry = *volume.geometry();
+    let pages = volume.pages(writing.inode);
+    match write_bytes(pm, &geometry, writing, pages, bytes) {
+        Ok(()) => {
+            volume.enter_pages(writing.inode, writing.new_pages.as_slice());
+            Ok(Reply::Count(writing.count))
+        }
+        Err(fault) => {
+            volume.stop();
+            Err(fault)
+        }
+    }
+}
+
+/// Writes bytes into a file, by the plan of an accepted `write` of these bytes. It takes 1 fence where they end not past the size;
+/// else 2, and 3 where the file needs new pages; and none where there are no bytes. It takes no memory.
+///
+/// A crash at any moment leaves the old size, with each byte of the range below it the old or the new one, or the tree with all
+/// the bytes. Where a fence fails, the volume is stopped, and the device may have all, some or none of the bytes.
+pub fn apply_write<P: Pm>(
+    volume: &mut Volume,
+    plan: Plan,
+    bytes: &[u8],
+    pm: &mut P,
+) -> Result<Reply, PmFault>
+    requires planned { (state : State) × (path : Route) × (offset : ℕ) × IsPlanFor volume.old (P.view pm.old) state
+        (Write path offset bytes.now) plan }
+    requires ready { MayCarry volume.old (P.view pm.old) plan }
+    ensures carries { Carries volume.old volume.new (P.view pm.old) (P.view pm.new) plan (Count (length bytes.now))
+        (IsWriteOf bytes.now) result }
+    ensures stored { (writing : Written) → plan ≡ Writes writing → HasStoredBytes volume.old.size (P.view pm.old)
+        (P.view pm.new) writing bytes.now result }
+{
+    match plan.into_action() {
+        Action::Write(writing) => carry_write(volume, &writing, bytes, pm),
+        Action::Nothing => Ok(Reply::Count(0)),
+        Action::Resize(_resizing) => unreachable!(),
+        Action::Make(_)
+        | Action::Name(_)
+        | Action::Remove(_)
+        | Action::Read(_)
+        | Action::Status(_)
+        | Action::Names(_)
+        | Action::Space => unreachable!(),
+    }
+}
