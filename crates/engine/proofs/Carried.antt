@@ -1,10 +1,10 @@
 -- What a line leaves whose plan was carried out, or in which a fence failed.
-use Rattle.std.proofs.Common.{◌≡◌, ◌≢◌, inl, ℕ, ◌+◌, true, List, is_none, ◌&&◌, refl, sym, ap, subst, ◌∙◌, arith}
+use Rattle.std.proofs.Common.{◌≡◌, ◌≢◌, ◌⊎◌, inl, inr, ℕ, ◌+◌, Bool, true, false, cond, nat_lt, nat_le, List, [], ◌∷◌, is_none, ◌&&◌, refl, sym, ap, subst, ◌∙◌, arith}
 use Rattle.std.specs.Prelude.{IsTrue, None, Result, Ok, Err, OnOk, OnErr, IfOk}
 use Rattle.pm_trait.specs.DeviceView.{DeviceView}
 use Rattle.pm_trait.specs.Device.{EndsInFault}
 use Rattle.pm_trait.specs.declared.event.PmFault.{PmFault}
-use Rattle.tree_model.specs.Step.{Done, refusal_of}
+use Rattle.tree_model.specs.Step.{Answer, Done, Count, Status as StatusAnswer, Bytes as BytesAnswer, Listed, Space as SpaceAnswer, Refused, Unread, Fault, Stopped, refusal_of}
 use Rattle.tree_model.specs.Run.{State, is_changing, may_fail}
 use Rattle.tree_model.specs.Replies.{reply_of}
 use Rattle.tree_model.specs.declared.command.Command.{Command}
@@ -12,29 +12,65 @@ use Rattle.tree_model.specs.declared.reply.Reply.{Reply}
 use Rattle.volume.specs.Volume.{VolumeView}
 use Rattle.volume.specs.Carried.{IsPlanFor, LeavesState, Follows, Carries}
 use Rattle.volume.specs.Prepared.{IsChange}
-use Rattle.volume.specs.Costs.{fences_of_plan}
+use Rattle.volume.specs.Costs.{events_of, fences_for_loss, fences_for_growth, fences_of_plan}
 use Rattle.volume.specs.Deed.{MakesNode, AddsName, RemovesName, WritesBytes, SetsSize, ChangesNothing, deed_of}
 use Rattle.volume.specs.Planned.{IsPlanOf}
 use Rattle.volume.specs.declared.plan.Action.{Action}
 use Rattle.volume.specs.declared.plan.Action.TheVariants.{Make, Name, Remove, Write as WriteBytes, Resize, Nothing, Read as ReadBytes, Status, Names, Space}
-use Rattle.volume.proofs.Plans.{change_is, fences_of_plan-le}
-use Rattle.engine.specs.Deeds.{IsOfLine}
+use Rattle.volume.proofs.Plans.{is_change, change_is, fences_of_plan-le}
 use Rattle.engine.specs.Exec.{Executed, HasFailed, Does, LeavesVolume}
-use Rattle.engine.specs.Replies.{IsChangeReply}
+use Rattle.engine.specs.Replies.{IsTold, IsChangeReply}
 use Rattle.engine.specs.Session.{SessionView}
 
--- what changes something for a line takes a fence
-change_fences : (action : Action) → IsOfLine (deed_of action) → IsChange action → fences_of_plan (deed_of action) ≢ 0
-change_fences (Make entry) line is none = omega (arith, none)
-change_fences (Name link) line is none = omega (arith, none)
-change_fences (Remove removal) line is none = omega (arith, none)
-change_fences (WriteBytes writing) line is none = absurd line
-change_fences (Resize resizing) line is none = absurd line
-change_fences Nothing line is none = absurd line
-change_fences (ReadBytes reading) line is none = absurd line
-change_fences (Status inode) line is none = absurd is
-change_fences (Names inode) line is none = absurd is
-change_fences Space line is none = absurd is
+growth_fences : (pages : List ℕ) → fences_for_growth pages ≢ 0
+growth_fences [] none = omega (arith, none)
+growth_fences (page ∷ pages) none = omega (arith, none)
+
+either_some : (b : Bool) (one other : ℕ) → one ≢ 0 → other ≢ 0 → cond b one other ≢ 0
+either_some true one other some some_other = some
+either_some false one other some some_other = some_other
+
+-- what changes something takes a fence, or does nothing
+change_fences : (action : Action) → IsChange action → (fences_of_plan (deed_of action) ≢ 0) ⊎ (events_of (deed_of action) ≡ 0)
+change_fences (Make entry) is = inl (λ none. omega (arith, none))
+change_fences (Name link) is = inl (λ none. omega (arith, none))
+change_fences (Remove removal) is = inl (λ none. omega (arith, none))
+change_fences (WriteBytes writing) is =
+    inl (either_some (nat_le (writing.offset + writing.count) writing.old_size) 1 (fences_for_growth writing.new_pages) (λ none. omega (arith, none)) (growth_fences writing.new_pages))
+change_fences (Resize resizing) is =
+    inl (either_some (nat_lt resizing.old_size resizing.new_size) (fences_for_growth resizing.new_pages) (1 + fences_for_loss resizing.cut false) (growth_fences resizing.new_pages) (λ none. omega (arith, none)))
+change_fences Nothing is = inr refl
+change_fences (ReadBytes reading) is = absurd is
+change_fences (Status inode) is = absurd is
+change_fences (Names inode) is = absurd is
+change_fences Space is = absurd is
+
+-- a plan changes something where its deed does
+pub changing : (action : Action) → is_change (deed_of action) ≡ true → IsChange action
+changing (Make entry) is = tt
+changing (Name link) is = tt
+changing (Remove removal) is = tt
+changing (WriteBytes writing) is = tt
+changing (Resize resizing) is = tt
+changing Nothing is = tt
+changing (ReadBytes reading) is = absurd (cc is)
+changing (Status inode) is = absurd (cc is)
+changing (Names inode) is = absurd (cc is)
+changing Space is = absurd (cc is)
+
+-- ---- the answer of a change
+
+change_told : (session : SessionView) (device : DeviceView) (answer : Answer) → IsChangeReply (reply_of answer) → IsTold session device answer
+change_told session device Done is = tt
+change_told session device (Count n) is = tt
+change_told session device (StatusAnswer s) is = absurd is
+change_told session device (BytesAnswer bytes) is = absurd is
+change_told session device (Listed inode names) is = absurd is
+change_told session device (SpaceAnswer free) is = absurd is
+change_told session device (Refused refusal) is = absurd is
+change_told session device (Unread fault) is = absurd is
+change_told session device Fault is = absurd is
+change_told session device Stopped is = absurd is
 
 -- its command may change the tree
 change_may : (P : ℕ) (I : List ℕ) (state : State) (c : Command) (action : Action) → IsChange action → IsPlanOf P I state c (deed_of action) → is_changing c ≡ true
@@ -52,36 +88,39 @@ change_may P I state c Space is plan = absurd is
 accepted_change : (P : ℕ) (state : State) (c : Command) → is_changing c ≡ true → refusal_of P state.tree state.room c ≡ None → IsTrue (may_fail P state c)
 accepted_change P state c changes accepted = let none = ap is_none accepted in ap (λ b. b && is_none (refusal_of P state.tree state.room c)) changes ∙ none
 
-module _ (old new : SessionView) (before after : DeviceView) (action : Action) {IsOurs : Command → Type 0} where
-  pub does_carried : (state : State) (c : Command) (result : Result Reply PmFault) → IsOurs c → IsOfLine (deed_of action) → IsChange action → IsPlanFor old.volume before state c action
-      → Carries old.volume new.volume before after action Done IsOurs result → Does old new before after state (Ok c) result
-  does_carried state c result ours line change plan_for carries = record {
+module _ (old new : SessionView) (before after : DeviceView) (action : Action) (answer : Answer) {IsOurs : Command → Type 0} where
+  pub does_carried : (state : State) (c : Command) (result : Result Reply PmFault) → IsOurs c → IsChangeReply (reply_of answer) → IsChange action → IsPlanFor old.volume before state c action
+      → Carries old.volume new.volume before after action answer IsOurs result → Does old new before after state (Ok c) result
+  does_carried state c result ours told change plan_for carries = record {
     executed = executed result follows.made carries.answered.reply carries.device.counted;
     failed = failed result carries.device.halts;
     stays = follows.stays;
   }
     where
-      follows : Follows old.volume new.volume before after state c Done result
+      follows : Follows old.volume new.volume before after state c answer result
       follows = carries.meaning state c ours plan_for
 
       changes : is_changing c ≡ true
       changes = change_may old.volume.size before.words state c action change plan_for.planned.plan_is
 
-      executed : (result : Result Reply PmFault) → OnOk result (LeavesState old.volume new.volume before after state c Done) → IfOk result (λ replied. replied ≡ reply_of Done)
+      executed : (result : Result Reply PmFault) → OnOk result (LeavesState old.volume new.volume before after state c answer) → IfOk result (λ replied. replied ≡ reply_of answer)
           → OnOk result (after.fences ≡ before.fences + fences_of_plan (deed_of action)) → IfOk result (λ replied. Executed old.volume.size state (Ok c) new replied before after)
-      executed (Ok replied) left is_done made = record {
-        answer = Done;
+      executed (Ok replied) left is made = record {
+        answer = answer;
         new = left.later;
-        replied = record { reply_is = is_done; told = tt };
+        replied = record { reply_is = is; told = change_told new after answer told };
         step = inl left.steps;
         stands = left.stands;
         any_moment = follows.any_moment;
         no_ack = carries.device.no_ack;
         fences = left.fences;
-        quiet = λ none. let took = left.fences in absurd (change_fences action line change (omega (arith, took, none, made)));
-        no_memory = λ lacks. absurd (cc lacks);
+        quiet = λ none. let took = left.fences in elim (change_fences action change) [
+          | inl some ↦ absurd (some (omega (arith, took, none, made)))
+          | inr idle ↦ let same = (carries.idle idle).0 in (ap (λ (d : DeviceView). d.words) same, ap (λ (d : DeviceView). d.trail) same)
+        ];
+        no_memory = λ lacks. absurd (subst (λ (a : Answer). IsChangeReply (reply_of a)) lacks told);
       }
-      executed (Err fault) left is_done made = tt
+      executed (Err fault) left is made = tt
 
       failed : (result : Result Reply PmFault) → OnErr result (EndsInFault after.trail) → OnErr result (HasFailed old.volume.size state (Ok c) before after)
       failed (Ok replied) last = tt
@@ -92,16 +131,16 @@ module _ (old new : SessionView) (before after : DeviceView) (action : Action) {
         last = last;
       }
 
-module _ (old new : VolumeView) (before after : DeviceView) (action : Action) {IsOurs : Command → Type 0} where
-  pub leaves_carried : (result : Result Reply PmFault) → Carries old new before after action Done IsOurs result → LeavesVolume old new before after result
+module _ (old new : VolumeView) (before after : DeviceView) (action : Action) (answer : Answer) {IsOurs : Command → Type 0} (told : IsChangeReply (reply_of answer)) where
+  pub leaves_carried : (result : Result Reply PmFault) → Carries old new before after action answer IsOurs result → LeavesVolume old new before after result
   leaves_carried (Ok replied) carries =
       let answers = carries.answered in
       let device = carries.device in
       let few = fences_of_plan-le action in
       let most = device.most_fences in
       record {
-        quiet = λ not. absurd (not (subst IsChangeReply (sym answers.reply) tt));
-        same = λ not not_memory. absurd (not (subst IsChangeReply (sym answers.reply) tt));
+        quiet = λ not. absurd (not (subst IsChangeReply (sym answers.reply) told));
+        same = λ not not_memory. absurd (not (subst IsChangeReply (sym answers.reply) told));
         size = answers.size;
         going = answers.going;
         stopped = tt;
@@ -135,7 +174,7 @@ module _ (old new : VolumeView) (before after : DeviceView) (action : Action) {I
         acks = device.acks;
       }
 
-  -- it is answered Done
-  pub reads_carried : (X : Type 0) (result : Result Reply PmFault) → Carries old new before after action Done IsOurs result → IfOk result (λ replied. ¬ IsChangeReply replied → X)
-  reads_carried X (Ok replied) carries = λ not. absurd (not (subst IsChangeReply (sym carries.answered.reply) tt))
+  -- it is answered as a change
+  pub reads_carried : (X : Type 0) (result : Result Reply PmFault) → Carries old new before after action answer IsOurs result → IfOk result (λ replied. ¬ IsChangeReply replied → X)
+  reads_carried X (Ok replied) carries = λ not. absurd (not (subst IsChangeReply (sym carries.answered.reply) told))
   reads_carried X (Err fault) carries = tt

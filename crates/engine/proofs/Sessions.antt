@@ -11,7 +11,7 @@ use Rattle.tree_model.specs.Run.{Line, State}
 use Rattle.tree_model.specs.declared.reply.Reply.{Reply}
 use Rattle.volume.specs.Stands.{IsStanding}
 use Rattle.engine.specs.Session.{SessionView, Mounted, on}
-use Rattle.engine.specs.Exec.{Does, LeavesVolume, ExecutesLine, LeavesSession}
+use Rattle.engine.specs.Exec.{Does, LeavesVolume, KeepsBytes, ExecutesLine, LeavesSession}
 use Rattle.engine.specs.Turns.{MovesOn}
 use Rattle.engine.proofs.Acknowledged.{acknowledged}
 use Rattle.engine.proofs.Causes.{GoesOn}
@@ -38,7 +38,7 @@ module _ {old new : SessionView} {before after : DeviceView} {state : State} {li
 
 -- ---- what a line leaves of a session and its device
 
-pub leaves_ok : (old new : SessionView) (before between after : DeviceView) (reply : Reply) → new.bytes ≡ old.bytes → GoesOn reply
+pub leaves_ok : (old new : SessionView) (before between after : DeviceView) (reply : Reply) → KeepsBytes old.bytes new.bytes (Ok reply) → GoesOn reply
     → LeavesVolume old.volume new.volume before between (Ok reply) → Acknowledges between after → LeavesSession old new before after reply
 leaves_ok old new before between after reply bytes goes leaves acks = record {
   answered = λ is. record {
@@ -54,7 +54,7 @@ leaves_ok old new before between after reply bytes goes leaves acks = record {
   };
   failed = λ is. absurd (apart is leaves.going);
   size = leaves.size;
-  bytes = λ not. bytes;
+  bytes = bytes;
   faults = let one = leaves.faults in let two = acks.faults in omega (arith, one, two);
   refused = let one = leaves.refused in let two = acks.refused in omega (arith, one, two);
   not_refused = λ not. acks.refused ∙ leaves.not_refused not;

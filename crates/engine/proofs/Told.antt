@@ -1,15 +1,16 @@
 -- What is told of an accepted command that changes nothing.
-use Rattle.std.proofs.Common.{◌≡◌, ℕ, ◌≤◌, true, false, List, [], ◌∷◌, length, Option, Some, None, is_some, unwrap_or, refl, sym, ap, subst, ◌∙◌}
+use Rattle.std.proofs.Common.{◌≡◌, ℕ, ◌≤◌, true, false, List, [], ◌∷◌, length, take, drop, Option, Some, None, is_some, unwrap_or, refl, sym, ap, subst, ◌∙◌}
 use Rattle.std.specs.Prelude.{IsTrue}
 use Rattle.pm_trait.specs.DeviceView.{DeviceView}
 use Rattle.tree_model.specs.PathText.{Route}
-use Rattle.tree_model.specs.Tree.{Tree, Room, Node, Directory, File, IsTree, IsRoom, root_id, node_at, id_at, is_directory, is_directory_node, is_file, is_file_node}
+use Rattle.tree_model.specs.Tree.{Tree, Room, Node, Directory, File, IsTree, IsRoom, root_id, node_at, id_at, is_directory, is_directory_node, is_file, is_file_node, bytes_of}
 use Rattle.tree_model.specs.Capacity.{untaken}
 use Rattle.tree_model.specs.Walk.{walk}
 use Rattle.tree_model.proofs.WalkLaws.{id_at-from_walk}
+use Rattle.tree_model.proofs.AcceptedLaws.{Accepted-from_row}
 use Rattle.tree_model.proofs.Accepted.{first-none, at-none, fault_of-none}
 use Rattle.tree_model.proofs.RoomLaws.{room_after-same}
-use Rattle.tree_model.specs.Step.{Answer, Status as StatusAnswer, Listed, Space as SpaceAnswer, at, fault_of, id_of, gaining, losing, names_in, status_of, space_of, answer_of, tree_after, least_free_id, refusal_of, outcome_of, step, RoomAfter}
+use Rattle.tree_model.specs.Step.{Answer, Status as StatusAnswer, Bytes as BytesAnswer, Listed, Space as SpaceAnswer, at, fault_of, id_of, read_limit, gaining, losing, names_in, status_of, space_of, answer_of, tree_after, least_free_id, refusal_of, outcome_of, step, RoomAfter}
 use Rattle.tree_model.specs.Run.{State, IsVolumeState, Steps, is_changing}
 use Rattle.tree_model.specs.declared.command.Command.{Command}
 use Rattle.tree_model.specs.declared.command.Command.TheVariants.{Create, Mkdir, Link, Unlink, Rmdir, Rename, Write, Truncate, Read, Stat as Tell, List as Show, Df}
@@ -22,10 +23,11 @@ use Rattle.image_counts.proofs.States.{state_law}
 use Rattle.volatile_index.specs.Index.{inodes_of_index, entries_of}
 use Rattle.volume.specs.Volume.{VolumeView}
 use Rattle.volume.specs.Stands.{StandsFor, HasNode}
-use Rattle.volume.specs.Deed.{TellsNode, ListsNames, TellsSpace, deed_of}
+use Rattle.volume.specs.Deed.{ReadsBytes, TellsNode, ListsNames, TellsSpace, deed_of}
 use Rattle.volume.specs.Planned.{IsPlanOf}
+use Rattle.volume.specs.declared.plan.Reading.{Reading}
 use Rattle.volume.specs.declared.plan.Action.{Action}
-use Rattle.volume.specs.declared.plan.Action.TheVariants.{Status, Names, Space}
+use Rattle.volume.specs.declared.plan.Action.TheVariants.{Read as ReadAction, Status, Names, Space}
 use Rattle.volume.specs.Carried.{IsPlanFor}
 use Rattle.engine.specs.Replies.{IsReplyOf}
 use Rattle.engine.specs.Session.{session_of}
@@ -91,6 +93,11 @@ module _ (P : ℕ) (T : Tree) (room : Room) (path : Route) (t : IsTree T) where
       let file = at-none NotDir (is_file T (id_of T path)) (first-none (at NotDir (is_file T (id_of T path))) [] walk_none.1).0 in
       only_directory (node_at T (id_of T path)) (walked walk_none.0) file
 
+  pub read_there : (offset count : ℕ) → refusal_of P T room (Read path offset count) ≡ None → IsTrue (is_file T (id_of T path)) × (count ≤ read_limit)
+  read_there offset count e =
+      let may = Accepted-from_row (untaken P) T room (Read path offset count) t e in
+      (ap (is_file T) may.source.is ∙ ap is_file_node may.source.file, may.within)
+
 -- ---- the command of a plan that makes nothing
 
 module _ (P : ℕ) (I : List ℕ) (state : State) where
@@ -121,6 +128,29 @@ module _ (P : ℕ) (I : List ℕ) (state : State) where
   names_of_plan (Tell path) inode reads plan = absurd (cc plan)
   names_of_plan (Show path) inode reads plan = (path, refl, cc plan)
   names_of_plan Df inode reads plan = absurd (cc plan)
+
+  same_reading : (one other : Reading) → ReadsBytes one ≡ ReadsBytes other → one ≡ other
+  same_reading one other e = cc e
+
+  pub reading_of_plan : (c : Command) (reading : Reading) → is_changing c ≡ false → IsPlanOf P I state c (ReadsBytes reading)
+      → (path : Route) × (c ≡ Read path reading.offset reading.count) × (id_at state.tree path ≡ Some reading.inode)
+  reading_of_plan (Create path) reading reads plan = absurd (cc reads)
+  reading_of_plan (Mkdir path) reading reads plan = absurd (cc reads)
+  reading_of_plan (Link from to) reading reads plan = absurd (cc reads)
+  reading_of_plan (Unlink path) reading reads plan = absurd (cc reads)
+  reading_of_plan (Rmdir path) reading reads plan = absurd (cc reads)
+  reading_of_plan (Rename from to) reading reads plan = absurd (cc reads)
+  reading_of_plan (Write path offset bytes) reading reads plan = absurd (cc reads)
+  reading_of_plan (Truncate path size) reading reads plan = absurd (cc reads)
+  reading_of_plan (Read path offset count) reading reads (other, is, for) =
+      let same = same_reading reading other is in (
+        path,
+        ap (λ (o : ℕ). Read path o count) (sym (ap (λ (r : Reading). r.offset) same ∙ for.offset_is)) ∙ ap (Read path reading.offset) (sym (ap (λ (r : Reading). r.count) same ∙ for.count_is)),
+        for.inode_is ∙ ap (λ (r : Reading). Some r.inode) (sym same),
+      )
+  reading_of_plan (Tell path) reading reads plan = absurd (cc plan)
+  reading_of_plan (Show path) reading reads plan = absurd (cc plan)
+  reading_of_plan Df reading reads plan = absurd (cc plan)
 
   pub space_of_plan : (c : Command) → is_changing c ≡ false → IsPlanOf P I state c TellsSpace → c ≡ Df
   space_of_plan (Create path) reads plan = absurd (cc reads)
@@ -189,6 +219,23 @@ module _ (volume : VolumeView) (device : DeviceView) where
           reply_is = ap (λ (n : ℕ). reply.Names inode n) counted;
           told = record { state = state; stands = planned.stands; going = going; directory = directory_listed inode is; names_are = refl; all = sym indexed ∙ counted };
         })
+
+    -- the file that is read
+    pub file_read : (reading : Reading) → action ≡ ReadAction reading → IsTrue (is_file state.tree reading.inode) × (reading.count ≤ read_limit)
+    file_read reading is =
+        let (path, c_is, inode_is) = reading_of_plan volume.size device.words state c reading reads (subst (λ (a : Action). IsPlanOf volume.size device.words state c (deed_of a)) is planned.planned.plan_is) in
+        let there = read_there volume.size state.tree state.room path (state_is planned.stands).tree reading.offset reading.count (ap (refusal_of volume.size state.tree state.room) (sym c_is) ∙ planned.planned.accepted) in
+        (subst (λ (id : ℕ). IsTrue (is_file state.tree id)) (id_is volume.size state.tree state.room path (state_is planned.stands).tree reading.inode inode_is) there.0, there.1)
+
+    pub read_replied : (bytes : List ℕ) (reading : Reading) (count : ℕ) → action ≡ ReadAction reading → bytes ≡ take reading.count (drop reading.offset (bytes_of state.tree reading.inode)) → count ≡ length bytes
+        → IsReplyOf (session_of volume bytes) device (step volume.size state.tree state.room c).answer (reply.Bytes count)
+    read_replied bytes reading count is read counted =
+        let (path, c_is, inode_is) = reading_of_plan volume.size device.words state c reading reads (subst (λ (a : Action). IsPlanOf volume.size device.words state c (deed_of a)) is planned.planned.plan_is) in
+        let id = id_is volume.size state.tree state.room path (state_is planned.stands).tree reading.inode inode_is in
+        subst (λ (answer : Answer). IsReplyOf (session_of volume bytes) device answer (reply.Bytes count))
+        (answered_by (BytesAnswer bytes) (ap (answer_of (untaken volume.size) state.tree state.room) c_is
+        ∙ ap (λ (i : ℕ). BytesAnswer (take reading.count (drop reading.offset (bytes_of state.tree i)))) id ∙ ap BytesAnswer (sym read)))
+        (record { reply_is = ap reply.Bytes counted; told = refl })
 
     pub space_replied : (bytes : List ℕ) (free : Free) → action ≡ Space → free ≡ space_of (untaken volume.size) state.tree state.room
         → IsReplyOf (session_of volume bytes) device (step volume.size state.tree state.room c).answer (reply.Space free)

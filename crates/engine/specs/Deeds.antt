@@ -1,16 +1,18 @@
--- What the plan of a line's command does.
-use Rattle.volume.specs.Deed.{Deed, MakesNode, AddsName, RemovesName, MovesName, WritesBytes, SetsSize, ChangesNothing, ReadsBytes, TellsNode, ListsNames, TellsSpace}
+-- Which commands set the contents of a file.
+use Rattle.tree_model.specs.declared.command.Command.{Command}
+use Rattle.tree_model.specs.declared.command.Command.TheVariants.{Create, Mkdir, Link, Unlink, Rmdir, Rename, Write, Truncate, Read, Stat as Tell, List as Show, Df}
 
--- a command that a line may give does this
-abbrev pub IsOfLine : Deed → Type 0
-IsOfLine (MakesNode entry) = Unit {0}
-IsOfLine (AddsName link) = Unit {0}
-IsOfLine (RemovesName removal) = Unit {0}
-IsOfLine (MovesName moving) = ⊥
-IsOfLine (WritesBytes writing) = ⊥
-IsOfLine (SetsSize resizing) = ⊥
-IsOfLine ChangesNothing = ⊥
-IsOfLine (ReadsBytes reading) = ⊥
-IsOfLine (TellsNode inode) = Unit {0}
-IsOfLine (ListsNames inode) = Unit {0}
-IsOfLine TellsSpace = Unit {0}
+-- it writes bytes, or gives a file another size
+abbrev pub SetsContents : Command → Type 0
+SetsContents (Create path) = ⊥
+SetsContents (Mkdir path) = ⊥
+SetsContents (Link from to) = ⊥
+SetsContents (Unlink path) = ⊥
+SetsContents (Rmdir path) = ⊥
+SetsContents (Rename from to) = ⊥
+SetsContents (Write path offset bytes) = Unit {0}
+SetsContents (Truncate path size) = Unit {0}
+SetsContents (Read path offset count) = ⊥
+SetsContents (Tell path) = ⊥
+SetsContents (Show path) = ⊥
+SetsContents Df = ⊥

@@ -1,5 +1,5 @@
 -- What one line of a script does to a volume and its device.
-use Rattle.std.specs.Prelude.{◌≡◌, ◌≢◌, ◌⊎◌, ℕ, ◌+◌, ◌<◌, ◌≤◌, true, false, IsTrue, Some, None, Result, IfOk, OnOk, OnErr}
+use Rattle.std.specs.Prelude.{◌≡◌, ◌≢◌, ◌⊎◌, ℕ, ◌+◌, ◌<◌, ◌≤◌, true, false, IsTrue, List, Some, None, Result, Ok, Err, IfOk, OnOk, OnErr}
 use Rattle.pm_trait.specs.declared.event.Event.TheVariants.{Ack}
 use Rattle.pm_trait.specs.declared.event.PmFault.{PmFault}
 use Rattle.pm_trait.specs.Trail.{Trail}
@@ -79,6 +79,11 @@ pub record LeavesVolume (old new : VolumeView) (before after : DeviceView) (resu
   pub fault_not_refused : OnErr result (after.refused ≡ before.refused)
   pub fences : after.fences ≤ before.fences + most_fences
   pub acks : after.acks ≡ before.acks
+
+-- only a read changes the bytes of the last one
+abbrev pub KeepsBytes : List ℕ → List ℕ → Result Reply PmFault → Type 0
+KeepsBytes old new (Ok reply) = ((count : ℕ) → reply ≢ replies.Bytes count) → new ≡ old
+KeepsBytes old new (Err fault) = new ≡ old
 
 -- ---- with the acknowledgement
 

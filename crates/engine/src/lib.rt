@@ -2,6 +2,7 @@
 #![tactic(auto)]
 
 mod command;
+mod last_read;
 mod laws;
 mod listing;
 mod session;

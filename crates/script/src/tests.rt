@@ -19,6 +19,9 @@ fn word_of(alloc: Global, line: &[u8]) -> Result<&'static str, Fail> {
         Call::Do(Command::Link { .. }) => "link",
         Call::Do(Command::Unlink { .. }) => "unlink",
         Call::Do(Command::Rmdir { .. }) => "rmdir",
+        Call::Do(Command::Write { .. }) => "write",
+        Call::Do(Command::Truncate { .. }) => "truncate",
+        Call::Do(Command::Read { .. }) => "read",
         Call::Do(Command::Stat { .. }) => "stat",
         Call::Do(Command::List { .. }) => "list",
         Call::Do(Command::Df) => "df",
@@ -60,6 +63,18 @@ fn calls(rt: HostRuntime) -> Result<(), Fail> {
         ("unlink /a 1", "BadLine"),
         ("rmdir /a", "rmdir"),
         ("rmdir", "BadLine"),
+        ("write /a 0 61fF", "write"),
+        ("write /a 0 -", "write"),
+        ("write /a 0 6", "BadLine"),
+        ("write a 0 6g", "BadLine"),
+        ("write a 18446744073709551616 61", "BadLine"),
+        ("write a 0 61", "BadPath"),
+        ("truncate /a 00000000000000000001", "truncate"),
+        ("truncate a -", "BadLine"),
+        ("read /a 0 18446744073709551615", "read"),
+        ("read a 000000000000000000001 1", "BadLine"),
+        ("read /a 0", "BadLine"),
+        ("read /a 0 1 2", "BadLine"),
         ("rename /a /b", "BadLine"),
         ("frob a", "BadLine"),
         ("create a", "BadPath"),
@@ -94,6 +109,30 @@ fn long_calls(rt: HostRuntime) -> Result<(), Fail> {
             wanted,
             "at {start} and {count}"
         );
+    }
+    Ok(())
+}
+
+#[test]
+fn bytes_are_decoded(rt: HostRuntime) -> Result<(), Fail> {
+    let mut scratch = vec![in rt.alloc(); 7; 32_768]?;
+    let Call::Do(Command::Write { offset, bytes, .. }) = Call::parse(
+        b"write /a 9 00fFa1",
+        &mut scratch,
+    ) else {
+        return Err("no write".into());
+    };
+    assert_eq!(rt; offset, 9);
+    assert_eq!(rt; bytes.as_slice(), [0, 255, 161].as_slice());
+    Ok(())
+}
+
+#[test]
+fn longest_write(rt: HostRuntime) -> Result<(), Fail> {
+    for (count, wanted) in [(65_524, "write"), (65_526, "BadLine")] {
+        let mut line = Vec::from_slice(rt.alloc(), b"write /a 0 ")?;
+        line.extend_from_slice(vec![in rt.alloc(); b'6'; count]?.as_slice())?;
+        assert_eq!(rt; word_of(rt.alloc(), &line)?, wanted, "at {count}");
     }
     Ok(())
 }

@@ -1,12 +1,14 @@
-ghost use Rattle.std.specs.Prelude.{◌≡◌, ◌<◌, ◌∷◌, [], ◌==◌, false, length, slice_index, MatchOption};
+ghost use Rattle.std.specs.Prelude.{◌≡◌, ◌<◌, ◌≤◌, ◌∷◌, [], ◌==◌, false, length, slice_index, IfSome, MatchOption};
 ghost use Rattle.script.specs.Lines.{words_of, is_space};
 
 use crate::places::first_place;
 
 // The first word of a text, and the text behind it.
 pub fn next_word(text: &[u8]) -> Option<(&[u8], &[u8])>
-    ensures { MatchOption result (words_of text.now ≡ [])
+    ensures found { MatchOption result (words_of text.now ≡ [])
         (λ found. words_of text.now ≡ found.0.now ∷ words_of found.1.now) }
+    ensures word_within { IfSome result (λ found. length found.0.now ≤ length text.now) }
+    ensures rest_within { IfSome result (λ found. length found.1.now ≤ length text.now) }
 {
     let text = without_spaces(text);
     if text.is_empty() {
@@ -21,6 +23,7 @@ pub fn next_word(text: &[u8]) -> Option<(&[u8], &[u8])>
 // The text from its first byte that is no space.
 fn without_spaces(text: &[u8]) -> &[u8]
     ensures words { words_of result.now ≡ words_of text.now }
+    ensures within { length result.now ≤ length text.now }
     ensures first { 0 < length result.now → is_space (slice_index result.now 0) ≡ false }
 {
     for (place, byte) in text.iter().enumerate() {

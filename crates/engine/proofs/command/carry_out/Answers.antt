@@ -1,197 +1,64 @@
-use Rattle.std.proofs.Common.{refl, sym, ap, subst, ◌∙◌}
-use Rattle.tree_model.specs.declared.command.Command.{Command}
+use Rattle.std.proofs.Common.{ℕ, List, refl, sym, subst, ◌∙◌}
+use Rattle.std.specs.Prelude.{Result, Ok, Err}
+use Rattle.pm_trait.specs.declared.event.PmFault.{PmFault}
+use Rattle.tree_model.specs.declared.reply.Reply.{Reply}
 use Rattle.tree_model.specs.declared.reply.Reply.TheVariants as reply
-use Rattle.volume.specs.Carried.{IsPlanFor}
-use Rattle.volume.specs.Deed.{deed_of}
-use Rattle.volume.specs.Planned.{IsPlanOf, IsPlanned}
-use Rattle.volume.specs.declared.plan.Action.{Action}
-use Rattle.volume.specs.Prepared.{IsChange, making}
-use Rattle.layout.specs.declared.kinds.NodeKind.{NodeKind}
+use Rattle.volume.specs.Prepared.{IsChange}
+use Rattle.volume.proofs.Plans.{telling_reads}
+use Rattle.engine.specs.Exec.{KeepsBytes}
 use Rattle.engine.specs.Session.{session_of}
-use Rattle.volume.proofs.Plans.{planned_making, telling_reads}
-use Rattle.volume.proofs.PlanDeeds.{planned_linking}
-use Rattle.engine.proofs.Carried.{does_carried, leaves_carried, reads_carried}
 use Rattle.engine.proofs.Commands.{does_told, leaves_still}
-use Rattle.engine.proofs.Removals.{removing, planned_removal}
-use Rattle.engine.proofs.Told.{node_told, directory_listed, directory_within, status_replied, names_replied, space_replied, state_is}
+use Rattle.engine.proofs.Told.{file_read, read_replied}
 use Rattle.engine.proofs.command.carry_out.Goals as goal
 
--- ---- an entry is made
+kept : (bytes : List ℕ) (result : Result Reply PmFault) → KeepsBytes bytes bytes result
+kept bytes (Ok reply) = λ not. refl
+kept bytes (Err fault) = refl
 
-pub apply_create-requires-clause-planned : goal.apply_create-requires-clause-planned
-apply_create-requires-clause-planned g c =
+-- ---- bytes are read
+
+pub fill-requires-clause-file : goal.fill-requires-clause-file
+fill-requires-clause-file g c =
     let volume = c.args.volume.now in
     let device = g.P.Pm.view c.args.pm.now in
-    let (state, command, plan_for) = c.requires.planned in
-    let (path, is) = planned_making volume.size device.words state command c.in-Make.entry (subst (λ (a : Action). IsPlanOf volume.size device.words state command (deed_of a)) (sym c.action.ensures ∙ c.in-Make.is) plan_for.planned.plan_is) in
-    (state, path, subst (λ (asked : Command). IsPlanFor volume device state asked c.args.plan) (is ∙ ap (λ (kind : NodeKind). making kind path) c.in-File.is) plan_for)
+    let (state, plan_for) = c.requires.planned in
+    let is = sym c.action.ensures ∙ c.in-Read.is in
+    let reads = telling_reads volume.size device.words state c.args.command.now c.args.plan plan_for.planned.plan_is (λ change. subst IsChange is change) in
+    (state, plan_for.stands, (file_read volume device state c.args.command.now c.args.plan reads plan_for c.in-Read.reading is).0)
 
-pub returns-in-File-clause-does : goal.returns-in-File-clause-does
-returns-in-File-clause-does g c = λ state command bytes plan_for.
-    does_carried (session_of c.args.volume.now bytes) (session_of c.apply_create.new.volume bytes) (g.P.Pm.view c.args.pm.now) (g.P.Pm.view c.apply_create.new.pm) c.args.plan state command c.apply_create.result tt c.requires.of_line
-    (subst IsChange (sym (sym c.action.ensures ∙ c.in-Make.is)) tt) plan_for c.apply_create.ensures.carries
-
-pub returns-in-File-clause-leaves : goal.returns-in-File-clause-leaves
-returns-in-File-clause-leaves g c =
-    leaves_carried c.args.volume.now c.apply_create.new.volume (g.P.Pm.view c.args.pm.now) (g.P.Pm.view c.apply_create.new.pm) c.args.plan c.apply_create.result c.apply_create.ensures.carries
-
-pub returns-in-File-clause-reads : goal.returns-in-File-clause-reads
-returns-in-File-clause-reads g c =
-    reads_carried c.args.volume.now c.apply_create.new.volume (g.P.Pm.view c.args.pm.now) (g.P.Pm.view c.apply_create.new.pm) c.args.plan (¬ IsChange c.args.plan) c.apply_create.result c.apply_create.ensures.carries
-
-pub apply_mkdir-requires-clause-planned : goal.apply_mkdir-requires-clause-planned
-apply_mkdir-requires-clause-planned g c =
+pub fill-requires-clause-short : goal.fill-requires-clause-short
+fill-requires-clause-short g c =
     let volume = c.args.volume.now in
     let device = g.P.Pm.view c.args.pm.now in
-    let (state, command, plan_for) = c.requires.planned in
-    let (path, is) = planned_making volume.size device.words state command c.in-Make.entry (subst (λ (a : Action). IsPlanOf volume.size device.words state command (deed_of a)) (sym c.action.ensures ∙ c.in-Make.is) plan_for.planned.plan_is) in
-    (state, path, subst (λ (asked : Command). IsPlanFor volume device state asked c.args.plan) (is ∙ ap (λ (kind : NodeKind). making kind path) c.in-Directory.is) plan_for)
+    let (state, plan_for) = c.requires.planned in
+    let is = sym c.action.ensures ∙ c.in-Read.is in
+    let reads = telling_reads volume.size device.words state c.args.command.now c.args.plan plan_for.planned.plan_is (λ change. subst IsChange is change) in
+    (file_read volume device state c.args.command.now c.args.plan reads plan_for c.in-Read.reading is).1
 
-pub returns-in-Directory-clause-does : goal.returns-in-Directory-clause-does
-returns-in-Directory-clause-does g c = λ state command bytes plan_for.
-    does_carried (session_of c.args.volume.now bytes) (session_of c.apply_mkdir.new.volume bytes) (g.P.Pm.view c.args.pm.now) (g.P.Pm.view c.apply_mkdir.new.pm) c.args.plan state command c.apply_mkdir.result tt c.requires.of_line
-    (subst IsChange (sym (sym c.action.ensures ∙ c.in-Make.is)) tt) plan_for c.apply_mkdir.ensures.carries
-
-pub returns-in-Directory-clause-leaves : goal.returns-in-Directory-clause-leaves
-returns-in-Directory-clause-leaves g c =
-    leaves_carried c.args.volume.now c.apply_mkdir.new.volume (g.P.Pm.view c.args.pm.now) (g.P.Pm.view c.apply_mkdir.new.pm) c.args.plan c.apply_mkdir.result c.apply_mkdir.ensures.carries
-
-pub returns-in-Directory-clause-reads : goal.returns-in-Directory-clause-reads
-returns-in-Directory-clause-reads g c =
-    reads_carried c.args.volume.now c.apply_mkdir.new.volume (g.P.Pm.view c.args.pm.now) (g.P.Pm.view c.apply_mkdir.new.pm) c.args.plan (¬ IsChange c.args.plan) c.apply_mkdir.result c.apply_mkdir.ensures.carries
-
--- ---- a name is added
-
-pub apply_link-requires-clause-planned : goal.apply_link-requires-clause-planned
-apply_link-requires-clause-planned g c =
+pub returns-in-Read-clause-does : goal.returns-in-Read-clause-does
+returns-in-Read-clause-does g c = λ state plan_for.
     let volume = c.args.volume.now in
     let device = g.P.Pm.view c.args.pm.now in
-    let (state, command, plan_for) = c.requires.planned in
-    let (from, to, is, for) = planned_linking volume.size device.words state command c.in-Name.field-0 (subst (λ (a : Action). IsPlanOf volume.size device.words state command (deed_of a)) (sym c.action.ensures ∙ c.in-Name.is) plan_for.planned.plan_is) in
-    (state, from, to, subst (λ (asked : Command). IsPlanFor volume device state asked c.args.plan) is plan_for)
-
-pub returns-in-Name-clause-does : goal.returns-in-Name-clause-does
-returns-in-Name-clause-does g c = λ state command bytes plan_for.
-    does_carried (session_of c.args.volume.now bytes) (session_of c.apply_link.new.volume bytes) (g.P.Pm.view c.args.pm.now) (g.P.Pm.view c.apply_link.new.pm) c.args.plan state command c.apply_link.result tt c.requires.of_line
-    (subst IsChange (sym (sym c.action.ensures ∙ c.in-Name.is)) tt) plan_for c.apply_link.ensures.carries
-
-pub returns-in-Name-clause-leaves : goal.returns-in-Name-clause-leaves
-returns-in-Name-clause-leaves g c =
-    leaves_carried c.args.volume.now c.apply_link.new.volume (g.P.Pm.view c.args.pm.now) (g.P.Pm.view c.apply_link.new.pm) c.args.plan c.apply_link.result c.apply_link.ensures.carries
-
-pub returns-in-Name-clause-reads : goal.returns-in-Name-clause-reads
-returns-in-Name-clause-reads g c =
-    reads_carried c.args.volume.now c.apply_link.new.volume (g.P.Pm.view c.args.pm.now) (g.P.Pm.view c.apply_link.new.pm) c.args.plan (¬ IsChange c.args.plan) c.apply_link.result c.apply_link.ensures.carries
-
--- ---- a name is taken away
-
-pub apply_unlink-requires-clause-planned : goal.apply_unlink-requires-clause-planned
-apply_unlink-requires-clause-planned g c =
-    let volume = c.args.volume.now in
-    let device = g.P.Pm.view c.args.pm.now in
-    let (state, command, plan_for) = c.requires.planned in
-    let (path, is) = planned_removal volume.size device.words state (state_is volume device plan_for.stands).tree command c.in-Remove.removal (subst (λ (a : Action). IsPlanned volume.size device.words state command (deed_of a)) (sym c.action.ensures ∙ c.in-Remove.is) plan_for.planned) in
-    (state, path, subst (λ (asked : Command). IsPlanFor volume device state asked c.args.plan) (is ∙ ap (λ (kind : NodeKind). removing kind path) c.in-File-kind.is) plan_for)
-
-pub returns-in-File-kind-clause-does : goal.returns-in-File-kind-clause-does
-returns-in-File-kind-clause-does g c = λ state command bytes plan_for.
-    does_carried (session_of c.args.volume.now bytes) (session_of c.apply_unlink.new.volume bytes) (g.P.Pm.view c.args.pm.now) (g.P.Pm.view c.apply_unlink.new.pm) c.args.plan state command c.apply_unlink.result tt c.requires.of_line
-    (subst IsChange (sym (sym c.action.ensures ∙ c.in-Remove.is)) tt) plan_for c.apply_unlink.ensures.carries
-
-pub returns-in-File-kind-clause-leaves : goal.returns-in-File-kind-clause-leaves
-returns-in-File-kind-clause-leaves g c =
-    leaves_carried c.args.volume.now c.apply_unlink.new.volume (g.P.Pm.view c.args.pm.now) (g.P.Pm.view c.apply_unlink.new.pm) c.args.plan c.apply_unlink.result c.apply_unlink.ensures.carries
-
-pub returns-in-File-kind-clause-reads : goal.returns-in-File-kind-clause-reads
-returns-in-File-kind-clause-reads g c =
-    reads_carried c.args.volume.now c.apply_unlink.new.volume (g.P.Pm.view c.args.pm.now) (g.P.Pm.view c.apply_unlink.new.pm) c.args.plan (¬ IsChange c.args.plan) c.apply_unlink.result c.apply_unlink.ensures.carries
-
-pub apply_rmdir-requires-clause-planned : goal.apply_rmdir-requires-clause-planned
-apply_rmdir-requires-clause-planned g c =
-    let volume = c.args.volume.now in
-    let device = g.P.Pm.view c.args.pm.now in
-    let (state, command, plan_for) = c.requires.planned in
-    let (path, is) = planned_removal volume.size device.words state (state_is volume device plan_for.stands).tree command c.in-Remove.removal (subst (λ (a : Action). IsPlanned volume.size device.words state command (deed_of a)) (sym c.action.ensures ∙ c.in-Remove.is) plan_for.planned) in
-    (state, path, subst (λ (asked : Command). IsPlanFor volume device state asked c.args.plan) (is ∙ ap (λ (kind : NodeKind). removing kind path) c.in-Directory-kind.is) plan_for)
-
-pub returns-in-Directory-kind-clause-does : goal.returns-in-Directory-kind-clause-does
-returns-in-Directory-kind-clause-does g c = λ state command bytes plan_for.
-    does_carried (session_of c.args.volume.now bytes) (session_of c.apply_rmdir.new.volume bytes) (g.P.Pm.view c.args.pm.now) (g.P.Pm.view c.apply_rmdir.new.pm) c.args.plan state command c.apply_rmdir.result tt c.requires.of_line
-    (subst IsChange (sym (sym c.action.ensures ∙ c.in-Remove.is)) tt) plan_for c.apply_rmdir.ensures.carries
-
-pub returns-in-Directory-kind-clause-leaves : goal.returns-in-Directory-kind-clause-leaves
-returns-in-Directory-kind-clause-leaves g c =
-    leaves_carried c.args.volume.now c.apply_rmdir.new.volume (g.P.Pm.view c.args.pm.now) (g.P.Pm.view c.apply_rmdir.new.pm) c.args.plan c.apply_rmdir.result c.apply_rmdir.ensures.carries
-
-pub returns-in-Directory-kind-clause-reads : goal.returns-in-Directory-kind-clause-reads
-returns-in-Directory-kind-clause-reads g c =
-    reads_carried c.args.volume.now c.apply_rmdir.new.volume (g.P.Pm.view c.args.pm.now) (g.P.Pm.view c.apply_rmdir.new.pm) c.args.plan (¬ IsChange c.args.plan) c.apply_rmdir.result c.apply_rmdir.ensures.carries
-
--- ---- what is told
-
-pub stat-requires-clause-there : goal.stat-requires-clause-there
-stat-requires-clause-there g c =
-    let (state, command, plan_for) = c.requires.planned in
-    let is = sym c.action.ensures ∙ c.in-Status.is in
-    let reads = telling_reads c.args.volume.now.size (g.P.Pm.view c.args.pm.now).words state command c.args.plan plan_for.planned.plan_is (λ change. subst IsChange is change) in
-    node_told c.args.volume.now (g.P.Pm.view c.args.pm.now) state command c.args.plan reads plan_for c.in-Status.inode is
-
-pub returns-in-Status-clause-does : goal.returns-in-Status-clause-does
-returns-in-Status-clause-does g c = λ state command bytes plan_for.
-    let volume = c.args.volume.now in
-    let device = g.P.Pm.view c.args.pm.now in
-    let is = sym c.action.ensures ∙ c.in-Status.is in
+    let command = c.args.command.now in
+    let read = c.fill.new.self in
+    let is = sym c.action.ensures ∙ c.in-Read.is in
     let reads = telling_reads volume.size device.words state command c.args.plan plan_for.planned.plan_is (λ change. subst IsChange is change) in
-    does_told (session_of volume bytes) (session_of volume bytes) device device refl refl refl refl state command (reply.Status c.stat.result) plan_for.stands reads plan_for.planned.accepted
-    (status_replied volume device state command c.args.plan reads plan_for bytes c.in-Status.inode c.stat.result is (c.stat.ensures state plan_for.stands))
+    does_told (session_of volume c.args.last.now) (session_of volume read) device device refl refl refl refl state command (reply.Bytes c.fill.result) plan_for.stands reads plan_for.planned.accepted
+    (read_replied volume device state command c.args.plan reads plan_for read c.in-Read.reading c.fill.result is (c.fill.ensures.bytes state plan_for.stands) c.fill.ensures.count)
 
-pub returns-in-Status-clause-leaves : goal.returns-in-Status-clause-leaves
-returns-in-Status-clause-leaves g c = leaves_still c.args.volume.now (g.P.Pm.view c.args.pm.now) (reply.Status c.stat.result) c.requires.ready.going
+pub returns-in-Read-clause-leaves : goal.returns-in-Read-clause-leaves
+returns-in-Read-clause-leaves g c = leaves_still c.args.volume.now (g.P.Pm.view c.args.pm.now) (reply.Bytes c.fill.result) c.requires.ready.going
 
-pub returns-in-Status-clause-reads : goal.returns-in-Status-clause-reads
-returns-in-Status-clause-reads g c not change = subst IsChange (sym c.action.ensures ∙ c.in-Status.is) change
+pub returns-in-Read-clause-reads : goal.returns-in-Read-clause-reads
+returns-in-Read-clause-reads g c not change = subst IsChange (sym c.action.ensures ∙ c.in-Read.is) change
 
-pub count-requires-clause-from_one : goal.count-requires-clause-from_one
-count-requires-clause-from_one g c =
-    let (state, command, plan_for) = c.requires.planned in
-    let is = sym c.action.ensures ∙ c.in-Names.is in
-    let reads = telling_reads c.args.volume.now.size (g.P.Pm.view c.args.pm.now).words state command c.args.plan plan_for.planned.plan_is (λ change. subst IsChange is change) in
-    (directory_within c.args.volume.now (g.P.Pm.view c.args.pm.now) c.in-Names.inode plan_for.stands (directory_listed c.args.volume.now (g.P.Pm.view c.args.pm.now) state command c.args.plan reads plan_for c.in-Names.inode is)).0
+pub returns-in-Read-clause-bytes : goal.returns-in-Read-clause-bytes
+returns-in-Read-clause-bytes g c not = absurd (not _ refl)
 
-pub count-requires-clause-in_range : goal.count-requires-clause-in_range
-count-requires-clause-in_range g c =
-    let (state, command, plan_for) = c.requires.planned in
-    let is = sym c.action.ensures ∙ c.in-Names.is in
-    let reads = telling_reads c.args.volume.now.size (g.P.Pm.view c.args.pm.now).words state command c.args.plan plan_for.planned.plan_is (λ change. subst IsChange is change) in
-    (directory_within c.args.volume.now (g.P.Pm.view c.args.pm.now) c.in-Names.inode plan_for.stands (directory_listed c.args.volume.now (g.P.Pm.view c.args.pm.now) state command c.args.plan reads plan_for c.in-Names.inode is)).1
+-- ---- anything else
 
-pub returns-in-Names-clause-does : goal.returns-in-Names-clause-does
-returns-in-Names-clause-does g c = λ state command bytes plan_for.
-    let volume = c.args.volume.now in
-    let device = g.P.Pm.view c.args.pm.now in
-    let is = sym c.action.ensures ∙ c.in-Names.is in
-    let reads = telling_reads volume.size device.words state command c.args.plan plan_for.planned.plan_is (λ change. subst IsChange is change) in
-    does_told (session_of volume bytes) (session_of volume bytes) device device refl refl refl refl state command (reply.Names c.in-Names.inode c.count.result) plan_for.stands reads plan_for.planned.accepted
-    (names_replied volume device state command c.args.plan reads plan_for bytes c.in-Names.inode c.count.result is c.requires.ready.going c.count.ensures.entries
-    (c.count.ensures.names device state plan_for.stands (directory_listed volume device state command c.args.plan reads plan_for c.in-Names.inode is)))
+pub returns-clause-does : goal.returns-clause-does
+returns-clause-does g c = λ state plan_for. c.carry_other.ensures.does state c.args.last.now plan_for
 
-pub returns-in-Names-clause-leaves : goal.returns-in-Names-clause-leaves
-returns-in-Names-clause-leaves g c = leaves_still c.args.volume.now (g.P.Pm.view c.args.pm.now) (reply.Names c.in-Names.inode c.count.result) c.requires.ready.going
-
-pub returns-in-Names-clause-reads : goal.returns-in-Names-clause-reads
-returns-in-Names-clause-reads g c not change = subst IsChange (sym c.action.ensures ∙ c.in-Names.is) change
-
-pub returns-in-Space-clause-does : goal.returns-in-Space-clause-does
-returns-in-Space-clause-does g c = λ state command bytes plan_for.
-    let volume = c.args.volume.now in
-    let device = g.P.Pm.view c.args.pm.now in
-    let is = sym c.action.ensures ∙ c.in-Space.is in
-    let reads = telling_reads volume.size device.words state command c.args.plan plan_for.planned.plan_is (λ change. subst IsChange is change) in
-    does_told (session_of volume bytes) (session_of volume bytes) device device refl refl refl refl state command (reply.Space c.free.result) plan_for.stands reads plan_for.planned.accepted
-    (space_replied volume device state command c.args.plan reads plan_for bytes c.free.result is (c.free.ensures state plan_for.stands))
-
-pub returns-in-Space-clause-leaves : goal.returns-in-Space-clause-leaves
-returns-in-Space-clause-leaves g c = leaves_still c.args.volume.now (g.P.Pm.view c.args.pm.now) (reply.Space c.free.result) c.requires.ready.going
-
-pub returns-in-Space-clause-reads : goal.returns-in-Space-clause-reads
-returns-in-Space-clause-reads g c not change = subst IsChange (sym c.action.ensures ∙ c.in-Space.is) change
+pub returns-clause-bytes : goal.returns-clause-bytes
+returns-clause-bytes g c = kept c.args.last.now c.carry_other.result
