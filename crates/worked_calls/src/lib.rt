@@ -2,6 +2,8 @@
 #![tactic(auto)]
 
 #[cfg(test)]
+mod contents;
+#[cfg(test)]
 mod entries;
 #[cfg(test)]
 mod events;
