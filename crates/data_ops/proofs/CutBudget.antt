@@ -5,7 +5,7 @@ use Rattle.pm_trait.specs.DeviceView.{DeviceView, MakesIntervals, StoresAndFence
 use Rattle.pm_trait.proofs.DeviceViewLaws.{intervals_failed}
 use Rattle.volume.specs.Costs.{where_true, inode_events, descriptor_rest_events, fence_events, commit_events, loss_events, fences_for_loss}
 use Rattle.entry_steps.specs.Steps.{MayFence}
-use Rattle.data_ops.specs.Growing.{owner_events, rest_events}
+use Rattle.data_ops.specs.Growing.{owner_events, release_events}
 
 -- ---- the steps' events and fences
 
@@ -13,7 +13,7 @@ abbrev pub giving_events : ℕ → ℕ
 giving_events pages = where_true (nat_lt 0 pages) (owner_events pages)
 
 abbrev pub freeing_events : ℕ → ℕ
-freeing_events pages = where_true (nat_lt 0 pages) (rest_events pages)
+freeing_events pages = where_true (nat_lt 0 pages) (release_events pages)
 
 abbrev pub step_fences : ℕ → ℕ
 step_fences pages = where_true (nat_lt 0 pages) 1
@@ -22,7 +22,7 @@ or_false : (holds : Bool) → holds || false ≡ holds
 or_false true = refl
 or_false false = refl
 
-rest_is : (pages : ℕ) → pages * descriptor_rest_events + where_true false inode_events + fence_events ≡ rest_events pages
+rest_is : (pages : ℕ) → pages * descriptor_rest_events + where_true false inode_events + fence_events ≡ release_events pages
 rest_is pages = omega arith
 
 most_one : (holds : Bool) → where_true holds 1 ≤ 1

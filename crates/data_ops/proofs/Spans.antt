@@ -18,7 +18,7 @@ use Rattle.page_state.specs.declared.page.Touched.TheVariants.{Words}
 use Rattle.page_state.specs.declared.span.FileSpan.{FileSpan}
 use Rattle.page_state.specs.Spans.{is_in_range, byte_after, new_words, new_lines}
 use Rattle.page_state.specs.Page.{OfSome, IsOwnWord, IsNewWordOf, descriptor_of}
-use Rattle.page_state.specs.Events.{HaveBytes, WritesBytes, FlushesPages}
+use Rattle.page_state.specs.Events.{HaveBytes, WritesSpan, FlushesPages}
 use Rattle.page_state.proofs.NewStores.{new_is_own}
 use Rattle.image_reading.specs.Reading.{IsPageOf}
 use Rattle.content_laws.specs.Range.{IsBeside, IsWrittenByte}
@@ -157,7 +157,7 @@ span_flushed span P V part ps volume list flushed w new =
     (record { index = new.index; before = new.below; is = new_is_own span P (span.first + new.index) (slice_index part new.index) w new.is })))
 
 pub span_stored : {a b c : DeviceView} (span : FileSpan) (bytes : List ℕ) (P V W n : ℕ) (part ps qs : List ℕ) → V ≡ P → ps ≡ part → qs ≡ part → n ≡ new_words span (length part) + new_lines span (length part)
-    → WritesBytes V ps span bytes a b → FlushesPages W qs (Words span) b c → Stores (IsNewWordOf span P part) a c n
+    → WritesSpan V ps span bytes a b → FlushesPages W qs (Words span) b c → Stores (IsNewWordOf span P part) a c n
 span_stored {a} {b} {c} span bytes P V W n part ps qs volume list again counted run flushes =
     subst (λ (events : ℕ). Stores (IsNewWordOf span P part) a c events) (sym counted)
     (subst (λ (v : ℕ). Stores (IsNewWordOf span v part) a c (new_words span (length part) + new_lines span (length part))) volume

@@ -66,8 +66,8 @@ abbrev pub owner_events : ℕ → ℕ
 owner_events pages = pages * word_events + fence_events
 
 -- the rest of the descriptors of so many pages, with the fence
-abbrev pub rest_events : ℕ → ℕ
-rest_events pages = pages * descriptor_rest_events + fence_events
+abbrev pub release_events : ℕ → ℕ
+release_events pages = pages * descriptor_rest_events + fence_events
 
 -- ---- what it leaves
 

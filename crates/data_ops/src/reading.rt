@@ -7,12 +7,9 @@ ghost use Rattle.volume.specs.Stands.{StandsFor};
 ghost use Rattle.page_state.specs.Page.{EachPage};
 ghost use Rattle.data_ops.specs.Reading.{HasFile, IsRead};
 
-use layout::{Geometry, PAGE_BYTES};
+use layout::{Geometry, PAGE_BYTES, WORD_BYTES};
 use pm_trait::Pm;
 use volume::Volume;
-
-/// Bytes of a word.
-const WORD_BYTES: u64 = 8;
 
 // The byte at this offset of a page's bytes.
 fn byte_at<P: Pm>(pm: &P, geometry: &Geometry, page: u64, offset: u64) -> u8

@@ -21,7 +21,7 @@ ghost use Rattle.volume.specs.declared.plan.Resizing.{Resizing as Resized};
 ghost use Rattle.volume.specs.declared.plan.Action.TheVariants.{Resize as Resizes};
 ghost use Rattle.entry_steps.specs.Steps.{MayFence};
 ghost use Rattle.data_ops.specs.Files.{AreBytesFrom};
-ghost use Rattle.data_ops.specs.Growing.{owner_events, rest_events};
+ghost use Rattle.data_ops.specs.Growing.{owner_events, release_events};
 ghost use Rattle.data_ops.specs.Cutting.{IsTruncation, MayCut, MayResize, TakesIn, IsResizingAt, CutsInTurn, HasStoredSize};
 
 use crate::grow::{Growth, grow};
@@ -103,12 +103,12 @@ fn release<P: Pm>(pm: &mut P, geometry: &Geometry, pages: &[u64]) -> Result<(), 
     requires whole { length (P.view pm.old).words ≡ 512 * geometry.now.pages }
     requires pages { (first : ℕ) × AreBytesFrom geometry.now.pages (P.view pm.old).words 0 first pages.now }
     requires begins { MayFence (P.view pm.old) (where_true (nat_lt 0 (length pages.now))
-        (rest_events (length pages.now))) 1 }
+        (release_events (length pages.now))) 1 }
     ensures cleared { ClearsPages geometry.now.pages (P.view pm.old).words (P.view pm.new).words (Contains pages.now) }
     ensures any_moment { LeavesOnly (P.view pm.old).trail (P.view pm.new).trail
         (λ acks image. (acks ≡ 0) × Mix (P.view pm.old).words (P.view pm.new).words image) }
     ensures device { MakesIntervals (P.view pm.old) (P.view pm.new)
-        (where_true (nat_lt 0 (length pages.now)) (rest_events (length pages.now)))
+        (where_true (nat_lt 0 (length pages.now)) (release_events (length pages.now)))
         (where_true (nat_lt 0 (length pages.now)) 1) result }
 {
     if pages.is_empty() {

@@ -3,6 +3,9 @@
 /// The number of the root's inode.
 pub const ROOT: u64 = 1;
 
+/// Bytes of a word.
+pub const WORD_BYTES: u64 = 8;
+
 /// Words of a cache line.
 pub const LINE_WORDS: u64 = 8;
 

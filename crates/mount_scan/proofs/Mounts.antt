@@ -1,5 +1,5 @@
 -- What a mount rests on: the head of the words, and a device that is left as it was.
-use Rattle.std.proofs.Common.{◌≡◌, ℕ, ◌*◌, List, length, Option, refl, sym, ap, subst, arith}
+use Rattle.std.proofs.Common.{◌≡◌, ℕ, ◌*◌, List, length, Option, refl, sym, subst}
 use Rattle.pm_trait.specs.Trail.{Trail}
 use Rattle.pm_trait.specs.Device.{LeavesOnly, acks_from, moment_of}
 use Rattle.pm_trait.specs.DeviceView.{DeviceView, IsSettledView}

@@ -16,7 +16,7 @@ use Rattle.page_state.specs.declared.span.FileSpan.{FileSpan}
 use Rattle.page_state.specs.Spans.{has_new, new_words, IsWithinLimits}
 use Rattle.page_state.specs.States.{slots_fields, bytes_fields, owned_fields, IsFree, IsFilled, IsLive}
 use Rattle.page_state.specs.Page.{PageView, EachPage, AreDataPages, OfSome, IsOwnWord, IsFilledWord, IsOwnerWord, IsNewWordOf, AreTouched, IsSlotPage, IsBytesPage, AreBytesPages, descriptor_of, fields_of_page, HaveMeaning, PageIsDirty, PageIsClean}
-use Rattle.page_state.specs.Events.{FillsPages, FillsBytes, WritesBytes, ClaimsPages, FlushesPages}
+use Rattle.page_state.specs.Events.{FillsPages, FillsBytes, WritesSpan, ClaimsPages, FlushesPages}
 use Rattle.page_state.proofs.PageLaws.{same_descriptor_fields}
 use Rattle.page_state.proofs.Pieces.{some_lines}
 
@@ -172,7 +172,7 @@ new_keeps_descriptor {a} {b} span volume_pages page pages in_range run =
 -- pages that new bytes were written to
 pub written_dirty : {a b : DeviceView} (span : FileSpan) (bytes : List ℕ) (volume_pages : ℕ) (pages : List ℕ) (fields : DescriptorFields) (touched : Touched) (ticket later : Option ℕ) → AreDataPages (data_pages_of volume_pages) pages
     → IsWithinLimits span (length pages) → 0 < new_words span (length pages)
-    → PageIsClean (record { volume_pages = volume_pages; pages = pages; fields = fields; touched = touched; ticket = ticket }) a → WritesBytes volume_pages pages span bytes a b
+    → PageIsClean (record { volume_pages = volume_pages; pages = pages; fields = fields; touched = touched; ticket = ticket }) a → WritesSpan volume_pages pages span bytes a b
     → PageIsDirty (record { volume_pages = volume_pages; pages = pages; fields = fields; touched = Words span; ticket = later }) b
 written_dirty span bytes volume_pages pages fields touched ticket later valid limits some clean run = record {
   stands = record {

@@ -1,9 +1,9 @@
 -- How many words and lines have new bytes, by the ends of the bytes that are new.
-use Rattle.std.proofs.Common.{◌≡◌, ℕ, zero, suc, ◌+◌, ◌-◌, ◌*◌, ◌/◌, ◌<◌, ◌≤◌, inl, inr, true, false, min, refl, sym, ◌∙◌, ap, arith}
+use Rattle.std.proofs.Common.{◌≡◌, ℕ, zero, suc, ◌+◌, ◌-◌, ◌*◌, ◌/◌, ◌<◌, ◌≤◌, inl, inr, true, false, min, refl, ◌∙◌, ap, arith}
 use Rattle.std.proofs.lemmas.Bool.{cases_lt}
 use Rattle.page_state.specs.declared.span.FileSpan.{FileSpan}
 use Rattle.page_state.specs.Spans.{has_new, new_pieces, new_words, new_lines}
-use Rattle.page_state.specs.Laws.{CountsNew, InsideLaw, BeyondLaw}
+use Rattle.page_state.specs.Laws.{InsideLaw, BeyondLaw}
 use Rattle.page_state.proofs.Pieces.{one_if, pieces_none, pieces_more, pieces_then}
 use Rattle.page_state.proofs.SpanLaws.{has_new-in_range, has_new-zeros, has_new-outside}
 

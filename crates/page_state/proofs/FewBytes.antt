@@ -1,5 +1,5 @@
 -- How much room two bytes take in two pages of a file, and zeros from byte 4,100 on.
-use Rattle.std.proofs.Common.{◌≡◌, ℕ, ◌+◌, ◌*◌, ◌≤◌, List, [], ◌∷◌, refl, sym, ap, ◌∙◌, arith}
+use Rattle.std.proofs.Common.{◌≡◌, ℕ, ◌+◌, ◌≤◌, [], ◌∷◌, ap, ◌∙◌, arith}
 use Rattle.page_state.specs.declared.page.Touched.{Touched}
 use Rattle.page_state.specs.declared.page.Touched.TheVariants.{Words}
 use Rattle.page_state.specs.declared.span.FileSpan.{FileSpan}

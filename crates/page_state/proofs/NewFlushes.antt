@@ -1,11 +1,10 @@
 -- Flushes of lines with new bytes, one after another.
-use Rattle.std.proofs.Common.{◌≡◌, ◌⊎◌, inl, inr, ⊎_elim, ℕ, ◌+◌, ◌*◌, ◌/◌, ◌<◌, ◌≤◌, ◌-◌, Bool, true, false, cond, List, [], ◌∷◌, length, slice_index, refl, sym, ◌∙◌, ap, subst, arith, add-zero}
-use Rattle.std.specs.Prelude.{Option, Some, None}
+use Rattle.std.proofs.Common.{◌≡◌, ◌⊎◌, inl, inr, ℕ, ◌+◌, ◌*◌, ◌/◌, ◌<◌, ◌≤◌, ◌-◌, Bool, true, false, cond, List, [], ◌∷◌, slice_index, refl, sym, ◌∙◌, ap, subst, arith, add-zero}
+use Rattle.std.specs.Prelude.{Option, Some}
 use Rattle.std.specs.List.{flat_map, range_with_len}
 use Rattle.std.proofs.lemmas.Bool.{cases_eq, cases_lt, cond-true}
 use Rattle.pm_trait.specs.declared.event.Event.{Event}
 use Rattle.pm_trait.specs.declared.event.Event.TheVariants.{Flush}
-use Rattle.pm_trait.specs.Trail.{Trail}
 use Rattle.pm_trait.specs.Device.{IsFlushed}
 use Rattle.pm_trait.specs.DeviceView.{DeviceView}
 use Rattle.pm_trait.proofs.DeviceLaws.{flushed_stays}

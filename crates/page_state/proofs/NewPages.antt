@@ -13,13 +13,13 @@ use Rattle.fence_token.specs.Stored.{StoresExactly}
 use Rattle.fence_token.proofs.StoredLaws.{exactly_as}
 use Rattle.page_state.specs.declared.span.FileSpan.{FileSpan}
 use Rattle.page_state.specs.Spans.{new_pieces}
-use Rattle.page_state.specs.Page.{AreDataPages, OfSome, OfSomeBelow, IsContentWord, IsOwnWord, IsFilledWord, IsNewWord, IsBytesPage}
+use Rattle.page_state.specs.Page.{AreDataPages, OfSomeBelow, IsOwnWord, IsFilledWord, IsNewWord, IsBytesPage}
 use Rattle.page_state.specs.Events.{new_stores, bytes_of_page, FillsBytes, HasWords}
 use Rattle.page_state.proofs.Contents.{filled_is_own}
 use Rattle.page_state.proofs.Pages.{earlier_apart}
 use Rattle.page_state.proofs.Pieces.{pages_of_pieces}
 use Rattle.page_state.proofs.NewStores.{new_is_own, new_stores_same, words_stay, words_from_before, bytes_page_stays}
-use Rattle.page_state.proofs.Steps.{stores_more, stores_done}
+use Rattle.page_state.proofs.Steps.{stores_more}
 
 -- the words of earlier pages are none of this page's, and the other way
 not_earlier_page : (Q : ℕ → ℕ → Type 0) (volume_pages count word : ℕ) (pages : List ℕ) → ((index word : ℕ) → Q index word → IsOwnWord volume_pages (slice_index pages index) word) → AreDataPages (data_pages_of volume_pages) pages → count < length pages

@@ -16,7 +16,7 @@ use Rattle.fence_token.specs.Stored.{StoresExactly}
 use Rattle.fence_token.proofs.StoredLaws.{exactly_as}
 use Rattle.page_state.specs.declared.span.FileSpan.{FileSpan}
 use Rattle.page_state.specs.Spans.{has_new, new_pieces, word_after, word_now}
-use Rattle.page_state.specs.Page.{AreDataPages, OfSome, OfSomeBelow, IsContentWord, IsOwnWord, IsFilledWord, IsNewPlace, IsNewWord, IsBytesPage}
+use Rattle.page_state.specs.Page.{AreDataPages, OfSomeBelow, IsContentWord, IsOwnWord, IsNewPlace, IsNewWord, IsBytesPage}
 use Rattle.page_state.specs.Events.{store_of_word, new_stores, page_stores, HasWords}
 use Rattle.page_state.proofs.Contents.{kept, put, same_length}
 use Rattle.page_state.proofs.NewBytes.{word_after_any}

@@ -106,8 +106,8 @@ abbrev pub FillsBytes : ℕ → List ℕ → FileSpan → List ℕ → DeviceVie
 FillsBytes volume_pages pages span bytes old new = StoresExactly (OfSome pages (IsFilledWord volume_pages)) old new (page_by_page (bytes_of_page span bytes volume_pages) span.first pages) (514 * length pages)
 
 -- Each word of the pages that has a new byte is stored, and no other.
-abbrev pub WritesBytes : ℕ → List ℕ → FileSpan → List ℕ → DeviceView → DeviceView → Type 0
-WritesBytes volume_pages pages span bytes old new =
+abbrev pub WritesSpan : ℕ → List ℕ → FileSpan → List ℕ → DeviceView → DeviceView → Type 0
+WritesSpan volume_pages pages span bytes old new =
     StoresExactly (IsNewWordOf span volume_pages pages) old new (page_by_page (new_stores span bytes old.words volume_pages) span.first pages) (new_words span (length pages))
 
 -- each word of the page of this offset is what it is after the stores of the span

@@ -6,14 +6,13 @@ ghost use Rattle.layout.specs.Fields.{page_byte};
 ghost use Rattle.fence_token.specs.Stored.{StoresExactly};
 ghost use Rattle.page_state.specs.Spans.{has_new as has_new_byte, new_pieces, new_words, word_after as word_that_becomes, word_now};
 ghost use Rattle.page_state.specs.Page.{EachPage, AreDataPages, OfSome, OfSomeBelow, IsContentWord, IsOwnWord, IsFilledWord, IsNewWord, IsNewWordOf, IsBytesPage, AreBytesPages};
-ghost use Rattle.page_state.specs.Events.{new_stores, bytes_of_page, FillsBytes, WritesBytes, HasWords, HaveWords};
+ghost use Rattle.page_state.specs.Events.{new_stores, bytes_of_page, FillsBytes, WritesSpan, HasWords, HaveWords};
 
 use crate::span::FileSpan;
-use layout::{BYTES, DESCRIPTOR_KIND, DESCRIPTOR_OFFSET, Geometry, PAGE_BYTES, PAGE_WORDS};
+use layout::{
+    BYTES, DESCRIPTOR_KIND, DESCRIPTOR_OFFSET, Geometry, PAGE_BYTES, PAGE_WORDS, WORD_BYTES,
+};
 use pm_trait::Pm;
-
-/// Bytes of a word.
-const WORD_BYTES: u64 = 8;
 
 // Stores the word whose bytes are those from byte `at` of the file on, where it has a new one.
 fn store_word<P: Pm>(pm: &mut P, word: u64, at: u64, span: &FileSpan, bytes: &[u8])
@@ -82,7 +81,7 @@ pub fn store_pages<P: Pm>(
     requires places { span.now.first + length pages.now ≤ 2 ^ 28 }
     requires room { new_words span.now (length pages.now) ≤ (P.view pm.old).spare }
     ensures words { HaveWords span.now bytes.now geometry.now.pages pages.now (P.view pm.old).words (P.view pm.new).words }
-    ensures device { WritesBytes geometry.now.pages pages.now span.now bytes.now (P.view pm.old) (P.view pm.new) }
+    ensures device { WritesSpan geometry.now.pages pages.now span.now bytes.now (P.view pm.old) (P.view pm.new) }
 {
     let mut offset = span.first;
     for page in pages {

@@ -1,8 +1,8 @@
 -- The chosen stores, made one after another, give the chosen image.
-use Rattle.std.proofs.Common.{◌≡◌, ℕ, zero, suc, ◌+◌, ◌-◌, ◌%◌, ◌<◌, ◌≤◌, List, [], ◌∷◌, length, get_or, refl, sym, ◌∙◌, ap, subst, arith}
+use Rattle.std.proofs.Common.{◌≡◌, ℕ, zero, suc, ◌+◌, ◌-◌, ◌%◌, ◌<◌, List, [], length, get_or, refl, sym, ◌∙◌, ap, subst, arith}
 use Rattle.pm_trait.specs.declared.event.Event.{Event}
 use Rattle.pm_trait.specs.Trail.{Trail, unsettled_stores, stores_to}
-use Rattle.pm_memory.specs.Chosen.{rank_of, chosen, chosen_store, IsChosenImage, AreChosenStores, IsStillToCome}
+use Rattle.pm_memory.specs.Chosen.{rank_of, chosen, chosen_store, AreChosenStores, IsStillToCome}
 use Rattle.pm_memory.proofs.Candidates.{fewer}
 use Rattle.pm_memory.proofs.Picked.{picked}
 

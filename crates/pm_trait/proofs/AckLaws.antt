@@ -1,15 +1,15 @@
 -- Laws of acknowledgements and of fences on a settled device.
 use Rattle.std.proofs.Common.{◌≡◌, inl, inr, ℕ, ◌+◌, ◌<◌, ◌≤◌, List, [], ◌∷◌, length, refl, sym, ◌∙◌, ap, subst, arith, length-append}
-use Rattle.std.specs.Prelude.{Option, Some, None, IfSome, Result, slice_index}
+use Rattle.std.specs.Prelude.{Option, Some, None, IfSome, slice_index}
 use Rattle.std.proofs.lemmas.Bool.{cases_lt}
 use Rattle.std.proofs.Math.Seq.{take-append_seam}
 use Rattle.pm_trait.specs.declared.event.Event.{Event}
-use Rattle.pm_trait.specs.declared.event.Event.TheVariants.{Flush, Fence, BadFence, Ack}
+use Rattle.pm_trait.specs.declared.event.Event.TheVariants.{Ack}
 use Rattle.pm_trait.specs.Trail.{Trail, settled_value, unsettled_stores, stores_to}
 use Rattle.pm_trait.proofs.TrailLaws.{settled_value-later, unsettled_stores-later}
-use Rattle.pm_trait.specs.Device.{with_events, with_event, moment_of, at_moment, acks_from, IsAckAt, MayLeave, Continues, LeavesOnly, SettledWith, AcksSettled, IsClean, IsSettledAt, IsInterval, IsFenced}
+use Rattle.pm_trait.specs.Device.{with_events, with_event, moment_of, at_moment, acks_from, IsAckAt, MayLeave, Continues, LeavesOnly, SettledWith, AcksSettled, IsClean, IsSettledAt}
 use Rattle.pm_trait.proofs.ContinuesLaws.{continues_here, continues_by, continues_then, may_leave-more, at_moment-more, is_ack_at-more, is_ack_at-quiet, acks_from-here, acks_from-all, acks_from-joined, acks_from-earlier}
-use Rattle.pm_trait.proofs.DeviceLaws.{interval_continues, interval_acks, settled_leaves}
+use Rattle.pm_trait.proofs.DeviceLaws.{settled_leaves}
 
 -- Words that nothing stores
 

@@ -1,14 +1,12 @@
 -- A volume of 16 pages with a file of inode 3 that has no link left and page 4, and with page 2 of slots, without a name, of inode 1.
-use Rattle.std.proofs.Common.{◌≡◌, ◌≢◌, ℕ, zero, suc, ◌+◌, ◌*◌, ◌<◌, ◌≤◌, List, [], ◌∷◌, inl, inr, length, replicate, slice_index, Some, refl, sym, ◌∙◌, ap, subst, arith}
-use Rattle.std.specs.Prelude.{Contains}
+use Rattle.std.proofs.Common.{◌≡◌, ◌≢◌, ℕ, zero, suc, ◌+◌, ◌*◌, ◌<◌, List, [], ◌∷◌, inl, inr, replicate, slice_index, Some, refl, sym, ◌∙◌, ap, subst, arith}
 use Rattle.std.proofs.lemmas.Bool.{cases_eq}
 use Rattle.layout.specs.declared.kinds.NodeKind.TheVariants.{File}
 use Rattle.layout.specs.Geometry.{inodes_of, inode_pages_of, descriptor_pages_of, data_pages_of, first_data_word_of, inode_word_of, descriptor_word_of, slot_word_of, page_of_slot}
 use Rattle.layout.proofs.GeometryLaws.{page_of_slot_below, same_descriptor_word, inode_word_not_descriptor_word}
-use Rattle.layout.specs.Fields.{word, inode_kind, inode_links, inode_size, inode_own, page_owner, page_kind, page_offset, slot_inode}
+use Rattle.layout.specs.Fields.{word, inode_kind, inode_links, inode_own, page_owner, page_kind, page_offset, slot_inode}
 use Rattle.inode_state.specs.States.{IsLive as IsNode}
 use Rattle.inode_state.specs.Inode.{fields_at}
-use Rattle.inode_state.specs.Unused.{IsHeldSlot}
 use Rattle.page_state.specs.Page.{descriptor_of}
 use Rattle.page_state.proofs.PageLaws.{same_descriptor_fields}
 use Rattle.image_laws.specs.Drop.{GivesPages}

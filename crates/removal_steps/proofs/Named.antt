@@ -1,7 +1,7 @@
 -- A volume of 16 pages on which slot 1 names the file with inode 2, which has two links.
-use Rattle.std.proofs.Common.{◌≡◌, ℕ, zero, suc, ◌<◌, ◌≤◌, List, [], ◌∷◌, inl, replicate, slice_index, refl, sym, ◌∙◌, ap, subst, arith}
+use Rattle.std.proofs.Common.{◌≡◌, ℕ, zero, suc, ◌<◌, ◌≤◌, List, [], ◌∷◌, inl, replicate, refl, sym, ◌∙◌, ap, subst, arith}
 use Rattle.layout.specs.Geometry.{inodes_of, inode_pages_of, descriptor_pages_of, data_pages_of, slots_of, first_data_word_of, inode_word_of, slot_word_of}
-use Rattle.layout.specs.Fields.{word, inode_kind, inode_links, inode_size, inode_own, slot_inode, slot_pointer, slot_words}
+use Rattle.layout.specs.Fields.{inode_kind, inode_links, inode_own, slot_inode, slot_pointer, slot_words}
 use Rattle.layout.specs.Name.{padded, word_of, words_of, words_of_name, IsBytes, IsNameWords}
 use Rattle.layout.proofs.NameLaws.{IsNameWords-words_of_name}
 use Rattle.inode_state.specs.States.{IsLive as IsNode}

@@ -1,12 +1,11 @@
 -- A name that was taken away leaves a volume that stands for what its command leaves.
-use Rattle.std.proofs.Common.{◌≡◌, ◌≢◌, inl, inr, ℕ, ◌+◌, Bool, true, false, List, cond, Option, Some, None, is_some, refl, sym, ap, subst, ◌∙◌}
+use Rattle.std.proofs.Common.{◌≡◌, ◌≢◌, inl, inr, ℕ, ◌+◌, List, Option, Some, None, is_some, refl, sym, ap, subst, ◌∙◌}
 use Rattle.std.specs.Prelude.{Ok}
 use Rattle.std.proofs.lemmas.Bool.{cases_eq}
 use Rattle.pm_trait.specs.DeviceView.{DeviceView, IsSettledView}
 use Rattle.layout.specs.Geometry.{page_of_slot}
 use Rattle.layout.specs.Fields.{slot_inode}
 use Rattle.tree_model.specs.PathText.{Route}
-use Rattle.tree_model.specs.Table.{remove}
 use Rattle.tree_model.specs.Tree.{Tree, Room, IsRoom}
 use Rattle.tree_model.specs.Run.{State, Steps}
 use Rattle.tree_model.specs.Step.{Answer, Done, step, refusal_of, least_free_id, without_path, without_unnamed, room_after, tree_after, RoomAfter}
@@ -21,8 +20,6 @@ use Rattle.image_counts.proofs.Tidied.{room_law}
 use Rattle.image_laws.specs.Drop.{Drops, IsDrop}
 use Rattle.image_laws.specs.DropStep.{removing}
 use Rattle.image_laws.specs.DropStep as steps
-use Rattle.image_laws.specs.Remove.{without_page}
-use Rattle.image_laws.specs.Shrunk.{HasShrunk}
 use Rattle.image_laws.proofs.DropStates.{drop_room_kept, drop_room_given}
 use Rattle.image_laws.proofs.DropTidy.{owner_after}
 use Rattle.image_laws.proofs.Rooms.{dec_room}

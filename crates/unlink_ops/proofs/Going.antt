@@ -6,7 +6,6 @@ use Rattle.pm_trait.specs.DeviceView.{DeviceView}
 use Rattle.layout.specs.declared.kinds.NodeKind.{NodeKind}
 use Rattle.layout.specs.declared.kinds.NodeKind.TheVariants.{File}
 use Rattle.tree_model.specs.PathText.{Route}
-use Rattle.tree_model.specs.Tree.{is_directory}
 use Rattle.tree_model.specs.Run.{State}
 use Rattle.image_reading.specs.Counts.{IsDistinct}
 use Rattle.image_reading.specs.Reading.{HasBytes, IsDirectory, Reached}

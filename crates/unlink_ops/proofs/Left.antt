@@ -1,7 +1,7 @@
 -- What the words have lost once a name is taken away, from its four intervals.
-use Rattle.std.proofs.Common.{◌≡◌, ◌≢◌, ◌↔◌, ◌⊎◌, inl, inr, ℕ, ◌+◌, ◌<◌, ◌≤◌, true, false, List, reverse, Option, Some, None, refl, sym, ap, subst, ◌∙◌, arith, get_or-set_other, true≢false}
+use Rattle.std.proofs.Common.{◌≡◌, ◌≢◌, ◌↔◌, inl, inr, ℕ, ◌<◌, ◌≤◌, true, false, List, reverse, Option, Some, None, sym, ap, subst, ◌∙◌, arith, get_or-set_other, true≢false}
 use Rattle.std.specs.Prelude.{Contains}
-use Rattle.layout.specs.Geometry.{inodes_of, data_pages_of, page_of_slot, inode_word_of, descriptor_word_of, slot_word_of}
+use Rattle.layout.specs.Geometry.{inodes_of, data_pages_of, inode_word_of, slot_word_of}
 use Rattle.layout.proofs.GeometryLaws.{same_inode_word, inode_word_not_descriptor_word, inode_word_not_slot_word}
 use Rattle.layout.specs.Fields.{word, inode_kind, page_owner, slot_inode}
 use Rattle.tree_model.specs.PathText.{Route}
@@ -11,7 +11,7 @@ use Rattle.image_reading.specs.Reading.{slot_owner, Reached}
 use Rattle.image_counts.specs.Entries.{IsPageIn}
 use Rattle.image_counts.proofs.Inodes.{inode_count_law}
 use Rattle.image_counts.proofs.States.{state_law}
-use Rattle.image_laws.specs.Drop.{IsFalling, IsGiven, Drops, dropped}
+use Rattle.image_laws.specs.Drop.{Drops, dropped}
 use Rattle.image_laws.specs.DropStep.{removing}
 use Rattle.image_laws.specs.DropStep as steps
 use Rattle.image_laws.specs.Shrunk.{HasShrunk}

@@ -1,22 +1,20 @@
 -- The rows of commands that read and write files, by what the volume knows.
-use Rattle.std.proofs.Common.{◌≡◌, ◌⊎◌, inl, inr, ℕ, ◌+◌, ◌-◌, ◌<◌, ◌≤◌, Bool, true, false, cond, ◌&&◌, ◌==◌, nat_lt, nat_eq, List, [], ◌∷◌, length, Option, Some, None, is_some, is_none, unwrap_or, Ok, Err, refl, sym, ap, subst, ◌∙◌, arith, eqb-true}
+use Rattle.std.proofs.Common.{◌≡◌, inl, inr, ℕ, ◌+◌, ◌-◌, ◌<◌, ◌≤◌, Bool, true, false, cond, ◌==◌, nat_lt, nat_eq, List, [], ◌∷◌, length, Option, Some, None, is_some, is_none, unwrap_or, Ok, Err, refl, sym, ap, subst, ◌∙◌, arith, eqb-true}
 use Rattle.std.proofs.lemmas.Bool.{false_from_ne_true}
 use Rattle.std.proofs.lemmas.Bool.Decides.{nat_tests}
 use Rattle.pm_trait.specs.DeviceView.{DeviceView}
 use Rattle.layout.specs.Geometry.{pieces}
-use Rattle.layout.specs.Fields.{inode_kind, inode_size}
+use Rattle.layout.specs.Fields.{inode_size}
 use Rattle.tree_model.specs.PathText.{Route}
 use Rattle.tree_model.specs.Tree.{Node, Directory, File, root_id, id_at, node_at, is_directory, is_directory_node, bytes_of, bytes_of_node, page_bytes}
 use Rattle.tree_model.specs.Walk.{walk}
 use Rattle.tree_model.proofs.WalkLaws.{id_at-from_walk}
 use Rattle.tree_model.specs.Capacity.{free_pages, untaken, file_limit}
-use Rattle.tree_model.specs.Step.{first, at, fault_of, id_of, rise, need, read_limit, lacks_pages, refusal_of}
+use Rattle.tree_model.specs.Step.{first, at, fault_of, id_of, rise, read_limit, lacks_pages, refusal_of}
 use Rattle.tree_model.specs.Run.{State}
-use Rattle.tree_model.specs.Places.{needs_places}
-use Rattle.tree_model.specs.declared.command.Command.{Command}
 use Rattle.tree_model.specs.declared.command.Command.TheVariants.{Write, Truncate, Read}
 use Rattle.tree_model.specs.declared.reply.Refusal.{Refusal}
-use Rattle.tree_model.specs.declared.reply.Refusal.TheVariants.{IsDir, TooBig, NoPages, NoMemory}
+use Rattle.tree_model.specs.declared.reply.Refusal.TheVariants.{IsDir, TooBig, NoPages}
 use Rattle.image_reading.proofs.Tidied.{tidied}
 use Rattle.image_counts.specs.Entries.{IsFreePage}
 use Rattle.image_counts.proofs.Nodes.{size_law}
@@ -24,10 +22,10 @@ use Rattle.allocators.specs.Numbers.{IsFree, free_in}
 use Rattle.volume.specs.Volume.{VolumeView}
 use Rattle.volume.specs.Stands.{StandsFor}
 use Rattle.volume.specs.Walks.{file_row, IsSizedFile}
-use Rattle.volume.specs.Deed.{Deed, WritesBytes, SetsSize, ChangesNothing, ReadsBytes}
+use Rattle.volume.specs.Deed.{WritesBytes, SetsSize, ChangesNothing, ReadsBytes}
 use Rattle.volume.specs.Lowest.{AreLowestOf}
 use Rattle.volume.specs.Planned.{IsWritingFor, IsResizingFor, IsNothingOr, IsPlanned}
-use Rattle.volume.specs.Prepared.{LacksRoom, IsRefusal, LacksPages}
+use Rattle.volume.specs.Prepared.{IsRefusal, LacksPages}
 use Rattle.volume.specs.declared.plan.Writing.{Writing}
 use Rattle.volume.specs.declared.plan.Resizing.{Resizing}
 use Rattle.volume.proofs.Walked.{stands_tree}

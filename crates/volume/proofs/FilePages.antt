@@ -1,10 +1,10 @@
 -- What a planned write and a planned change of a size add and cut is there.
-use Rattle.std.proofs.Common.{◌≡◌, ℕ, ◌+◌, ◌-◌, ◌≤◌, true, List, length, Contains, Option, Some, None, refl, sym, ap, subst, ◌∙◌, arith}
+use Rattle.std.proofs.Common.{◌≡◌, ℕ, true, List, length, Option, Some, sym, ap, ◌∙◌, arith}
 use Rattle.pm_trait.specs.DeviceView.{DeviceView}
-use Rattle.layout.specs.Geometry.{pieces, inodes_of}
+use Rattle.layout.specs.Geometry.{pieces}
 use Rattle.layout.specs.Fields.{inode_size}
 use Rattle.tree_model.specs.PathText.{Route}
-use Rattle.tree_model.specs.Tree.{Node, id_at, node_at, is_file_node, bytes_of, bytes_of_node}
+use Rattle.tree_model.specs.Tree.{id_at, node_at, is_file_node, bytes_of, bytes_of_node}
 use Rattle.tree_model.specs.Capacity.{untaken}
 use Rattle.tree_model.specs.Step.{refusal_of, need}
 use Rattle.tree_model.specs.Run.{State}
@@ -17,7 +17,7 @@ use Rattle.image_reading.proofs.Tidied.{tidied}
 use Rattle.image_counts.specs.Entries.{IsPageIn, IsFreePage}
 use Rattle.image_counts.proofs.Nodes.{size_law}
 use Rattle.image_counts.proofs.Tidied.{file_pages_law}
-use Rattle.volatile_index.specs.Index.{inodes_of_index, pages_of}
+use Rattle.volatile_index.specs.Index.{pages_of}
 use Rattle.volume.specs.Volume.{VolumeView}
 use Rattle.volume.specs.Stands.{StandsFor}
 use Rattle.volume.specs.Lowest.{AreLowestOf}

@@ -1,17 +1,16 @@
 -- Pages that a file gets and loses.
-use Rattle.std.proofs.Common.{◌≡◌, ◌≢◌, ℕ, zero, suc, ◌+◌, ◌-◌, ◌<◌, ◌≤◌, false, Bool, List, [], ◌∷◌, ◌++◌, length, take, drop, get_or, Contains, inl, inr, refl, sym, ap, subst, ◌∙◌, arith}
+use Rattle.std.proofs.Common.{◌≡◌, ℕ, zero, suc, ◌+◌, ◌<◌, ◌≤◌, false, Bool, List, [], ◌∷◌, ◌++◌, length, take, drop, get_or, Contains, inl, inr, refl, sym, ap, subst, ◌∙◌, arith}
 use Rattle.std.specs.Prelude.{slice_set}
 use Rattle.std.proofs.lemmas.List.{append_assoc, append-nil, length-append, length-take-le, take_more, take-append-drop}
 use Rattle.std.proofs.lemmas.List.Elements.{Contains-append_right}
 use Rattle.image_reading.specs.Counts.{IsIn, IsDistinct}
 use Rattle.allocators.specs.Numbers.{IsFree}
 use Rattle.allocators.proofs.NumbersLaws.{free_still}
-use Rattle.volatile_index.specs.Index.{NodeView, inodes_of_index, node_of, pages_of, page_places_of, IsWithPages, ChangesNode}
+use Rattle.volatile_index.specs.Index.{NodeView, pages_of, page_places_of, IsWithPages, ChangesNode}
 use Rattle.volume.specs.Volume.{VolumeView}
 use Rattle.volume.specs.Entered.{HasPagePlaces, EntersPages, LeavesLastPages, HasResized, with_taken}
 use Rattle.volume.specs.declared.plan.Resizing.{Resizing}
 use Rattle.volume.proofs.Given.{not_before}
-use Rattle.volume.proofs.PageLists.{contained_in, in_contained}
 
 -- ---- numbers that are taken
 

@@ -24,7 +24,7 @@ use Rattle.volume.specs.declared.plan.Action.TheVariants.{Make, Name, Remove, Wr
 use Rattle.volume.proofs.Plans.{is_change, change_is, same_entry, nothing_or, planned_making}
 use Rattle.volume.proofs.Walked.{reached_at, in_table}
 use Rattle.volume.proofs.PageLists.{few_lost}
-use Rattle.volume.proofs.ContentPlans.{IsOfWriting, planned_writing, IsOfResizing, planned_resizing, writing_needs, resizing_needs, bounded_writing, bounded_resizing}
+use Rattle.volume.proofs.ContentPlans.{planned_writing, planned_resizing, writing_needs, resizing_needs, bounded_writing, bounded_resizing}
 
 -- ---- the command of a deed
 

@@ -8,10 +8,8 @@ use crate::costs::{
     COMMIT_EVENTS, DESCRIPTOR_REST_EVENTS, FENCE_EVENTS, INODE_EVENTS, NAME_EVENTS,
     NEW_PAGE_EVENTS, PAGE_EVENTS, SLOT_REST_EVENTS, WORD_EVENTS,
 };
-use layout::{LINE_BYTES, Name, NodeKind, PAGE_BYTES};
+use layout::{LINE_BYTES, Name, NodeKind, PAGE_BYTES, WORD_BYTES};
 use std::marker::Model;
-
-const WORD_BYTES: u64 = 8;
 
 /// An entry that is to be made, and the node that it names.
 #[derive(Drop)]

@@ -34,6 +34,12 @@ at-live-requires-clause-alike g c =
     let (first, behind, from) = c.requires.pages in
     bytes_alike c.args.geometry.now.pages (g.P.Pm.view c.args.pm.now).words c.args.file.now.number first c.args.pages.now from (some_pages c.args.pages.now c.is_empty.result c.is_empty.ensures c.if-is_empty.false)
 
+pub cut_owner-cut-requires-clause-kind : goal.cut_owner-cut-requires-clause-kind
+cut_owner-cut-requires-clause-kind g c =
+    let (first, behind, from) = c.requires.pages in
+    ap (λ (v : PageView). v.fields.kind) c.at-live.ensures.object
+    ∙ ap (λ (d : DescriptorFields). d.kind) (from.each 0 (some_pages c.args.pages.now c.is_empty.result c.is_empty.ensures c.if-is_empty.false))
+
 pub cut_owner-cut-requires-clause-owner : goal.cut_owner-cut-requires-clause-owner
 cut_owner-cut-requires-clause-owner g c =
     let (first, behind, from) = c.requires.pages in

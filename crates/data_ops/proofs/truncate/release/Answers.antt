@@ -6,7 +6,7 @@ use Rattle.pm_trait.proofs.DeviceViewLaws.{ok_ends, err_ends}
 use Rattle.page_state.specs.Page.{PageView, IsReleasedWord, touched_lines}
 use Rattle.page_state.specs.Page.{IsWithoutKind}
 use Rattle.page_state.proofs.Releases.{released_is_own}
-use Rattle.data_ops.specs.Growing.{rest_events}
+use Rattle.data_ops.specs.Growing.{release_events}
 use Rattle.data_ops.proofs.Pages.{pages_settled, words_flushed, pages_stored, bytes_alike, all_released, in_volume, pages_cleared, dirty_rests, none_cleared, rests_events, of_pages, each_of_pages, some_pages, no_pages}
 use Rattle.data_ops.proofs.Wheres.{where_some, where_none, mixes, mixes_none}
 use Rattle.data_ops.proofs.truncate.release.Goals as goal
@@ -39,7 +39,7 @@ pub returns-then-is_empty-clause-any_moment : goal.returns-then-is_empty-clause-
 returns-then-is_empty-clause-any_moment g c = mixes_none (g.P.Pm.view c.args.pm.now).words (g.P.Pm.view c.args.pm.now).trail c.requires.begins.settled
 
 pub returns-then-is_empty-clause-device : goal.returns-then-is_empty-clause-device
-returns-then-is_empty-clause-device g c = where_none (g.P.Pm.view c.args.pm.now) (length c.args.pages.now) (rest_events (length c.args.pages.now)) (no_pages c.args.pages.now c.is_empty.result c.is_empty.ensures c.if-is_empty.true) c.requires.begins.settled
+returns-then-is_empty-clause-device g c = where_none (g.P.Pm.view c.args.pm.now) (length c.args.pages.now) (release_events (length c.args.pages.now)) (no_pages c.args.pages.now c.is_empty.result c.is_empty.ensures c.if-is_empty.true) c.requires.begins.settled
 
 pub returns-in-Ok-clause-cleared : goal.returns-in-Ok-clause-cleared
 returns-in-Ok-clause-cleared g c =
@@ -68,7 +68,7 @@ returns-in-Ok-clause-any_moment g c =
     let list = ap (λ (v : PageView). v.pages) before.ensures.object in
     let volume_too = ap (λ (v : PageView). v.volume_pages) after.ensures.object ∙ volume in
     let list_too = ap (λ (v : PageView). v.pages) after.ensures.object ∙ list in
-    let one : StoresAndFences {T = Unit {0}} {E = PmFault} (g.P.Pm.view c.args.pm.now) (g.P.Pm.view c.fence.new.pm) (rest_events (length pages)) (Ok tt) =
+    let one : StoresAndFences {T = Unit {0}} {E = PmFault} (g.P.Pm.view c.args.pm.now) (g.P.Pm.view c.fence.new.pm) (release_events (length pages)) (Ok tt) =
     ok_ends tt c.requires.begins.settled
     (rests_events (length pages) (pages_stored IsReleasedWord P before.result.volume_pages 2 pages before.result.pages after.result.pages after.result.volume_pages after.result.touched
     volume list list_too (ap (λ (v : PageView). touched_lines v.touched (length after.result.pages)) after.ensures.object) (omega arith) after.ensures.device c.flush-flushed.ensures.device))
@@ -85,12 +85,12 @@ returns-in-Ok-clause-device g c =
     let list = ap (λ (v : PageView). v.pages) before.ensures.object in
     let volume_too = ap (λ (v : PageView). v.volume_pages) after.ensures.object ∙ volume in
     let list_too = ap (λ (v : PageView). v.pages) after.ensures.object ∙ list in
-    let one : StoresAndFences {T = Unit {0}} {E = PmFault} (g.P.Pm.view c.args.pm.now) (g.P.Pm.view c.fence.new.pm) (rest_events (length pages)) (Ok tt) =
+    let one : StoresAndFences {T = Unit {0}} {E = PmFault} (g.P.Pm.view c.args.pm.now) (g.P.Pm.view c.fence.new.pm) (release_events (length pages)) (Ok tt) =
     ok_ends tt c.requires.begins.settled
     (rests_events (length pages) (pages_stored IsReleasedWord P before.result.volume_pages 2 pages before.result.pages after.result.pages after.result.volume_pages after.result.touched
     volume list list_too (ap (λ (v : PageView). touched_lines v.touched (length after.result.pages)) after.ensures.object) (omega arith) after.ensures.device c.flush-flushed.ensures.device))
     (words_flushed IsReleasedWord P after.result.volume_pages pages after.result.pages volume_too list_too (released_is_own P) c.flush-flushed.ensures.flushed) c.in-Ok.ensures.device in
-    where_some (length pages) (rest_events (length pages)) (some_pages pages c.is_empty.result c.is_empty.ensures c.if-is_empty.false) one
+    where_some (length pages) (release_events (length pages)) (some_pages pages c.is_empty.result c.is_empty.ensures c.if-is_empty.false) one
 
 pub returns-in-Err-clause-cleared : goal.returns-in-Err-clause-cleared
 returns-in-Err-clause-cleared g c =
@@ -119,7 +119,7 @@ returns-in-Err-clause-any_moment g c =
     let list = ap (λ (v : PageView). v.pages) before.ensures.object in
     let volume_too = ap (λ (v : PageView). v.volume_pages) after.ensures.object ∙ volume in
     let list_too = ap (λ (v : PageView). v.pages) after.ensures.object ∙ list in
-    let one : StoresAndFences {T = Unit {0}} {E = PmFault} (g.P.Pm.view c.args.pm.now) (g.P.Pm.view c.fence.new.pm) (rest_events (length pages)) (Err c.in-Err.fault) =
+    let one : StoresAndFences {T = Unit {0}} {E = PmFault} (g.P.Pm.view c.args.pm.now) (g.P.Pm.view c.fence.new.pm) (release_events (length pages)) (Err c.in-Err.fault) =
     err_ends c.in-Err.fault c.requires.begins.settled
     (rests_events (length pages) (pages_stored IsReleasedWord P before.result.volume_pages 2 pages before.result.pages after.result.pages after.result.volume_pages after.result.touched
     volume list list_too (ap (λ (v : PageView). touched_lines v.touched (length after.result.pages)) after.ensures.object) (omega arith) after.ensures.device c.flush-flushed.ensures.device))
@@ -136,9 +136,9 @@ returns-in-Err-clause-device g c =
     let list = ap (λ (v : PageView). v.pages) before.ensures.object in
     let volume_too = ap (λ (v : PageView). v.volume_pages) after.ensures.object ∙ volume in
     let list_too = ap (λ (v : PageView). v.pages) after.ensures.object ∙ list in
-    let one : StoresAndFences {T = Unit {0}} {E = PmFault} (g.P.Pm.view c.args.pm.now) (g.P.Pm.view c.fence.new.pm) (rest_events (length pages)) (Err c.in-Err.fault) =
+    let one : StoresAndFences {T = Unit {0}} {E = PmFault} (g.P.Pm.view c.args.pm.now) (g.P.Pm.view c.fence.new.pm) (release_events (length pages)) (Err c.in-Err.fault) =
     err_ends c.in-Err.fault c.requires.begins.settled
     (rests_events (length pages) (pages_stored IsReleasedWord P before.result.volume_pages 2 pages before.result.pages after.result.pages after.result.volume_pages after.result.touched
     volume list list_too (ap (λ (v : PageView). touched_lines v.touched (length after.result.pages)) after.ensures.object) (omega arith) after.ensures.device c.flush-flushed.ensures.device))
     (words_flushed IsReleasedWord P after.result.volume_pages pages after.result.pages volume_too list_too (released_is_own P) c.flush-flushed.ensures.flushed) c.in-Err.ensures.device in
-    where_some (length pages) (rest_events (length pages)) (some_pages pages c.is_empty.result c.is_empty.ensures c.if-is_empty.false) one
+    where_some (length pages) (release_events (length pages)) (some_pages pages c.is_empty.result c.is_empty.ensures c.if-is_empty.false) one

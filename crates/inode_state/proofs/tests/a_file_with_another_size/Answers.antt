@@ -1,6 +1,5 @@
-use Rattle.std.proofs.Common.{◌≡◌, ℕ, ◌*◌, ◌<◌, ◌≤◌, List, length, sym, ◌∙◌, ap, arith, rules}
+use Rattle.std.proofs.Common.{◌≡◌, ℕ, ◌*◌, List, length, sym, ◌∙◌, ap, arith, rules}
 use Rattle.layout.specs.Fields.{page_owner, page_kind, page_offset}
-use Rattle.layout.specs.Geometry.{data_pages_of}
 use Rattle.fence_token.proofs.ObjectLaws.{stands_in_flight_fence}
 use Rattle.inode_state.specs.Inode.{InodeView}
 use Rattle.inode_state.proofs.Covered.{settled_page, one_page}

@@ -1,4 +1,4 @@
-use Rattle.std.proofs.Common.{ℕ, ◌*◌, ◌+◌, arith}
+use Rattle.std.proofs.Common.{◌*◌, arith}
 use Rattle.pm_trait.proofs.DeviceLaws.{interval_length}
 use Rattle.page_state.specs.Page.{IsNewPlace}
 use Rattle.page_state.specs.Spans.{new_pieces}

@@ -1,9 +1,8 @@
-use Rattle.std.proofs.Common.{◌≡◌, inl, inr, ℕ, ◌+◌, ◌*◌, ◌<◌, ◌≤◌, length, slice_index, sym, subst, arith}
-use Rattle.std.proofs.lemmas.Bool.{cases_eq}
+use Rattle.std.proofs.Common.{inl, ℕ, ◌+◌, ◌*◌, ◌≤◌, length, slice_index, sym, subst, arith}
 use Rattle.pm_trait.proofs.DeviceLaws.{interval_length}
 use Rattle.page_state.specs.Page.{AreDataPages, IsNewWord}
 use Rattle.page_state.specs.Spans.{new_pieces}
-use Rattle.page_state.specs.Events.{new_stores, HasWords}
+use Rattle.page_state.specs.Events.{new_stores}
 use Rattle.page_state.proofs.Steps.{no_stores, stores_done}
 use Rattle.page_state.proofs.Pieces.{page_room, pieces_most}
 use Rattle.page_state.proofs.NewPages.{one_more_page, words_of_one_more}

@@ -1,4 +1,4 @@
-use Rattle.std.proofs.Common.{◌≡◌, inl, inr, ℕ, ◌+◌, ◌*◌, length, slice_index, ap, subst, arith}
+use Rattle.std.proofs.Common.{inl, inr, ℕ, ◌+◌, length, slice_index, ap, subst, arith}
 use Rattle.std.specs.Prelude.{Some}
 use Rattle.std.proofs.lemmas.Bool.{cases_eq}
 use Rattle.pm_trait.proofs.DeviceLaws.{flushed_stays, interval_length}

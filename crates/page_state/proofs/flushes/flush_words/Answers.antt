@@ -1,4 +1,4 @@
-use Rattle.std.proofs.Common.{◌≡◌, inl, ℕ, ◌+◌, ◌*◌, ◌<◌, ◌≤◌, length, slice_index, sym, ap, subst, arith}
+use Rattle.std.proofs.Common.{◌≡◌, inl, ℕ, ◌+◌, ◌*◌, ◌≤◌, length, slice_index, sym, ap, subst, arith}
 use Rattle.pm_trait.proofs.DeviceLaws.{interval_length}
 use Rattle.page_state.specs.Spans.{new_pieces}
 use Rattle.page_state.specs.Events.{new_flushes}

@@ -1,4 +1,4 @@
-use Rattle.std.proofs.Common.{◌≡◌, ℕ, zero, suc, ◌<◌, List, [], ◌∷◌, length, slice_index, ◌∙◌, ap, arith, rules}
+use Rattle.std.proofs.Common.{◌≡◌, ℕ, zero, suc, ◌<◌, [], ◌∷◌, length, slice_index, ◌∙◌, ap, arith, rules}
 use Rattle.layout.specs.Geometry.{first_data_word_of, data_pages_of}
 use Rattle.page_state.specs.Page.{PageView, EachPage}
 use Rattle.page_state.proofs.FewBytes.{two_words, two_words_fit, two_lines_fit, room_after_two, zero_words, zero_words_fit, zero_lines_fit}

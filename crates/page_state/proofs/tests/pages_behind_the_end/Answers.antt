@@ -1,11 +1,9 @@
-use Rattle.std.proofs.Common.{◌≡◌, ℕ, zero, suc, ◌<◌, ◌≤◌, List, [], ◌∷◌, inl, slice_index, replicate, refl, sym, ◌∙◌, ap, subst, arith, rules}
+use Rattle.std.proofs.Common.{◌≡◌, inl, refl, sym, ◌∙◌, ap, subst, arith, rules}
 use Rattle.layout.specs.declared.fields.DescriptorFields.{DescriptorFields}
 use Rattle.layout.specs.declared.fields.InodeFields.{InodeFields}
-use Rattle.fence_token.proofs.ObjectLaws.{stands_in_flight_fence}
 use Rattle.inode_state.specs.States.{IsLive as IsLiveInode}
-use Rattle.inode_state.specs.Inode.{InodeView, fields_at}
-use Rattle.page_state.specs.States.{IsLive}
-use Rattle.page_state.specs.Page.{PageView, AreDataPages, descriptor_of, fields_of_page}
+use Rattle.inode_state.specs.Inode.{InodeView}
+use Rattle.page_state.specs.Page.{PageView}
 use Rattle.page_state.proofs.FilePages.{pages_in_range, first, file, live, alike}
 use Rattle.page_state.proofs.tests.pages_behind_the_end.Goals as goal
 
@@ -38,6 +36,13 @@ cut_owner-requires-clause-behind g c =
     let zeros = c.in_ok-old.ensures.items_if_clones_equal (λ x same. same) in
     let empty : c.at-file.result.fields.size ≡ 0 = ap (λ (inode : InodeView). inode.fields.size) c.at-file.ensures.object ∙ ap (λ (f : InodeFields). f.size) (file _ _ 8192 16 zeros refl words refl) in
     omega (arith, empty)
+
+pub cut_owner-requires-clause-kind : goal.cut_owner-requires-clause-kind
+cut_owner-requires-clause-kind g c =
+    let words = c.reserve.ensures.device.words ∙ c.in_ok-pm.ensures.device.words ∙ c.as_slice.ensures.value in
+    let zeros = c.in_ok-old.ensures.items_if_clones_equal (λ x same. same) in
+    let sixteen : c.in_ok-geometry.geometry.pages ≡ 16 = search rules in
+    ap (λ (view : PageView). view.fields.kind) c.at-live.ensures.object ∙ ap (λ (d : DescriptorFields). d.kind) (first _ _ 8192 c.in_ok-geometry.geometry.pages zeros refl words sixteen)
 
 pub cut_owner-requires-clause-owner : goal.cut_owner-requires-clause-owner
 cut_owner-requires-clause-owner g c =

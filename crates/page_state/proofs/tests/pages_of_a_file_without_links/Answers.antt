@@ -1,11 +1,10 @@
-use Rattle.std.proofs.Common.{◌≡◌, ℕ, zero, suc, ◌<◌, ◌≤◌, List, [], ◌∷◌, inl, slice_index, replicate, refl, sym, ◌∙◌, ap, subst, arith, rules}
+use Rattle.std.proofs.Common.{◌≡◌, inl, refl, sym, ◌∙◌, ap, subst, arith, rules}
 use Rattle.layout.specs.declared.fields.DescriptorFields.{DescriptorFields}
 use Rattle.layout.specs.declared.fields.InodeFields.{InodeFields}
 use Rattle.fence_token.proofs.ObjectLaws.{stands_in_flight_fence}
 use Rattle.inode_state.specs.States.{IsLive as IsLiveInode}
-use Rattle.inode_state.specs.Inode.{InodeView, fields_at}
-use Rattle.page_state.specs.States.{IsLive}
-use Rattle.page_state.specs.Page.{PageView, AreDataPages, descriptor_of, fields_of_page}
+use Rattle.inode_state.specs.Inode.{InodeView}
+use Rattle.page_state.specs.Page.{PageView}
 use Rattle.page_state.proofs.FilePages.{pages_in_range, first, file, live, alike}
 use Rattle.page_state.proofs.tests.pages_of_a_file_without_links.Goals as goal
 

@@ -1,4 +1,4 @@
-use Rattle.std.proofs.Common.{◌≡◌, ℕ, ◌+◌, ◌*◌, ◌-◌, ◌≤◌, List, length, take, drop, slice_index, subst, arith}
+use Rattle.std.proofs.Common.{◌≡◌, ℕ, ◌+◌, ◌-◌, ◌≤◌, List, length, take, drop, slice_index, subst, arith}
 use Rattle.std.proofs.lemmas.List.{length-drop}
 use Rattle.pm_file.specs.Given.{IsRun}
 use Rattle.pm_file.proofs.Lines.{left_is, run_inside, runs_more}

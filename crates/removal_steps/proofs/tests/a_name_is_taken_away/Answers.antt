@@ -1,4 +1,4 @@
-use Rattle.std.proofs.Common.{◌≡◌, ℕ, ◌≤◌, List, sym, ap, subst, ◌∙◌, arith, rules}
+use Rattle.std.proofs.Common.{◌≡◌, ℕ, List, sym, ap, subst, ◌∙◌, arith, rules}
 use Rattle.layout.specs.Fields.{inode_links}
 use Rattle.inode_state.specs.States.{IsLive as IsNode}
 use Rattle.inode_state.specs.Inode.{fields_at}

@@ -13,7 +13,6 @@ use Rattle.unlink_ops.proofs.Removals
 use Rattle.unlink_ops.proofs.Taking
 use Rattle.unlink_ops.proofs.Gone
 use Rattle.unlink_ops.proofs.Budget
-use Rattle.unlink_ops.proofs.Budget.{giving_events, freeing_events}
 use Rattle.unlink_ops.proofs.Underway
 use Rattle.unlink_ops.proofs.Underway.{where_intervals}
 use Rattle.unlink_ops.proofs.Stops

@@ -1,4 +1,4 @@
-use Rattle.std.proofs.Common.{◌≡◌, ℕ, ◌+◌, List, length, slice_index, ◌∙◌, ap, arith, w64}
+use Rattle.std.proofs.Common.{ℕ, ◌+◌, List, length, slice_index, ◌∙◌, ap, arith, w64}
 use Rattle.std.specs.Int.{from_le_bytes}
 use Rattle.std.proofs.lemmas.List.FromFn.{fill_by_all}
 use Rattle.layout.specs.Name.{word_of, bytes_of_word}

@@ -1,4 +1,4 @@
-use Rattle.std.proofs.Common.{ℕ, ◌-◌, ◌≤◌, length}
+use Rattle.std.proofs.Common.{◌-◌, ◌≤◌, length}
 use Rattle.volume.proofs.LowestPages.{AreFreeBelow}
 use Rattle.volume.proofs.prepare.contents.lowest_numbers.Given as goal
 

@@ -1,4 +1,4 @@
-use Rattle.std.proofs.Common.{ℕ, ◌+◌, ◌<◌, ◌≤◌, length, sym, subst}
+use Rattle.std.proofs.Common.{◌+◌, ◌<◌, ◌≤◌, length, sym, subst}
 use Rattle.volatile_index.specs.Index.{pages_of, page_places_of}
 use Rattle.volume.specs.Volume.{VolumeView}
 use Rattle.volume.proofs.Grown.{places_there}

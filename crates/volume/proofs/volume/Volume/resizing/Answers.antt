@@ -1,7 +1,6 @@
-use Rattle.std.proofs.Common.{◌≡◌, ℕ, ◌-◌, ◌≤◌, false, ◌==◌, arith}
+use Rattle.std.proofs.Common.{◌≡◌, ◌-◌, false, arith}
 use Rattle.std.proofs.lemmas.Result.{err_from_is_err_and}
 use Rattle.layout.specs.Geometry.{pieces}
-use Rattle.tree_model.specs.Capacity.{file_limit}
 use Rattle.volume.proofs.ContentPlans.{few_pages}
 use Rattle.volume.proofs.ContentRows.{differ_test, size_fits, truncate_lacks, truncate_planned}
 use Rattle.volume.proofs.volume.Volume.resizing.Goals as goal
