@@ -1,6 +1,6 @@
 -- Where lines and pages stand in a file, and which bytes their words are there: eight for each, the lowest first.
 use Rattle.std.specs.Prelude.{ℕ, ◌*◌, List, flat_map}
-use Rattle.byteorder.specs.Endian.{little_bytes, little_number, IsRead}
+use Rattle.byteorder.specs.Endian.{little_bytes}
 
 abbrev pub place_of_line : ℕ → ℕ
 place_of_line line = 64 * line
@@ -11,7 +11,3 @@ place_of_page page = 4096 * page
 -- the bytes of the words, one word after the other
 abbrev pub bytes_of_words : List ℕ → List ℕ
 bytes_of_words words = flat_map (little_bytes 8) words
-
--- each of the words is what its eight bytes are
-abbrev pub HoldsWords : List ℕ → List ℕ → Type 0
-HoldsWords bytes words = IsRead little_number 8 bytes words

@@ -1,5 +1,5 @@
 -- What a medium of words holds once it was given some lines, of eight words each.
-use Rattle.std.specs.Prelude.{◌≡◌, ◌⊎◌, ℕ, ◌+◌, ◌*◌, ◌<◌, ◌≤◌, Bool, true, false, ◌==◌, List, length, slice_index, Option, Some, None, ⊤}
+use Rattle.std.specs.Prelude.{◌≡◌, ◌⊎◌, ℕ, ◌+◌, ◌*◌, ◌<◌, ◌≤◌, Bool, true, false, ◌==◌, List, ◌++◌, length, slice_index, Option, Some, None, ⊤}
 use Rattle.std.specs.List.{list_any}
 
 -- whether the line is one of these
@@ -39,3 +39,7 @@ HasLines (Some before) (Some after) words lines = AddsLines before after words l
 abbrev pub ReadsFrom : Option (List ℕ) → ℕ → ℕ → List ℕ → Type 0
 ReadsFrom None place count words = ⊤
 ReadsFrom (Some held) place count words = (k : ℕ) → k < count → slice_index words k ≡ slice_index held (place + k)
+
+-- so many words were appended, which the medium has from a place on
+abbrev pub AppendsRead : Option (List ℕ) → ℕ → ℕ → List ℕ → List ℕ → Type 0
+AppendsRead held place count old new = (part : List ℕ) × (new ≡ old ++ part) × (length part ≡ count) × ReadsFrom held place count part

@@ -1,8 +1,10 @@
 // Where lines and pages stand in a file, and which bytes their words are there.
-ghost use Rattle.std.specs.Prelude.{◌≡◌, ◌*◌, ◌^◌, ◌<◌, length};
-ghost use Rattle.pm_file.specs.Bytes.{place_of_line as line_place, place_of_page as page_place, bytes_of_words, HoldsWords};
+ghost use Rattle.std.specs.Prelude.{◌≡◌, ◌+◌, ◌*◌, ◌/◌, ◌%◌, ◌^◌, ◌<◌, ◌≤◌, length, vec_len};
+ghost use Rattle.std.specs.Vec.{vec_capacity};
+ghost use Rattle.pm_file.specs.Bytes.{place_of_line as line_place, place_of_page as page_place, bytes_of_words};
+ghost use Rattle.pm_file.specs.Placed.{AppendsWords};
 
-use crate::sizes::{BYTES_OF_A_PAGE, WORDS_OF_A_PAGE};
+use crate::sizes::{BYTES_OF_A_BLOCK, WORDS_OF_A_BLOCK};
 use byteorder::{ByteOrder, LittleEndian};
 use layout::{LINE_BYTES, PAGE_BYTES};
 
@@ -30,11 +32,17 @@ pub fn put_words(words: &[u64], bytes: &mut [u8])
     LittleEndian::write_u64_into(words, bytes);
 }
 
-/// The words of a page's bytes.
-pub fn words_of_page(bytes: &[u8; BYTES_OF_A_PAGE]) -> [u64; WORDS_OF_A_PAGE]
-    ensures { HoldsWords bytes.now result }
+/// Appends the words of bytes, of which there are whole blocks, where there is room for them.
+pub fn append_words(bytes: &[u8], words: &mut Vec<u64>)
+    requires whole { length bytes.now % 1024 ≡ 0 }
+    requires room { 8 * vec_len words.old + length bytes.now ≤ 8 * vec_capacity words.old }
+    ensures words { AppendsWords bytes.now (length bytes.now / 8) words.old.items words.new.items }
+    ensures capacity { vec_capacity words.old ≤ vec_capacity words.new }
 {
-    let mut words = [0u64; WORDS_OF_A_PAGE];
-    LittleEndian::read_u64_into(bytes, &mut words);
-    words
+    let mut block = [0u64; WORDS_OF_A_BLOCK];
+    for number in 0..bytes.len() / BYTES_OF_A_BLOCK {
+        let start = number * BYTES_OF_A_BLOCK;
+        LittleEndian::read_u64_into(&bytes[start..start + BYTES_OF_A_BLOCK], &mut block);
+        let _ = words.extend_from_slice(&block);
+    }
 }

@@ -4,13 +4,17 @@
 mod bytes;
 mod device;
 mod fault;
+mod file_medium;
+mod folder;
 mod lock;
 mod medium;
 mod mirror;
+mod placed;
 mod sizes;
 
 pub use device::FilePm;
 pub use fault::FileFault;
+pub use folder::folder_of;
 pub use lock::Lockable;
 
 #[cfg(test)]

@@ -1,13 +1,10 @@
 // A file that nobody else uses meanwhile.
-ghost use Rattle.std.specs.Prelude.{◌≡◌, Bool, true, None, IsTrue, IfOk, OnErr};
-ghost use Rattle.pm_file.specs.Faults.{CountsFaults};
+ghost use Rattle.std.specs.Prelude.{Bool, true, IsTrue, IfOk, OnOk, OnErr};
+ghost use Rattle.pm_file.specs.Placed.{HasBytes, TakesBytes};
 
-use crate::bytes::{place_of_line, place_of_page, put_words, words_of_page};
-use crate::medium::Medium;
-use crate::sizes::{BYTES_OF_A_PAGE, BYTES_OF_A_RUN, BYTES_OF_A_WORD, WORDS_OF_A_PAGE};
+use crate::placed::PlacedFile;
 use std::fs::{File, OpenFile};
 use std::io;
-use std::io::{Read, Seek, SeekFrom, Write};
 
 /// A file that can be locked against everybody else who locks it before use.
 pub trait Lockable {
@@ -37,11 +34,10 @@ impl Lockable for File {
     }
 }
 
-/// A file whose lock was taken. No other module sees its fields, so `new` alone makes one. Its calls that fail are counted.
+/// A file whose lock was taken. No other module sees its field, so `new` alone makes one.
 #[derive(Drop)]
 pub struct Locked<F> {
     file: F,
-    faults: u64,
 }
 
 impl<F: Lockable + OpenFile + Drop> Locked<F> {
@@ -50,15 +46,7 @@ impl<F: Lockable + OpenFile + Drop> Locked<F> {
         ensures locked { IfOk result (λ locked. IsTrue (F.is_locked locked.file)) }
         ensures refused { OnErr result (F.is_refused file) }
     {
-        Ok(Locked {
-            file: file.lock()?,
-            faults: 0,
-        })
-    }
-
-    /// How many bytes it has.
-    pub fn length(&self) -> io::Result<u64> {
-        Ok(self.file.metadata()?.len())
+        Ok(Locked { file: file.lock()? })
     }
 
     /// Cuts it to so many bytes, or lengthens it with zeros, and waits until that is safe.
@@ -68,61 +56,32 @@ impl<F: Lockable + OpenFile + Drop> Locked<F> {
     }
 }
 
-impl<F> Locked<F> {
-    ghost use Rattle.pm_file.specs.Calls.{failed_calls};
+impl<F: OpenFile> Locked<F> {
+    /// Waits until what was written is safe.
+    pub fn sync(&self) -> io::Result<()> {
+        self.file.sync_data()
+    }
+}
 
-    // Counts a call if it failed.
-    fn counted<T>(&mut self, answer: io::Result<T>) -> io::Result<T>
-        ensures answer { result ≡ answer }
-        ensures faults { CountsFaults (failed_calls self.old) (failed_calls self.new) result }
+impl<F: PlacedFile> Locked<F> {
+    /// How many bytes the open file has, whatever its path names by now.
+    pub fn length(&self) -> io::Result<u64>
+        ensures { IfOk result (F.is_length self.now.file) }
     {
-        if answer.is_err() {
-            self.faults = self.faults.saturating_add(1);
-        }
-        answer
-    }
-}
-
-// Reads a page from this place on.
-fn read_at<F: Read + Seek>(file: &mut F, place: u64) -> io::Result<[u8; BYTES_OF_A_PAGE]> {
-    let mut bytes = [0u8; BYTES_OF_A_PAGE];
-    file.seek(SeekFrom::Start(place))?;
-    file.read_exact(&mut bytes)?;
-    Ok(bytes)
-}
-
-// Writes bytes from this place on.
-fn write_at<F: Write + Seek>(file: &mut F, place: u64, bytes: &[u8]) -> io::Result<()> {
-    file.seek(SeekFrom::Start(place))?;
-    file.write_all(bytes)
-}
-
-/// A file, which tells none of its words. They are little-endian.
-impl<F: Read + Write + Seek + OpenFile> Medium for Locked<F> {
-    ghost use Rattle.pm_file.specs.Calls.{failed_calls};
-
-    ghost held = { λ _. None };
-
-    ghost safe = { λ _. None };
-
-    ghost faults = { failed_calls };
-
-    fn read_page(&mut self, page: u64) -> io::Result<[u64; WORDS_OF_A_PAGE]> {
-        let read = read_at(&mut self.file, place_of_page(page));
-        let bytes = self.counted(read)?;
-        Ok(words_of_page(&bytes))
+        self.file.length()
     }
 
-    fn write_run(&mut self, line: u64, words: &[u64]) -> io::Result<()> {
-        let mut buffer = [0u8; BYTES_OF_A_RUN];
-        let bytes = &mut buffer[..BYTES_OF_A_WORD * words.len()];
-        put_words(words, bytes);
-        let written = write_at(&mut self.file, place_of_line(line), bytes);
-        self.counted(written)
+    /// Reads the bytes from a place on, until the buffer is full.
+    pub fn read_place(&self, place: u64, buffer: &mut [u8]) -> io::Result<()>
+        ensures { OnOk result (HasBytes (F.bytes self.now.file) place buffer.new) }
+    {
+        self.file.read_place(place, buffer)
     }
 
-    fn sync(&mut self) -> io::Result<()> {
-        let synced = self.file.sync_data();
-        self.counted(synced)
+    /// Writes all the bytes from a place on.
+    pub fn write_place(&mut self, place: u64, run: &[u8]) -> io::Result<()>
+        ensures { OnOk result (TakesBytes (F.bytes self.old.file) (F.bytes self.new.file) place run.now) }
+    {
+        self.file.write_place(place, run)
     }
 }

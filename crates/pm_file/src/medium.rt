@@ -1,9 +1,9 @@
 // Where the words come from and go to.
-ghost use Rattle.std.specs.Prelude.{◌≡◌, ◌+◌, ◌*◌, ◌^◌, ◌<◌, ◌≤◌, ℕ, List, Option, length, IfOk, OnOk};
+ghost use Rattle.std.specs.Prelude.{◌≡◌, ◌+◌, ◌*◌, ◌^◌, ◌<◌, ◌≤◌, ℕ, List, Option, length, OnOk, vec_len};
+ghost use Rattle.std.specs.Vec.{vec_capacity};
 ghost use Rattle.pm_file.specs.Faults.{CountsFaults};
-ghost use Rattle.pm_file.specs.Given.{HasRun, ReadsFrom};
+ghost use Rattle.pm_file.specs.Given.{AppendsRead, HasRun};
 
-use crate::sizes::WORDS_OF_A_PAGE;
 use std::io;
 
 /// A medium of words, which is read by pages and written by runs of lines.
@@ -17,10 +17,16 @@ pub trait Medium {
     /// How many of its calls failed, as far as that can be counted.
     ghost faults: { Self → ℕ };
 
-    /// Reads one page.
-    fn read_page(&mut self, page: u64) -> io::Result<[u64; WORDS_OF_A_PAGE]>
-        requires { 4096 * page < 2 ^ 63 }
-        ensures ok { IfOk result (λ words. ReadsFrom (held self.old) (512 * page) 512 words) }
+    /// Appends the words of so many pages, at most 256, from a page on, where there is room for them. They are settled:
+    /// no crash takes them from the medium.
+    fn read_pages(&mut self, page: u64, count: usize, words: &mut Vec<u64>) -> io::Result<()>
+        requires settled { safe self.old ≡ held self.old }
+        requires most { count ≤ 256 }
+        requires in_file { 4096 * (page + count) < 2 ^ 63 }
+        requires room { vec_len words.old + 512 * count ≤ vec_capacity words.old }
+        ensures ok { OnOk result
+            (AppendsRead (held self.old) (512 * page) (512 * count) words.old.items words.new.items) }
+        ensures capacity { vec_capacity words.old ≤ vec_capacity words.new }
         ensures held { held self.new ≡ held self.old }
         ensures safe { safe self.new ≡ safe self.old }
         ensures faults { CountsFaults (faults self.old) (faults self.new) result };

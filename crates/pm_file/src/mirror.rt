@@ -7,7 +7,7 @@ ghost use Rattle.pm_file.specs.Room.{IsRoomFor};
 
 use crate::FileFault;
 use crate::medium::Medium;
-use crate::sizes::{LINES_OF_A_PAGE, LINES_OF_A_RUN, WORDS_OF_A_LINE, WORDS_OF_A_PAGE};
+use crate::sizes::{LINES_OF_A_PAGE, LINES_OF_A_RUN, PAGES_OF_A_READ, WORDS_OF_A_LINE, WORDS_OF_A_PAGE};
 use std::alloc::{AllocError, Global};
 use std::io;
 
@@ -33,19 +33,20 @@ pub fn take_room(alloc: Global, pages: usize) -> Result<Room, AllocError>
 }
 
 /// Adds the words of so many pages from the start of a medium.
-fn read_pages<F: Medium>(
-    medium: &mut F,
-    words: &mut Vec<u64>,
-    pages: usize,
-) -> Result<(), FileFault>
-    requires in_range { 4096 * pages < 2 ^ 63 }
+fn read_all<F: Medium>(medium: &mut F, words: &mut Vec<u64>, pages: usize) -> io::Result<()>
+    requires settled { F.safe medium.old ≡ F.held medium.old }
+    requires in_file { 4096 * pages < 2 ^ 63 }
     requires none { words.old.items ≡ [] }
+    requires room { 512 * pages ≤ vec_capacity words.old }
     ensures length { OnOk result (length words.new.items ≡ 512 * pages) }
-    ensures read { OnOk result (ReadsFrom (F.held medium.old) 0 (512 * pages) words.new.items) }
+    ensures read { OnOk result (ReadsFrom (F.safe medium.old) 0 (512 * pages) words.new.items) }
+    ensures safe { F.safe medium.new ≡ F.safe medium.old }
 {
-    for page in 0..pages {
-        let read = medium.read_page(page as u64)?;
-        words.extend_from_slice(&read)?;
+    let mut done = 0;
+    while done < pages {
+        let count = (pages - done).min(PAGES_OF_A_READ);
+        medium.read_pages(done as u64, count, words)?;
+        done += count;
     }
     Ok(())
 }
@@ -118,19 +119,22 @@ pub struct Mirror<F> {
 }
 
 impl<F: Medium + Drop> Mirror<F> {
-    /// Reads the words of so many pages from the start of a medium, for which there is room.
+    /// Reads the words of so many pages from the start of a medium, for which there is room. What the medium was given
+    /// before is made safe first, so that no crash takes what was read.
     pub fn read_from(mut medium: F, room: Room, pages: usize) -> Result<Mirror<F>, FileFault>
         requires in_file { 4096 * pages < 2 ^ 63 }
         requires room { IsRoomFor pages room }
         ensures length { IfOk result (λ mirror. length mirror.words.items ≡ 512 * pages) }
-        ensures read { IfOk result (λ mirror. ReadsFrom (F.held medium) 0 (512 * pages) mirror.words.items) }
+        ensures safe { IfOk result (λ mirror. F.safe mirror.medium ≡ F.held medium) }
+        ensures read { IfOk result (λ mirror. ReadsFrom (F.safe mirror.medium) 0 (512 * pages) mirror.words.items) }
     {
         let Room {
             mut words,
             rounds,
             flushed,
         } = room;
-        read_pages(&mut medium, &mut words, pages)?;
+        medium.sync()?;
+        read_all(&mut medium, &mut words, pages)?;
         Ok(Mirror {
             medium,
             words,

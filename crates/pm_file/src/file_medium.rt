@@ -1,0 +1,132 @@
+// A locked file as a medium of words.
+ghost use Rattle.std.specs.Prelude.{◌≡◌, ◌+◌, ◌*◌, ◌^◌, ◌<◌, ◌≤◌, None, length, IfOk, OnOk, vec_len};
+ghost use Rattle.std.specs.Vec.{vec_capacity};
+ghost use Rattle.pm_file.specs.Bytes.{place_of_line as line_place, bytes_of_words};
+ghost use Rattle.pm_file.specs.Faults.{CountsFaults};
+ghost use Rattle.pm_file.specs.Placed.{AppendsFrom, TakesBytes};
+
+use crate::bytes::{append_words, place_of_line, place_of_page, put_words};
+use crate::lock::Locked;
+use crate::medium::Medium;
+use crate::placed::PlacedFile;
+use crate::sizes::{BYTES_OF_A_PAGE, BYTES_OF_A_READ, BYTES_OF_A_WORD};
+use std::alloc::{AllocError, Global};
+use std::fs::OpenFile;
+use std::io;
+use std::io::ErrorKind;
+
+/// A locked file of a known length, whose bytes go through a buffer. Its calls that fail are counted.
+#[derive(Drop)]
+pub struct FileMedium<F> {
+    file: Locked<F>,
+    /// The bytes that the file is to have.
+    file_bytes: u64,
+    /// A read takes up to a mebibyte. What an earlier call left in it is never written.
+    buffer: Vec<u8>,
+    faults: u64,
+    ghost holds_a_read: { length buffer.items ≡ 1048576 },
+}
+
+/// Takes the memory for a buffer.
+pub fn take_buffer(alloc: Global) -> Result<Vec<u8>, AllocError>
+    ensures { IfOk result (λ buffer. length buffer.items ≡ 1048576) }
+{
+    vec![in alloc; 0u8; BYTES_OF_A_READ]
+}
+
+impl<F> FileMedium<F> {
+    /// A file that is to have so many bytes, with its buffer.
+    pub fn new(file: Locked<F>, file_bytes: u64, buffer: Vec<u8>) -> FileMedium<F>
+        requires { length buffer.items ≡ 1048576 }
+        ensures { result.file ≡ file }
+    {
+        FileMedium {
+            file,
+            file_bytes,
+            buffer,
+            faults: 0,
+        }
+    }
+
+    // Counts a call if it failed.
+    fn counted<T>(&mut self, answer: io::Result<T>) -> io::Result<T>
+        ensures answer { result ≡ answer }
+        ensures faults { CountsFaults self.old.faults self.new.faults result }
+    {
+        if answer.is_err() {
+            self.faults = self.faults.saturating_add(1);
+        }
+        answer
+    }
+}
+
+impl<F: PlacedFile> FileMedium<F> {
+    // Reads the words of so many pages from a page on.
+    fn append_pages(&mut self, page: u64, count: usize, words: &mut Vec<u64>) -> io::Result<()>
+        requires most { count ≤ 256 }
+        requires in_file { 4096 * (page + count) < 2 ^ 63 }
+        requires room { vec_len words.old + 512 * count ≤ vec_capacity words.old }
+        ensures read { OnOk result
+            (AppendsFrom (F.bytes self.old.file.file) (512 * page) (512 * count) words.old.items words.new.items) }
+        ensures capacity { vec_capacity words.old ≤ vec_capacity words.new }
+        ensures faults { self.new.faults ≡ self.old.faults }
+    {
+        let bytes = &mut self.buffer[0..BYTES_OF_A_PAGE * count];
+        self.file.read_place(place_of_page(page), bytes)?;
+        append_words(bytes, words);
+        Ok(())
+    }
+
+    // Writes words from a line on.
+    fn write_words(&mut self, line: u64, words: &[u64]) -> io::Result<()>
+        requires most { length words.now ≤ 8 * 512 }
+        requires in_range { 64 * line < 2 ^ 63 }
+        ensures written { OnOk result (TakesBytes (F.bytes self.old.file.file) (F.bytes self.new.file.file)
+            (line_place line) (bytes_of_words words.now)) }
+        ensures faults { self.new.faults ≡ self.old.faults }
+    {
+        let bytes = &mut self.buffer[0..BYTES_OF_A_WORD * words.len()];
+        put_words(words, bytes);
+        self.file.write_place(place_of_line(line), bytes)
+    }
+}
+
+impl<F: PlacedFile + OpenFile + Drop> FileMedium<F> {
+    // Waits until what was written is safe. It fails where the file has another length by then: another program cut or
+    // lengthened it.
+    fn sync_whole(&self) -> io::Result<()>
+        ensures whole { OnOk result (F.is_length self.now.file.file self.now.file_bytes) }
+    {
+        self.file.sync()?;
+        if self.file.length()? != self.file_bytes {
+            return Err(io::Error::from(ErrorKind::InvalidData));
+        }
+        Ok(())
+    }
+}
+
+/// A file, which tells none of its words. They are little-endian.
+impl<F: PlacedFile + OpenFile + Drop> Medium for FileMedium<F> {
+    ghost use Rattle.pm_file.specs.Calls.{failed_calls};
+
+    ghost held = { λ _. None };
+
+    ghost safe = { λ _. None };
+
+    ghost faults = { failed_calls };
+
+    fn read_pages(&mut self, page: u64, count: usize, words: &mut Vec<u64>) -> io::Result<()> {
+        let read = self.append_pages(page, count, words);
+        self.counted(read)
+    }
+
+    fn write_run(&mut self, line: u64, words: &[u64]) -> io::Result<()> {
+        let written = self.write_words(line, words);
+        self.counted(written)
+    }
+
+    fn sync(&mut self) -> io::Result<()> {
+        let synced = self.sync_whole();
+        self.counted(synced)
+    }
+}
