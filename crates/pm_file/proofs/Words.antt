@@ -16,9 +16,9 @@ same_number xs ys p q (suc n) same =
     let there : q + 0 ≡ q = omega arith in
     let head : slice_index xs p ≡ slice_index ys q = subst (λ (i : ℕ). slice_index xs i ≡ slice_index ys q) at (subst (λ (i : ℕ). slice_index xs (p + 0) ≡ slice_index ys i) there (same 0 (omega arith))) in
     let tail : little_from (suc p) n xs ≡ little_from (suc q) n ys = same_number xs ys (suc p) (suc q) n (λ j below.
-        let from : p + suc j ≡ suc p + j = omega arith in
-        let to : q + suc j ≡ suc q + j = omega arith in
-        subst (λ (i : ℕ). slice_index xs i ≡ slice_index ys (suc q + j)) from (subst (λ (i : ℕ). slice_index xs (p + suc j) ≡ slice_index ys i) to (same (suc j) (omega (arith, below))))) in
+    let from : p + suc j ≡ suc p + j = omega arith in
+    let to : q + suc j ≡ suc q + j = omega arith in
+    subst (λ (i : ℕ). slice_index xs i ≡ slice_index ys (suc q + j)) from (subst (λ (i : ℕ). slice_index xs (p + suc j) ≡ slice_index ys i) to (same (suc j) (omega (arith, below))))) in
     rw (head, tail) refl
 
 -- the words of a block of bytes are words of all the bytes
@@ -28,14 +28,14 @@ block_words bytes block number long read = λ k below.
     let part : slice_range bytes (number * 1024) (number * 1024 + 1024) ≡ take 1024 (drop (number * 1024) bytes) = rw size refl in
     let is : slice_index block k ≡ little_number 8 (drop (8 * k) (take 1024 (drop (number * 1024) bytes))) = subst (λ (l : List ℕ). slice_index block k ≡ little_number 8 (drop (8 * k) l)) part (read k below) in
     is ∙ same_number (drop (8 * k) (take 1024 (drop (number * 1024) bytes))) bytes 0 (8 * (128 * number + k)) 8 (λ j small.
-        let inside : 8 * k + j < 1024 = omega (arith, long, below, small) in
-        let place : number * 1024 + (8 * k + j) ≡ 8 * (128 * number + k) + j = omega arith in
-        let plain : 0 + j ≡ j = omega arith in
-        get_or-drop (8 * k) (take 1024 (drop (number * 1024) bytes)) (0 + j) 0
-        ∙ ap (λ (i : ℕ). slice_index (take 1024 (drop (number * 1024) bytes)) (8 * k + i)) plain
-        ∙ get_or-take 1024 (drop (number * 1024) bytes) (8 * k + j) 0 inside
-        ∙ get_or-drop (number * 1024) bytes (8 * k + j) 0
-        ∙ ap (λ (i : ℕ). slice_index bytes i) place)
+    let inside : 8 * k + j < 1024 = omega (arith, long, below, small) in
+    let place : number * 1024 + (8 * k + j) ≡ 8 * (128 * number + k) + j = omega arith in
+    let plain : 0 + j ≡ j = omega arith in
+    get_or-drop (8 * k) (take 1024 (drop (number * 1024) bytes)) (0 + j) 0
+    ∙ ap (λ (i : ℕ). slice_index (take 1024 (drop (number * 1024) bytes)) (8 * k + i)) plain
+    ∙ get_or-take 1024 (drop (number * 1024) bytes) (8 * k + j) 0 inside
+    ∙ get_or-drop (number * 1024) bytes (8 * k + j) 0
+    ∙ ap (λ (i : ℕ). slice_index bytes i) place)
 
 -- words that follow others
 more_words : (bytes words part : List ℕ) (n : ℕ) → length words ≡ n → AreWords bytes 0 words → AreWords bytes n part → AreWords bytes 0 (words ++ part)
@@ -51,15 +51,20 @@ more_words bytes words part n long had has = λ k below. elim (cases_lt k n) [
 
 -- one more block was appended
 pub block_more : (bytes old items block : List ℕ) (number : ℕ) → AppendsWords bytes (128 * number) old items → length block ≡ 128 → IsRead little_number 8 (slice_range bytes (number * 1024) (number * 1024 + 1024)) block → AppendsWords bytes (128 * (number + 1)) old (items ++ block)
-block_more bytes old items block number (part , is , long , had) size read =
+block_more bytes old items block number (part, is, long, had) size read =
     let joined : items ++ block ≡ old ++ (part ++ block) = rw is (append_assoc old part block) in
     let all : length (part ++ block) ≡ 128 * (number + 1) = length-append part block ∙ omega (arith, long, size) in
-    (part ++ block , joined , all , more_words bytes part block (128 * number) long had (block_words bytes block number size read))
+    (part ++ block, joined, all, more_words bytes part block (128 * number) long had (block_words bytes block number size read))
 
 -- the words of what was read of a file are the file's
 pub read_words : (bytes : Option (List ℕ)) (buffer old new : List ℕ) (page count : ℕ) → length buffer ≡ 4096 * count → HasBytes bytes (4096 * page) buffer → AppendsWords buffer (512 * count) old new → AppendsFrom bytes (512 * page) (512 * count) old new
-read_words None buffer old new page count long has (part , is , size , are) = (part , is , size , tt)
-read_words (Some bytes) buffer old new page count long has (part , is , size , are) = (part , is , size , λ k below.
-    are k below ∙ same_number buffer bytes (8 * (0 + k)) (8 * (512 * page + k)) 8 (λ j small.
-        let place : 4096 * page + (8 * (0 + k) + j) ≡ 8 * (512 * page + k) + j = omega arith in
-        has (8 * (0 + k) + j) (omega (arith, long, size, below, small)) ∙ ap (λ (i : ℕ). slice_index bytes i) place))
+read_words None buffer old new page count long has (part, is, size, are) = (part, is, size, tt)
+read_words (Some bytes) buffer old new page count long has (part, is, size, are) = (
+  part,
+  is,
+  size,
+  λ k below.
+      are k below ∙ same_number buffer bytes (8 * (0 + k)) (8 * (512 * page + k)) 8 (λ j small.
+      let place : 4096 * page + (8 * (0 + k) + j) ≡ 8 * (512 * page + k) + j = omega arith in
+      has (8 * (0 + k) + j) (omega (arith, long, size, below, small)) ∙ ap (λ (i : ℕ). slice_index bytes i) place),
+)

@@ -6,9 +6,9 @@ ghost use Rattle.pm_file.specs.Faults.{CountsFaults};
 ghost use Rattle.pm_file.specs.Placed.{AppendsFrom, TakesBytes};
 
 use crate::bytes::{append_words, place_of_line, place_of_page, put_words};
+use crate::image_file::ImageFile;
 use crate::lock::Locked;
 use crate::medium::Medium;
-use crate::placed::PlacedFile;
 use crate::sizes::{BYTES_OF_A_PAGE, BYTES_OF_A_READ, BYTES_OF_A_WORD};
 use std::alloc::{AllocError, Global};
 use std::fs::OpenFile;
@@ -60,7 +60,7 @@ impl<F> FileMedium<F> {
     }
 }
 
-impl<F: PlacedFile> FileMedium<F> {
+impl<F: ImageFile> FileMedium<F> {
     // Reads the words of so many pages from a page on.
     fn append_pages(&mut self, page: u64, count: usize, words: &mut Vec<u64>) -> io::Result<()>
         requires most { count ≤ 256 }
@@ -91,7 +91,7 @@ impl<F: PlacedFile> FileMedium<F> {
     }
 }
 
-impl<F: PlacedFile + OpenFile + Drop> FileMedium<F> {
+impl<F: ImageFile + OpenFile + Drop> FileMedium<F> {
     // Waits until what was written is safe. It fails where the file has another length by then: another program cut or
     // lengthened it.
     fn sync_whole(&self) -> io::Result<()>
@@ -106,7 +106,7 @@ impl<F: PlacedFile + OpenFile + Drop> FileMedium<F> {
 }
 
 /// A file, which tells none of its words. They are little-endian.
-impl<F: PlacedFile + OpenFile + Drop> Medium for FileMedium<F> {
+impl<F: ImageFile + OpenFile + Drop> Medium for FileMedium<F> {
     ghost use Rattle.pm_file.specs.Calls.{failed_calls};
 
     ghost held = { λ _. None };

@@ -6,16 +6,16 @@ mod device;
 mod fault;
 mod file_medium;
 mod folder;
+mod image_file;
 mod lock;
 mod medium;
 mod mirror;
-mod placed;
 mod sizes;
 
 pub use device::FilePm;
 pub use fault::FileFault;
 pub use folder::folder_of;
-pub use lock::Lockable;
+pub use image_file::ImageFile;
 
 #[cfg(test)]
 mod tests;

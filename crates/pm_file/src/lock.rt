@@ -1,38 +1,10 @@
 // A file that nobody else uses meanwhile.
-ghost use Rattle.std.specs.Prelude.{Bool, true, IsTrue, IfOk, OnOk, OnErr};
+ghost use Rattle.std.specs.Prelude.{IsTrue, IfOk, OnOk, OnErr};
 ghost use Rattle.pm_file.specs.Placed.{HasBytes, TakesBytes};
 
-use crate::placed::PlacedFile;
-use std::fs::{File, OpenFile};
+use crate::image_file::ImageFile;
+use std::fs::OpenFile;
 use std::io;
-
-/// A file that can be locked against everybody else who locks it before use.
-pub trait Lockable {
-    /// Whether its lock was taken. A file of the system doesn't show it.
-    ghost is_locked: { Self → Bool };
-
-    /// What is known of a file whose lock is refused, and from nothing else.
-    ghost is_refused: { Self → Type 0 };
-
-    /// Takes the lock, or fails at once where another open file has it. It is held until the file is closed.
-    fn lock(self) -> io::Result<Self>
-    where
-        Self: Sized,
-        ensures locked { IfOk result (λ file. IsTrue (is_locked file)) }
-        ensures refused { OnErr result (is_refused self) };
-}
-
-/// No contract says what the system's lock does, so every file counts as locked here, and only tests show that it is.
-impl Lockable for File {
-    ghost is_locked = { λ _. true };
-
-    ghost is_refused = { λ _. Unit {0} };
-
-    fn lock(self) -> io::Result<File> {
-        self.try_lock()?;
-        Ok(self)
-    }
-}
 
 /// A file whose lock was taken. No other module sees its field, so `new` alone makes one.
 #[derive(Drop)]
@@ -40,7 +12,7 @@ pub struct Locked<F> {
     file: F,
 }
 
-impl<F: Lockable + OpenFile + Drop> Locked<F> {
+impl<F: ImageFile + OpenFile + Drop> Locked<F> {
     /// Locks a file.
     pub fn new(file: F) -> io::Result<Locked<F>>
         ensures locked { IfOk result (λ locked. IsTrue (F.is_locked locked.file)) }
@@ -63,7 +35,7 @@ impl<F: OpenFile> Locked<F> {
     }
 }
 
-impl<F: PlacedFile> Locked<F> {
+impl<F: ImageFile> Locked<F> {
     /// How many bytes the open file has, whatever its path names by now.
     pub fn length(&self) -> io::Result<u64>
         ensures { IfOk result (F.is_length self.now.file) }

@@ -7,7 +7,9 @@ ghost use Rattle.pm_file.specs.Room.{IsRoomFor};
 
 use crate::FileFault;
 use crate::medium::Medium;
-use crate::sizes::{LINES_OF_A_PAGE, LINES_OF_A_RUN, PAGES_OF_A_READ, WORDS_OF_A_LINE, WORDS_OF_A_PAGE};
+use crate::sizes::{
+    LINES_OF_A_PAGE, LINES_OF_A_RUN, PAGES_OF_A_READ, WORDS_OF_A_LINE, WORDS_OF_A_PAGE,
+};
 use std::alloc::{AllocError, Global};
 use std::io;
 

@@ -11,7 +11,7 @@ mod words;
 use device::{Images, device_for};
 use faults::{exit_of, fault_line, status_of_file_fault};
 use io_edge::{StdSink, StdSource};
-use pm_file::Lockable;
+use pm_file::ImageFile;
 use squirrel_cli::{Status, Words, squirrel};
 use std::alloc::Global;
 use std::io;
@@ -36,7 +36,7 @@ fn status_of_run(rt: &HostRuntime) -> Status {
 // Does what the words ask for, on the file that they name.
 fn do_job<R: Files + Input + Print>(rt: &R, alloc: Global, words: &Words) -> Status
 where
-    R::File: Lockable,
+    R::File: ImageFile,
     ensures usage { (result ≡ Status.Usage) ↔ (job_of words.now ≡ None) }
 {
     match device_for(&Images { rt, alloc }, alloc, words) {

@@ -2,6 +2,7 @@
 ghost use Rattle.std.specs.Prelude.{◌≡◌, ◌+◌, ◌≤◌, ◌++◌, take, drop, length, Some};
 
 use super::{Mirror, take_room};
+use crate::FileFault;
 use crate::medium::Medium;
 use crate::sizes::{WORDS_OF_A_LINE, WORDS_OF_A_PAGE};
 use std::alloc::Global;
@@ -9,12 +10,13 @@ use std::io;
 use std::io::{Error, ErrorKind};
 use std::test::Fail;
 
-/// Words in memory, and those of them that are safe. It takes so many writes more.
+/// Words in memory, and those of them that are safe. It takes so many writes and syncs more.
 #[derive(Drop)]
 struct Ram {
     words: Vec<u64>,
     safe: Vec<u64>,
     writes_left: u64,
+    syncs_left: u64,
     faults: u64,
     ghost same_length: { length words.items ≡ length safe.items },
 }
@@ -26,15 +28,14 @@ impl Medium for Ram {
 
     ghost faults = { λ ram. ram.faults };
 
-    fn read_page(&mut self, page: u64) -> io::Result<[u64; WORDS_OF_A_PAGE]> {
+    fn read_pages(&mut self, page: u64, count: usize, words: &mut Vec<u64>) -> io::Result<()> {
         let first = WORDS_OF_A_PAGE * page as usize;
-        if first + WORDS_OF_A_PAGE > self.words.len() {
+        let end = first + WORDS_OF_A_PAGE * count;
+        if end > self.words.len() || words.extend_from_slice(&self.words[first..end]).is_err() {
             self.faults = self.faults.saturating_add(1);
             return Err(Error::from(ErrorKind::UnexpectedEof));
         }
-        let mut words = [0u64; WORDS_OF_A_PAGE];
-        words.copy_from_slice(&self.words[first..first + WORDS_OF_A_PAGE]);
-        Ok(words)
+        Ok(())
     }
 
     fn write_run(&mut self, line: u64, words: &[u64]) -> io::Result<()> {
@@ -49,6 +50,11 @@ impl Medium for Ram {
     }
 
     fn sync(&mut self) -> io::Result<()> {
+        if self.syncs_left == 0 {
+            self.faults = self.faults.saturating_add(1);
+            return Err(Error::from(ErrorKind::Other));
+        }
+        self.syncs_left -= 1;
         self.safe.copy_from_slice(&self.words);
         Ok(())
     }
@@ -62,18 +68,23 @@ fn put(all: &mut [u64], first: usize, words: &[u64])
     all[first..first + words.len()].copy_from_slice(words);
 }
 
-/// The words of 16 pages, zeros, over a medium that takes so many writes. Five lines were flushed, which are three runs.
-fn flushed(alloc: Global, writes: u64) -> Result<Mirror<Ram>, Fail> {
+/// The words of 16 pages, zeros, in a medium that takes so many writes and syncs.
+fn fresh_ram(alloc: Global, writes: u64, syncs: u64) -> Result<Ram, Fail> {
     let words = vec![in alloc; 0u64; 8192]?;
     let safe = vec![in alloc; 0u64; 8192]?;
-    let room = take_room(alloc, 16)?;
-    let ram = Ram {
+    Ok(Ram {
         words,
         safe,
         writes_left: writes,
+        syncs_left: syncs,
         faults: 0,
-    };
-    let mut mirror = Mirror::read_from(ram, room, 16)?;
+    })
+}
+
+/// The words of a medium that takes so many writes. Five lines were flushed, which are three runs.
+fn flushed(alloc: Global, writes: u64) -> Result<Mirror<Ram>, Fail> {
+    let room = take_room(alloc, 16)?;
+    let mut mirror = Mirror::read_from(fresh_ram(alloc, writes, 3)?, room, 16)?;
     mirror.set(48, 2);
     mirror.set(9, 3);
     mirror.set(8191, 4);
@@ -113,5 +124,13 @@ fn a_write_fails_between_runs(rt: HostRuntime) -> Result<(), Fail> {
     mirror.write_back()?;
     assert_eq!(rt; mirror.medium.faults, 1);
     assert_eq!(rt; set_words(mirror.medium.safe.as_slice()), 3);
+    Ok(())
+}
+
+#[test]
+fn nothing_is_read_where_the_first_sync_fails(rt: HostRuntime) -> Result<(), Fail> {
+    let room = take_room(rt.alloc(), 16)?;
+    let refused = Mirror::read_from(fresh_ram(rt.alloc(), 3, 0)?, room, 16);
+    assert!(rt; matches!(refused, Err(FileFault::Failed)));
     Ok(())
 }

@@ -1,9 +1,13 @@
 // Files that give and take less than is asked of them.
-use crate::Lockable;
+ghost use Rattle.std.specs.Prelude.{None};
+
+use crate::ImageFile;
 use std::alloc::Allocator;
+use std::cell::Cell;
 use std::fs::{Metadata, OpenFile, OpenOptions};
 use std::io;
 use std::io::{Read, Seek, SeekFrom, Write};
+use std::os::unix::fs::FileExt;
 use std::rt::Files;
 
 /// Files of another file system of which a read gives at most so many bytes and a write takes at most so many, and which
@@ -22,23 +26,19 @@ pub struct ScantyFile<F> {
     file: F,
     gives: usize,
     takes: usize,
-    left: usize,
+    left: Cell<usize>,
     is_taken: bool,
 }
 
 impl<F: Read> Read for ScantyFile<F> {
     fn read(&mut self, buf: &mut [u8]) -> io::Result<usize> {
-        let end = buf.len().min(self.gives);
-        self.file.read(&mut buf[..end])
+        self.file.read(buf)
     }
 }
 
 impl<F: Write> Write for ScantyFile<F> {
     fn write(&mut self, buf: &[u8]) -> io::Result<usize> {
-        let end = buf.len().min(self.takes).min(self.left);
-        let taken = self.file.write(&buf[..end])?;
-        self.left = self.left.saturating_sub(taken);
-        Ok(taken)
+        self.file.write(buf)
     }
 
     fn flush(&mut self) -> io::Result<()> {
@@ -70,10 +70,28 @@ impl<F: OpenFile> OpenFile for ScantyFile<F> {
     }
 }
 
-impl<F: Lockable> Lockable for ScantyFile<F> {
+impl<F: FileExt> FileExt for ScantyFile<F> {
+    fn read_at(&self, buf: &mut [u8], offset: u64) -> io::Result<usize> {
+        let end = buf.len().min(self.gives);
+        self.file.read_at(&mut buf[..end], offset)
+    }
+
+    fn write_at(&self, buf: &[u8], offset: u64) -> io::Result<usize> {
+        let end = buf.len().min(self.takes).min(self.left.get());
+        let taken = self.file.write_at(&buf[..end], offset)?;
+        self.left.set(self.left.get().saturating_sub(taken));
+        Ok(taken)
+    }
+}
+
+impl<F: ImageFile + FileExt> ImageFile for ScantyFile<F> {
     ghost is_locked = { λ scanty. scanty.is_taken };
 
     ghost is_refused = { λ scanty. F.is_refused scanty.file };
+
+    ghost is_length = { λ scanty. F.is_length scanty.file };
+
+    ghost bytes = { λ _. None };
 
     fn lock(self) -> io::Result<ScantyFile<F>> {
         let ScantyFile {
@@ -91,6 +109,18 @@ impl<F: Lockable> Lockable for ScantyFile<F> {
             is_taken: true,
         })
     }
+
+    fn length(&self) -> io::Result<u64> {
+        self.file.length()
+    }
+
+    fn read_place(&self, place: u64, buffer: &mut [u8]) -> io::Result<()> {
+        self.read_exact_at(buffer, place)
+    }
+
+    fn write_place(&mut self, place: u64, run: &[u8]) -> io::Result<()> {
+        self.write_all_at(run, place)
+    }
 }
 
 impl<R: Files> Files for Scanty<R> {
@@ -103,7 +133,7 @@ impl<R: Files> Files for Scanty<R> {
             file: self.rt.open_file(how, path)?,
             gives: self.gives,
             takes: self.takes,
-            left: self.takes_in_all,
+            left: Cell::new(self.takes_in_all),
             is_taken: false,
         })
     }
