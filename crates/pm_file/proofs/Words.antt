@@ -21,20 +21,20 @@ same_number xs ys p q (suc n) same =
     subst (λ (i : ℕ). slice_index xs i ≡ slice_index ys (suc q + j)) from (subst (λ (i : ℕ). slice_index xs (p + suc j) ≡ slice_index ys i) to (same (suc j) (omega (arith, below))))) in
     rw (head, tail) refl
 
--- the words of a block of bytes are words of all the bytes
-block_words : (bytes block : List ℕ) (number : ℕ) → length block ≡ 128 → IsRead little_number 8 (slice_range bytes (number * 1024) (number * 1024 + 1024)) block → AreWords bytes (128 * number) block
-block_words bytes block number long read = λ k below.
-    let size : number * 1024 + 1024 - number * 1024 ≡ 1024 = omega arith in
-    let part : slice_range bytes (number * 1024) (number * 1024 + 1024) ≡ take 1024 (drop (number * 1024) bytes) = rw size refl in
-    let is : slice_index block k ≡ little_number 8 (drop (8 * k) (take 1024 (drop (number * 1024) bytes))) = subst (λ (l : List ℕ). slice_index block k ≡ little_number 8 (drop (8 * k) l)) part (read k below) in
-    is ∙ same_number (drop (8 * k) (take 1024 (drop (number * 1024) bytes))) bytes 0 (8 * (128 * number + k)) 8 (λ j small.
-    let inside : 8 * k + j < 1024 = omega (arith, long, below, small) in
-    let place : number * 1024 + (8 * k + j) ≡ 8 * (128 * number + k) + j = omega arith in
+-- the words of a page of the bytes are words of all the bytes
+page_words : (bytes part : List ℕ) (page : ℕ) → length part ≡ 512 → IsRead little_number 8 (slice_range bytes (page * 4096) (page * 4096 + 4096)) part → AreWords bytes (512 * page) part
+page_words bytes part page long read = λ k below.
+    let size : page * 4096 + 4096 - page * 4096 ≡ 4096 = omega arith in
+    let range : slice_range bytes (page * 4096) (page * 4096 + 4096) ≡ take 4096 (drop (page * 4096) bytes) = rw size refl in
+    let is : slice_index part k ≡ little_number 8 (drop (8 * k) (take 4096 (drop (page * 4096) bytes))) = subst (λ (l : List ℕ). slice_index part k ≡ little_number 8 (drop (8 * k) l)) range (read k below) in
+    is ∙ same_number (drop (8 * k) (take 4096 (drop (page * 4096) bytes))) bytes 0 (8 * (512 * page + k)) 8 (λ j small.
+    let inside : 8 * k + j < 4096 = omega (arith, long, below, small) in
+    let place : page * 4096 + (8 * k + j) ≡ 8 * (512 * page + k) + j = omega arith in
     let plain : 0 + j ≡ j = omega arith in
-    get_or-drop (8 * k) (take 1024 (drop (number * 1024) bytes)) (0 + j) 0
-    ∙ ap (λ (i : ℕ). slice_index (take 1024 (drop (number * 1024) bytes)) (8 * k + i)) plain
-    ∙ get_or-take 1024 (drop (number * 1024) bytes) (8 * k + j) 0 inside
-    ∙ get_or-drop (number * 1024) bytes (8 * k + j) 0
+    get_or-drop (8 * k) (take 4096 (drop (page * 4096) bytes)) (0 + j) 0
+    ∙ ap (λ (i : ℕ). slice_index (take 4096 (drop (page * 4096) bytes)) (8 * k + i)) plain
+    ∙ get_or-take 4096 (drop (page * 4096) bytes) (8 * k + j) 0 inside
+    ∙ get_or-drop (page * 4096) bytes (8 * k + j) 0
     ∙ ap (λ (i : ℕ). slice_index bytes i) place)
 
 -- words that follow others
@@ -49,12 +49,12 @@ more_words bytes words part n long had has = λ k below. elim (cases_lt k n) [
       is ∙ has (k - n) (omega (arith, all, long, high, below)) ∙ ap (λ (i : ℕ). little_from i 8 bytes) from
 ]
 
--- one more block was appended
-pub block_more : (bytes old items block : List ℕ) (number : ℕ) → AppendsWords bytes (128 * number) old items → length block ≡ 128 → IsRead little_number 8 (slice_range bytes (number * 1024) (number * 1024 + 1024)) block → AppendsWords bytes (128 * (number + 1)) old (items ++ block)
-block_more bytes old items block number (part, is, long, had) size read =
-    let joined : items ++ block ≡ old ++ (part ++ block) = rw is (append_assoc old part block) in
-    let all : length (part ++ block) ≡ 128 * (number + 1) = length-append part block ∙ omega (arith, long, size) in
-    (part ++ block, joined, all, more_words bytes part block (128 * number) long had (block_words bytes block number size read))
+-- one more page was appended
+pub page_more : (bytes old items more : List ℕ) (page : ℕ) → AppendsWords bytes (512 * page) old items → length more ≡ 512 → IsRead little_number 8 (slice_range bytes (page * 4096) (page * 4096 + 4096)) more → AppendsWords bytes (512 * (page + 1)) old (items ++ more)
+page_more bytes old items more page (part, is, long, had) size read =
+    let joined : items ++ more ≡ old ++ (part ++ more) = rw is (append_assoc old part more) in
+    let all : length (part ++ more) ≡ 512 * (page + 1) = length-append part more ∙ omega (arith, long, size) in
+    (part ++ more, joined, all, more_words bytes part more (512 * page) long had (page_words bytes more page size read))
 
 -- the words of what was read of a file are the file's
 pub read_words : (bytes : Option (List ℕ)) (buffer old new : List ℕ) (page count : ℕ) → length buffer ≡ 4096 * count → HasBytes bytes (4096 * page) buffer → AppendsWords buffer (512 * count) old new → AppendsFrom bytes (512 * page) (512 * count) old new

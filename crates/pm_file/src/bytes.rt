@@ -4,7 +4,7 @@ ghost use Rattle.std.specs.Vec.{vec_capacity};
 ghost use Rattle.pm_file.specs.Bytes.{place_of_line as line_place, place_of_page as page_place, bytes_of_words};
 ghost use Rattle.pm_file.specs.Placed.{AppendsWords};
 
-use crate::sizes::{BYTES_OF_A_BLOCK, WORDS_OF_A_BLOCK};
+use crate::sizes::{BYTES_OF_A_PAGE, WORDS_OF_A_PAGE};
 use byteorder::{ByteOrder, LittleEndian};
 use layout::{LINE_BYTES, PAGE_BYTES};
 
@@ -32,17 +32,17 @@ pub fn put_words(words: &[u64], bytes: &mut [u8])
     LittleEndian::write_u64_into(words, bytes);
 }
 
-/// Appends the words of bytes, of which there are whole blocks, where there is room for them.
+/// Appends the words of whole pages' bytes, where there is room for them.
 pub fn append_words(bytes: &[u8], words: &mut Vec<u64>)
-    requires whole { length bytes.now % 1024 ≡ 0 }
+    requires whole { length bytes.now % 4096 ≡ 0 }
     requires room { 8 * vec_len words.old + length bytes.now ≤ 8 * vec_capacity words.old }
     ensures words { AppendsWords bytes.now (length bytes.now / 8) words.old.items words.new.items }
     ensures capacity { vec_capacity words.old ≤ vec_capacity words.new }
 {
-    let mut block = [0u64; WORDS_OF_A_BLOCK];
-    for number in 0..bytes.len() / BYTES_OF_A_BLOCK {
-        let start = number * BYTES_OF_A_BLOCK;
-        LittleEndian::read_u64_into(&bytes[start..start + BYTES_OF_A_BLOCK], &mut block);
-        let _ = words.extend_from_slice(&block);
+    let mut read = [0u64; WORDS_OF_A_PAGE];
+    for page in 0..bytes.len() / BYTES_OF_A_PAGE {
+        let start = page * BYTES_OF_A_PAGE;
+        LittleEndian::read_u64_into(&bytes[start..start + BYTES_OF_A_PAGE], &mut read);
+        let _ = words.extend_from_slice(&read);
     }
 }

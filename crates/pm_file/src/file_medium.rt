@@ -9,7 +9,7 @@ use crate::bytes::{append_words, place_of_line, place_of_page, put_words};
 use crate::image_file::ImageFile;
 use crate::lock::Locked;
 use crate::medium::Medium;
-use crate::sizes::{BYTES_OF_A_PAGE, BYTES_OF_A_READ, BYTES_OF_A_WORD};
+use crate::sizes::{BYTES_OF_A_PAGE, BYTES_OF_A_READ, BYTES_OF_A_WORD, PAGES_OF_A_READ};
 use std::alloc::{AllocError, Global};
 use std::fs::OpenFile;
 use std::io;
@@ -31,7 +31,11 @@ pub struct FileMedium<F> {
 pub fn take_buffer(alloc: Global) -> Result<Vec<u8>, AllocError>
     ensures { IfOk result (λ buffer. length buffer.items ≡ 1048576) }
 {
-    vec![in alloc; 0u8; BYTES_OF_A_READ]
+    let mut buffer = Vec::with_capacity(alloc, BYTES_OF_A_READ)?;
+    for _ in 0..PAGES_OF_A_READ {
+        buffer.extend_from_slice(&[0; BYTES_OF_A_PAGE])?;
+    }
+    Ok(buffer)
 }
 
 impl<F> FileMedium<F> {
@@ -94,11 +98,12 @@ impl<F: ImageFile> FileMedium<F> {
 impl<F: ImageFile + OpenFile + Drop> FileMedium<F> {
     // Waits until what was written is safe. It fails where the file has another length by then: another program cut or
     // lengthened it.
-    fn sync_whole(&self) -> io::Result<()>
-        ensures whole { OnOk result (F.is_length self.now.file.file self.now.file_bytes) }
+    fn sync_whole(&mut self) -> io::Result<()>
+        ensures whole { OnOk result (F.is_length self.new.file.file self.old.file_bytes) }
+        ensures faults { self.new.faults ≡ self.old.faults }
     {
         self.file.sync()?;
-        if self.file.length()? != self.file_bytes {
+        if self.file.end()? != self.file_bytes {
             return Err(io::Error::from(ErrorKind::InvalidData));
         }
         Ok(())

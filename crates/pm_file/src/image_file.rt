@@ -1,9 +1,10 @@
 // The file behind an image.
-ghost use Rattle.std.specs.Prelude.{ℕ, Bool, true, List, Option, None, IsTrue, IfOk, OnOk, OnErr};
+ghost use Rattle.std.specs.Prelude.{◌≡◌, ℕ, Bool, true, List, Option, None, IsTrue, IfOk, OnOk, OnErr};
 ghost use Rattle.pm_file.specs.Placed.{HasBytes, TakesBytes};
 
 use std::fs::{File, OpenFile};
 use std::io;
+use std::io::{Seek, SeekFrom};
 use std::os::unix::fs::FileExt;
 
 /// A file that can be locked against everybody else who locks it before use, and whose bytes are read and written at
@@ -28,9 +29,14 @@ pub trait ImageFile {
         ensures locked { IfOk result (λ file. IsTrue (is_locked file)) }
         ensures refused { OnErr result (is_refused self) };
 
-    /// How many bytes the open file has, whatever its path names by now.
+    /// How many bytes the open file has, whatever its path names by now. What is no file of bytes has none.
     fn length(&self) -> io::Result<u64>
         ensures { IfOk result (is_length self.now) };
+
+    /// The place where a file of bytes ends, which is its length.
+    fn end(&mut self) -> io::Result<u64>
+        ensures end { IfOk result (is_length self.new) }
+        ensures bytes { bytes self.new ≡ bytes self.old };
 
     /// Reads the bytes from a place on, until the buffer is full.
     fn read_place(&self, place: u64, buffer: &mut [u8]) -> io::Result<()>
@@ -59,6 +65,10 @@ impl ImageFile for File {
 
     fn length(&self) -> io::Result<u64> {
         Ok(self.metadata()?.len())
+    }
+
+    fn end(&mut self) -> io::Result<u64> {
+        self.seek(SeekFrom::End(0))
     }
 
     fn read_place(&self, place: u64, buffer: &mut [u8]) -> io::Result<()> {

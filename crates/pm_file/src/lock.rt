@@ -43,6 +43,13 @@ impl<F: ImageFile> Locked<F> {
         self.file.length()
     }
 
+    /// The place where it ends.
+    pub fn end(&mut self) -> io::Result<u64>
+        ensures { IfOk result (F.is_length self.new.file) }
+    {
+        self.file.end()
+    }
+
     /// Reads the bytes from a place on, until the buffer is full.
     pub fn read_place(&self, place: u64, buffer: &mut [u8]) -> io::Result<()>
         ensures { OnOk result (HasBytes (F.bytes self.now.file) place buffer.new) }

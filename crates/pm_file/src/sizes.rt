@@ -12,16 +12,9 @@ pub const BYTES_OF_A_WORD: usize = (LINE_BYTES / LINE_WORDS) as usize;
 /// The most lines that one write takes.
 pub const LINES_OF_A_RUN: usize = 512;
 
-pub const BYTES_OF_A_RUN: usize = LINES_OF_A_RUN * LINE_BYTES as usize;
-
 pub const BYTES_OF_A_PAGE: usize = PAGE_BYTES as usize;
 
 /// The most pages that one read takes.
 pub const PAGES_OF_A_READ: usize = 256;
 
 pub const BYTES_OF_A_READ: usize = PAGES_OF_A_READ * BYTES_OF_A_PAGE;
-
-/// Words are taken out of bytes by so many.
-pub const WORDS_OF_A_BLOCK: usize = 128;
-
-pub const BYTES_OF_A_BLOCK: usize = WORDS_OF_A_BLOCK * BYTES_OF_A_WORD;

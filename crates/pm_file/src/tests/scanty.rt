@@ -114,6 +114,10 @@ impl<F: ImageFile + FileExt> ImageFile for ScantyFile<F> {
         self.file.length()
     }
 
+    fn end(&mut self) -> io::Result<u64> {
+        self.file.end()
+    }
+
     fn read_place(&self, place: u64, buffer: &mut [u8]) -> io::Result<()> {
         self.read_exact_at(buffer, place)
     }
