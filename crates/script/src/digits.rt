@@ -39,3 +39,26 @@ fn value_of(byte: u8) -> u8
     let digit = byte % 16;
     if byte > b'9' { (digit + 9) % 16 } else { digit }
 }
+
+/// Writes each byte as two hexadecimal digits in lower case.
+pub fn encode(bytes: &[u8], text: &mut [u8])
+    requires room { length text.old ≡ 2 * length bytes.now }
+    ensures { text.new ≡ encode_lower bytes.now }
+{
+    'bytes: for i in 0..bytes.len() {
+        let byte = bytes[i];
+        text[2 * i] = digit_of(byte / 16);
+        text[2 * i + 1] = digit_of(byte % 16);
+    }
+}
+
+fn digit_of(value: u8) -> u8
+    requires small { value < 16 }
+    ensures { result ≡ slice_index lower_digits value }
+{
+    if value < 10 {
+        b'0' + value
+    } else {
+        b'a' - 10 + value
+    }
+}

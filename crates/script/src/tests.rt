@@ -349,9 +349,29 @@ fn listing_in_pieces(rt: HostRuntime) -> Result<(), Fail> {
 #[test]
 fn bytes_in_digits(rt: HostRuntime) -> Result<(), Fail> {
     let mut sink = MemSink::new(rt.alloc(), 100, Vec::new(rt.alloc()))?;
-    write_bytes(&[0, 161, 255], &mut sink)?;
-    write_bytes(&[], &mut sink)?;
+    let mut text = [b'x'; 40];
+    write_bytes(&[0, 161, 255], &mut text, &mut sink)?;
+    write_bytes(&[], &mut text, &mut sink)?;
     assert_eq!(rt; sink.bytes(), b"ok 3 00a1ff\nok 0 -\n".as_slice());
+    Ok(())
+}
+
+#[test]
+fn each_byte_in_digits(rt: HostRuntime) -> Result<(), Fail> {
+    let mut bytes = Vec::new(rt.alloc());
+    let mut wanted = Vec::from_slice(rt.alloc(), b"ok 256 ")?;
+    for byte in 0..256 {
+        bytes.push(byte as u8)?;
+        wanted.push(b"0123456789abcdef"[byte / 16])?;
+        wanted.push(b"0123456789abcdef"[byte % 16])?;
+    }
+    wanted.push(b'\n')?;
+    let mut sink = MemSink::new(rt.alloc(), 1_000, Vec::new(rt.alloc()))?;
+    let mut text = [b'x'; 544];
+    let bytes = bytes.as_slice();
+    assert!(rt; bytes.len() <= 256);
+    write_bytes(bytes, &mut text, &mut sink)?;
+    assert_eq!(rt; sink.bytes(), wanted.as_slice());
     Ok(())
 }
 
