@@ -366,7 +366,8 @@ fn each_byte_in_digits(rt: HostRuntime) -> Result<(), Fail> {
         wanted.push(b"0123456789abcdef"[byte % 16])?;
     }
     wanted.push(b'\n')?;
-    let mut sink = MemSink::new(rt.alloc(), 1_000, Vec::new(rt.alloc()))?;
+    // A second write would fail.
+    let mut sink = MemSink::new(rt.alloc(), 1_000, vec![in rt.alloc(); 2; 1]?)?;
     let mut text = [b'x'; 544];
     let bytes = bytes.as_slice();
     assert!(rt; bytes.len() <= 256);
