@@ -1,24 +1,35 @@
-// The bytes of the last read.
+// The bytes of the last read, and the text of the reply to it.
 ghost use Rattle.std.specs.Prelude.{◌≡◌, ◌≤◌, [], take, drop, length, vec_len, IfOk, false};
+ghost use Rattle.io_edge.specs.Bytes.{Writes};
+ghost use Rattle.script.specs.Texts.{answer_text};
 ghost use Rattle.tree_model.specs.Run.{State};
+ghost use Rattle.tree_model.specs.Step.{Answer};
 ghost use Rattle.tree_model.specs.Tree.{bytes_of};
 ghost use Rattle.data_ops.specs.Reading.{HasFile};
 ghost use Rattle.volume.specs.Stands.{StandsFor};
 ghost use Rattle.volume.specs.declared.prepare.contents.TheConstants.{LONGEST_READ};
+ghost use Rattle.engine.specs.declared.last_read.TheConstants.{REPLY_BYTES};
 
 use data_ops::read;
+use io_edge::{Sink, WriteFault};
 use pm_trait::{NoMemory, Pm};
+use script::write_bytes;
 use std::alloc::Global;
 use std::marker::Model;
 use volume::{LONGEST_READ, Reading, Volume};
 
-// The bytes that were read last, in a buffer that is made once.
+// What the longest reply to a read has room in: two digits for each byte, and what stands around them.
+const REPLY_BYTES: usize = 2 * LONGEST_READ as usize + 32;
+
+// The bytes that were read last, and room for the text of the reply, in buffers that are made once.
 #[derive(Drop)]
 pub struct LastRead {
     buffer: Vec<u8>,
     count: usize,
+    text: Vec<u8>,
     ghost whole: { vec_len buffer ≡ LONGEST_READ },
     ghost inside: { count ≤ LONGEST_READ },
+    ghost text_whole: { vec_len text ≡ REPLY_BYTES },
 }
 
 impl Model for LastRead {
@@ -34,8 +45,13 @@ impl LastRead {
     pub fn new(alloc: Global) -> Result<LastRead, NoMemory>
         ensures { IfOk result (λ last. last ≡ []) }
     {
-        let buffer = vec![in alloc; 0; LONGEST_READ as usize].map_err(|_| NoMemory)?;
-        Ok(LastRead { buffer, count: 0 })
+        let buffer = room(alloc, LONGEST_READ as usize)?;
+        let text = room(alloc, REPLY_BYTES)?;
+        Ok(LastRead {
+            buffer,
+            count: 0,
+            text,
+        })
     }
 
     // The bytes.
@@ -60,4 +76,20 @@ impl LastRead {
         self.count = count as usize;
         count
     }
+
+    // Writes the line of the bytes.
+    pub fn write<K: Sink>(&mut self, sink: &mut K) -> Result<(), WriteFault>
+        ensures same { self.new ≡ self.old }
+        ensures writes { Writes (K.took sink.old) (K.took sink.new) (K.faults sink.old) (K.faults sink.new)
+            (answer_text (Answer.Bytes self.old)) result }
+    {
+        write_bytes(&self.buffer[..self.count], self.text.as_mut_slice(), sink)
+    }
+}
+
+// Room for so many bytes.
+fn room(alloc: Global, count: usize) -> Result<Vec<u8>, NoMemory>
+    ensures { IfOk result (λ room. vec_len room ≡ count) }
+{
+    vec![in alloc; 0; count].map_err(|_| NoMemory)
 }

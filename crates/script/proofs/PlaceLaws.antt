@@ -1,7 +1,10 @@
 -- Where a byte stands among bytes.
-use Rattle.std.proofs.Common.{◌≡◌, ℕ, ◌+◌, ◌<◌, ◌≤◌, false, ◌==◌, List, ◌∷◌, ◌++◌, length, take, drop, slice_index, sym, ap, ◌∙◌, arith, append_assoc}
+use Rattle.std.proofs.Common.{◌≡◌, ℕ, ◌+◌, ◌<◌, ◌≤◌, Bool, true, false, ◌==◌, Option, Some, None, List, ◌∷◌, ◌++◌, length, take, drop, slice_index, refl, sym, ap, ◌∙◌, arith, append_assoc}
 use Rattle.std.proofs.lemmas.List.{take-append-drop, take-take, drop-take, drop-drop, drop_more, get_or-take, length-take-le, length-drop}
 use Rattle.std.proofs.lemmas.List.Elements.{All-from_get_or, All-append, All-same}
+use Rattle.std.specs.Prelude.{MatchOption}
+use Rattle.std.proofs.lemmas.Bool.{eqb-true}
+use Rattle.memchr.specs.Find.{IsFirstByte, is_byte}
 use Rattle.script.specs.Places.{Lacks, BreaksAt}
 
 pub lacks : (byte : ℕ) (bytes : List ℕ) → ((k : ℕ) → k < length bytes → (slice_index bytes k == byte) ≡ false) → Lacks byte bytes
@@ -15,6 +18,16 @@ breaks_at byte bytes place within found none = record {
   split = sym (take-append-drop place bytes) ∙ ap (λ rest. take place bytes ++ rest) (drop_more bytes place 0 within)
       ∙ ap (λ b. take place bytes ++ b ∷ drop (place + 1) bytes) found;
 }
+
+not_true : (test : Bool) → ¬ (test ≡ true) → test ≡ false
+not_true true not = absurd (not refl)
+not_true false not = refl
+
+-- what the search for a byte finds
+pub first_is : (byte : ℕ) (bytes : List ℕ) (found : Option ℕ) → IsFirstByte (is_byte byte) bytes found → MatchOption found (Lacks byte bytes) (BreaksAt byte bytes)
+first_is byte bytes (Some place) first = breaks_at byte bytes place first.0.high (eqb-true (slice_index bytes place) byte first.1)
+    (λ k below. not_true (slice_index bytes k == byte) (first.0.before k (omega arith) below))
+first_is byte bytes None none = lacks byte bytes (λ k below. not_true (slice_index bytes k == byte) (none k (omega arith) below))
 
 take_add : (n m : ℕ) (bytes : List ℕ) → take (n + m) bytes ≡ take n bytes ++ take m (drop n bytes)
 take_add n m bytes =

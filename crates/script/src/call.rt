@@ -4,10 +4,10 @@ ghost use Rattle.tree_model.specs.declared.command.Command.TheVariants.{Truncate
 ghost use Rattle.tree_model.specs.PathText.{path_of};
 ghost use Rattle.script.specs.Calls.{line_of_call};
 
+use crate::digits::decode;
 use crate::lines::LONGEST_LINE;
 use crate::number::number_of;
 use crate::words::next_word;
-use hex::decode_to_slice;
 use tree_model::{Command, FileBytes, LineFault, Path};
 
 /// What a line asks for, or why it is no command.
@@ -198,9 +198,10 @@ fn bytes_of<'a>(word: &[u8], scratch: &'a mut [u8]) -> Option<FileBytes<'a>>
         return Some(FileBytes::new(&scratch[..0]));
     }
     let bytes = &mut scratch[..word.len() / 2];
-    match decode_to_slice(word, bytes) {
-        Ok(()) => Some(FileBytes::new(bytes)),
-        Err(_) => None,
+    if decode(word, bytes) {
+        Some(FileBytes::new(bytes))
+    } else {
+        None
     }
 }
 

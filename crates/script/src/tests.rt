@@ -66,6 +66,20 @@ fn calls(rt: HostRuntime) -> Result<(), Fail> {
         ("write /a 0 61fF", "write"),
         ("write /a 0 -", "write"),
         ("write /a 0 6", "BadLine"),
+        ("write /a 0 0123456789ABCDEFabcdef", "write"),
+        ("write /a 0 61 ", "write"),
+        ("write /a 0 /0", "BadLine"),
+        ("write /a 0 0:", "BadLine"),
+        ("write /a 0 @0", "BadLine"),
+        ("write /a 0 0G", "BadLine"),
+        ("write /a 0 `0", "BadLine"),
+        ("write /a 0 0g", "BadLine"),
+        ("write /a 0 0\u{7f}", "BadLine"),
+        ("write /a 0 \u{e9}", "BadLine"),
+        (
+            "write /a 0 61616161616161616161616161616161616161616161616161616161616161616g",
+            "BadLine",
+        ),
         ("write a 0 6g", "BadLine"),
         ("write a 18446744073709551616 61", "BadLine"),
         ("write a 0 61", "BadPath"),
@@ -124,6 +138,24 @@ fn bytes_are_decoded(rt: HostRuntime) -> Result<(), Fail> {
     };
     assert_eq!(rt; offset, 9);
     assert_eq!(rt; bytes.as_slice(), [0, 255, 161].as_slice());
+    Ok(())
+}
+
+#[test]
+fn each_byte_is_decoded(rt: HostRuntime) -> Result<(), Fail> {
+    let mut line = Vec::from_slice(rt.alloc(), b"write /a 0 ")?;
+    for byte in 0..256 {
+        line.push(b"0123456789abcdef"[byte / 16])?;
+        line.push(b"0123456789ABCDEF"[byte % 16])?;
+    }
+    let mut scratch = vec![in rt.alloc(); 7; 32_768]?;
+    let Call::Do(Command::Write { bytes, .. }) = Call::parse(&line, &mut scratch) else {
+        return Err("no write".into());
+    };
+    assert_eq!(rt; bytes.as_slice().len(), 256);
+    for (place, byte) in bytes.as_slice().iter().enumerate() {
+        assert_eq!(rt; *byte as usize, place);
+    }
     Ok(())
 }
 
@@ -317,9 +349,30 @@ fn listing_in_pieces(rt: HostRuntime) -> Result<(), Fail> {
 #[test]
 fn bytes_in_digits(rt: HostRuntime) -> Result<(), Fail> {
     let mut sink = MemSink::new(rt.alloc(), 100, Vec::new(rt.alloc()))?;
-    write_bytes(&[0, 161, 255], &mut sink)?;
-    write_bytes(&[], &mut sink)?;
+    let mut text = [b'x'; 40];
+    write_bytes(&[0, 161, 255], &mut text, &mut sink)?;
+    write_bytes(&[], &mut text, &mut sink)?;
     assert_eq!(rt; sink.bytes(), b"ok 3 00a1ff\nok 0 -\n".as_slice());
+    Ok(())
+}
+
+#[test]
+fn each_byte_in_digits(rt: HostRuntime) -> Result<(), Fail> {
+    let mut bytes = Vec::new(rt.alloc());
+    let mut wanted = Vec::from_slice(rt.alloc(), b"ok 256 ")?;
+    for byte in 0..256 {
+        bytes.push(byte as u8)?;
+        wanted.push(b"0123456789abcdef"[byte / 16])?;
+        wanted.push(b"0123456789abcdef"[byte % 16])?;
+    }
+    wanted.push(b'\n')?;
+    // A second write would fail.
+    let mut sink = MemSink::new(rt.alloc(), 1_000, vec![in rt.alloc(); 2; 1]?)?;
+    let mut text = [b'x'; 544];
+    let bytes = bytes.as_slice();
+    assert!(rt; bytes.len() <= 256);
+    write_bytes(bytes, &mut text, &mut sink)?;
+    assert_eq!(rt; sink.bytes(), wanted.as_slice());
     Ok(())
 }
 

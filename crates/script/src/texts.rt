@@ -122,7 +122,7 @@ fn error_line(name: &[u8]) -> LineText
     line
 }
 
-fn count_text(count: u64) -> LineText
+pub fn count_text(count: u64) -> LineText
     ensures items { result.items ≡ codes "ok " ++ decimal count }
     ensures short { array_vec_len result ≤ 23 }
 {

@@ -11,7 +11,7 @@ invariant_of-self-inside g c =
     let (state, stands, file) = c.requires.file in
     let count = (c.read-count.ensures state stands).count_is in
     let short = c.requires.short in
-    (c.self.inside.whole, (omega (arith, count, short, length-take (c.args.reading.now.count - 0) c.deref_mut.result.now), tt))
+    (c.self.inside.whole, (omega (arith, count, short, length-take (c.args.reading.now.count - 0) c.deref_mut.result.now), (c.self.inside.text_whole, tt)))
 
 pub returns-clause-bytes : goal.returns-clause-bytes
 returns-clause-bytes g c = λ state stands.
