@@ -65,8 +65,8 @@ impl FileSpan {
         }
     }
 
-    // What the word becomes whose bytes are those from byte `at` on, where it hangs on nothing that it was: the range has all of
-    // them, or all become zero.
+    // What the word becomes whose bytes are those from byte `at` on, where its old bytes don't matter: the range has all of them, or
+    // all become zero.
     pub(crate) fn whole_word(&self, bytes: &[u8], at: u64) -> Option<u64>
         requires range { self.now.offset + self.now.length ≤ 2 ^ 40 }
         requires long { length bytes.now ≡ self.now.length }
