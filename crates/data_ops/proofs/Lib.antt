@@ -2,6 +2,7 @@ mod FilePages
 mod Sizes
 mod Pages
 mod ReadBytes
+mod WordBytes
 mod Wheres
 mod Spans
 mod Fills

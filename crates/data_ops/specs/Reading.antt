@@ -1,10 +1,19 @@
 -- What a read of a file leaves in its buffer.
-use Rattle.std.specs.Prelude.{◌≡◌, ℕ, ◌-◌, IsTrue, min, List, length, take, drop}
+use Rattle.std.specs.Prelude.{◌≡◌, ℕ, ◌+◌, ◌-◌, ◌/◌, ◌%◌, ◌<◌, IsTrue, min, List, length, slice_index, take, drop}
 use Rattle.pm_trait.specs.DeviceView.{DeviceView}
+use Rattle.layout.specs.Fields.{page_byte}
 use Rattle.tree_model.specs.Tree.{is_file}
 use Rattle.tree_model.specs.Run.{State}
 use Rattle.volume.specs.Volume.{VolumeView}
 use Rattle.volume.specs.Stands.{StandsFor}
+
+-- byte `at` of the file that has these pages, in order
+abbrev pub file_byte : ℕ → List ℕ → List ℕ → ℕ → ℕ
+file_byte volume_pages words pages at = page_byte volume_pages words (slice_index pages (at / 4096)) (at % 4096)
+
+-- the bytes are those of the file from the offset on
+abbrev pub AreFileBytes : ℕ → List ℕ → List ℕ → ℕ → List ℕ → Type 0
+AreFileBytes volume_pages words pages offset bytes = (k : ℕ) → k < length bytes → slice_index bytes k ≡ file_byte volume_pages words pages (offset + k)
 
 -- the volume stands for a state in which the inode is a file
 abbrev pub HasFile : VolumeView → DeviceView → ℕ → Type 0

@@ -1,26 +1,65 @@
 // Bytes of a file are read into a buffer.
 ghost use Rattle.std.specs.Prelude.{◌≡◌, ◌+◌, ◌*◌, ◌/◌, ◌%◌, ◌-◌, ◌^◌, ◌<◌, ◌≤◌, ℕ, false, Some, length, slice_index, take, drop};
 ghost use Rattle.layout.specs.Fields.{page_byte};
+ghost use Rattle.layout.specs.Name.{bytes_of_word};
 ghost use Rattle.tree_model.specs.Tree.{bytes_of};
 ghost use Rattle.tree_model.specs.Run.{State};
 ghost use Rattle.volume.specs.Stands.{StandsFor};
 ghost use Rattle.page_state.specs.Page.{EachPage};
-ghost use Rattle.data_ops.specs.Reading.{HasFile, IsRead};
+ghost use Rattle.data_ops.specs.Reading.{HasFile, IsRead, file_byte, AreFileBytes};
 
 use layout::{Geometry, PAGE_BYTES, WORD_BYTES};
 use pm_trait::Pm;
 use volume::Volume;
 
-// The byte at this offset of a page's bytes.
-fn byte_at<P: Pm>(pm: &P, geometry: &Geometry, page: u64, offset: u64) -> u8
+// The bytes of a word, as a length of a buffer.
+const BYTES_OF_A_WORD: usize = WORD_BYTES as usize;
+
+// The word that holds byte `at` of a file. The pages are the file's, in order.
+fn word_of_file<P: Pm>(pm: &P, geometry: &Geometry, pages: &[u64], at: u64) -> u64
     requires whole { length (P.view pm.now).words ≡ 512 * geometry.now.pages }
-    requires in_range { page < geometry.now.data_pages }
-    requires in_page { offset < 4096 }
-    ensures { result ≡ page_byte geometry.now.pages (P.view pm.now).words page offset }
+    requires in_range { EachPage pages.now (λ page. page < geometry.now.data_pages) }
+    requires inside { at < 4096 * length pages.now }
+    ensures { (k : ℕ) → at % 8 + k < 8 → slice_index (bytes_of_word result) (at % 8 + k) ≡ file_byte geometry.now.pages
+        (P.view pm.now).words pages.now (at + k) }
 {
-    let word = pm.load(geometry.page_word(page, offset / WORD_BYTES));
-    let parts = word.to_le_bytes();
-    parts[(offset % WORD_BYTES) as usize]
+    let page = pages[(at / PAGE_BYTES) as usize];
+    pm.load(geometry.page_word(page, at % PAGE_BYTES / WORD_BYTES))
+}
+
+// Fills a buffer with bytes of one word of a file, from byte `at` of the file on.
+fn read_part<P: Pm>(pm: &P, geometry: &Geometry, pages: &[u64], at: u64, buf: &mut [u8])
+    requires whole { length (P.view pm.now).words ≡ 512 * geometry.now.pages }
+    requires in_range { EachPage pages.now (λ page. page < geometry.now.data_pages) }
+    requires inside { 0 < length buf.old → at < 4096 * length pages.now }
+    requires in_word { at % 8 + length buf.old ≤ 8 }
+    ensures { AreFileBytes geometry.now.pages (P.view pm.now).words pages.now at buf.new }
+{
+    if buf.is_empty() {
+        return;
+    }
+    let parts = word_of_file(pm, geometry, pages, at).to_le_bytes();
+    let from = (at % WORD_BYTES) as usize;
+    buf.copy_from_slice(&parts[from..from + buf.len()]);
+}
+
+// Fills a buffer of whole words with a file's bytes from `offset` on, where a word begins.
+fn read_words<P: Pm>(pm: &P, geometry: &Geometry, pages: &[u64], offset: u64, buf: &mut [u8])
+    requires whole { length (P.view pm.now).words ≡ 512 * geometry.now.pages }
+    requires in_range { EachPage pages.now (λ page. page < geometry.now.data_pages) }
+    requires inside { 0 < length buf.old → offset + length buf.old ≤ 4096 * length pages.now }
+    requires small { 0 < length buf.old → offset + length buf.old ≤ 2 ^ 40 }
+    requires at_a_word { 0 < length buf.old → offset % 8 ≡ 0 }
+    requires whole_words { length buf.old % 8 ≡ 0 }
+    ensures { AreFileBytes geometry.now.pages (P.view pm.now).words pages.now offset buf.new }
+{
+    let mut at = offset;
+    for place in 0..buf.len() / BYTES_OF_A_WORD {
+        let parts = word_of_file(pm, geometry, pages, at).to_le_bytes();
+        let start = BYTES_OF_A_WORD * place;
+        buf[start..start + BYTES_OF_A_WORD].copy_from_slice(&parts);
+        at += WORD_BYTES;
+    }
 }
 
 // Fills a buffer with a file's bytes from `offset` on. The pages are the file's, in order.
@@ -32,12 +71,15 @@ fn read_pages<P: Pm>(pm: &P, geometry: &Geometry, pages: &[u64], offset: u64, bu
     ensures { (k : ℕ) → k < length buf.new → slice_index buf.new k ≡ page_byte geometry.now.pages
         (P.view pm.now).words (slice_index pages.now ((offset + k) / 4096)) ((offset + k) % 4096) }
 {
-    let mut at = offset;
-    for byte in buf.iter_mut() {
-        let page = pages[(at / PAGE_BYTES) as usize];
-        *byte = byte_at(pm, geometry, page, at % PAGE_BYTES);
-        at += 1;
-    }
+    let to_next_word = (WORD_BYTES - offset % WORD_BYTES) % WORD_BYTES;
+    let first = buf.len().min(to_next_word as usize);
+    let (head, rest) = buf.split_at_mut(first);
+    let middle = rest.len() - rest.len() % BYTES_OF_A_WORD;
+    let (words, tail) = rest.split_at_mut(middle);
+    let start = offset + first as u64;
+    read_part(pm, geometry, pages, offset, head);
+    read_words(pm, geometry, pages, start, words);
+    read_part(pm, geometry, pages, start + middle as u64, tail);
 }
 
 /// Reads bytes of a file, from byte `offset` on, into a buffer, and gives their number: as many as the buffer holds and the file

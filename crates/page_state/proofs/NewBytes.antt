@@ -1,9 +1,9 @@
 -- What the bytes of words become.
-use Rattle.std.proofs.Common.{◌≡◌, ℕ, ◌+◌, ◌-◌, ◌*◌, ◌/◌, ◌%◌, ◌^◌, ◌<◌, Bool, true, false, cond, List, length, slice_index, refl, sym, ◌∙◌, ap, subst, arith, zero-add}
+use Rattle.std.proofs.Common.{◌≡◌, ℕ, ◌+◌, ◌-◌, ◌*◌, ◌/◌, ◌%◌, ◌^◌, ◌<◌, ◌≤◌, Bool, true, false, cond, List, length, take, drop, replicate, slice_index, refl, sym, ◌∙◌, ap, subst, arith, zero-add, length-drop, length-take}
 use Rattle.std.specs.Prelude.{nat_le, nat_lt, map}
 use Rattle.std.specs.List.{range_with_len}
-use Rattle.std.proofs.lemmas.Bool.{cond_both, le-leb, or_parts, ltb-true, ltb-false}
-use Rattle.std.proofs.lemmas.List.{get_or_past}
+use Rattle.std.proofs.lemmas.Bool.{cond_both, le-leb, lt-ltb, and_from, or_parts, ltb-true, ltb-false}
+use Rattle.std.proofs.lemmas.List.{get_or_past, get_or-take, get_or-drop, get_or-replicate}
 use Rattle.std.proofs.lemmas.List.FromFn.{get_or-map-range_with_len, length-map-range_with_len, fill_by_all}
 use Rattle.layout.specs.Geometry.{page_word_of}
 use Rattle.layout.specs.Fields.{word, page_byte}
@@ -12,7 +12,7 @@ use Rattle.layout.proofs.ByteLaws.{slice_index-bytes_of_word, byte-word_of}
 use Rattle.page_state.specs.declared.span.FileSpan.{FileSpan}
 use Rattle.page_state.specs.Spans.{is_in_range, is_new, has_new, byte_after, word_after, word_now}
 use Rattle.page_state.specs.Events.{HaveWords, HaveBytes}
-use Rattle.page_state.proofs.SpanLaws.{has_new-byte}
+use Rattle.page_state.proofs.SpanLaws.{not_in_range, has_new-byte}
 
 -- ---- one byte
 
@@ -35,7 +35,49 @@ byte_after_any span bytes at old whole =
     let same : cond (nat_le span.zero_from at) 0 old ≡ cond (nat_le span.zero_from at) 0 0 = ap (λ (b : Bool). cond b 0 old) zeros ∙ sym (ap (λ (b : Bool). cond b 0 0) zeros) in
     ap (λ (n : ℕ). cond (is_in_range span.offset span.length at) (slice_index bytes (at - span.offset)) n) same
 
+-- one of the range
+byte_after_of_range : (span : FileSpan) (bytes : List ℕ) (at old : ℕ) → span.offset ≤ at → at < span.offset + span.length → byte_after span bytes at old ≡ slice_index bytes (at - span.offset)
+byte_after_of_range span bytes at old low high =
+    let within : is_in_range span.offset span.length at ≡ true = and_from (nat_le span.offset at) (nat_lt at (span.offset + span.length)) (le-leb span.offset at low) (lt-ltb at (span.offset + span.length) high) in
+    ap (λ (b : Bool). cond b (slice_index bytes (at - span.offset)) (cond (nat_le span.zero_from at) 0 old)) within
+
+-- one that becomes zero
+byte_after_zero : (span : FileSpan) (bytes : List ℕ) (at old : ℕ) → (span.offset ≤ at → at < span.offset + span.length → ⊥) → span.zero_from ≤ at → byte_after span bytes at old ≡ 0
+byte_after_zero span bytes at old outside low =
+    ap (λ (b : Bool). cond b (slice_index bytes (at - span.offset)) (cond (nat_le span.zero_from at) 0 old)) (not_in_range span.offset span.length at outside)
+    ∙ ap (λ (b : Bool). cond b 0 old) (le-leb span.zero_from at low)
+
 -- ---- the bytes of a word
+
+-- the range has all of them
+pub word_of_range : (span : FileSpan) (bytes : List ℕ) (at old : ℕ) → length bytes ≡ span.length → span.offset ≤ at → at + 8 ≤ span.offset + span.length → word_of (take 8 (drop (at - span.offset) bytes)) ≡ word_after span bytes at old
+unfolding word_after
+word_of_range span bytes at old long low high =
+    let place = at - span.offset in
+    let part = drop place bytes in
+    let rest = length-drop place bytes in
+    let cut = length-take 8 part in
+    let made : ℕ → ℕ = λ k. byte_after span bytes (at + k) (slice_index (bytes_of_word old) k) in
+    ap word_of (fill_by_all made (take 8 part) 8 0 (omega (arith, cut, rest, long, low, high))
+    (λ k few.
+    let at_k : place + k ≡ at + k - span.offset = omega (arith, low) in
+    get_or-take 8 part k 0 few ∙ get_or-drop place bytes k 0 ∙ ap (λ (i : ℕ). slice_index bytes i) at_k
+    ∙ sym (byte_after_of_range span bytes (at + k) (slice_index (bytes_of_word old) k) (omega (arith, low)) (omega (arith, high, few)))))
+
+zero_word : 0 ≡ word_of (replicate 8 0)
+unfolding word_of
+zero_word = refl
+
+-- the range has none of them, and they become zero
+pub word_of_zeros : (span : FileSpan) (bytes : List ℕ) (at old : ℕ) → ((0 < span.length) × (at < span.offset + span.length) × (span.offset < at + 8) → ⊥) → span.zero_from ≤ at → 0 ≡ word_after span bytes at old
+unfolding word_after
+word_of_zeros span bytes at old outside low =
+    let made : ℕ → ℕ = λ k. byte_after span bytes (at + k) (slice_index (bytes_of_word old) k) in
+    zero_word
+    ∙ ap word_of (fill_by_all made (replicate 8 0) 8 0 refl
+    (λ k few.
+    get_or-replicate 8 k 0 0 few
+    ∙ sym (byte_after_zero span bytes (at + k) (slice_index (bytes_of_word old) k) (λ after before. outside (omega (arith, after, before), omega (arith, before), omega (arith, after, few))) (omega (arith, low)))))
 
 byte_of_old : (old k : ℕ) → k < 8 → slice_index (bytes_of_word old) k < 256
 byte_of_old old k few = let is = slice_index-bytes_of_word old k few in omega (arith, is)

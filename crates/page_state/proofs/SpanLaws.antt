@@ -41,7 +41,7 @@ new-in_range span at low high =
 pub new-zeros : (span : FileSpan) (at : ℕ) → span.zero_from ≤ at → is_new span at ≡ true
 new-zeros span at low = or_right (is_in_range span.offset span.length at) (nat_le span.zero_from at) (le-leb span.zero_from at low)
 
-not_in_range : (offset length at : ℕ) → (offset ≤ at → at < offset + length → ⊥) → is_in_range offset length at ≡ false
+pub not_in_range : (offset length at : ℕ) → (offset ≤ at → at < offset + length → ⊥) → is_in_range offset length at ≡ false
 not_in_range offset length at outside =
     elim (nat_le offset at) as (λ b. nat_le offset at ≡ b → is_in_range offset length at ≡ false) [
       | true ↦ λ low. and_right (nat_le offset at) (nat_lt at (offset + length))

@@ -28,8 +28,11 @@ fn store_word<P: Pm>(pm: &mut P, word: u64, at: u64, span: &FileSpan, bytes: &[u
         else []) (if has_new_byte span.now at 8 then 1 else 0) }
 {
     if span.has_new(at, WORD_BYTES) {
-        let old = pm.load(word);
-        pm.store(word, span.word_after(bytes, at, old));
+        let value = match span.whole_word(bytes, at) {
+            Some(whole) => whole,
+            None => span.word_after(bytes, at, pm.load(word)),
+        };
+        pm.store(word, value);
     }
 }
 

@@ -1,6 +1,19 @@
 // Which bytes of a file get new values, and what its words become.
-ghost use Rattle.std.specs.Prelude.{◌≡◌, ◌↔◌, ◌+◌, ◌^◌, ◌<◌, ◌≤◌, IsTrue, length};
+ghost use Rattle.std.specs.Prelude.{◌≡◌, ◌↔◌, ℕ, ◌+◌, ◌^◌, ◌<◌, ◌≤◌, IsTrue, IfSome, length, take, drop};
+ghost use Rattle.layout.specs.Name.{word_of};
 ghost use Rattle.page_state.specs.Spans.{has_new as has_new_byte, byte_after as byte_that_becomes, word_after as word_that_becomes};
+
+use layout::WORD_BYTES;
+
+// The word of the eight bytes from this place on.
+fn word_from(bytes: &[u8], place: usize) -> u64
+    requires { place + 8 ≤ length bytes.now }
+    ensures { result ≡ word_of (take 8 (drop place bytes.now)) }
+{
+    let mut eight = [0; 8];
+    eight.copy_from_slice(&bytes[place..place + 8]);
+    u64::from_le_bytes(eight)
+}
 
 /// The bytes of a file that get new values: those of a range, and every byte beside it from one on, which becomes zero.
 #[derive(Clone, Copy)]
@@ -50,6 +63,23 @@ impl FileSpan {
         } else {
             old
         }
+    }
+
+    // What the word becomes whose bytes are those from byte `at` on, where its old bytes don't matter: the range has all of them, or
+    // all become zero.
+    pub(crate) fn whole_word(&self, bytes: &[u8], at: u64) -> Option<u64>
+        requires range { self.now.offset + self.now.length ≤ 2 ^ 40 }
+        requires long { length bytes.now ≡ self.now.length }
+        requires place { at ≤ 2 ^ 40 }
+        ensures { IfSome result (λ word. (old : ℕ) → word ≡ word_that_becomes self.now bytes.now at old) }
+    {
+        if !self.meets_range(at, at + WORD_BYTES) {
+            return if self.zero_from <= at { Some(0) } else { None };
+        }
+        if at < self.offset || self.offset + self.length < at + WORD_BYTES {
+            return None;
+        }
+        Some(word_from(bytes, (at - self.offset) as usize))
     }
 
     // What the word becomes whose bytes are those from byte `at` on.

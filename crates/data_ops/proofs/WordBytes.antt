@@ -1,0 +1,64 @@
+-- Bytes of a file, word by word.
+use Rattle.std.proofs.Common.{◌≡◌, inl, inr, ℕ, ◌+◌, ◌-◌, ◌/◌, ◌%◌, ◌^◌, ◌<◌, ◌≤◌, List, ◌++◌, length, take, drop, slice_index, refl, ap, ◌∙◌, arith, length-append, length-drop, length-take}
+use Rattle.std.proofs.lemmas.Bool.{cases_lt}
+use Rattle.std.proofs.lemmas.List.{get_or-take, get_or-drop, get_or_append_left, get_or-append_right}
+use borrow.Rule.Slice.PartMut.{put_mid, post_of}
+use Rattle.layout.specs.Geometry.{page_word_of}
+use Rattle.layout.specs.Fields.{word, page_byte}
+use Rattle.layout.specs.Name.{bytes_of_word}
+use Rattle.layout.proofs.ByteLaws.{slice_index-bytes_of_word}
+use Rattle.data_ops.specs.Reading.{file_byte, AreFileBytes}
+
+-- the bytes of the word that holds byte `at`, from that byte on
+pub bytes_from : (P : ℕ) (I pages : List ℕ) (at k : ℕ) → at % 8 + k < 8
+    → slice_index (bytes_of_word (slice_index I (page_word_of P (slice_index pages (at / 4096)) (at % 4096 / 8)))) (at % 8 + k) ≡ file_byte P I pages (at + k)
+unfolding page_byte word
+bytes_from P I pages at k few =
+    let page : at / 4096 ≡ (at + k) / 4096 = omega arith in
+    let place : at % 4096 / 8 ≡ (at + k) % 4096 / 8 = omega arith in
+    let byte : at % 8 + k ≡ (at + k) % 4096 % 8 = omega arith in
+    slice_index-bytes_of_word (slice_index I (page_word_of P (slice_index pages (at / 4096)) (at % 4096 / 8))) (at % 8 + k) few
+    ∙ ap (λ (p : ℕ). slice_index I (page_word_of P (slice_index pages p) (at % 4096 / 8)) / 256 ^ (at % 8 + k) % 256) page
+    ∙ ap (λ (w : ℕ). slice_index I (page_word_of P (slice_index pages ((at + k) / 4096)) w) / 256 ^ (at % 8 + k) % 256) place
+    ∙ ap (λ (b : ℕ). slice_index I (page_word_of P (slice_index pages ((at + k) / 4096)) ((at + k) % 4096 / 8)) / 256 ^ b % 256) byte
+
+-- what is copied from such a word
+pub part_of_word : (parts bytes part : List ℕ) (from count k : ℕ) → parts ≡ bytes → part ≡ take (from + count - from) (drop from parts) → k < count → slice_index part k ≡ slice_index bytes (from + k)
+part_of_word parts bytes part from count k same is below =
+    ap (λ (l : List ℕ). slice_index l k) is ∙ get_or-take (from + count - from) (drop from parts) k 0 (omega (arith, below)) ∙ get_or-drop from parts k 0 ∙ ap (λ (l : List ℕ). slice_index l (from + k)) same
+
+pub length-put_word : (before parts : List ℕ) (start count : ℕ) → length parts ≡ count → start + count ≤ length before → length (put_mid start count before parts) ≡ length before
+length-put_word before parts start count eight inside =
+    let front = length-take start before in
+    let rest = length-drop count (drop start before) in
+    let behind = length-drop start before in
+    let inner = length-append parts (post_of start count before) in
+    let outer = length-append (take start before) (parts ++ post_of start count before) in
+    omega (arith, front, rest, behind, inner, outer, eight, inside)
+
+-- one more word of a buffer
+pub one_more_word : (P : ℕ) (I pages before parts : List ℕ) (offset start count : ℕ) → length parts ≡ 8 → start ≤ length before
+    → ((k : ℕ) → k < start → slice_index before k ≡ file_byte P I pages (offset + k))
+    → ((k : ℕ) → k < 8 → slice_index parts k ≡ file_byte P I pages (offset + start + k))
+    → (k : ℕ) → k < start + 8 → slice_index (put_mid start count before parts) k ≡ file_byte P I pages (offset + k)
+one_more_word P I pages before parts offset start count eight inside so_far here k below =
+    let front = length-take start before in
+    elim (cases_lt k start) [
+      | inl low ↦ get_or_append_left (take start before) (parts ++ post_of start count before) 0 k (omega (arith, front, inside, low)) ∙ get_or-take start before k 0 low ∙ so_far k low
+      | inr high ↦
+          let at : offset + start + (k - start) ≡ offset + k = omega (arith, high) in
+          get_or-append_right (take start before) (parts ++ post_of start count before) start k 0 (omega (arith, front, inside)) high
+          ∙ get_or_append_left parts (post_of start count before) 0 (k - start) (omega (arith, eight, below, high))
+          ∙ here (k - start) (omega (arith, below, high))
+          ∙ ap (λ (o : ℕ). file_byte P I pages o) at
+    ]
+
+-- so many bytes, and then so many more
+pub joined : (P : ℕ) (I pages front back : List ℕ) (offset next : ℕ) → next ≡ offset + length front → AreFileBytes P I pages offset front → AreFileBytes P I pages next back → AreFileBytes P I pages offset (front ++ back)
+joined P I pages front back offset next follows first second k inside = elim (cases_lt k (length front)) [
+  | inl low ↦ get_or_append_left front back 0 k low ∙ first k low
+  | inr high ↦
+      let both = length-append front back in
+      let at : next + (k - length front) ≡ offset + k = omega (arith, high, follows) in
+      get_or-append_right front back (length front) k 0 refl high ∙ second (k - length front) (omega (arith, inside, high, both)) ∙ ap (λ (o : ℕ). file_byte P I pages o) at
+]
