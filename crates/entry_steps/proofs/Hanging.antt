@@ -11,7 +11,7 @@ use Rattle.tree_model.specs.Tree.{Tree}
 use Rattle.image_reading.specs.Reading.{Reads}
 use Rattle.image_reading.proofs.Readings.{one_tree}
 use Rattle.volume.specs.Commit.{HangsOn}
-use Rattle.entry_steps.proofs.Moments.{Quietly}
+use Rattle.pm_trait.specs.Unfolds.{Quietly}
 
 -- what reads as one tree hangs on no word
 pub hangs_quiet : {old new : Option Trail} (P commit : ℕ) (before : Tree) → LeavesOnly old new (Quietly (λ image. Reads P image before)) → HangsOn P old new commit
