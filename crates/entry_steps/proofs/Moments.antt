@@ -1,5 +1,5 @@
 -- What is left at each moment of a call that acknowledges nothing.
-use Rattle.std.proofs.Common.{◌≡◌, ◌≢◌, inr, List, length, refl}
+use Rattle.std.proofs.Common.{◌≡◌, ◌≢◌, inr, ℕ, List, length, refl}
 use Rattle.std.specs.Prelude.{Option, Result, Ok, Err, OnOk, IsErr}
 use Rattle.pm_trait.specs.Trail.{Trail}
 use Rattle.pm_trait.specs.Device.{StaysOnce, Mix, IsFenced, IsSettledAt}
@@ -30,6 +30,3 @@ mix_of_new a b long = record { size = long; words = λ x. inr refl }
 -- Words that read as another tree don't stay in an interval that begins with words of this one.
 pub reads_stay : {T E : Type 0} {a b : List ℕ} {ta tb : Option Trail} {result : Result T E} (P : ℕ) (before after : Tree) → IsFenced a ta b tb result → Reads P a before → before ≢ after → StaysOnce ta tb (λ image. Reads P image after)
 reads_stay {a = a} P before after fenced reads differ = fenced_stays (λ image. Reads P image after) fenced (λ has image mix. absurd (differ (one_tree P a before after reads has)))
-
-pub reads_stay_here : {now : List ℕ} {trail : Option Trail} (P : ℕ) (before after : Tree) → IsSettledAt now trail → Reads P now before → before ≢ after → StaysOnce trail trail (λ image. Reads P image after)
-reads_stay_here {now} {trail} P before after settled reads differ = interval_stays (λ image. Reads P image after) settled (interval_empty now trail) (λ has image mix. absurd (differ (one_tree P now before after reads has)))

@@ -1,4 +1,4 @@
-use Rattle.std.proofs.Common.{ℕ, List, [], ◌∷◌, length, slice_index, refl, ap, subst, ◌∙◌}
+use Rattle.std.proofs.Common.{◌≡◌, ℕ, List, [], ◌∷◌, length, slice_index, refl, ap, subst, ◌∙◌}
 use Rattle.pm_trait.proofs.DeviceViewLaws.{stores_flushed}
 use Rattle.pm_trait.proofs.Unfolding.{interval_ends}
 use Rattle.layout.specs.Fields.{page_owner}
