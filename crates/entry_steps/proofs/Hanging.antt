@@ -4,14 +4,11 @@ use Rattle.std.specs.Prelude.{Option, Result}
 use Rattle.std.proofs.lemmas.Bool.{cases_eq, cases_lt}
 use Rattle.std.proofs.lemmas.Grind.{same_number_lists}
 use Rattle.pm_trait.specs.Trail.{Trail}
-use Rattle.pm_trait.specs.Device.{LeavesOnly, MayLeave, Mix, IsFenced, moment_of}
+use Rattle.pm_trait.specs.Device.{MayLeave, Mix, IsFenced, moment_of}
 use Rattle.pm_trait.proofs.ContinuesLaws.{continues_then, may_leave-more}
 use Rattle.layout.specs.Fields.{word}
-use Rattle.tree_model.specs.Tree.{Tree}
 use Rattle.image_reading.specs.Reading.{Reads}
-use Rattle.image_reading.proofs.Readings.{one_tree}
 use Rattle.volume.specs.Commit.{HangsOn}
-use Rattle.pm_trait.specs.Unfolds.{Quietly}
 
 -- two mixes of words that differ at one place are one where they agree there
 same_mix : (a b : List ℕ) (commit value : ℕ) (image other : List ℕ) → b ≡ set a commit value → Mix a b image → Mix a b other → word other commit ≡ word image commit → image ≡ other

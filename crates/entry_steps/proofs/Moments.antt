@@ -2,8 +2,8 @@
 use Rattle.std.proofs.Common.{◌≡◌, ◌≢◌, inr, ℕ, List, length, refl}
 use Rattle.std.specs.Prelude.{Option, Result, Ok, Err, OnOk, IsErr}
 use Rattle.pm_trait.specs.Trail.{Trail}
-use Rattle.pm_trait.specs.Device.{StaysOnce, Mix, IsFenced, IsSettledAt}
-use Rattle.pm_trait.proofs.DeviceLaws.{fenced_stays, interval_empty, interval_stays}
+use Rattle.pm_trait.specs.Device.{StaysOnce, Mix, IsFenced}
+use Rattle.pm_trait.proofs.DeviceLaws.{fenced_stays}
 use Rattle.layout.specs.Fields.{word}
 use Rattle.tree_model.specs.Tree.{Tree}
 use Rattle.image_reading.specs.Reading.{Reads}

@@ -64,10 +64,12 @@ returns-in-Ok-clause-takes g c =
     let dentry = c.name_slot-dentry.ensures in
     let child = c.count_child.ensures in
     record {
-      makes = (node_made geometry.pages entry geometry.volume_size c.requires.ready c.requires.begins.settled inode.device.stores dentry.device.stores child.device.stores
-      (g.P.Pm.view c.fence.new.pm).words c.init_inode-inode.result c.name_slot-dentry.result c.fence.ensures.device.words (ap (λ (i : InodeView). i.number) inode.object) (ap (λ (i : InodeView). i.fields) inode.object) inode.in_flight (ap (λ (d : DentryView). d.pages) dentry.object) (ap (λ (d : DentryView). d.slot) dentry.object) (ap (λ (d : DentryView). d.fields) dentry.object) dentry.in_flight child.links,
-      search rules,
-      search rules);
+      makes = (
+        node_made geometry.pages entry geometry.volume_size c.requires.ready c.requires.begins.settled inode.device.stores dentry.device.stores child.device.stores
+            (g.P.Pm.view c.fence.new.pm).words c.init_inode-inode.result c.name_slot-dentry.result c.fence.ensures.device.words (ap (λ (i : InodeView). i.number) inode.object) (ap (λ (i : InodeView). i.fields) inode.object) inode.in_flight (ap (λ (d : DentryView). d.pages) dentry.object) (ap (λ (d : DentryView). d.slot) dentry.object) (ap (λ (d : DentryView). d.fields) dentry.object) dentry.in_flight child.links,
+        search rules,
+        search rules,
+      );
       fenced = ok_ends (record { inode = c.settle.result; dentry = c.settle-in-Ok.result }) c.requires.begins.settled
           (stores_then (stores_then inode.device dentry.device (inode_apart geometry.pages entry geometry.volume_size c.requires.ready c.requires.begins.settled)) child.device
           (links_apart geometry.pages entry geometry.volume_size c.requires.ready c.requires.begins.settled inode.device.stores dentry.device.stores child.device.stores))
@@ -83,10 +85,12 @@ returns-in-Err-clause-takes g c =
     let dentry = c.name_slot-dentry.ensures in
     let child = c.count_child.ensures in
     record {
-      makes = (node_made geometry.pages entry geometry.volume_size c.requires.ready c.requires.begins.settled inode.device.stores dentry.device.stores child.device.stores
-      (g.P.Pm.view c.fence.new.pm).words c.init_inode-inode.result c.name_slot-dentry.result c.fence.ensures.device.words (ap (λ (i : InodeView). i.number) inode.object) (ap (λ (i : InodeView). i.fields) inode.object) inode.in_flight (ap (λ (d : DentryView). d.pages) dentry.object) (ap (λ (d : DentryView). d.slot) dentry.object) (ap (λ (d : DentryView). d.fields) dentry.object) dentry.in_flight child.links,
-      search rules,
-      search rules);
+      makes = (
+        node_made geometry.pages entry geometry.volume_size c.requires.ready c.requires.begins.settled inode.device.stores dentry.device.stores child.device.stores
+            (g.P.Pm.view c.fence.new.pm).words c.init_inode-inode.result c.name_slot-dentry.result c.fence.ensures.device.words (ap (λ (i : InodeView). i.number) inode.object) (ap (λ (i : InodeView). i.fields) inode.object) inode.in_flight (ap (λ (d : DentryView). d.pages) dentry.object) (ap (λ (d : DentryView). d.slot) dentry.object) (ap (λ (d : DentryView). d.fields) dentry.object) dentry.in_flight child.links,
+        search rules,
+        search rules,
+      );
       fenced = err_ends c.in-Err.fault c.requires.begins.settled
           (stores_then (stores_then inode.device dentry.device (inode_apart geometry.pages entry geometry.volume_size c.requires.ready c.requires.begins.settled)) child.device
           (links_apart geometry.pages entry geometry.volume_size c.requires.ready c.requires.begins.settled inode.device.stores dentry.device.stores child.device.stores))

@@ -44,10 +44,12 @@ returns-in-Ok-clause-takes g c =
     let inode = c.raise_links-inode.ensures in
     let dentry = c.name_slot-dentry.ensures in
     record {
-      makes = (link_made geometry.pages link geometry.volume_size c.requires.ready c.requires.begins.settled inode.device.stores dentry.device.stores
-      (g.P.Pm.view c.fence.new.pm).words c.name_slot-dentry.result c.fence.ensures.device.words (ap (λ (d : DentryView). d.pages) dentry.object) (ap (λ (d : DentryView). d.slot) dentry.object) (ap (λ (d : DentryView). d.fields) dentry.object) dentry.in_flight.stands.reads inode.links,
-      search rules,
-      search rules);
+      makes = (
+        link_made geometry.pages link geometry.volume_size c.requires.ready c.requires.begins.settled inode.device.stores dentry.device.stores
+            (g.P.Pm.view c.fence.new.pm).words c.name_slot-dentry.result c.fence.ensures.device.words (ap (λ (d : DentryView). d.pages) dentry.object) (ap (λ (d : DentryView). d.slot) dentry.object) (ap (λ (d : DentryView). d.fields) dentry.object) dentry.in_flight.stands.reads inode.links,
+        search rules,
+        search rules,
+      );
       fenced = ok_ends (record { inode = c.settle.result; dentry = c.settle-in-Ok.result }) c.requires.begins.settled
           (stores_then inode.device dentry.device (links_apart geometry.pages link geometry.volume_size c.requires.ready c.requires.begins.settled))
           (written_flushed geometry.pages link geometry.volume_size c.requires.ready c.requires.begins.settled inode.device.stores dentry.device.stores inode.flushed dentry.flushed)
@@ -61,10 +63,12 @@ returns-in-Err-clause-takes g c =
     let inode = c.raise_links-inode.ensures in
     let dentry = c.name_slot-dentry.ensures in
     record {
-      makes = (link_made geometry.pages link geometry.volume_size c.requires.ready c.requires.begins.settled inode.device.stores dentry.device.stores
-      (g.P.Pm.view c.fence.new.pm).words c.name_slot-dentry.result c.fence.ensures.device.words (ap (λ (d : DentryView). d.pages) dentry.object) (ap (λ (d : DentryView). d.slot) dentry.object) (ap (λ (d : DentryView). d.fields) dentry.object) dentry.in_flight.stands.reads inode.links,
-      search rules,
-      search rules);
+      makes = (
+        link_made geometry.pages link geometry.volume_size c.requires.ready c.requires.begins.settled inode.device.stores dentry.device.stores
+            (g.P.Pm.view c.fence.new.pm).words c.name_slot-dentry.result c.fence.ensures.device.words (ap (λ (d : DentryView). d.pages) dentry.object) (ap (λ (d : DentryView). d.slot) dentry.object) (ap (λ (d : DentryView). d.fields) dentry.object) dentry.in_flight.stands.reads inode.links,
+        search rules,
+        search rules,
+      );
       fenced = err_ends c.in-Err.fault c.requires.begins.settled
           (stores_then inode.device dentry.device (links_apart geometry.pages link geometry.volume_size c.requires.ready c.requires.begins.settled))
           (written_flushed geometry.pages link geometry.volume_size c.requires.ready c.requires.begins.settled inode.device.stores dentry.device.stores inode.flushed dentry.flushed)
