@@ -4,22 +4,11 @@ use Rattle.std.specs.Prelude.{Option, Result}
 use Rattle.std.proofs.lemmas.Bool.{cases_eq, cases_lt}
 use Rattle.std.proofs.lemmas.Grind.{same_number_lists}
 use Rattle.pm_trait.specs.Trail.{Trail}
-use Rattle.pm_trait.specs.Device.{LeavesOnly, MayLeave, Mix, IsFenced, moment_of}
+use Rattle.pm_trait.specs.Device.{MayLeave, Mix, IsFenced, moment_of}
 use Rattle.pm_trait.proofs.ContinuesLaws.{continues_then, may_leave-more}
 use Rattle.layout.specs.Fields.{word}
-use Rattle.tree_model.specs.Tree.{Tree}
 use Rattle.image_reading.specs.Reading.{Reads}
-use Rattle.image_reading.proofs.Readings.{one_tree}
 use Rattle.volume.specs.Commit.{HangsOn}
-use Rattle.entry_steps.proofs.Moments.{Quietly}
-
--- what reads as one tree hangs on no word
-pub hangs_quiet : {old new : Option Trail} (P commit : ℕ) (before : Tree) → LeavesOnly old new (Quietly (λ image. Reads P image before)) → HangsOn P old new commit
-hangs_quiet P commit before run = record {
-  continues = run.continues;
-  each = λ moment image other tree from upto may also same reads.
-      subst (λ (t : Tree). Reads P other t) (one_tree P image before tree (run.each moment image from upto may).1 reads) (run.each moment other from upto also).1;
-}
 
 -- two mixes of words that differ at one place are one where they agree there
 same_mix : (a b : List ℕ) (commit value : ℕ) (image other : List ℕ) → b ≡ set a commit value → Mix a b image → Mix a b other → word other commit ≡ word image commit → image ≡ other

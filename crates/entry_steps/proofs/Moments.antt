@@ -1,31 +1,14 @@
 -- What is left at each moment of a call that acknowledges nothing.
-use Rattle.std.proofs.Common.{◌≡◌, ◌≢◌, inr, ℕ, List, length, refl, arith}
+use Rattle.std.proofs.Common.{◌≡◌, ◌≢◌, inr, ℕ, List, length, refl}
 use Rattle.std.specs.Prelude.{Option, Result, Ok, Err, OnOk, IsErr}
 use Rattle.pm_trait.specs.Trail.{Trail}
-use Rattle.pm_trait.specs.Device.{LeavesOnly, StaysOnce, Mix, IsFenced, IsSettledAt, acks_from, moment_of}
-use Rattle.pm_trait.proofs.ContinuesLaws.{acks_from-then}
-use Rattle.pm_trait.proofs.DeviceLaws.{fenced_leaves, fenced_stays, leaves_next, leaves_weaker, interval_empty, interval_stays}
+use Rattle.pm_trait.specs.Device.{StaysOnce, Mix, IsFenced}
+use Rattle.pm_trait.proofs.DeviceLaws.{fenced_stays}
 use Rattle.layout.specs.Fields.{word}
 use Rattle.tree_model.specs.Tree.{Tree}
 use Rattle.image_reading.specs.Reading.{Reads}
 use Rattle.image_reading.proofs.Readings.{one_tree}
 use Rattle.image_laws.specs.Quiet.{IsMix}
-
--- nothing is acknowledged, and what is left has Q
-abbrev pub Quietly : (List ℕ → Type 0) → ℕ → List ℕ → Type 0
-Quietly Q acks image = (acks ≡ 0) × Q image
-
-pub quiet_fenced : {T E : Type 0} {a b : List ℕ} {ta tb : Option Trail} {result : Result T E} (Q : List ℕ → Type 0) → IsFenced a ta b tb result → ((image : List ℕ) → Mix a b image → Q image) → LeavesOnly ta tb (Quietly Q)
-quiet_fenced Q fenced implies = fenced_leaves {P = Quietly Q} fenced (λ image mix. (refl, implies image mix))
-
-pub quiet_then : {a b c : Option Trail} (Q : List ℕ → Type 0) → acks_from a b (moment_of b) ≡ 0 → LeavesOnly a b (Quietly Q) → LeavesOnly b c (Quietly Q) → LeavesOnly a c (Quietly Q)
-quiet_then Q none one two = leaves_next {P = Quietly Q} none one two
-
-pub quiet_weaker : {a b : Option Trail} (Q R : List ℕ → Type 0) → ((image : List ℕ) → Q image → R image) → LeavesOnly a b (Quietly Q) → LeavesOnly a b (Quietly R)
-quiet_weaker Q R implies run = leaves_weaker {P = Quietly Q} {Q = Quietly R} (λ k image both. (both.0, implies image both.1)) run
-
-pub no_ack_then : {a b c : Option Trail} {P Q : ℕ → List ℕ → Type 0} → LeavesOnly a b P → LeavesOnly b c Q → acks_from a b (moment_of b) ≡ 0 → acks_from b c (moment_of c) ≡ 0 → acks_from a c (moment_of c) ≡ 0
-no_ack_then one two none also = let joined = acks_from-then one.continues two.continues in omega (arith, joined, none, also)
 
 pub on_ok : {T E F : Type 0} (result : Result T E) → F → OnOk result F
 on_ok (Ok done) holds = holds
@@ -47,6 +30,3 @@ mix_of_new a b long = record { size = long; words = λ x. inr refl }
 -- Words that read as another tree don't stay in an interval that begins with words of this one.
 pub reads_stay : {T E : Type 0} {a b : List ℕ} {ta tb : Option Trail} {result : Result T E} (P : ℕ) (before after : Tree) → IsFenced a ta b tb result → Reads P a before → before ≢ after → StaysOnce ta tb (λ image. Reads P image after)
 reads_stay {a = a} P before after fenced reads differ = fenced_stays (λ image. Reads P image after) fenced (λ has image mix. absurd (differ (one_tree P a before after reads has)))
-
-pub reads_stay_here : {now : List ℕ} {trail : Option Trail} (P : ℕ) (before after : Tree) → IsSettledAt now trail → Reads P now before → before ≢ after → StaysOnce trail trail (λ image. Reads P image after)
-reads_stay_here {now} {trail} P before after settled reads differ = interval_stays (λ image. Reads P image after) settled (interval_empty now trail) (λ has image mix. absurd (differ (one_tree P now before after reads has)))

@@ -3,9 +3,10 @@ use Rattle.std.proofs.Common.{◌≡◌, ◌≢◌, ◌⊎◌, inl, inr, ℕ, �
 use Rattle.std.proofs.lemmas.Bool.{cases_eq}
 use Rattle.layout.specs.Geometry.{IsVolumeSize, inodes_of, data_pages_of, page_of_slot, inode_word_of, descriptor_word_of, slot_word_of, page_word_of}
 use Rattle.layout.proofs.GeometryLaws.{same_descriptor_word, same_page_word, slot_word_in_page, descriptor_word_within, inode_word_not_descriptor_word, inode_word_not_page_word, descriptor_word_not_slot_word, descriptor_word_not_page_word}
+use Rattle.layout.specs.declared.fields.DescriptorFields.{DescriptorFields}
 use Rattle.layout.specs.Fields.{word, page_owner}
 use Rattle.image_laws.specs.Create.{IsPageMadeWord, MakesPage, owned}
-use Rattle.entry_steps.specs.Steps.{MayTake, IsOpened}
+use Rattle.entry_steps.specs.Steps.{MayTake, CanClaim, IsOpened}
 
 some_page : (x y : ℕ) → ◌≡◌ {A = Option ℕ} (Some x) (Some y) → x ≡ y
 some_page x y e = cc
@@ -33,6 +34,19 @@ not_page_made : (P j a : ℕ) → ((w : ℕ) → w < 512 → a ≢ page_word_of 
 not_page_made P j a content field (inl (w, lt, e)) = content w lt e
 not_page_made P j a content field (inr (inl e)) = field 1 (omega arith) (omega arith) e
 not_page_made P j a content field (inr (inr e)) = field 2 (omega arith) (omega arith) e
+
+-- a page that was filled has no owner, and may get one
+module _ (P : ℕ) (W A : List ℕ) (page d : ℕ) (some : 1 ≤ d) (may : MayTake P W (Some page)) (made : MakesPage P W A page) where
+  no_owner : page_owner P A page ≡ 0
+  unfolding page_owner
+  no_owner =
+      made.others (descriptor_word_of P page 0) (not_page_made P page (descriptor_word_of P page 0)
+      (λ w low. descriptor_word_not_page_word P page page 0 w may.0 (omega arith))
+      (λ f least high same. let e = (same_descriptor_word P page page 0 f (omega arith) (omega (arith, high)) same).1 in omega (arith, least, e)))
+      ∙ ap (λ (f : DescriptorFields). f.owner) may.1
+
+  pub can_claim : CanClaim P A page d
+  can_claim = record { in_range = may.0; filled = (no_owner, inr (made.kind, made.offset)); some_directory = some }
 
 module _ (P : ℕ) (W B : List ℕ) (d : ℕ) (size : IsVolumeSize P) (whole : length W ≡ 512 * P) where
   -- ---- with a new page

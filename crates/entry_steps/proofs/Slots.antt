@@ -1,16 +1,17 @@
 -- Stores of one call and the flush after them: a link count, a name, a slot's number.
-use Rattle.std.proofs.Common.{◌≡◌, ℕ, ◌+◌, List, [], ◌∷◌, set, sym, ap, subst, ◌∙◌, arith}
-use Rattle.std.specs.Prelude.{Option}
+use Rattle.std.proofs.Common.{◌≡◌, ℕ, ◌+◌, [], ◌∷◌, sym, subst, arith}
+use Rattle.std.specs.Prelude.{Option, Result}
 use Rattle.pm_trait.specs.Trail.{Trail}
 use Rattle.pm_trait.specs.Device.{IsFlushed}
 use Rattle.pm_trait.specs.declared.event.Event.TheVariants.{Store, Flush}
 use Rattle.pm_trait.specs.DeviceView.{DeviceView, Performs, Stores}
+use Rattle.pm_trait.specs.Unfolds.{Takes}
 use Rattle.pm_trait.proofs.DeviceViewLaws.{store_stores, flush_stores, stores_flushed}
 use Rattle.layout.specs.Geometry.{inode_word_of, slot_word_of}
 use Rattle.fence_token.specs.Flushes.{FlushesLines}
 use Rattle.fence_token.proofs.ObjectLaws.{lines_stores}
 use Rattle.dentry_state.specs.Dentry.{DentryView, IsSlotWord, IsNameWord}
-use Rattle.image_laws.specs.Create.{committed}
+use Rattle.entry_steps.specs.Steps.{naming}
 
 pub links_stored : {a b c : DeviceView} {value line : ℕ} (m n : ℕ) → n ≡ m → Performs a b (Store (inode_word_of n 1) value ∷ []) → Performs b c (Flush line ∷ []) → Stores (λ word. word ≡ inode_word_of m 1) a c 2
 links_stored {a} {c = c} m n same stored flush = subst (λ (k : ℕ). Stores (λ word. word ≡ inode_word_of k 1) a c 2) same (stores_flushed (store_stores stored) (flush_stores flush))
@@ -31,7 +32,7 @@ commit_flushed P Q s t volume slot flushed word is =
 pub slot_stored : {a b c : DeviceView} {word value line lines : ℕ} → lines ≡ 1 → Performs a b (Store word value ∷ []) → FlushesLines b c line lines → Stores (λ other. other ≡ word) a c 2
 slot_stored {a} {c = c} {word = word} one stored flushes = subst (λ (count : ℕ). Stores (λ other. other ≡ word) a c (1 + count)) one (stores_flushed (store_stores stored) (lines_stores flushes))
 
--- what was committed, by the numbers that the plan has
-pub committed_is : (P : ℕ) (I J : List ℕ) (slot inode pages s i : ℕ) → pages ≡ P → s ≡ slot → i ≡ inode → J ≡ set I (slot_word_of pages s 0) i → J ≡ committed P I slot inode
-committed_is P I J slot inode pages s i volume same number is =
-    is ∙ ap (λ (p : ℕ). set I (slot_word_of p s 0) i) volume ∙ ap (λ (t : ℕ). set I (slot_word_of P t 0) i) same ∙ ap (λ (n : ℕ). set I (slot_word_of P slot 0) n) number
+-- the step that named it, by the numbers that the plan has
+pub naming_as : {T E : Type 0} {P slot inode pages s i : ℕ} {a b : DeviceView} {result : Result T E} → pages ≡ P → s ≡ slot → i ≡ inode → Takes (naming pages s i) a b result → Takes (naming P slot inode) a b result
+naming_as {P = P} {slot} {inode} {pages} {s} {i} {a} {b} {result} volume same number takes =
+    subst (λ (p : ℕ). Takes (naming p slot inode) a b result) volume (subst (λ (t : ℕ). Takes (naming pages t inode) a b result) same (subst (λ (n : ℕ). Takes (naming pages s n) a b result) number takes))

@@ -24,7 +24,8 @@ use Rattle.image_laws.proofs.Free.{mix_one}
 use Rattle.image_laws.proofs.Making as making
 use Rattle.image_laws.proofs.MakeTidy.{tidy_after}
 use Rattle.image_laws.proofs.Meaning.{same_itself, same_chained}
-use Rattle.image_laws.proofs.Ready.{IsReady, IsReadySlot, IsCleanSlot, IsNamed, IsFreeInode, IsTidyBut, tidy_but, no_pointer}
+use Rattle.image_laws.proofs.Ready.{IsCleanSlot, IsNamed, IsTidyBut, tidy_but, no_pointer}
+use Rattle.image_laws.specs.Stages.{IsReady, IsReadySlot, IsFreeInode}
 use Rattle.image_laws.proofs.Rooms.{dec_room}
 
 -- ---- from an image that is ready

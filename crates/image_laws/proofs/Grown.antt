@@ -14,7 +14,7 @@ use Rattle.image_laws.proofs.Making as making
 use Rattle.image_laws.proofs.MakeTidy.{grown_after}
 use Rattle.image_laws.proofs.PageCreates.{taken}
 use Rattle.image_laws.proofs.PageReady.{page_ready, inode_ready, forth, back, owner_same, entry_same, slot_same, file_page_same, kind_as_before}
-use Rattle.image_laws.proofs.Ready.{IsReady}
+use Rattle.image_laws.specs.Stages.{IsReady}
 
 other_words : (P : ℕ) (I : List ℕ) (s i a : ℕ) → a ≢ slot_word_of P s 0 → word (committed P I s i) a ≡ word I a
 unfolding word

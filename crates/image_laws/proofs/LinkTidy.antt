@@ -25,7 +25,8 @@ use Rattle.image_laws.proofs.Meaning.{reached_slot}
 use Rattle.image_laws.proofs.OnlySlot.{OnlySlot}
 use Rattle.image_laws.proofs.OnlySlot as slots
 use Rattle.image_laws.proofs.Paths.{reached_pos, reached-le, reach}
-use Rattle.image_laws.proofs.Ready.{IsReadySlot, IsCleanSlot, tidy_from}
+use Rattle.image_laws.proofs.Ready.{IsCleanSlot, tidy_from}
+use Rattle.image_laws.specs.Stages.{IsReadySlot}
 use Rattle.image_laws.proofs.Words.{slot_words-same}
 
 module _ (P : ℕ) (B C D : List ℕ) (p : Route) (d s i : ℕ) (name : List ℕ) (place : IsReadySlot P B p d s name) (of_file : IsOldFile P B i) (makes : MakesLink P B C s i name)

@@ -23,7 +23,8 @@ use Rattle.image_laws.proofs.Making.{mix_itself, links_more}
 use Rattle.image_laws.proofs.Meaning.{shape, reached_slot, slot_name_same}
 use Rattle.image_laws.proofs.NewPage.{alike_stores}
 use Rattle.image_laws.proofs.Paths.{reached_pos, reached-le}
-use Rattle.image_laws.proofs.Ready.{IsReadySlot, dec_among, dec_either}
+use Rattle.image_laws.proofs.Ready.{dec_among, dec_either}
+use Rattle.image_laws.specs.Stages.{IsReadySlot}
 
 dec_linked : (P s i a : ℕ) → Dec (IsLinkedWord P s i a)
 dec_linked P s i a = dec_either _ _ (dec_among (λ k. slot_word_of P s (2 + k)) 14 a) (dec_eq a (inode_word_of i 1))

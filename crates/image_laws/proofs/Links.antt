@@ -27,9 +27,10 @@ use Rattle.image_laws.proofs.Grown.{grown_with_page}
 use Rattle.image_laws.proofs.Linking as linking
 use Rattle.image_laws.proofs.LinkTidy as linked
 use Rattle.image_laws.proofs.Meaning.{same_itself, same_chained}
-use Rattle.image_laws.proofs.PageCreates.{taken, quiet, clean}
+use Rattle.image_laws.proofs.PageCreates.{taken, clean}
 use Rattle.image_laws.proofs.PageReady.{HasTaken, page_ready, forth, kind_as_before, no_room}
-use Rattle.image_laws.proofs.Ready.{IsReadySlot, IsCleanSlot, IsNamed}
+use Rattle.image_laws.proofs.Ready.{IsCleanSlot, IsNamed}
+use Rattle.image_laws.specs.Stages.{IsReadySlot}
 
 -- a file takes no place in a room
 no_place : (P : ℕ) (I : List ℕ) (i : ℕ) (node : Node) (room : Room) → HasBytes I i → IsNode P I i node → with_node room i node ≡ room
@@ -163,7 +164,6 @@ module _ (P : ℕ) (W A I : List ℕ) (p path : Route) (d j s i : ℕ) (name : L
 pub new_page_link_law : NewPageLinkLaw
 new_page_link_law P W A I p path d j s i name can page at zero makes is =
     let made = zero.empty in (
-      quiet P W A p d j s name can.place page at made,
       page_linked P W A I p path d j s i name can page at made makes is (clean P W A p d j s name can.place page at made zero.zeros),
       page_grown P W A I p path d j s i name can page at made makes is,
     )

@@ -27,7 +27,8 @@ use Rattle.image_laws.proofs.Meaning.{reached_slot}
 use Rattle.image_laws.proofs.OnlySlot.{OnlySlot}
 use Rattle.image_laws.proofs.OnlySlot as slots
 use Rattle.image_laws.proofs.Paths.{reached_pos, reached-le, reach}
-use Rattle.image_laws.proofs.Ready.{IsReady, IsCleanSlot, tidy_from}
+use Rattle.image_laws.proofs.Ready.{IsCleanSlot, tidy_from}
+use Rattle.image_laws.specs.Stages.{IsReady}
 use Rattle.image_laws.proofs.Words.{slot_words-same}
 
 -- exactly one has Q

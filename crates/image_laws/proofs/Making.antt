@@ -24,7 +24,8 @@ use Rattle.image_laws.proofs.Free.{free_law, stores_law}
 use Rattle.image_laws.proofs.Meaning.{shape, reached_slot, slot_name_same}
 use Rattle.image_laws.proofs.Paths.{reached_pos, reached-le, reach}
 use Rattle.image_laws.proofs.Quiet.{quiet_agrees}
-use Rattle.image_laws.proofs.Ready.{IsReady, dec_made, not_made}
+use Rattle.image_laws.proofs.Ready.{dec_made, not_made}
+use Rattle.image_laws.specs.Stages.{IsReady}
 use Rattle.image_laws.proofs.Words.{agrees_from_words}
 
 -- a new image is a mix

@@ -10,7 +10,7 @@ use Rattle.image_reading.specs.Reading.{IsDirectory, Reached, IsRoomOf, HasRoom}
 use Rattle.image_counts.specs.Entries.{IsFreePage}
 use Rattle.image_laws.specs.Add.{with_page, with_node}
 use Rattle.image_laws.specs.Commits.{Commits}
-use Rattle.image_laws.specs.Create.{IsEmptyNode, MakesEmptyPage, MakesNode, CanName, owned, committed, IsPageQuiet, NewPageLaw}
+use Rattle.image_laws.specs.Create.{IsEmptyNode, MakesEmptyPage, MakesNode, CanName, owned, committed, NewPageLaw}
 use Rattle.image_laws.specs.Agrees.{Alike}
 use Rattle.image_laws.specs.Frame.{SameMeaning}
 use Rattle.image_laws.specs.Free.{Stores}
@@ -21,7 +21,8 @@ use Rattle.image_laws.proofs.Meaning.{shape, reached_slot, reached_slot_forward,
 use Rattle.image_laws.proofs.NewPage.{made_descriptor, made_inode, made_slot, zero_slot, owned_owner, owned_descriptor, owned_inode, owned_slot, alike_stores}
 use Rattle.image_laws.proofs.PageQuiet as page_quiet
 use Rattle.image_laws.proofs.PageReady.{HasTaken, page_ready, page_clean, inode_ready, no_room}
-use Rattle.image_laws.proofs.Ready.{IsReady, IsCleanSlot, IsNamed, IsFreeInode}
+use Rattle.image_laws.proofs.Ready.{IsCleanSlot, IsNamed}
+use Rattle.image_laws.specs.Stages.{IsReady, IsFreeInode}
 
 module _ (P : ℕ) (W A : List ℕ) (p : Route) (d j s : ℕ) (name : List ℕ) (can : CanName P W p d name) (page : IsFreePage P W j) (at_s : page_of_slot s ≡ j) (makes : MakesEmptyPage P W A j) where
   same_page : SameMeaning P W A
@@ -71,9 +72,6 @@ module _ (P : ℕ) (W A : List ℕ) (p : Route) (d j s : ℕ) (name : List ℕ) 
         ((λ room. second.0 (first.0 room)), (λ room. first.1 (second.1 room)));
   }
 
-  pub quiet : IsPageQuiet P W A (owned P A j d)
-  quiet = page_quiet.quiet P W A p d j can.tidy.coherent can.path can.directory page makes
-
   -- a page of zeros is clean
   pub clean : ((w : ℕ) → w < 512 → word A (page_word_of P j w) ≡ 0) → IsCleanSlot P (owned P A j d) s
   clean zeros = page_clean P W (owned P A j d) p d j s name can page at_s taken
@@ -103,7 +101,5 @@ module _ (P : ℕ) (W A : List ℕ) (p : Route) (d j s : ℕ) (name : List ℕ) 
 
 pub new_page_law : NewPageLaw
 new_page_law P W A I p path node d j s i name can page at_s empty zero made is =
-    let makes = zero.empty in (
-      quiet P W A p d j s name can.place page at_s makes,
-      page_created P W A p d j s name can.place page at_s makes I path node i (free_inode P W p d i name can) empty made is (clean P W A p d j s name can.place page at_s makes zero.zeros),
-    )
+    let makes = zero.empty in
+    page_created P W A p d j s name can.place page at_s makes I path node i (free_inode P W p d i name can) empty made is (clean P W A p d j s name can.place page at_s makes zero.zeros)

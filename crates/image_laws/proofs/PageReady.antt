@@ -16,7 +16,8 @@ use Rattle.image_laws.specs.Add.{IsFreeSlot}
 use Rattle.image_laws.specs.Create.{CanName}
 use Rattle.image_laws.specs.Frame.{SameMeaning}
 use Rattle.image_laws.proofs.Paths.{reached_pos, reached-le, reach}
-use Rattle.image_laws.proofs.Ready.{IsReadySlot, IsCleanSlot, IsFreeInode, IsTidyBut, tidy_but, no_pointer}
+use Rattle.image_laws.proofs.Ready.{IsCleanSlot, IsTidyBut, tidy_but, no_pointer}
+use Rattle.image_laws.specs.Stages.{IsReadySlot, IsFreeInode}
 use Rattle.image_laws.proofs.Words.{slot_words-same}
 
 -- B is W but for page j, which directory d owns in B, and whose slots name nothing and point at nothing there. The same slots are reached.

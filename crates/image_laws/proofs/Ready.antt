@@ -1,18 +1,15 @@
 -- What create and mkdir need of the image in which they make a node, and that words are or aren't among those stored.
-use Rattle.std.proofs.Common.{◌≡◌, ◌≢◌, ◌⊎◌, inl, inr, ℕ, ◌+◌, ◌<◌, ◌≤◌, List, subst, arith}
+use Rattle.std.proofs.Common.{◌≡◌, ◌≢◌, ◌⊎◌, inl, inr, ℕ, ◌+◌, ◌<◌, List, subst, arith}
 use Rattle.std.proofs.lemmas.Bool.{cases_eq, cases_lt}
-use Rattle.layout.specs.Fields.{word, page_owner, slot_pointer, slot_name}
-use Rattle.layout.specs.Geometry.{inodes_of, data_pages_of, page_of_slot, inode_word_of, slot_word_of}
-use Rattle.layout.specs.Name.{IsNameWords, name_in_words}
-use Rattle.tree_model.specs.PathText.{Route}
+use Rattle.layout.specs.Fields.{word, slot_pointer}
+use Rattle.layout.specs.Geometry.{page_of_slot, inode_word_of, slot_word_of}
 use Rattle.tree_model.specs.Tree.{Node, Directory, File, Tree, Room}
-use Rattle.image_reading.specs.Reading.{slot_owner, IsHeld, IsLive, Reached, IsReachedSlot, Reads, HasRoom}
+use Rattle.image_reading.specs.Reading.{IsHeld, IsLive, Reads, HasRoom}
 use Rattle.image_reading.specs.Repairs.{IsPointer, IsLitterSlot, IsLitterPage, IsLitterInode, IsLitterCount}
 use Rattle.image_reading.specs.Soundness.{IsCoherent}
 use Rattle.image_reading.specs.Tidy.{IsTidied}
 use Rattle.image_reading.proofs.Counts.{count_none}
 use Rattle.image_counts.proofs.Counting.{none_counted}
-use Rattle.image_laws.specs.Add.{IsFreeSlot}
 use Rattle.image_laws.specs.Create.{IsAmong, IsMadeWord}
 use Rattle.image_laws.proofs.Decide.{dec_eq}
 use Rattle.image_laws.proofs.Rooms.{dec_some}
@@ -51,31 +48,12 @@ tidy_from P I j coherent t none = record {
 pub no_pointer : (P : ℕ) (I : List ℕ) (j : ℕ) → IsTidyBut P I j → (s : ℕ) → IsHeld P I s → slot_pointer P I s ≡ 0
 no_pointer P I j t s h = elim (cases_eq (slot_pointer P I s) 0) [ inl e ↦ e | inr n ↦ absurd (t.pointers s (record { held = h; nonzero = n })) ]
 
--- ---- ready for a new node
-
--- inode i is free
-pub record IsFreeInode (P : ℕ) (I : List ℕ) (i : ℕ) : Type 0 where
-  pub least : 2 ≤ i
-  pub most : i ≤ inodes_of P
-  pub unreached : Reached P I i → ⊥
-  pub no_pages : (j : ℕ) → j < data_pages_of P → page_owner P I j ≢ i
-
--- Slot s may be taken.
-pub record IsReadySlot (P : ℕ) (I : List ℕ) (p : Route) (d s : ℕ) (name : List ℕ) : Type 0 where
-  pub coherent : IsCoherent P I
-  pub slot : IsFreeSlot P I p d s
-  pub is_name : IsNameWords name
-  pub new : (t : ℕ) → IsReachedSlot P I t → slot_owner P I t ≡ d → slot_name P I t ≢ name_in_words name
+-- ---- ready for a new name
 
 -- The page of the slot is clean, and it alone may be litter.
 pub record IsCleanSlot (P : ℕ) (I : List ℕ) (s : ℕ) : Type 0 where
   pub but : IsTidyBut P I (page_of_slot s)
   pub clean : (t f : ℕ) → page_of_slot t ≡ page_of_slot s → (IsLive P I t → ⊥) → f < 16 → word I (slot_word_of P t f) ≡ 0
-
--- Slot s and inode i may be taken.
-pub record IsReady (P : ℕ) (I : List ℕ) (p : Route) (d s i : ℕ) (name : List ℕ) : Type 0 where
-  pub place : IsReadySlot P I p d s name
-  pub inode : IsFreeInode P I i
 
 -- ---- which words are stored
 

@@ -119,8 +119,8 @@ pub record IsPageQuiet (P : ℕ) (W A B : List ℕ) : Type 0 where
 abbrev pub NewPageLaw : Type 0
 NewPageLaw = (P : ℕ) (W A I : List ℕ) (p path : Route) (node : Node) (d j s i : ℕ) (name : List ℕ) → CanMake P W p d i name → IsFreePage P W j → page_of_slot s ≡ j
     → IsEmptyNode node → MakesPage P W A j → MakesNode P (owned P A j d) I node d s i name → reverse path ≡ name_in_words name ∷ p
-    → IsPageQuiet P W A (owned P A j d) × Commits P W (owned P A j d) I (committed P I s i) (λ T. with_new T path i node) (λ room. with_node (with_page room d) i node)
+    → Commits P W (owned P A j d) I (committed P I s i) (λ T. with_new T path i node) (λ room. with_node (with_page room d) i node)
 
--- That much holds as soon as the page is made, whatever is made in it.
+-- The page's own steps mean nothing, whatever is made in it.
 abbrev pub PageQuietLaw : Type 0
 PageQuietLaw = (P : ℕ) (W A : List ℕ) (p : Route) (d j : ℕ) → IsCoherent P W → Names P W p d → IsDirectory W d → IsFreePage P W j → MakesEmptyPage P W A j → IsPageQuiet P W A (owned P A j d)

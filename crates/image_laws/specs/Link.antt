@@ -9,7 +9,7 @@ use Rattle.tree_model.specs.Step.{with_path}
 use Rattle.image_counts.specs.Entries.{IsFreePage}
 use Rattle.image_laws.specs.Commits.{Commits}
 use Rattle.image_laws.specs.Add.{IsOldFile, with_page}
-use Rattle.image_laws.specs.Create.{IsAmong, CanName, IsVacant, MakesPage, IsPageQuiet, committed, owned}
+use Rattle.image_laws.specs.Create.{IsAmong, CanName, IsVacant, MakesPage, committed, owned}
 use Rattle.image_laws.specs.Grown.{HasGrown}
 
 -- a name word of slot s, or the link word of inode i
@@ -37,4 +37,4 @@ LinkLaw = (P : ℕ) (W I : List ℕ) (p path : Route) (d s i : ℕ) (name : List
 abbrev pub NewPageLinkLaw : Type 0
 NewPageLinkLaw = (P : ℕ) (W A I : List ℕ) (p path : Route) (d j s i : ℕ) (name : List ℕ) → CanLink P W p d i name → IsFreePage P W j → page_of_slot s ≡ j
     → MakesPage P W A j → MakesLink P (owned P A j d) I s i name → reverse path ≡ name_in_words name ∷ p
-    → IsPageQuiet P W A (owned P A j d) × Commits P W (owned P A j d) I (committed P I s i) (λ T. with_path T path i) (λ room. with_page room d) × HasGrown P W (committed P I s i) d s i name
+    → Commits P W (owned P A j d) I (committed P I s i) (λ T. with_path T path i) (λ room. with_page room d) × HasGrown P W (committed P I s i) d s i name

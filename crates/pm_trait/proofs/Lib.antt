@@ -4,3 +4,4 @@ pub mod DeviceLaws
 pub mod DeviceViewLaws
 pub mod TrailLaws
 mod TrailRows
+pub mod Unfolding

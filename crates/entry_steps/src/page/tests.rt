@@ -13,9 +13,8 @@ fn a_page_of_slots(rt: HostRuntime) -> Result<(), Fail> {
     pm.reserve(583)?;
     let geometry = Geometry::of(16).ok_or("no volume")?;
     assert_eq!(rt; geometry.data_pages, 13);
-    let page = [2];
-    let filled = fill_page(&mut pm, &geometry, page.as_slice())?;
-    claim_page(&mut pm, filled, 3)?;
+    fill_page(&mut pm, &geometry, 2)?;
+    claim_page(&mut pm, &geometry, 2, 3)?;
     let table = [
         (1_039, 0),
         (1_040, 3),

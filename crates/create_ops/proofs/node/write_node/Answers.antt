@@ -1,4 +1,4 @@
-use Rattle.std.proofs.Common.{ap}
+use Rattle.std.proofs.Common.{ap, rules}
 use Rattle.pm_trait.proofs.DeviceViewLaws.{stores_then, ok_ends, err_ends}
 use Rattle.inode_state.specs.Inode.{InodeView}
 use Rattle.dentry_state.specs.Dentry.{DentryView}
@@ -56,46 +56,44 @@ settle-requires-in-Ok-clause-in_flight g c =
     c.name_slot-dentry.result (ap (λ (d : DentryView). d.pages) c.name_slot-dentry.ensures.object) (ap (λ (d : DentryView). d.slot) c.name_slot-dentry.ensures.object) c.name_slot-dentry.ensures.in_flight)
 
 -- all that is stored, and all of it flushed
-pub returns-in-Ok-clause-device : goal.returns-in-Ok-clause-device
-returns-in-Ok-clause-device g c =
+pub returns-in-Ok-clause-takes : goal.returns-in-Ok-clause-takes
+returns-in-Ok-clause-takes g c =
     let geometry = c.args.geometry.now in
     let entry = c.args.entry.now in
     let inode = c.init_inode-inode.ensures in
     let dentry = c.name_slot-dentry.ensures in
     let child = c.count_child.ensures in
-    ok_ends (record { inode = c.settle.result; dentry = c.settle-in-Ok.result }) c.requires.begins.settled
-    (stores_then (stores_then inode.device dentry.device (inode_apart geometry.pages entry geometry.volume_size c.requires.ready c.requires.begins.settled)) child.device
-    (links_apart geometry.pages entry geometry.volume_size c.requires.ready c.requires.begins.settled inode.device.stores dentry.device.stores child.device.stores))
-    (written_flushed geometry.pages entry geometry.volume_size c.requires.ready c.requires.begins.settled inode.device.stores dentry.device.stores child.device.stores inode.flushed dentry.flushed child.flushed)
-    c.in-Ok.ensures.device
+    record {
+      makes = (
+        node_made geometry.pages entry geometry.volume_size c.requires.ready c.requires.begins.settled inode.device.stores dentry.device.stores child.device.stores
+            (g.P.Pm.view c.fence.new.pm).words c.init_inode-inode.result c.name_slot-dentry.result c.fence.ensures.device.words (ap (λ (i : InodeView). i.number) inode.object) (ap (λ (i : InodeView). i.fields) inode.object) inode.in_flight (ap (λ (d : DentryView). d.pages) dentry.object) (ap (λ (d : DentryView). d.slot) dentry.object) (ap (λ (d : DentryView). d.fields) dentry.object) dentry.in_flight child.links,
+        search rules,
+        search rules,
+      );
+      fenced = ok_ends (record { inode = c.settle.result; dentry = c.settle-in-Ok.result }) c.requires.begins.settled
+          (stores_then (stores_then inode.device dentry.device (inode_apart geometry.pages entry geometry.volume_size c.requires.ready c.requires.begins.settled)) child.device
+          (links_apart geometry.pages entry geometry.volume_size c.requires.ready c.requires.begins.settled inode.device.stores dentry.device.stores child.device.stores))
+          (written_flushed geometry.pages entry geometry.volume_size c.requires.ready c.requires.begins.settled inode.device.stores dentry.device.stores child.device.stores inode.flushed dentry.flushed child.flushed)
+          c.in-Ok.ensures.device;
+    }
 
-pub returns-in-Err-clause-device : goal.returns-in-Err-clause-device
-returns-in-Err-clause-device g c =
+pub returns-in-Err-clause-takes : goal.returns-in-Err-clause-takes
+returns-in-Err-clause-takes g c =
     let geometry = c.args.geometry.now in
     let entry = c.args.entry.now in
     let inode = c.init_inode-inode.ensures in
     let dentry = c.name_slot-dentry.ensures in
     let child = c.count_child.ensures in
-    err_ends c.in-Err.fault c.requires.begins.settled
-    (stores_then (stores_then inode.device dentry.device (inode_apart geometry.pages entry geometry.volume_size c.requires.ready c.requires.begins.settled)) child.device
-    (links_apart geometry.pages entry geometry.volume_size c.requires.ready c.requires.begins.settled inode.device.stores dentry.device.stores child.device.stores))
-    (written_flushed geometry.pages entry geometry.volume_size c.requires.ready c.requires.begins.settled inode.device.stores dentry.device.stores child.device.stores inode.flushed dentry.flushed child.flushed)
-    c.in-Err.ensures.device
-
-pub returns-in-Ok-clause-made : goal.returns-in-Ok-clause-made
-returns-in-Ok-clause-made g c =
-    let geometry = c.args.geometry.now in
-    let inode = c.init_inode-inode.ensures in
-    let dentry = c.name_slot-dentry.ensures in
-    let child = c.count_child.ensures in
-    node_made geometry.pages c.args.entry.now geometry.volume_size c.requires.ready c.requires.begins.settled inode.device.stores dentry.device.stores child.device.stores
-    (g.P.Pm.view c.fence.new.pm).words c.init_inode-inode.result c.name_slot-dentry.result c.fence.ensures.device.words (ap (λ (i : InodeView). i.number) inode.object) (ap (λ (i : InodeView). i.fields) inode.object) inode.in_flight (ap (λ (d : DentryView). d.pages) dentry.object) (ap (λ (d : DentryView). d.slot) dentry.object) (ap (λ (d : DentryView). d.fields) dentry.object) dentry.in_flight child.links
-
-pub returns-in-Err-clause-made : goal.returns-in-Err-clause-made
-returns-in-Err-clause-made g c =
-    let geometry = c.args.geometry.now in
-    let inode = c.init_inode-inode.ensures in
-    let dentry = c.name_slot-dentry.ensures in
-    let child = c.count_child.ensures in
-    node_made geometry.pages c.args.entry.now geometry.volume_size c.requires.ready c.requires.begins.settled inode.device.stores dentry.device.stores child.device.stores
-    (g.P.Pm.view c.fence.new.pm).words c.init_inode-inode.result c.name_slot-dentry.result c.fence.ensures.device.words (ap (λ (i : InodeView). i.number) inode.object) (ap (λ (i : InodeView). i.fields) inode.object) inode.in_flight (ap (λ (d : DentryView). d.pages) dentry.object) (ap (λ (d : DentryView). d.slot) dentry.object) (ap (λ (d : DentryView). d.fields) dentry.object) dentry.in_flight child.links
+    record {
+      makes = (
+        node_made geometry.pages entry geometry.volume_size c.requires.ready c.requires.begins.settled inode.device.stores dentry.device.stores child.device.stores
+            (g.P.Pm.view c.fence.new.pm).words c.init_inode-inode.result c.name_slot-dentry.result c.fence.ensures.device.words (ap (λ (i : InodeView). i.number) inode.object) (ap (λ (i : InodeView). i.fields) inode.object) inode.in_flight (ap (λ (d : DentryView). d.pages) dentry.object) (ap (λ (d : DentryView). d.slot) dentry.object) (ap (λ (d : DentryView). d.fields) dentry.object) dentry.in_flight child.links,
+        search rules,
+        search rules,
+      );
+      fenced = err_ends c.in-Err.fault c.requires.begins.settled
+          (stores_then (stores_then inode.device dentry.device (inode_apart geometry.pages entry geometry.volume_size c.requires.ready c.requires.begins.settled)) child.device
+          (links_apart geometry.pages entry geometry.volume_size c.requires.ready c.requires.begins.settled inode.device.stores dentry.device.stores child.device.stores))
+          (written_flushed geometry.pages entry geometry.volume_size c.requires.ready c.requires.begins.settled inode.device.stores dentry.device.stores child.device.stores inode.flushed dentry.flushed child.flushed)
+          c.in-Err.ensures.device;
+    }

@@ -1,4 +1,4 @@
-use Rattle.std.proofs.Common.{ap}
+use Rattle.std.proofs.Common.{ap, rules}
 use Rattle.pm_trait.proofs.DeviceViewLaws.{stores_then, ok_ends, err_ends}
 use Rattle.inode_state.specs.Inode.{InodeView}
 use Rattle.dentry_state.specs.Dentry.{DentryView}
@@ -37,40 +37,40 @@ pub settle-requires-in-Ok-clause-in_flight : goal.settle-requires-in-Ok-clause-i
 settle-requires-in-Ok-clause-in_flight g c = stands_in_flight_fence c.fence.ensures.device.words c.in-Ok.ensures.device.ok c.name_slot-dentry.ensures.in_flight
 
 -- all that is stored, and all of it flushed
-pub returns-in-Ok-clause-device : goal.returns-in-Ok-clause-device
-returns-in-Ok-clause-device g c =
+pub returns-in-Ok-clause-takes : goal.returns-in-Ok-clause-takes
+returns-in-Ok-clause-takes g c =
     let geometry = c.args.geometry.now in
     let link = c.args.link.now in
     let inode = c.raise_links-inode.ensures in
     let dentry = c.name_slot-dentry.ensures in
-    ok_ends (record { inode = c.settle.result; dentry = c.settle-in-Ok.result }) c.requires.begins.settled
-    (stores_then inode.device dentry.device (links_apart geometry.pages link geometry.volume_size c.requires.ready c.requires.begins.settled))
-    (written_flushed geometry.pages link geometry.volume_size c.requires.ready c.requires.begins.settled inode.device.stores dentry.device.stores inode.flushed dentry.flushed)
-    c.in-Ok.ensures.device
+    record {
+      makes = (
+        link_made geometry.pages link geometry.volume_size c.requires.ready c.requires.begins.settled inode.device.stores dentry.device.stores
+            (g.P.Pm.view c.fence.new.pm).words c.name_slot-dentry.result c.fence.ensures.device.words (ap (λ (d : DentryView). d.pages) dentry.object) (ap (λ (d : DentryView). d.slot) dentry.object) (ap (λ (d : DentryView). d.fields) dentry.object) dentry.in_flight.stands.reads inode.links,
+        search rules,
+        search rules,
+      );
+      fenced = ok_ends (record { inode = c.settle.result; dentry = c.settle-in-Ok.result }) c.requires.begins.settled
+          (stores_then inode.device dentry.device (links_apart geometry.pages link geometry.volume_size c.requires.ready c.requires.begins.settled))
+          (written_flushed geometry.pages link geometry.volume_size c.requires.ready c.requires.begins.settled inode.device.stores dentry.device.stores inode.flushed dentry.flushed)
+          c.in-Ok.ensures.device;
+    }
 
-pub returns-in-Err-clause-device : goal.returns-in-Err-clause-device
-returns-in-Err-clause-device g c =
+pub returns-in-Err-clause-takes : goal.returns-in-Err-clause-takes
+returns-in-Err-clause-takes g c =
     let geometry = c.args.geometry.now in
     let link = c.args.link.now in
     let inode = c.raise_links-inode.ensures in
     let dentry = c.name_slot-dentry.ensures in
-    err_ends c.in-Err.fault c.requires.begins.settled
-    (stores_then inode.device dentry.device (links_apart geometry.pages link geometry.volume_size c.requires.ready c.requires.begins.settled))
-    (written_flushed geometry.pages link geometry.volume_size c.requires.ready c.requires.begins.settled inode.device.stores dentry.device.stores inode.flushed dentry.flushed)
-    c.in-Err.ensures.device
-
-pub returns-in-Ok-clause-made : goal.returns-in-Ok-clause-made
-returns-in-Ok-clause-made g c =
-    let geometry = c.args.geometry.now in
-    let inode = c.raise_links-inode.ensures in
-    let dentry = c.name_slot-dentry.ensures in
-    link_made geometry.pages c.args.link.now geometry.volume_size c.requires.ready c.requires.begins.settled inode.device.stores dentry.device.stores
-    (g.P.Pm.view c.fence.new.pm).words c.name_slot-dentry.result c.fence.ensures.device.words (ap (λ (d : DentryView). d.pages) dentry.object) (ap (λ (d : DentryView). d.slot) dentry.object) (ap (λ (d : DentryView). d.fields) dentry.object) dentry.in_flight.stands.reads inode.links
-
-pub returns-in-Err-clause-made : goal.returns-in-Err-clause-made
-returns-in-Err-clause-made g c =
-    let geometry = c.args.geometry.now in
-    let inode = c.raise_links-inode.ensures in
-    let dentry = c.name_slot-dentry.ensures in
-    link_made geometry.pages c.args.link.now geometry.volume_size c.requires.ready c.requires.begins.settled inode.device.stores dentry.device.stores
-    (g.P.Pm.view c.fence.new.pm).words c.name_slot-dentry.result c.fence.ensures.device.words (ap (λ (d : DentryView). d.pages) dentry.object) (ap (λ (d : DentryView). d.slot) dentry.object) (ap (λ (d : DentryView). d.fields) dentry.object) dentry.in_flight.stands.reads inode.links
+    record {
+      makes = (
+        link_made geometry.pages link geometry.volume_size c.requires.ready c.requires.begins.settled inode.device.stores dentry.device.stores
+            (g.P.Pm.view c.fence.new.pm).words c.name_slot-dentry.result c.fence.ensures.device.words (ap (λ (d : DentryView). d.pages) dentry.object) (ap (λ (d : DentryView). d.slot) dentry.object) (ap (λ (d : DentryView). d.fields) dentry.object) dentry.in_flight.stands.reads inode.links,
+        search rules,
+        search rules,
+      );
+      fenced = err_ends c.in-Err.fault c.requires.begins.settled
+          (stores_then inode.device dentry.device (links_apart geometry.pages link geometry.volume_size c.requires.ready c.requires.begins.settled))
+          (written_flushed geometry.pages link geometry.volume_size c.requires.ready c.requires.begins.settled inode.device.stores dentry.device.stores inode.flushed dentry.flushed)
+          c.in-Err.ensures.device;
+    }
