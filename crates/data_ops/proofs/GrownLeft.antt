@@ -24,7 +24,7 @@ use Rattle.volume.specs.declared.plan.Action.TheVariants.{Resize}
 use Rattle.volume.proofs.LowestPages.{rising_distinct}
 use Rattle.data_ops.specs.Growing.{MayGrow, StoresGrowth}
 use Rattle.data_ops.specs.Cutting.{growth_to}
-use Rattle.data_ops.proofs.CutStages
+use Rattle.data_ops.proofs.CutCourse
 use Rattle.data_ops.proofs.GrownKnown
 use Rattle.data_ops.proofs.Stepping
 use Rattle.data_ops.proofs.Truncations
@@ -40,7 +40,7 @@ module _ (volume : VolumeView) (device : DeviceView) (state : State) (path : Rou
   stepped : IsStepped volume.size (sized grown.taken resizing.inode resizing.new_size) state (Truncate path resizing.new_size) (least_free_id state.tree)
   stepped =
       lengthen_step_law volume.size device.words grown.filled grown.taken state path resizing.inode resizing.new_size resizing.old_size (least_free_id state.tree) resizing.new_pages may.can grown.fills grown.takes
-      (CutStages.named (Truncations.cut_at volume device state path resizing plan)) plan.stands.reads
+      (CutCourse.named (Truncations.cut_at volume device state path resizing plan)) plan.stands.reads
 
   tidy_after : Tidy volume.size (sized grown.taken resizing.inode resizing.new_size)
   tidy_after = as_tidy law.tidy

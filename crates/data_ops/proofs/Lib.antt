@@ -18,8 +18,7 @@ mod WriteLeft
 mod WriteCarrying
 mod NothingWritten
 mod CutPages
-mod CutStages
-mod CutBudget
+mod CutCourse
 mod CutKnown
 mod Truncations
 mod CutLeft

@@ -16,8 +16,9 @@ use Rattle.volume.specs.declared.plan.Resizing.{Resizing}
 use Rattle.entry_steps.specs.Steps.{MayFence}
 use Rattle.data_ops.specs.Hanging.{HangsOnWords, IsRangeWord}
 use Rattle.data_ops.specs.Growing.{IsGrowing, IsGrowthBy, GrowsInTurn}
-use Rattle.data_ops.specs.Cutting.{growth_to, IsResizingAt, CutsInTurn, StoresSize}
-use Rattle.data_ops.proofs.CutStages
+use Rattle.entry_steps.proofs.Unfolding.{unfolds_as, unfolds_failed_as}
+use Rattle.data_ops.specs.Cutting.{growth_to, IsResizingAt, StoresCut, StoresSize, HasStoredSize}
+use Rattle.data_ops.proofs.CutCourse
 
 -- where no byte is written only the size is a word of the range
 no_bytes : (P : ℕ) (W image other : List ℕ) (i offset : ℕ) → word other (inode_word_of i 2) ≡ word image (inode_word_of i 2) → (at : ℕ) → IsRangeWord P W i offset [] at → word other at ≡ word image at
@@ -36,7 +37,7 @@ growth_by path resizing at = record {
   reads = at.reads;
   accepted = at.planned.accepted;
   path = path;
-  names = CutStages.named at;
+  names = CutCourse.named at;
   grows = IsGrowing.truncate refl refl;
 }
 
@@ -70,7 +71,7 @@ made_as {a = a} {b} {result} events other fences more same again made =
 
 -- ---- what it leaves
 
-pub resized_cut : {T E : Type 0} (P : ℕ) (before after : DeviceView) (resizing : Resizing) (result : Result T E) → resizing.new_size < resizing.old_size → OnOk result (CutsInTurn P before after resizing.inode resizing.new_size) → OnOk result (StoresSize P before after resizing)
+pub resized_cut : {T E : Type 0} (P : ℕ) (before after : DeviceView) (resizing : Resizing) (result : Result T E) → resizing.new_size < resizing.old_size → OnOk result (StoresCut P before.words after.words resizing.inode resizing.new_size) → OnOk result (StoresSize P before after resizing)
 resized_cut P before after resizing (Ok done) less cut = record { grown = λ more. absurd (omega (arith, less, more)); cut = λ other. cut }
 resized_cut P before after resizing (Err fault) less cut = tt
 
@@ -78,6 +79,13 @@ pub resized_grown : {T E : Type 0} (P : ℕ) (before after : DeviceView) (resizi
     → OnOk result (StoresSize P before after resizing)
 resized_grown P before after resizing (Ok done) more grown = record { grown = λ other. grown; cut = λ less. absurd (omega (arith, less, more)) }
 resized_grown P before after resizing (Err fault) more grown = tt
+
+-- another value is answered, or another fault
+pub stored_as : {T E U F : Type 0} {P : ℕ} {before after : DeviceView} {resizing : Resizing} {pages : List ℕ} {value : T} (other : U) → HasStoredSize {E = E} P before after resizing pages (Ok value) → HasStoredSize {E = F} P before after resizing pages (Ok other)
+stored_as other stored = record { cut_in_turn = λ less. unfolds_as other (stored.cut_in_turn less); made = stored.made; commit_word = stored.commit_word }
+
+pub stored_failed : {T E U F : Type 0} {P : ℕ} {before after : DeviceView} {resizing : Resizing} {pages : List ℕ} {fault : E} (other : F) → HasStoredSize {T = T} P before after resizing pages (Err fault) → HasStoredSize {T = U} P before after resizing pages (Err other)
+stored_failed other stored = record { cut_in_turn = λ less. unfolds_failed_as other (stored.cut_in_turn less); made = tt; commit_word = stored.commit_word }
 
 -- ---- what its plan has reserved
 

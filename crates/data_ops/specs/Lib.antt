@@ -3,5 +3,6 @@ pub mod Hanging
 pub mod Reading
 pub mod Turns
 pub mod Growing
+pub mod Steps
 pub mod Writing
 pub mod Cutting

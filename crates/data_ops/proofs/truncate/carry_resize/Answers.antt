@@ -2,12 +2,13 @@ use Rattle.std.proofs.Common.{ℕ, ◌*◌, List, sym, ap, subst, ◌∙◌}
 use Rattle.std.specs.Prelude.{Ok, Err}
 use Rattle.pm_trait.specs.declared.event.PmFault.{PmFault}
 use Rattle.tree_model.specs.declared.command.Command.TheVariants.{Truncate}
+use Rattle.tree_model.specs.declared.reply.Reply.TheVariants.{Done as Told}
 use Rattle.volatile_index.specs.Index.{pages_of}
 use Rattle.volume.specs.Carried.{IsAtomic}
 use Rattle.volume.proofs.FilePages.{may_enter_resized, may_lose_cut}
 use Rattle.data_ops.specs.Cutting.{MayResize, IsResizingAt, StoresSize, HasStoredSize}
 use Rattle.data_ops.proofs.Left.{has_resized, leaves_state}
-use Rattle.data_ops.proofs.Resizes.{may_begin}
+use Rattle.data_ops.proofs.Resizes.{may_begin, stored_as, stored_failed}
 use Rattle.data_ops.proofs.Resizing.{carried, carried_no_further}
 use Rattle.data_ops.proofs.Truncations
 use Rattle.data_ops.proofs.truncate.carry_resize.Goals as goal
@@ -26,6 +27,13 @@ pub resize-requires-clause-whole : goal.resize-requires-clause-whole
 resize-requires-clause-whole g c =
     let (state, path, plan) = c.requires.planned in
     plan.stands.knows.whole ∙ ap (λ (p : ℕ). 512 * p) (sym c.geometry.ensures)
+
+pub resize-requires-clause-planned : goal.resize-requires-clause-planned
+resize-requires-clause-planned g c =
+    let (state, path, plan) = c.requires.planned in
+    let resizing = c.args.resizing.now in
+    let old = g.P.Pm.view c.args.pm.now in
+    (state, path, subst (λ (p : ℕ). IsResizingAt p old.words state path resizing) (sym c.geometry.ensures) (record { reads = plan.stands.reads; planned = plan.planned }))
 
 pub resize-requires-clause-may : goal.resize-requires-clause-may
 resize-requires-clause-may g c =
@@ -86,14 +94,12 @@ pub returns-in-Ok-clause-stored : goal.returns-in-Ok-clause-stored
 returns-in-Ok-clause-stored g c =
     let old = g.P.Pm.view c.args.pm.now in
     let new = g.P.Pm.view c.resize.new.pm in
-    let done = c.in-Ok.ensures.stored in
-    let of_volume = subst (λ (p : ℕ). HasStoredSize {T = Unit {0}} {E = PmFault} p old new c.args.resizing.now (Ok tt)) c.geometry.ensures done in
-    record { made = of_volume.made; commit_word = of_volume.commit_word }
+    stored_as (Told) (subst (λ (l : List ℕ). HasStoredSize {T = Unit {0}} {E = PmFault} c.args.volume.now.size old new c.args.resizing.now l (Ok tt)) c.pages-pages.ensures
+    (subst (λ (p : ℕ). HasStoredSize {T = Unit {0}} {E = PmFault} p old new c.args.resizing.now c.pages-pages.result.now (Ok tt)) c.geometry.ensures c.in-Ok.ensures.stored))
 
 pub returns-in-Err-clause-stored : goal.returns-in-Err-clause-stored
 returns-in-Err-clause-stored g c =
     let old = g.P.Pm.view c.args.pm.now in
     let new = g.P.Pm.view c.resize.new.pm in
-    let failed = c.in-Err.ensures.stored in
-    let of_volume = subst (λ (p : ℕ). HasStoredSize {T = Unit {0}} {E = PmFault} p old new c.args.resizing.now (Err c.in-Err.fault)) c.geometry.ensures failed in
-    record { made = tt; commit_word = of_volume.commit_word }
+    stored_failed c.in-Err.fault (subst (λ (l : List ℕ). HasStoredSize {T = Unit {0}} {E = PmFault} c.args.volume.now.size old new c.args.resizing.now l (Err c.in-Err.fault)) c.pages-pages.ensures
+    (subst (λ (p : ℕ). HasStoredSize {T = Unit {0}} {E = PmFault} p old new c.args.resizing.now c.pages-pages.result.now (Err c.in-Err.fault)) c.geometry.ensures c.in-Err.ensures.stored))

@@ -1,9 +1,13 @@
-use Rattle.std.proofs.Common.{ℕ, ◌+◌, ◌<◌, false, List, [], length, sym, ap, subst, ◌∙◌, arith}
+use Rattle.std.proofs.Common.{ℕ, ◌<◌, List, [], length, sym, ap, subst, ◌∙◌, arith}
 use Rattle.std.specs.Prelude.{OnOk}
 use Rattle.tree_model.specs.declared.command.Command.TheVariants.{Truncate}
-use Rattle.volume.specs.Costs.{growth_events, fences_for_growth, commit_events, loss_events, fences_for_loss, events_of_resize, fences_of_resize}
+use Rattle.volume.specs.Costs.{growth_events, fences_for_growth, events_of_resize, fences_of_resize}
+use Rattle.entry_steps.specs.Unfolds.{events_in, fences_in}
+use Rattle.entry_steps.proofs.Turning.{hangs_on}
+use Rattle.entry_steps.proofs.Unfolding.{intervals}
 use Rattle.data_ops.specs.Growing.{MayGrow, GrowsInTurn}
-use Rattle.data_ops.specs.Cutting.{growth_to}
+use Rattle.data_ops.specs.Cutting.{growth_to, cut_steps}
+use Rattle.data_ops.proofs.CutCourse
 use Rattle.data_ops.proofs.Resizes.{hangs_on_size, growth_by, cut_events, cut_fences, grown_events, grown_fences, may_as, made_as, resized_cut, resized_grown}
 use Rattle.data_ops.proofs.truncate.resize.Goals as goal
 
@@ -13,21 +17,32 @@ cut-requires-clause-may g c = c.requires.may.cut c.if-resizing.true
 pub cut-requires-clause-begins : goal.cut-requires-clause-begins
 cut-requires-clause-begins g c =
     let resizing = c.args.resizing.now in
-    may_as (g.P.Pm.view c.args.pm.now) (events_of_resize resizing) (commit_events + loss_events resizing.cut false) 3 (cut_events resizing c.if-resizing.true) c.requires.begins
+    let old = g.P.Pm.view c.args.pm.now in
+    let less = c.if-resizing.true in
+    may_as old (events_of_resize resizing) (events_in (cut_steps c.args.geometry.now.pages resizing c.args.pages.now)) 3 (cut_events resizing less ∙ CutCourse.costs old (c.requires.may.cut less)) c.requires.begins
 
-pub returns-then-resizing-clause-stored : goal.returns-then-resizing-clause-stored
-returns-then-resizing-clause-stored g c =
+pub returns-then-resizing : goal.returns-then-resizing
+returns-then-resizing g c =
+    let P = c.args.geometry.now.pages in
     let resizing = c.args.resizing.now in
+    let pages = c.args.pages.now in
+    let old = g.P.Pm.view c.args.pm.now in
+    let new = g.P.Pm.view c.cut.new.pm in
+    let less = c.if-resizing.true in
+    let may = c.requires.may.cut less in
+    let made = c.cut.ensures.unfolds in
+    let settled = c.requires.begins.settled in
+    let (state, path, at) = c.requires.planned in
     record {
-      made = resized_cut c.args.geometry.now.pages (g.P.Pm.view c.args.pm.now) (g.P.Pm.view c.cut.new.pm) resizing c.cut.result c.if-resizing.true c.cut.ensures.cut;
-      commit_word = c.cut.ensures.commit_word;
+      stored = record {
+        cut_in_turn = λ again. made;
+        made = resized_cut P old new resizing c.cut.result less (CutCourse.cut_done old may new c.cut.result made);
+        commit_word = hangs_on (CutCourse.underway old may new c.cut.result made settled at).hangs;
+      };
+      atomic = λ state path at. (let under = CutCourse.underway old may new c.cut.result made settled at in record { any_moment = under.any_moment; stays = under.stays });
+      device = made_as (events_in (cut_steps P resizing pages)) (events_of_resize resizing) (fences_in (cut_steps P resizing pages)) (fences_of_resize resizing)
+          (cut_events resizing less ∙ CutCourse.costs old may) (cut_fences resizing less ∙ CutCourse.fences old may) (intervals settled made);
     }
-
-pub returns-then-resizing-clause-device : goal.returns-then-resizing-clause-device
-returns-then-resizing-clause-device g c =
-    let resizing = c.args.resizing.now in
-    made_as (commit_events + loss_events resizing.cut false) (events_of_resize resizing) (1 + fences_for_loss resizing.cut false) (fences_of_resize resizing)
-    (cut_events resizing c.if-resizing.true) (cut_fences resizing c.if-resizing.true) c.cut.ensures.device
 
 pub grow-requires-clause-may : goal.grow-requires-clause-may
 grow-requires-clause-may g c =
@@ -56,6 +71,7 @@ returns-clause-stored g c =
     let old = g.P.Pm.view c.args.pm.now in
     let new = g.P.Pm.view c.grow.new.pm in
     record {
+      cut_in_turn = λ less. absurd (omega (arith, less, more));
       made = resized_grown P old new resizing c.grow.result more
           (subst (λ (l : List ℕ). OnOk c.grow.result (GrowsInTurn P old new resizing.inode resizing.new_size resizing.old_size [] l)) c.as_slice.ensures c.grow.ensures.grown);
       commit_word = hangs_on_size P old.words resizing.inode resizing.old_size c.grow.ensures.commit_word;
