@@ -27,12 +27,12 @@ module _ (volume : VolumeView) (device : DeviceView) (state : State) (path : Rou
     | inr most ↦ has_grown volume new resizing (takes.grown most) (Truncations.none_cut volume device state path resizing plan most)
   ]
 
-  pub leaves_state : (after : DeviceView) → StoresSize volume.size device after resizing → IsSettledView after → after.fences ≡ device.fences + fences_of_plan (SetsSize resizing)
+  pub leaves_state : (after : DeviceView) → StoresSize volume.size device.words after.words resizing → IsSettledView after → after.fences ≡ device.fences + fences_of_plan (SetsSize resizing)
       → LeavesState volume new device after state (Truncate path resizing.new_size) Done
   leaves_state after resized settled counted = elim (cases_lt resizing.new_size resizing.old_size) [
     | inl less ↦ CutLeft.leaves_state volume device state path resizing plan less after.words (resized.cut less) new (takes.cut less) after refl settled counted
     | inr most ↦
         let other = Truncations.other volume device state path resizing plan in
         let more : resizing.old_size < resizing.new_size = omega (arith, most, other) in
-        GrownLeft.leaves_state volume device state path resizing plan more after.words (resized.grown more).stores new (takes.grown most) after refl settled counted
+        GrownLeft.leaves_state volume device state path resizing plan more after.words (resized.grown more) new (takes.grown most) after refl settled counted
   ]

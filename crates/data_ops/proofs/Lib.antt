@@ -2,15 +2,15 @@ mod FilePages
 mod Sizes
 mod Pages
 mod ReadBytes
-mod Wheres
 mod Spans
 mod Fills
 mod Raising
 mod NewPages
 mod OldPages
 mod InsidePages
-mod Turns
 mod Growing
+mod Told
+mod GrowCourse
 mod Writings
 mod WriteSteps
 mod Stepping

@@ -98,9 +98,9 @@ module _ (volume : VolumeView) (device : DeviceView) (state : State) (path : Rou
         → LeavesState volume new device after state (Write path writing.offset bytes) (Count (length bytes))
     left_past new enters after words settled counted = left_by end (as_tidy growth.tidy) stepped growth.index new enters after (words ∙ grown.size) settled counted
 
-  pub leaves_state : (after : DeviceView) → StoresBytes P device after writing bytes → (new : VolumeView) → EntersPages volume new writing.inode writing.new_pages → IsSettledView after → after.fences ≡ device.fences + fences_of_plan (WritesBytes writing)
+  pub leaves_state : (after : DeviceView) → StoresBytes P device.words after.words writing bytes → (new : VolumeView) → EntersPages volume new writing.inode writing.new_pages → IsSettledView after → after.fences ≡ device.fences + fences_of_plan (WritesBytes writing)
       → LeavesState volume new device after state (Write path writing.offset bytes) (Count (length bytes))
   leaves_state after written new enters settled counted = elim (cases_lt writing.old_size (writing.offset + writing.count)) [
-    | inl more ↦ left_past after.words more (written.past more).stores new enters after refl settled counted
+    | inl more ↦ left_past after.words more (written.past more) new enters after refl settled counted
     | inr inside ↦ left_inside after.words inside (written.inside inside).writes new enters after refl settled counted
   ]

@@ -1,5 +1,5 @@
 -- A file that gets another size: the words that the intervals of a truncation store. P is the number of pages.
-use Rattle.std.specs.Prelude.{◌≡◌, ◌≢◌, ℕ, ◌-◌, ◌<◌, ◌≤◌, List, [], ◌∷◌, length, drop, Result, OnOk}
+use Rattle.std.specs.Prelude.{◌≡◌, ◌≢◌, ℕ, ◌-◌, ◌<◌, ◌≤◌, nat_lt, List, [], ◌∷◌, length, drop, Result, OnOk}
 use Rattle.pm_trait.specs.DeviceView.{DeviceView}
 use Rattle.layout.specs.Geometry.{inode_word_of}
 use Rattle.tree_model.specs.PathText.{Route}
@@ -18,8 +18,8 @@ use Rattle.volume.specs.declared.plan.Resizing.{Resizing}
 use Rattle.entry_steps.specs.Unfolds.{Step, Unfolds}
 use Rattle.data_ops.specs.Files.{HasPages}
 use Rattle.data_ops.specs.declared.grow.Growth.{Growth}
-use Rattle.data_ops.specs.Growing.{MayGrow, GrowsInTurn}
-use Rattle.data_ops.specs.Steps.{sizing, giving, freeing}
+use Rattle.data_ops.specs.Growing.{MayGrow, StoresGrowth}
+use Rattle.data_ops.specs.Steps.{sizing, giving, freeing, growth_steps, either_steps}
 
 -- it gives a file another size
 abbrev pub IsTruncation : Command → Type 0
@@ -66,14 +66,18 @@ pub record StoresCut (P : ℕ) (W J : List ℕ) (i z : ℕ) : Type 0 where
   pub given : List ℕ
   pub cuts : Cuts P W given J i z
 
--- From the one device to the other the file has its new size.
-pub record StoresSize (P : ℕ) (before after : DeviceView) (resizing : Resizing) : Type 0 where
-  pub grown : resizing.old_size < resizing.new_size → GrowsInTurn P before after resizing.inode resizing.new_size resizing.old_size [] resizing.new_pages
-  pub cut : resizing.new_size < resizing.old_size → StoresCut P before.words after.words resizing.inode resizing.new_size
+-- The steps of a truncation: to more those of a growth, and to less those of a cut. These are the file's pages.
+abbrev pub resize_steps : ℕ → Resizing → List ℕ → List Step
+resize_steps P resizing pages = either_steps (nat_lt resizing.old_size resizing.new_size) (growth_steps P (growth_to resizing) [] resizing.new_pages) (cut_steps P resizing pages)
+
+-- From W to J the file gets its new size.
+pub record StoresSize (P : ℕ) (W J : List ℕ) (resizing : Resizing) : Type 0 where
+  pub grown : resizing.old_size < resizing.new_size → StoresGrowth P W J resizing.inode resizing.new_size resizing.old_size [] resizing.new_pages
+  pub cut : resizing.new_size < resizing.old_size → StoresCut P W J resizing.inode resizing.new_size
 
 -- The steps were made in turn, each settled before the next. Where it succeeds the words are those, and no other word has changed.
--- What a crash leaves hangs on the size alone. These are the file's pages.
+-- What a crash leaves hangs on the size alone.
 pub record HasStoredSize {T E : Type 0} (P : ℕ) (before after : DeviceView) (resizing : Resizing) (pages : List ℕ) (result : Result T E) : Type 0 where
-  pub cut_in_turn : resizing.new_size < resizing.old_size → Unfolds (cut_steps P resizing pages) before after result
-  pub made : OnOk result (StoresSize P before after resizing)
+  pub in_turn : Unfolds (resize_steps P resizing pages) before after result
+  pub made : OnOk result (StoresSize P before.words after.words resizing)
   pub commit_word : HangsOn P before.trail after.trail (inode_word_of resizing.inode 2)

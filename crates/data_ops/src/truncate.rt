@@ -1,13 +1,12 @@
 // A file gets another size: a greater one by its growth; a smaller one in the size alone, and then the pages behind it are given back.
-ghost use Rattle.std.specs.Prelude.{◌≡◌, ◌≢◌, ◌+◌, ◌*◌, ◌<◌, ◌≤◌, ℕ, nat_lt, false, length};
-ghost use Rattle.pm_trait.specs.DeviceView.{MakesIntervals};
+ghost use Rattle.std.specs.Prelude.{◌≡◌, ◌+◌, ◌*◌, ◌≤◌, ℕ, nat_lt, length};
 ghost use Rattle.tree_model.specs.PathText.{Route};
 ghost use Rattle.tree_model.specs.Run.{State};
 ghost use Rattle.tree_model.specs.Step.{Done};
 ghost use Rattle.tree_model.specs.declared.command.Command.TheVariants.{Truncate};
 ghost use Rattle.volatile_index.specs.Index.{pages_of};
-ghost use Rattle.volume.specs.Carried.{IsPlanFor, MayCarry, IsAtomic, Carries};
-ghost use Rattle.volume.specs.Costs.{where_true, events_of_resize, fences_of_resize};
+ghost use Rattle.volume.specs.Carried.{IsPlanFor, MayCarry, Carries};
+ghost use Rattle.volume.specs.Costs.{where_true, events_of_resize};
 ghost use Rattle.volume.specs.Entered.{HasPagePlaces, MayEnterPages, MayLosePages};
 ghost use Rattle.volume.specs.declared.plan.Resizing.{Resizing as Resized};
 ghost use Rattle.volume.specs.declared.plan.Action.TheVariants.{Resize as Resizes};
@@ -15,7 +14,7 @@ ghost use Rattle.entry_steps.specs.Steps.{MayFence};
 ghost use Rattle.entry_steps.specs.Unfolds.{events_in, Takes, Unfolds};
 ghost use Rattle.data_ops.specs.Growing.{owner_events, release_events};
 ghost use Rattle.data_ops.specs.Steps.{CanLower, CanDisown, CanRelease, sizing, giving, freeing};
-ghost use Rattle.data_ops.specs.Cutting.{IsTruncation, MayCut, MayResize, TakesIn, IsResizingAt, HasStoredSize, cut_steps};
+ghost use Rattle.data_ops.specs.Cutting.{IsTruncation, MayCut, MayResize, TakesIn, HasStoredSize, cut_steps, resize_steps};
 
 use crate::fencing::end_interval;
 use crate::grow::{Growth, grow};
@@ -98,17 +97,10 @@ fn resize<P: Pm>(
     resizing: &Resizing,
     pages: &[u64],
 ) -> Result<(), PmFault>
-    requires whole { length (P.view pm.old).words ≡ 512 * geometry.now.pages }
-    requires planned { (state : State) × (path : Route) × IsResizingAt geometry.now.pages (P.view pm.old).words state
-        path resizing.now }
     requires may { MayResize geometry.now.pages (P.view pm.old).words resizing.now pages.now }
     requires begins { MayFence (P.view pm.old) (events_of_resize resizing.now) 3 }
-    ensures stored { HasStoredSize geometry.now.pages (P.view pm.old) (P.view pm.new) resizing.now pages.now result }
-    ensures atomic { (state : State) (path : Route) → IsResizingAt geometry.now.pages (P.view pm.old).words state path
-        resizing.now → IsAtomic geometry.now.pages (P.view pm.old) (P.view pm.new) state
-        (Truncate path resizing.now.new_size) }
-    ensures device { MakesIntervals (P.view pm.old) (P.view pm.new) (events_of_resize resizing.now)
-        (fences_of_resize resizing.now) result }
+    ensures unfolds { Unfolds (resize_steps geometry.now.pages resizing.now pages.now) (P.view pm.old) (P.view pm.new)
+        result }
 {
     if resizing.new_size < resizing.old_size {
         return cut(pm, geometry, resizing, pages);
