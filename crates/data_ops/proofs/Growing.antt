@@ -151,7 +151,7 @@ module _ {P : ℕ} {W : List ℕ} {state : State} {command : Command} {growth : 
           lengthen_step_law P W A B state by.path i z offset (least_free_id T) new_pages (subst (λ (l : List ℕ). CanGrow P W i z offset l new_pages) none may.can)
           (subst (λ (l : List ℕ). FillsFile P W A i offset l new_pages) none fills) takes by.names by.reads
 
-      stepped : IsStepped P (sized B i z) state command (least_free_id T)
+      pub stepped : IsStepped P (sized B i z) state command (least_free_id T)
       stepped = stepped_by command by.grows
 
       pub new_reads : Reads P (sized B i z) new
