@@ -11,16 +11,59 @@ use Rattle.image_reading.specs.Repairs.{IsLitterPage}
 use Rattle.image_reading.specs.Tidy.{IsTidied}
 use Rattle.image_counts.specs.Entries.{IsPageIn, IsFreePage}
 use Rattle.image_laws.specs.Quiet.{IsMix}
-use Rattle.image_laws.proofs.Free.{stores_law, mix_one}
-use Rattle.image_laws.proofs.Meaning.{same_chained}
+use Rattle.image_laws.proofs.Free.{mix_one}
 use Rattle.image_laws.proofs.Resizes.{resize_tree_law, resize_room_law}
-use Rattle.content_laws.specs.Cut.{CanCut, IsPastCut, Cuts, with_size, LeavesCut, CutLaw, HasCut, CutIndexLaw}
+use Rattle.content_laws.specs.Cut.{CanCut, IsPastCut, Cuts, with_size, LeavesLowered, LoweringLaw, LeavesCut, CutLaw, HasCut, CutIndexLaw}
 use Rattle.content_laws.specs.Growth.{sized}
 use Rattle.content_laws.proofs.Bytes.{length-resized}
 use Rattle.content_laws.proofs.CutQuiet as quiet
 use Rattle.content_laws.proofs.CutWords as words
 use Rattle.content_laws.proofs.KeptFile as file
 use Rattle.content_laws.proofs.KeptFile.{KeepsOthers}
+
+-- ---- the size
+
+module _ (P : ℕ) (W : List ℕ) (i z : ℕ) (can : CanCut P W i z) where
+  either : (M : List ℕ) → IsMix W (sized W i z) M → (M ≡ W) ⊎ (M ≡ sized W i z)
+  either M mix = mix_one W M (inode_word_of i 2) z (words.inside P W i z can) mix
+
+  other_size : inode_size (sized W i z) i ≢ inode_size W i
+  other_size e = let new = words.size_is P W i z can in let less = can.less in omega (arith, e, new, less)
+
+  -- the size word tells the two apart
+  by_size : (M N : List ℕ) → IsMix W (sized W i z) M → IsMix W (sized W i z) N → inode_size N i ≡ inode_size M i → N ≡ M
+  by_size M N m n same = elim (either M m) [
+    | inl old ↦ elim (either N n) [
+      | inl also ↦ also ∙ sym old
+      | inr new ↦ absurd (other_size (ap (λ X. inode_size X i) (sym new) ∙ same ∙ ap (λ X. inode_size X i) old))
+    ]
+    | inr new ↦ elim (either N n) [
+      | inl old ↦ absurd (other_size (ap (λ X. inode_size X i) (sym new) ∙ sym same ∙ ap (λ X. inode_size X i) old))
+      | inr also ↦ also ∙ sym new
+    ]
+  ]
+
+  -- in W the file is longer
+  not_yet : (T : Tree) → ¬ Reads P W (with_size T i z)
+  not_yet T reads =
+      let bytes = resized (bytes_of T i) z in
+      let content = ((reads.nodes i (File bytes)).0 (node_at-with_bytes_here T i bytes)).1.1 in
+      let size = content.size in
+      let long = length-resized (bytes_of T i) z in
+      let less = can.less in
+      omega (arith, size, long, less)
+
+  pub lowered : LeavesLowered P W i z
+  lowered = record {
+    commit = either;
+    hangs = by_size;
+    not_yet = not_yet;
+    coherent = (words.resized_file P W i z can).coherent;
+    reads = λ T reads. resize_tree_law P W i z T (resized (bytes_of T i) z) (words.can_resize P W i z can) (quiet.stored_first P W i z can T reads) reads;
+    room = λ room has. resize_room_law P W i z room (words.can_resize P W i z can) has;
+  }
+
+-- ---- the end
 
 module _ (P : ℕ) (W : List ℕ) (i z : ℕ) (can : CanCut P W i z) (J K : List ℕ) (h : Cuts P W J K i z) where
   no_owner : (j : ℕ) → IsPastCut P W i z j → page_owner P K j ≡ 0
@@ -59,52 +102,8 @@ module _ (P : ℕ) (W : List ℕ) (i z : ℕ) (can : CanCut P W i z) (J K : List
       (λ j lt none own. subst (λ y. page_offset P W j < pages_of_size y) (sym (words.size_end P W i z can J K h)) (below_end j lt none own))
       (words.dec_past P W i z can) cleared
 
-  -- ---- the chain
-
-  either : (M : List ℕ) → IsMix W (sized W i z) M → (M ≡ W) ⊎ (M ≡ sized W i z)
-  either M mix = mix_one W M (inode_word_of i 2) z (words.inside P W i z can) mix
-
-  other_size : inode_size (sized W i z) i ≢ inode_size W i
-  other_size e = let new = words.size_is P W i z can in let less = can.less in omega (arith, e, new, less)
-
-  -- the size word tells the two apart
-  by_size : (M N : List ℕ) → IsMix W (sized W i z) M → IsMix W (sized W i z) N → inode_size N i ≡ inode_size M i → N ≡ M
-  by_size M N m n same = elim (either M m) [
-    | inl old ↦ elim (either N n) [
-      | inl also ↦ also ∙ sym old
-      | inr new ↦ absurd (other_size (ap (λ X. inode_size X i) (sym new) ∙ same ∙ ap (λ X. inode_size X i) old))
-    ]
-    | inr new ↦ elim (either N n) [
-      | inl old ↦ absurd (other_size (ap (λ X. inode_size X i) (sym new) ∙ sym same ∙ ap (λ X. inode_size X i) old))
-      | inr also ↦ also ∙ sym new
-    ]
-  ]
-
-  -- in W the file is longer
-  not_yet : (T : Tree) → ¬ Reads P W (with_size T i z)
-  not_yet T reads =
-      let bytes = resized (bytes_of T i) z in
-      let content = ((reads.nodes i (File bytes)).0 (node_at-with_bytes_here T i bytes)).1.1 in
-      let size = content.size in
-      let long = length-resized (bytes_of T i) z in
-      let less = can.less in
-      omega (arith, size, long, less)
-
-  pub cut : LeavesCut P W J K i z
-  cut =
-      let coherent = (words.resized_file P W i z can).coherent in
-      let given = quiet.same_give P W i z can J K h in
-      record {
-        commit = either;
-        hangs = by_size;
-        not_yet = not_yet;
-        giving = λ M m. stores_law P (sized W i z) J M coherent (quiet.give_stores P W i z can J K h) m;
-        freeing = λ M m. same_chained P (sized W i z) J M given (stores_law P J K M given.coherent (quiet.rest_stores P W i z can J K h) m);
-        last = quiet.same_end P W i z can J K h;
-        tidy = tidy;
-        reads = λ T reads. resize_tree_law P W i z T (resized (bytes_of T i) z) (words.can_resize P W i z can) (quiet.stored_first P W i z can T reads) reads;
-        room = λ room has. resize_room_law P W i z room (words.can_resize P W i z can) has;
-      }
+  pub cut : LeavesCut P W K i z
+  cut = record { last = quiet.same_end P W i z can J K h; tidy = tidy }
 
   -- ---- what an index holds
 
@@ -155,6 +154,9 @@ module _ (P : ℕ) (W : List ℕ) (i z : ℕ) (can : CanCut P W i z) (J K : List
     offsets = offsets;
     free_pages = free_pages;
   }
+
+pub lowering_law : LoweringLaw
+lowering_law P W i z can = lowered P W i z can
 
 pub cut_law : CutLaw
 cut_law P W J K i z can h = cut P W i z can J K h

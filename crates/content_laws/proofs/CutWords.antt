@@ -15,6 +15,7 @@ use Rattle.image_laws.proofs.Resize.{OnlySize, only_size}
 use Rattle.image_laws.proofs.Resizes.{resize_law}
 use Rattle.content_laws.specs.Cut.{CanCut, IsPastCut, Cuts}
 use Rattle.content_laws.specs.Growth.{sized}
+use Rattle.content_laws.proofs.Trims as trims
 
 -- fewer bytes take no more pages
 pub fewer_pages : (y z k : ℕ) → z ≤ y → k < pages_of_size z → k < pages_of_size y
@@ -81,25 +82,23 @@ module _ (P : ℕ) (W : List ℕ) (i z : ℕ) (can : CanCut P W i z) where
   module _ (J K : List ℕ) (h : Cuts P W J K i z) where
     -- ---- from the size to the owners
 
-    pub give_descriptor : (x f : ℕ) → f < 8 → (f ≢ 0) ⊎ (IsPastCut P W i z x → ⊥) → word J (descriptor_word_of P x f) ≡ word (sized W i z) (descriptor_word_of P x f)
-    give_descriptor x f l8 other = h.gives.others (descriptor_word_of P x f) (λ j g e.
-        let (same_page, same_field) = descriptor_word-one P x f j 0 l8 (omega arith) e in
-        elim other [ inl ne ↦ ne same_field | inr none ↦ none (subst (IsPastCut P W i z) (sym same_page) g) ])
+    give_descriptor : (x f : ℕ) → f < 8 → (f ≢ 0) ⊎ (IsPastCut P W i z x → ⊥) → word J (descriptor_word_of P x f) ≡ word (sized W i z) (descriptor_word_of P x f)
+    give_descriptor x f l8 other = trims.give_descriptor P (sized W i z) J (IsPastCut P W i z) h.gives x f l8 other
 
-    pub give_inode : (x f : ℕ) → 1 ≤ x → x ≤ inodes_of P → f < 16 → word J (inode_word_of x f) ≡ word (sized W i z) (inode_word_of x f)
-    give_inode x f some high lt = h.gives.others (inode_word_of x f) (λ j g e. descriptor-ne_inode P j 0 x f some high lt (sym e))
+    give_inode : (x f : ℕ) → 1 ≤ x → x ≤ inodes_of P → f < 16 → word J (inode_word_of x f) ≡ word (sized W i z) (inode_word_of x f)
+    give_inode x f some high lt = trims.give_inode P (sized W i z) J (IsPastCut P W i z) h.gives x f some high lt
 
     give_slot : (t f : ℕ) → word J (slot_word_of P t f) ≡ word (sized W i z) (slot_word_of P t f)
     give_slot t f = h.gives.others (slot_word_of P t f) (λ j g e. descriptor-ne_slot P j 0 t f g.in_range (omega arith) (sym e))
 
     -- ---- from the owners to the kinds and offsets
 
-    pub rest_descriptor : (x f : ℕ) → f < 8 → (f ≡ 0) ⊎ (IsPastCut P W i z x → ⊥) → word K (descriptor_word_of P x f) ≡ word J (descriptor_word_of P x f)
+    rest_descriptor : (x f : ℕ) → f < 8 → (f ≡ 0) ⊎ (IsPastCut P W i z x → ⊥) → word K (descriptor_word_of P x f) ≡ word J (descriptor_word_of P x f)
     rest_descriptor x f l8 other = h.clears.others (descriptor_word_of P x f) (λ j k g low high e.
         let (same_page, same_field) = descriptor_word-one P x f j k l8 (omega arith) e in
         elim other [ inl zero ↦ omega (arith, zero, same_field, low) | inr none ↦ none (subst (IsPastCut P W i z) (sym same_page) g) ])
 
-    pub rest_inode : (x f : ℕ) → 1 ≤ x → x ≤ inodes_of P → f < 16 → word K (inode_word_of x f) ≡ word J (inode_word_of x f)
+    rest_inode : (x f : ℕ) → 1 ≤ x → x ≤ inodes_of P → f < 16 → word K (inode_word_of x f) ≡ word J (inode_word_of x f)
     rest_inode x f some high lt = h.clears.others (inode_word_of x f) (λ j k g low top e. descriptor-ne_inode P j k x f some high lt (sym e))
 
     rest_slot : (t f : ℕ) → word K (slot_word_of P t f) ≡ word J (slot_word_of P t f)

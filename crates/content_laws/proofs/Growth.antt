@@ -20,12 +20,12 @@ use Rattle.image_laws.proofs.Resizes.{resize_law, resize_room_law}
 use Rattle.content_laws.specs.Growth.{CanGrow, FillsFile, TakesPages, sized, GrowthLaw}
 use Rattle.content_laws.specs.Range.{IsWrittenByte}
 use Rattle.content_laws.proofs.Bytes.{length-resized, resized_at}
-use Rattle.content_laws.proofs.Filling.{filled, fill_mixes, fill_torn, fill_quiet, fill_slot}
+use Rattle.content_laws.proofs.Filling.{filled, fill_slot}
 use Rattle.content_laws.proofs.Keeps.{Keeps, keeps_tidy, keeps_index}
 use Rattle.content_laws.proofs.Meaning.{forth, reads_with, shape_room}
 use Rattle.content_laws.proofs.Ranges.{written_at}
-use Rattle.content_laws.proofs.Taking.{pos, most, take_mix, taken, take_byte, taken_inode, taken_slot, taken_descriptor, new_page, which_page, can_resize}
-use Rattle.content_laws.proofs.Torn.{content_of, same_torn_law}
+use Rattle.content_laws.proofs.Taking.{pos, most, taken, take_byte, taken_inode, taken_slot, taken_descriptor, new_page, which_page, can_resize}
+use Rattle.content_laws.proofs.Torn.{content_of}
 
 module _ (P : ℕ) (W A B : List ℕ) (i z offset : ℕ) (bytes pages : List ℕ) (can : CanGrow P W i z offset bytes pages) (fills : FillsFile P W A i offset bytes pages) (takes : TakesPages P A B i pages) where
   i_pos : 1 ≤ i
@@ -154,11 +154,6 @@ module _ (P : ℕ) (W A B : List ℕ) (i z offset : ℕ) (bytes pages : List ℕ
 
 pub growth_law : GrowthLaw
 growth_law P W A B i z offset bytes pages can fills takes = record {
-  torn = fill_torn P W A i z offset bytes pages can fills;
-  hangs = λ M N m n same. same_torn_law P W A M N i offset bytes fills.below
-      (fill_mixes P W A i z offset bytes pages can fills M m) (fill_mixes P W A i z offset bytes pages can fills N n) same;
-  filling = fill_quiet P W A i z offset bytes pages can fills;
-  taking = take_mix P W A B i z offset bytes pages can fills takes;
   commit = commit P W A B i z offset bytes pages can fills takes;
   tidy = keeps_tidy P W (sized B i z) i pages (keeps P W A B i z offset bytes pages can fills takes);
   reads = reads P W A B i z offset bytes pages can fills takes;

@@ -11,6 +11,7 @@ pub mod Filling
 pub mod Taking
 pub mod Growth
 pub mod Steps
+pub mod Trims
 pub mod CutWords
 pub mod CutQuiet
 pub mod CutTidy

@@ -1,5 +1,5 @@
--- On what the reading of a write that crashed hangs.
-use Rattle.std.proofs.Common.{◌≡◌, ◌⊎◌, inl, inr, ℕ, ◌/◌, ◌%◌, ◌^◌, ◌<◌, ◌≤◌, List, length, reverse, refl, sym, ap, subst, ◌∙◌, arith}
+-- What a crash leaves of a write before its end, and on what the reading hangs.
+use Rattle.std.proofs.Common.{◌≡◌, inl, inr, ℕ, ◌/◌, ◌%◌, ◌^◌, ◌<◌, ◌≤◌, List, length, reverse, refl, sym, ap, subst, ◌∙◌, arith}
 use Rattle.layout.specs.Fields.{word, inode_kind, inode_size, page_byte}
 use Rattle.layout.specs.Geometry.{inodes_of, inode_word_of, page_word_of}
 use Rattle.tree_model.specs.Step.{with_bytes, overwritten}
@@ -9,19 +9,17 @@ use Rattle.image_reading.specs.Reading.{HasBytes, Reached, IsContent, Reads}
 use Rattle.image_reading.specs.Soundness.{IsCoherent}
 use Rattle.image_laws.specs.Frame.{SameMeaning}
 use Rattle.image_laws.specs.Quiet.{IsMix}
-use Rattle.image_laws.proofs.Free.{mix_one}
 use Rattle.image_laws.proofs.Making.{mix_itself}
-use Rattle.content_laws.specs.Growth.{CanGrow, FillsFile, TakesPages, sized}
+use Rattle.content_laws.specs.Growth.{CanGrow, FillsFile, TakesPages, FillingLaw, MeansFilled, TakingLaw}
 use Rattle.content_laws.specs.Inside.{CanWrite, WritesInside}
-use Rattle.content_laws.specs.Moments.{IsLeftEarly, IsLeft, InsideOnceLaw, GrowthHangsLaw, GrowthOnceLaw}
+use Rattle.content_laws.specs.Moments.{IsEarly, InsideOnceLaw, GrowthHangsLaw, GrowthOnceLaw}
 use Rattle.content_laws.specs.Torn.{SameRange}
 use Rattle.content_laws.proofs.Bytes.{overwritten-in}
-use Rattle.content_laws.proofs.Filling.{fill_inode, fill_mixes}
-use Rattle.content_laws.proofs.Growth.{growth_law, end_size, inside}
+use Rattle.content_laws.proofs.Filling.{fill_inode, fill_mixes, fill_torn, fill_quiet}
 use Rattle.content_laws.proofs.Inside.{inside_law, mixes}
 use Rattle.content_laws.proofs.Meaning.{forth, back}
 use Rattle.content_laws.proofs.Taking.{pos, most, take_mix, take_byte, taken_inode}
-use Rattle.content_laws.proofs.Torn.{content_of}
+use Rattle.content_laws.proofs.Torn.{content_of, same_torn_law}
 
 -- what means the same reads as no other tree
 reads_back : (P : ℕ) (I J : List ℕ) (T : Tree) → SameMeaning P I J → Reads P J T → Reads P I T
@@ -62,15 +60,19 @@ module _ (P : ℕ) (W J M : List ℕ) (i offset : ℕ) (bytes : List ℕ) (T : T
 pub inside_once_law : InsideOnceLaw
 inside_once_law P W J M i offset bytes T can h mix reads done = inside_once P W J M i offset bytes T can h mix reads done
 
--- ---- past the size
+-- ---- past the size, while the bytes are stored
 
-module _ (P : ℕ) (W A B : List ℕ) (i z offset : ℕ) (bytes pages : List ℕ) (can : CanGrow P W i z offset bytes pages) (fills : FillsFile P W A i offset bytes pages) (takes : TakesPages P A B i pages) where
-  -- M means what A means, and has its bytes and the old size
-  record IsTaken (M : List ℕ) : Type 0 where
-    means : SameMeaning P A M
-    bytes_same : (j o : ℕ) → page_byte P M j o ≡ page_byte P A j o
-    old_size : inode_size M i ≡ inode_size W i
+pub filling_law : FillingLaw
+filling_law P W A i z offset bytes pages can fills = record {
+  torn = fill_torn P W A i z offset bytes pages can fills;
+  hangs = λ M N m n same. same_torn_law P W A M N i offset bytes fills.below
+      (fill_mixes P W A i z offset bytes pages can fills M m) (fill_mixes P W A i z offset bytes pages can fills N n) same;
+  filling = fill_quiet P W A i z offset bytes pages can fills;
+}
 
+-- ---- and the owners
+
+module _ (P : ℕ) (W A B : List ℕ) (i z offset : ℕ) (bytes pages : List ℕ) (can : CanGrow P W i z offset bytes pages) (fills : FillsFile P W A i offset bytes pages) (takes : TakesPages P A B i pages) (M : List ℕ) (mix : IsMix A B M) where
   some : 1 ≤ i
   some = pos P W A B i z offset bytes pages can fills takes
 
@@ -78,87 +80,55 @@ module _ (P : ℕ) (W A B : List ℕ) (i z offset : ℕ) (bytes pages : List ℕ
   within = most P W A B i z offset bytes pages can fills takes
 
   -- a field of the inode in a mix
-  field_of : (M : List ℕ) (f : ℕ) → f < 16 → IsMix A B M → word M (inode_word_of i f) ≡ word W (inode_word_of i f)
-  field_of M f lt mix = elim (mix.words (inode_word_of i f)) [
+  field_of : (f : ℕ) → f < 16 → word M (inode_word_of i f) ≡ word W (inode_word_of i f)
+  field_of f lt = elim (mix.words (inode_word_of i f)) [
     | inl e ↦ e ∙ fill_inode P W A i z offset bytes pages can fills i f some within lt
     | inr e ↦ e ∙ taken_inode P W A B i z offset bytes pages can fills takes i f some within lt
   ]
 
-  byte_of : (M : List ℕ) → IsMix A B M → (j o : ℕ) → page_byte P M j o ≡ page_byte P A j o
+  byte_of : (j o : ℕ) → page_byte P M j o ≡ page_byte P A j o
   unfolding page_byte
-  byte_of M mix j o = elim (mix.words (page_word_of P j (o / 8))) [
+  byte_of j o = elim (mix.words (page_word_of P j (o / 8))) [
     | inl e ↦ ap (λ x. x / 256 ^ (o % 8) % 256) e
     | inr e ↦ ap (λ x. x / 256 ^ (o % 8) % 256) e ∙ take_byte P W A B i z offset bytes pages can fills takes j o
   ]
 
-  taken_mix : (M : List ℕ) → IsMix A B M → IsTaken M
-  unfolding inode_size
-  taken_mix M mix = record {
+  taken_mix : MeansFilled P W A M i
+  unfolding inode_kind inode_size
+  taken_mix = record {
     means = take_mix P W A B i z offset bytes pages can fills takes M mix;
-    bytes_same = byte_of M mix;
-    old_size = field_of M 2 (omega arith) mix;
+    same_bytes = byte_of;
+    old_kind = field_of 0 (omega arith);
+    old_size = field_of 2 (omega arith);
   }
 
-  torn_size : (M : List ℕ) → IsMix W A M → inode_size M i ≡ inode_size W i
-  torn_size M mix = ((fill_mixes P W A i z offset bytes pages can fills M mix).shape.inodes i can.reached).size
+pub taking_law : TakingLaw
+taking_law P W A B M i z offset bytes pages can fills takes mix = taken_mix P W A B i z offset bytes pages can fills takes M mix
 
-  cases : (M : List ℕ) → IsLeft W A B (sized B i z) M → IsMix W A M ⊎ (IsTaken M ⊎ (M ≡ sized B i z))
-  cases M left = elim left [
-    | inl early ↦ elim early [ inl mix ↦ inl mix | inr mix ↦ inr (inl (taken_mix M mix)) ]
-    | inr late ↦ elim (mix_one B M (inode_word_of i 2) z (inside P W A B i z offset bytes pages can fills takes) late) [
-      | inl e ↦ inr (inl (subst IsTaken (sym e) (taken_mix B (mix_itself A B takes.size))))
-      | inr e ↦ inr (inr e)
-    ]
-  ]
+-- ---- before the size is stored
 
-  -- the last image alone has the new size
-  not_end : (M N : List ℕ) → inode_size M i ≡ inode_size W i → N ≡ sized B i z → inode_size N i ≡ inode_size M i → ⊥
-  not_end M N old e same =
-      let end = ap (λ X. inode_size X i) e ∙ end_size P W A B i z offset bytes pages can fills takes in
-      let larger = can.larger in
-      omega (arith, old, end, same, larger)
-
+module _ (P : ℕ) (W A : List ℕ) (i z offset : ℕ) (bytes pages : List ℕ) (can : CanGrow P W i z offset bytes pages) (fills : FillsFile P W A i offset bytes pages) where
   hangs : (M N : List ℕ) → IsMix W A M → IsMix W A N → SameRange P W M N i offset bytes → SameMeaning P M N
-  hangs = (growth_law P W A B i z offset bytes pages can fills takes).hangs
+  hangs = (filling_law P W A i z offset bytes pages can fills).hangs
 
   whole : IsMix W A A
   whole = mix_itself W A fills.size
 
-  module _ (M N : List ℕ) (T : Tree) (size : inode_size N i ≡ inode_size M i) (same : SameRange P W M N i offset bytes) (reads : Reads P M T) where
-    from_torn : IsMix W A M → IsMix W A N ⊎ (IsTaken N ⊎ (N ≡ sized B i z)) → Reads P N T
+  module _ (M N : List ℕ) (T : Tree) (same : SameRange P W M N i offset bytes) (reads : Reads P M T) where
+    from_torn : IsMix W A M → IsEarly P W A i N → Reads P N T
     from_torn m n = elim n [
       | inl mix ↦ (hangs M N m mix same).reads T reads
-      | inr late ↦ elim late [
-        | inl t ↦ t.means.reads T ((hangs M A m whole (λ o j lt range page. sym (t.bytes_same j (o % 4096)) ∙ same o j lt range page)).reads T reads)
-        | inr e ↦ absurd (not_end M N (torn_size M m) e size)
-      ]
+      | inr t ↦ t.means.reads T ((hangs M A m whole (λ o j lt range page. sym (t.same_bytes j (o % 4096)) ∙ same o j lt range page)).reads T reads)
     ]
 
-    from_taken : IsTaken M → IsMix W A N ⊎ (IsTaken N ⊎ (N ≡ sized B i z)) → Reads P N T
+    from_taken : MeansFilled P W A M i → IsEarly P W A i N → Reads P N T
     from_taken t n = let at_a = reads_back P A M T t.means reads in elim n [
-      | inl mix ↦ (hangs A N whole mix (λ o j lt range page. same o j lt range page ∙ t.bytes_same j (o % 4096))).reads T at_a
-      | inr late ↦ elim late [
-        | inl u ↦ u.means.reads T at_a
-        | inr e ↦ absurd (not_end M N t.old_size e size)
-      ]
+      | inl mix ↦ (hangs A N whole mix (λ o j lt range page. same o j lt range page ∙ t.same_bytes j (o % 4096))).reads T at_a
+      | inr u ↦ u.means.reads T at_a
     ]
 
-    from_end : M ≡ sized B i z → IsMix W A N ⊎ (IsTaken N ⊎ (N ≡ sized B i z)) → Reads P N T
-    from_end e n = elim n [
-      | inl mix ↦ absurd (not_end N M (torn_size N mix) e (sym size))
-      | inr late ↦ elim late [
-        | inl u ↦ absurd (not_end N M u.old_size e (sym size))
-        | inr f ↦ subst (λ X. Reads P X T) (e ∙ sym f) reads
-      ]
-    ]
-
-    growth_hangs : IsLeft W A B (sized B i z) M → IsLeft W A B (sized B i z) N → Reads P N T
-    growth_hangs m n = let other = cases N n in elim (cases M m) [
-      | inl mix ↦ from_torn mix other
-      | inr late ↦ elim late [ inl t ↦ from_taken t other | inr e ↦ from_end e other ]
-    ]
-
-  -- ---- before the size is stored
+    growth_hangs : IsEarly P W A i M → IsEarly P W A i N → Reads P N T
+    growth_hangs m n = elim m [ inl mix ↦ from_torn mix n | inr t ↦ from_taken t n ]
 
   -- the file stands in M, with the old size
   record IsOld (M : List ℕ) : Type 0 where
@@ -167,8 +137,7 @@ module _ (P : ℕ) (W A B : List ℕ) (i z offset : ℕ) (bytes pages : List ℕ
     file : HasBytes M i
     size : inode_size M i ≡ inode_size W i
 
-  old_early : (M : List ℕ) → IsLeftEarly W A B M → IsOld M
-  unfolding inode_kind inode_size
+  old_early : (M : List ℕ) → IsEarly P W A i M → IsOld M
   old_early M early = elim early [
     | inl mix ↦
         let shape = (fill_mixes P W A i z offset bytes pages can fills M mix).shape in
@@ -176,20 +145,19 @@ module _ (P : ℕ) (W A B : List ℕ) (i z offset : ℕ) (bytes pages : List ℕ
           coherent = shape.coherent;
           reached = forth P W M shape.names i can.reached;
           file = (shape.inodes i can.reached).kind ∙ can.file;
-          size = torn_size M mix;
+          size = (shape.inodes i can.reached).size;
         }
-    | inr mix ↦
-        let means = take_mix P W A B i z offset bytes pages can fills takes M mix in
+    | inr t ↦
         let shape = (fill_mixes P W A i z offset bytes pages can fills A whole).shape in
         record {
-          coherent = means.coherent;
-          reached = forth P A M means.names i (forth P W A shape.names i can.reached);
-          file = field_of M 0 (omega arith) mix ∙ can.file;
-          size = field_of M 2 (omega arith) mix;
+          coherent = t.means.coherent;
+          reached = forth P A M t.means.names i (forth P W A shape.names i can.reached);
+          file = t.old_kind ∙ can.file;
+          size = t.old_size;
         }
   ]
 
-  never : (M new : List ℕ) (T : Tree) → IsLeftEarly W A B M → length new ≡ z → Reads P M (with_bytes T i new) → ⊥
+  never : (M new : List ℕ) (T : Tree) → IsEarly P W A i M → length new ≡ z → Reads P M (with_bytes T i new) → ⊥
   never M new T early long reads =
       let old = old_early M early in
       let content = content_of P M (with_bytes T i new) i old.coherent reads old.reached old.file in
@@ -200,9 +168,7 @@ module _ (P : ℕ) (W A B : List ℕ) (i z offset : ℕ) (bytes pages : List ℕ
       omega (arith, long, size, same, was, larger)
 
 pub growth_hangs_law : GrowthHangsLaw
-growth_hangs_law P W A B M N i z offset bytes pages T can fills takes m n size same reads =
-    growth_hangs P W A B i z offset bytes pages can fills takes M N T size same reads m n
+growth_hangs_law P W A M N i z offset bytes pages T can fills m n same reads = growth_hangs P W A i z offset bytes pages can fills M N T same reads m n
 
 pub growth_once_law : GrowthOnceLaw
-growth_once_law P W A B M i z offset bytes pages new T can fills takes early long reads =
-    never P W A B i z offset bytes pages can fills takes M new T early long reads
+growth_once_law P W A M i z offset bytes pages new T can fills early long reads = never P W A i z offset bytes pages can fills M new T early long reads

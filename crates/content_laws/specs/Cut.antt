@@ -1,5 +1,5 @@
 -- The intervals of a truncation to less: the size; owners of the pages past the new end; the rest of their descriptors.
-use Rattle.std.specs.Prelude.{◌≡◌, ◌≢◌, ◌↔◌, ◌⊎◌, ℕ, ◌<◌, ◌≤◌, List, length, Some}
+use Rattle.std.specs.Prelude.{◌≡◌, ◌≢◌, ◌↔◌, ◌⊎◌, ℕ, ◌<◌, ◌≤◌, List, length, Some, Contains}
 use Rattle.layout.specs.Fields.{word, inode_kind, inode_size, page_owner, page_offset, slot_inode}
 use Rattle.layout.specs.Geometry.{inodes_of, data_pages_of, descriptor_word_of}
 use Rattle.tree_model.specs.PathText.{Route}
@@ -8,12 +8,14 @@ use Rattle.tree_model.specs.Step.{resized, with_bytes}
 use Rattle.tree_model.specs.Tree.{Tree, Room, bytes_of, id_at}
 use Rattle.tree_model.specs.declared.command.Command.TheVariants.{Truncate}
 use Rattle.image_reading.specs.Reading.{HasBytes, Reached, IsReachedSlot, pages_of_size, Reads, HasRoom, ReadsAs}
+use Rattle.image_reading.specs.Soundness.{IsCoherent}
 use Rattle.image_reading.specs.Tidy.{IsTidied}
 use Rattle.image_counts.specs.Entries.{IsEntryOf, IsPageIn, IsFreePage}
 use Rattle.image_laws.specs.CreateStep.{IsStepped}
 use Rattle.image_laws.specs.Drop.{GivesPages}
 use Rattle.image_laws.specs.Frame.{SameMeaning}
 use Rattle.image_laws.specs.Quiet.{IsMix}
+use Rattle.image_laws.specs.Stages.{MayFree}
 use Rattle.content_laws.specs.Growth.{sized}
 
 -- i is a file of a tidy image, and z is less than its size.
@@ -40,27 +42,48 @@ pub record Cuts (P : ℕ) (W J K : List ℕ) (i z : ℕ) : Type 0 where
   pub gives : GivesPages P (sized W i z) J (IsPastCut P W i z)
   pub clears : ClearsPages P J K (IsPastCut P W i z)
 
--- ---- what a crash leaves, and the end
+-- ---- what a crash leaves, by what stands before each interval, and the end
 
 -- the tree with the first z bytes of the file
 abbrev pub with_size : Tree → ℕ → ℕ → Tree
 with_size T i z = with_bytes T i (resized (bytes_of T i) z)
 
--- A crash leaves W, which has not the new tree yet, or the new size, by the size word alone, and then what means what the new
--- size leaves: tree and room are those of W, but for the file's bytes past its end. The last image is tidy, and means that too.
-pub record LeavesCut (P : ℕ) (W J K : List ℕ) (i z : ℕ) : Type 0 where
+-- While the size is stored a crash leaves W, which has not the new tree yet, or the new size, by the size word alone. With the new
+-- size the words fit together; tree and room are those of W, but for the file's bytes past its end.
+pub record LeavesLowered (P : ℕ) (W : List ℕ) (i z : ℕ) : Type 0 where
   pub commit : (M : List ℕ) → IsMix W (sized W i z) M → (M ≡ W) ⊎ (M ≡ sized W i z)
   pub hangs : (M N : List ℕ) → IsMix W (sized W i z) M → IsMix W (sized W i z) N → inode_size N i ≡ inode_size M i → N ≡ M
   pub not_yet : (T : Tree) → ¬ Reads P W (with_size T i z)
-  pub giving : (M : List ℕ) → IsMix (sized W i z) J M → SameMeaning P (sized W i z) M
-  pub freeing : (M : List ℕ) → IsMix J K M → SameMeaning P (sized W i z) M
-  pub last : SameMeaning P (sized W i z) K
-  pub tidy : IsTidied P K
+  pub coherent : IsCoherent P (sized W i z)
   pub reads : (T : Tree) → Reads P W T → Reads P (sized W i z) (with_size T i z)
   pub room : (room : Room) → HasRoom P W room → HasRoom P (sized W i z) room
 
+abbrev pub LoweringLaw : Type 0
+LoweringLaw = (P : ℕ) (W : List ℕ) (i z : ℕ) → CanCut P W i z → LeavesLowered P W i z
+
+-- The pages that are given stand past the end of file i.
+pub record MayTrim (P : ℕ) (I : List ℕ) (i : ℕ) (given : ℕ → Type 0) : Type 0 where
+  pub coherent : IsCoherent P I
+  pub reached : Reached P I i
+  pub file : HasBytes I i
+  pub decided : (j : ℕ) → given j ⊎ (given j → ⊥)
+  pub past : (j : ℕ) → given j → IsPastCut P I i (inode_size I i) j
+
+-- While they lose their owner, each mix of old and new words means the same,
+abbrev pub TrimmingLaw : Type 0
+TrimmingLaw = (P : ℕ) (I J M pages : List ℕ) (i : ℕ) → MayTrim P I i (Contains pages) → GivesPages P I J (Contains pages) → IsMix I J M → SameMeaning P I M
+
+-- and once they have none, also while the rest of their descriptors becomes zero.
+abbrev pub ReleasingLaw : Type 0
+ReleasingLaw = (P : ℕ) (I J M pages : List ℕ) (i : ℕ) → MayFree P I (Contains pages) ⊥ i → ClearsPages P I J (Contains pages) → IsMix I J M → SameMeaning P I M
+
+-- The last image means what the new size leaves, and is tidy.
+pub record LeavesCut (P : ℕ) (W K : List ℕ) (i z : ℕ) : Type 0 where
+  pub last : SameMeaning P (sized W i z) K
+  pub tidy : IsTidied P K
+
 abbrev pub CutLaw : Type 0
-CutLaw = (P : ℕ) (W J K : List ℕ) (i z : ℕ) → CanCut P W i z → Cuts P W J K i z → LeavesCut P W J K i z
+CutLaw = (P : ℕ) (W J K : List ℕ) (i z : ℕ) → CanCut P W i z → Cuts P W J K i z → LeavesCut P W K i z
 
 -- The last image reads as the state after the command: its tree, and the room of W.
 pub record IsTruncated (P : ℕ) (K : List ℕ) (old : State) (path : Route) (z n : ℕ) : Type 0 where

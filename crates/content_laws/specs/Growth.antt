@@ -1,7 +1,7 @@
 -- A write past the size and a truncation to more, in three intervals: the bytes with the new pages' kinds and offsets; the
 -- new pages' owners; the size.
 use Rattle.std.specs.Prelude.{◌≡◌, ◌≢◌, ◌⊎◌, ℕ, ◌+◌, ◌-◌, ◌/◌, ◌%◌, ◌^◌, ◌<◌, ◌≤◌, List, length, set, Contains, Some, slice_get}
-use Rattle.layout.specs.Fields.{word, inode_size, page_owner, page_kind, page_offset, page_byte}
+use Rattle.layout.specs.Fields.{word, inode_kind, inode_size, page_owner, page_kind, page_offset, page_byte}
 use Rattle.layout.specs.Geometry.{inode_word_of, descriptor_word_of, page_word_of}
 use Rattle.tree_model.specs.Step.{with_bytes, overwritten, resized}
 use Rattle.tree_model.specs.Tree.{Tree, Room, bytes_of}
@@ -53,13 +53,32 @@ pub record TakesPages (P : ℕ) (A B : List ℕ) (i : ℕ) (pages : List ℕ) : 
 abbrev pub sized : List ℕ → ℕ → ℕ → List ℕ
 sized B i z = set B (inode_word_of i 2) z
 
--- A crash leaves the part of the range below the size torn, which hangs on those bytes alone, and where there is none what means
--- W; then what means A, with the whole part and the old size; then that or the end. The end is tidy, with all the bytes.
-pub record LeavesGrown (P : ℕ) (W A B C : List ℕ) (i z offset : ℕ) (bytes pages : List ℕ) : Type 0 where
+-- ---- what a crash leaves, by what stands before each interval, and the end
+
+-- While the bytes are stored it leaves the part of the range below the size torn, which hangs on those bytes alone, and where there is
+-- none what means W.
+pub record LeavesFilled (P : ℕ) (W A : List ℕ) (i offset : ℕ) (bytes : List ℕ) : Type 0 where
   pub torn : (M : List ℕ) → IsMix W A M → ReadsTorn P W M i offset bytes
   pub hangs : (M N : List ℕ) → IsMix W A M → IsMix W A N → SameRange P W M N i offset bytes → SameMeaning P M N
   pub filling : (M : List ℕ) → IsMix W A M → ((o : ℕ) → IsInRange offset bytes o → inode_size W i ≤ o) → SameMeaning P W M
-  pub taking : (M : List ℕ) → IsMix A B M → SameMeaning P A M
+
+abbrev pub FillingLaw : Type 0
+FillingLaw = (P : ℕ) (W A : List ℕ) (i z offset : ℕ) (bytes pages : List ℕ) → CanGrow P W i z offset bytes pages → FillsFile P W A i offset bytes pages → LeavesFilled P W A i offset bytes
+
+-- M means what A means, with the bytes of A and the size of W.
+pub record MeansFilled (P : ℕ) (W A M : List ℕ) (i : ℕ) : Type 0 where
+  pub means : SameMeaning P A M
+  pub same_bytes : (j o : ℕ) → page_byte P M j o ≡ page_byte P A j o
+  pub old_kind : inode_kind M i ≡ inode_kind W i
+  pub old_size : inode_size M i ≡ inode_size W i
+
+-- So it is while the owners are stored.
+abbrev pub TakingLaw : Type 0
+TakingLaw = (P : ℕ) (W A B M : List ℕ) (i z offset : ℕ) (bytes pages : List ℕ) → CanGrow P W i z offset bytes pages → FillsFile P W A i offset bytes pages → TakesPages P A B i pages
+    → IsMix A B M → MeansFilled P W A M i
+
+-- Then a crash leaves that or the end, which is tidy, with all the bytes.
+pub record LeavesGrown (P : ℕ) (W A B C : List ℕ) (i z offset : ℕ) (bytes pages : List ℕ) : Type 0 where
   pub commit : (M : List ℕ) → IsMix B C M → SameMeaning P A M ⊎ (M ≡ C)
   pub tidy : IsTidied P C
   pub reads : (T : Tree) → Reads P W T → Reads P C (with_bytes T i (resized (overwritten (bytes_of T i) offset bytes) z))

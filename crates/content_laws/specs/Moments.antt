@@ -1,12 +1,11 @@
 -- The moments of a write: on what the reading hangs, and that it stays new once it is.
 use Rattle.std.specs.Prelude.{◌≡◌, ◌⊎◌, ℕ, List, length}
-use Rattle.layout.specs.Fields.{inode_size}
 use Rattle.tree_model.specs.Step.{with_bytes, overwritten}
 use Rattle.tree_model.specs.Tree.{Tree, bytes_of}
 use Rattle.image_reading.specs.Reading.{Reads}
 use Rattle.image_laws.specs.Frame.{SameMeaning}
 use Rattle.image_laws.specs.Quiet.{IsMix}
-use Rattle.content_laws.specs.Growth.{CanGrow, FillsFile, TakesPages, sized}
+use Rattle.content_laws.specs.Growth.{CanGrow, FillsFile, MeansFilled}
 use Rattle.content_laws.specs.Inside.{CanWrite, WritesInside}
 use Rattle.content_laws.specs.Torn.{SameRange}
 
@@ -19,20 +18,16 @@ InsideOnceLaw = (P : ℕ) (W J M : List ℕ) (i offset : ℕ) (bytes : List ℕ)
 
 -- ---- past the size
 
--- what a crash leaves in the first two intervals of a growth, and in all three
-abbrev pub IsLeftEarly : List ℕ → List ℕ → List ℕ → List ℕ → Type 0
-IsLeftEarly W A B M = IsMix W A M ⊎ IsMix A B M
+-- what a crash leaves before the size is stored
+abbrev pub IsEarly : ℕ → List ℕ → List ℕ → ℕ → List ℕ → Type 0
+IsEarly P W A i M = IsMix W A M ⊎ MeansFilled P W A M i
 
-abbrev pub IsLeft : List ℕ → List ℕ → List ℕ → List ℕ → List ℕ → Type 0
-IsLeft W A B C M = IsLeftEarly W A B M ⊎ IsMix B C M
-
--- The reading hangs on the size and the bytes of the range below the old one.
+-- The reading hangs on the bytes of the range below the size.
 abbrev pub GrowthHangsLaw : Type 0
-GrowthHangsLaw = (P : ℕ) (W A B M N : List ℕ) (i z offset : ℕ) (bytes pages : List ℕ) (T : Tree) → CanGrow P W i z offset bytes pages
-    → FillsFile P W A i offset bytes pages → TakesPages P A B i pages → IsLeft W A B (sized B i z) M → IsLeft W A B (sized B i z) N
-    → inode_size N i ≡ inode_size M i → SameRange P W M N i offset bytes → Reads P M T → Reads P N T
+GrowthHangsLaw = (P : ℕ) (W A M N : List ℕ) (i z offset : ℕ) (bytes pages : List ℕ) (T : Tree) → CanGrow P W i z offset bytes pages → FillsFile P W A i offset bytes pages
+    → IsEarly P W A i M → IsEarly P W A i N → SameRange P W M N i offset bytes → Reads P M T → Reads P N T
 
--- Before the third interval nothing reads as a tree in which the file has the new size.
+-- Nothing of it reads as a tree in which the file has the new size.
 abbrev pub GrowthOnceLaw : Type 0
-GrowthOnceLaw = (P : ℕ) (W A B M : List ℕ) (i z offset : ℕ) (bytes pages new : List ℕ) (T : Tree) → CanGrow P W i z offset bytes pages
-    → FillsFile P W A i offset bytes pages → TakesPages P A B i pages → IsLeftEarly W A B M → length new ≡ z → ¬ Reads P M (with_bytes T i new)
+GrowthOnceLaw = (P : ℕ) (W A M : List ℕ) (i z offset : ℕ) (bytes pages new : List ℕ) (T : Tree) → CanGrow P W i z offset bytes pages → FillsFile P W A i offset bytes pages
+    → IsEarly P W A i M → length new ≡ z → ¬ Reads P M (with_bytes T i new)

@@ -4,7 +4,7 @@
 ghost use Rattle.content_laws.specs.Mix.{ContentQuietLaw, ByteMixLaw};
 ghost use Rattle.content_laws.specs.Torn.{TornLaw, TornMeansLaw, TornTreeLaw, SameTornLaw};
 ghost use Rattle.content_laws.specs.Inside.{InsideLaw};
-ghost use Rattle.content_laws.specs.Growth.{GrowthLaw};
+ghost use Rattle.content_laws.specs.Growth.{FillingLaw, TakingLaw, GrowthLaw};
 ghost use Rattle.content_laws.specs.Steps.{InsideStepLaw, WritePastStepLaw, LengthenStepLaw};
 ghost use Rattle.content_laws.specs.Moments.{InsideOnceLaw, GrowthHangsLaw, GrowthOnceLaw};
 
@@ -33,10 +33,13 @@ pub fn inside_law()
     ensures { InsideLaw }
 {}
 
-/// A write past the size and a truncation to more: until the size is stored a crash leaves the old size, and below it
-/// the range torn; the end is tidy, with all the bytes.
+/// A write past the size and a truncation to more, each interval by what stands before it: until the size is stored a crash
+/// leaves the old size, and below it the range torn while the bytes are stored, and whole from then on; the end is tidy, with all
+/// the bytes.
 pub fn growth_law()
-    ensures { GrowthLaw }
+    ensures filling { FillingLaw }
+    ensures taking { TakingLaw }
+    ensures end { GrowthLaw }
 {}
 
 /// What a write and a truncation to more leave reads as a state that the step allows.
@@ -46,9 +49,8 @@ pub fn step_law()
     ensures truncate { LengthenStepLaw }
 {}
 
-/// The reading of a growth that crashed hangs on the size and on the bytes of the range below the old one. Once all that a
-/// crash leaves is new, it stays so: inside the size the words before are new then, and past it nothing is new before the
-/// size is.
+/// The reading of a growth that crashed before its size was stored hangs on the bytes of the range below the old one, and is not
+/// new. Once all that a crash leaves is new, it stays so: inside the size the words before are new then.
 pub fn moment_law()
     ensures hangs { GrowthHangsLaw }
     ensures inside { InsideOnceLaw }

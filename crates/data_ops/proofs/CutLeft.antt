@@ -22,7 +22,7 @@ use Rattle.volume.specs.declared.plan.Resizing.{Resizing}
 use Rattle.volume.specs.declared.plan.Action.TheVariants.{Resize}
 use Rattle.data_ops.specs.Cutting.{MayCut, StoresCut}
 use Rattle.data_ops.proofs.CutPages
-use Rattle.data_ops.proofs.CutStages
+use Rattle.data_ops.proofs.CutCourse
 use Rattle.data_ops.proofs.CutKnown
 use Rattle.data_ops.proofs.Stepping
 use Rattle.data_ops.proofs.Truncations
@@ -35,7 +35,7 @@ module _ (volume : VolumeView) (device : DeviceView) (state : State) (path : Rou
   truncated : IsTruncated volume.size K state path resizing.new_size (least_free_id state.tree)
   truncated =
       cut_step_law volume.size device.words is_cut.given K state path resizing.inode resizing.new_size (least_free_id state.tree) may.can is_cut.cuts
-      (CutStages.named (Truncations.cut_at volume device state path resizing plan)) plan.stands.reads
+      (CutCourse.named (Truncations.cut_at volume device state path resizing plan)) plan.stands.reads
 
   tidy_after : Tidy volume.size K
   tidy_after = as_tidy (cut_law volume.size device.words is_cut.given K resizing.inode resizing.new_size may.can is_cut.cuts).tidy

@@ -1,104 +1,27 @@
--- The pages behind a file's new end, and the words that the intervals of a cut leave of them.
-use Rattle.std.proofs.Common.{◌≡◌, ◌≢◌, ℕ, ◌+◌, ◌-◌, ◌*◌, ◌<◌, ◌≤◌, List, [], ◌∷◌, length, slice_index, take, drop, set, length-set, get_or-set_other, get_or-set_same, inl, inr, refl, sym, ap, subst, ◌∙◌, arith, length-drop}
+-- The pages behind a file's new end, and what the steps of a cut and their laws ask of them.
+use Rattle.std.proofs.Common.{◌≡◌, ◌≢◌, ℕ, ◌+◌, ◌-◌, ◌*◌, ◌<◌, ◌≤◌, List, length, slice_index, take, drop, length-set, get_or-set_other, inl, inr, refl, sym, ap, subst, ◌∙◌, arith, length-drop}
 use Rattle.std.specs.Prelude.{Contains}
 use Rattle.std.proofs.lemmas.List.{get_or_default, get_or-drop, take_rest}
 use Rattle.std.proofs.lemmas.List.Elements.{Contains-get_or}
 use Rattle.layout.specs.declared.fields.DescriptorFields.{DescriptorFields}
-use Rattle.layout.specs.Geometry.{IsVolumeSize, pieces, data_pages_of, inode_word_of, descriptor_word_of}
+use Rattle.layout.specs.Geometry.{pieces, data_pages_of, inode_word_of, descriptor_word_of}
 use Rattle.layout.specs.Fields.{word, inode_size, page_owner, page_kind, page_offset}
-use Rattle.layout.proofs.GeometryLaws.{descriptor_word_within, same_descriptor_word, inode_word_not_descriptor_word}
+use Rattle.layout.proofs.GeometryLaws.{same_descriptor_word, inode_word_not_descriptor_word}
 use Rattle.page_state.specs.Page.{EachPage, descriptor_of}
 use Rattle.page_state.proofs.PageLaws.{same_descriptor_fields}
-use Rattle.std.proofs.lemmas.Bool.{cases_eq}
-use Rattle.image_reading.specs.Counts.{IsIn}
 use Rattle.image_reading.specs.Reading.{pages_of_size}
 use Rattle.image_reading.specs.Soundness.{Rule}
 use Rattle.image_laws.specs.Drop.{GivesPages}
 use Rattle.image_laws.specs.Frame.{SameMeaning}
 use Rattle.image_laws.proofs.Meaning.{same_itself}
-use Rattle.content_laws.specs.Cut.{IsPastCut, ClearsPages, Cuts}
+use Rattle.content_laws.specs.Cut.{IsPastCut, ClearsPages, Cuts, MayTrim}
 use Rattle.content_laws.specs.Growth.{sized}
-use Rattle.content_laws.proofs.CutWords.{resized_file}
-use Rattle.volume.proofs.PageLists.{contained_in, in_contained}
+use Rattle.content_laws.proofs.CutQuiet as quiet
+use Rattle.content_laws.proofs.CutWords as words
 use Rattle.volume.specs.declared.plan.Resizing.{Resizing}
 use Rattle.data_ops.specs.Files.{AreBytesFrom}
-use Rattle.data_ops.specs.Cutting.{MayCut}
-
--- ---- words that become zero
-
--- the words with this field of each page's descriptor zero
-zeroed : ℕ → List ℕ → ℕ → List ℕ → List ℕ
-zeroed P I field [] = I
-zeroed P I field (j ∷ js) = set (zeroed P I field js) (descriptor_word_of P j field) 0
-
-zeroed_long : (P : ℕ) (I : List ℕ) (field : ℕ) (js : List ℕ) → length (zeroed P I field js) ≡ length I
-unfolding zeroed
-zeroed_long P I field [] = refl
-zeroed_long P I field (j ∷ js) = length-set (zeroed P I field js) (descriptor_word_of P j field) 0 ∙ zeroed_long P I field js
-
-zeroed_other : (P : ℕ) (I : List ℕ) (field : ℕ) (js : List ℕ) (a : ℕ) → ((j : ℕ) → IsIn j js → a ≢ descriptor_word_of P j field) → word (zeroed P I field js) a ≡ word I a
-unfolding zeroed word
-zeroed_other P I field [] a other = refl
-zeroed_other P I field (j ∷ js) a other =
-    get_or-set_other (zeroed P I field js) (descriptor_word_of P j field) a 0 0 (other j (inl refl))
-    ∙ zeroed_other P I field js a (λ k later. other k (inr later))
-
-zeroed_here : (P : ℕ) (I : List ℕ) (field : ℕ) (js : List ℕ) (j : ℕ) → IsIn j js → descriptor_word_of P j field < length I → word (zeroed P I field js) (descriptor_word_of P j field) ≡ 0
-unfolding zeroed word
-zeroed_here P I field [] j is inside = absurd is
-zeroed_here P I field (x ∷ js) j is inside = elim (cases_eq (descriptor_word_of P j field) (descriptor_word_of P x field)) [
-  | inl same ↦
-      let long = zeroed_long P I field js in
-      ap (λ (a : ℕ). word (set (zeroed P I field js) (descriptor_word_of P x field) 0) a) same
-      ∙ get_or-set_same (zeroed P I field js) (descriptor_word_of P x field) 0 0 (omega (arith, long, inside, same))
-  | inr other ↦
-      get_or-set_other (zeroed P I field js) (descriptor_word_of P x field) (descriptor_word_of P j field) 0 0 other
-      ∙ zeroed_here P I field js j (elim is [ inl same ↦ absurd (other (ap (λ (k : ℕ). descriptor_word_of P k field) same)) | inr later ↦ later ]) inside
-]
-
-module _ (P : ℕ) (size : IsVolumeSize P) (pages : List ℕ) (low : EachPage pages (λ page. page < data_pages_of P)) where
-  within : (I : List ℕ) (j field : ℕ) → length I ≡ 512 * P → Contains pages j → field < 8 → descriptor_word_of P j field < length I
-  within I j field whole (k, before, is) few =
-      let in_range = subst (λ (page : ℕ). page < data_pages_of P) (get_or_default pages k 0 j before ∙ is) (low.each k before) in
-      let inside = descriptor_word_within P j field size in_range few in
-      omega (arith, inside, whole)
-
-  -- there are words in which they have no owner
-  some_given : (I : List ℕ) → length I ≡ 512 * P → (J : List ℕ) × GivesPages P I J (Contains pages)
-  unfolding page_owner
-  some_given I whole = (
-    zeroed P I 0 pages,
-    record {
-      size = zeroed_long P I 0 pages;
-      owners = λ j there. zeroed_here P I 0 pages j (contained_in j pages there) (within I j 0 whole there (omega arith));
-      others = λ a out. zeroed_other P I 0 pages a (λ j there. out j (in_contained j pages there));
-    },
-  )
-
-  -- and then no kind and no offset
-  some_cleared : (I : List ℕ) → length I ≡ 512 * P → (J : List ℕ) × ClearsPages P I J (Contains pages)
-  some_cleared I whole =
-      let once = zeroed P I 1 pages in
-      let long = zeroed_long P I 1 pages in
-      let whole_once : length once ≡ 512 * P = omega (arith, long, whole) in (
-        zeroed P once 2 pages,
-        record {
-          size = zeroed_long P once 2 pages ∙ long;
-          rests = λ j f there from few. elim (cases_eq f 1) [
-            | inl one ↦
-                ap (λ (k : ℕ). word (zeroed P once 2 pages) (descriptor_word_of P j k)) one
-                ∙ zeroed_other P once 2 pages (descriptor_word_of P j 1) (λ other is same. (let fields = (same_descriptor_word P j other 1 2 (omega arith) (omega arith) same).1 in omega (arith, fields)))
-                ∙ zeroed_here P I 1 pages j (contained_in j pages there) (within I j 1 whole there (omega arith))
-            | inr more ↦
-                let two : f ≡ 2 = omega (arith, more, from, few) in
-                ap (λ (k : ℕ). word (zeroed P once 2 pages) (descriptor_word_of P j k)) two
-                ∙ zeroed_here P once 2 pages j (contained_in j pages there) (within once j 2 whole_once there (omega arith))
-          ];
-          others = λ a out.
-              zeroed_other P once 2 pages a (λ j there. out j 2 (in_contained j pages there) (omega arith) (omega arith))
-              ∙ zeroed_other P I 1 pages a (λ j there. out j 1 (in_contained j pages there) (omega arith) (omega arith));
-        },
-      )
+use Rattle.data_ops.specs.Cutting.{MayCut, gone_pages}
+use Rattle.data_ops.specs.Steps.{CanDisown, CanRelease}
 
 -- ---- the pages
 
@@ -112,9 +35,6 @@ module _ {P : ℕ} {W : List ℕ} {resizing : Resizing} {pages : List ℕ} (may 
   -- where the pages begin that go
   abbrev kept : ℕ
   kept = length pages - resizing.cut
-
-  volume_size : IsVolumeSize P
-  volume_size = (may.can.tidy.coherent Rule.head 0).size refl
 
   pub whole : length W ≡ 512 * P
   whole = (may.can.tidy.coherent Rule.head 0).whole refl
@@ -148,120 +68,131 @@ module _ {P : ℕ} {W : List ℕ} {resizing : Resizing} {pages : List ℕ} (may 
 
   -- the words with the new size mean what they mean
   pub sized_same : SameMeaning P (sized W i z) (sized W i z)
-  sized_same = same_itself P (sized W i z) (resized_file P W i z may.can).coherent
+  sized_same = same_itself P (sized W i z) (words.resized_file P W i z may.can).coherent
 
   offset_of : (k : ℕ) → k < length pages → page_offset P W (slice_index pages k) ≡ k
   offset_of k low = let at = ap (λ (d : DescriptorFields). d.offset) (may.held.bytes.each k low) in omega (arith, at)
 
-  -- they are the last of its pages
-  pub gone_are : take (length pages - (length pages - resizing.cut)) (drop (length pages - resizing.cut) pages) ≡ drop (length pages - resizing.cut) pages
+  -- they are the last of its pages, as the code takes them
+  abbrev pub gone : List ℕ
+  gone = gone_pages resizing pages
+
+  pub gone_are : take (length pages - (length pages - resizing.cut)) (drop (length pages - resizing.cut) pages) ≡ gone
   gone_are = take_rest pages (length pages - resizing.cut)
 
-  module _ (gone : List ℕ) (gone_is : gone ≡ drop (length pages - resizing.cut) pages) where
-    pub gone_long : length gone ≡ resizing.cut
-    gone_long = let all = ap length gone_is ∙ length-drop (length pages - resizing.cut) pages in let most = enough in omega (arith, all, most)
+  pub gone_long : length gone ≡ resizing.cut
+  gone_long = let all = length-drop (length pages - resizing.cut) pages in let most = enough in omega (arith, all, most)
 
-    gone_at : (k : ℕ) → slice_index gone k ≡ slice_index pages (length pages - resizing.cut + k)
-    gone_at k = ap (λ (l : List ℕ). slice_index l k) gone_is ∙ get_or-drop (length pages - resizing.cut) pages k 0
+  gone_at : (k : ℕ) → slice_index gone k ≡ slice_index pages (length pages - resizing.cut + k)
+  gone_at k = get_or-drop (length pages - resizing.cut) pages k 0
 
-    gone_low : (k : ℕ) → k < length gone → length pages - resizing.cut + k < length pages
-    gone_low k low = let long = gone_long in let most = enough in omega (arith, low, long, most)
+  gone_low : (k : ℕ) → k < length gone → length pages - resizing.cut + k < length pages
+  gone_low k low = let long = gone_long in let most = enough in omega (arith, low, long, most)
 
-    in_range : EachPage gone (λ page. page < data_pages_of P)
-    in_range = record { each = λ k low. subst (λ (page : ℕ). page < data_pages_of P) (sym (gone_at k)) (may.held.bytes.in_range.each (length pages - resizing.cut + k) (gone_low k low)) }
+  in_range : EachPage gone (λ page. page < data_pages_of P)
+  in_range = record { each = λ k low. subst (λ (page : ℕ). page < data_pages_of P) (sym (gone_at k)) (may.held.bytes.in_range.each (length pages - resizing.cut + k) (gone_low k low)) }
 
-    -- they follow one another from the new end on
-    from_sized : AreBytesFrom P (sized W i z) i (length pages - resizing.cut) gone
-    from_sized = record {
-      in_range = in_range;
-      distinct = record {
-        each = λ k l low high same.
-            let one = may.held.bytes.distinct.each (length pages - resizing.cut + k) (length pages - resizing.cut + l) (gone_low k low) (gone_low l high) (sym (gone_at k) ∙ same ∙ gone_at l) in
-            omega (arith, one);
-      };
-      each = λ k low.
-          sized_descriptor (slice_index gone k) ∙ ap (λ (page : ℕ). descriptor_of P W page) (gone_at k) ∙ may.held.bytes.each (length pages - resizing.cut + k) (gone_low k low)
-          ∙ ap (λ (n : ℕ). let fields : DescriptorFields = record { owner = i; kind = 1; offset = n } in fields) (let same : 0 + (length pages - resizing.cut + k) ≡ length pages - resizing.cut + k = omega arith in same);
-    }
+  -- they follow one another from the new end on
+  from_sized : AreBytesFrom P (sized W i z) i (length pages - resizing.cut) gone
+  from_sized = record {
+    in_range = in_range;
+    distinct = record {
+      each = λ k l low high same.
+          let one = may.held.bytes.distinct.each (length pages - resizing.cut + k) (length pages - resizing.cut + l) (gone_low k low) (gone_low l high) (sym (gone_at k) ∙ same ∙ gone_at l) in
+          omega (arith, one);
+    };
+    each = λ k low.
+        sized_descriptor (slice_index gone k) ∙ ap (λ (page : ℕ). descriptor_of P W page) (gone_at k) ∙ may.held.bytes.each (length pages - resizing.cut + k) (gone_low k low)
+        ∙ ap (λ (n : ℕ). let fields : DescriptorFields = record { owner = i; kind = 1; offset = n } in fields) (let same : 0 + (length pages - resizing.cut + k) ≡ length pages - resizing.cut + k = omega arith in same);
+  }
 
-    -- they are those that the laws speak of
-    to_past : (j : ℕ) → Contains gone j → IsPastCut P W i z j
-    to_past j (k, low, is) =
-        let page : slice_index gone k ≡ j = get_or_default gone k 0 j low ∙ is in
-        let here = sym (gone_at k) ∙ page in
-        let at = gone_low k low in
-        let offset = offset_of (length pages - resizing.cut + k) at in
-        let least = kept_is in
-        record {
-          in_range = subst (λ (x : ℕ). x < data_pages_of P) page (in_range.each k low);
-          owner = ap (λ (x : ℕ). page_owner P W x) (sym here) ∙ ap (λ (d : DescriptorFields). d.owner) (may.held.bytes.each (length pages - resizing.cut + k) at);
-          past = let same = ap (λ (x : ℕ). page_offset P W x) (sym here) ∙ offset in omega (arith, same, least);
-        }
+  -- they are those that the laws speak of
+  to_past : (j : ℕ) → Contains gone j → IsPastCut P W i z j
+  to_past j (k, low, is) =
+      let page : slice_index gone k ≡ j = get_or_default gone k 0 j low ∙ is in
+      let here = sym (gone_at k) ∙ page in
+      let at = gone_low k low in
+      let offset = offset_of (length pages - resizing.cut + k) at in
+      let least = kept_is in
+      record {
+        in_range = subst (λ (x : ℕ). x < data_pages_of P) page (in_range.each k low);
+        owner = ap (λ (x : ℕ). page_owner P W x) (sym here) ∙ ap (λ (d : DescriptorFields). d.owner) (may.held.bytes.each (length pages - resizing.cut + k) at);
+        past = let same = ap (λ (x : ℕ). page_offset P W x) (sym here) ∙ offset in omega (arith, same, least);
+      }
 
-    of_past : (j : ℕ) → IsPastCut P W i z j → Contains gone j
-    of_past j past =
-        let (n, inside, is) = may.held.all j (record { in_range = past.in_range; owner = past.owner }) in
-        let page : slice_index pages n ≡ j = get_or_default pages n 0 j inside ∙ is in
-        let offset = ap (λ (x : ℕ). page_offset P W x) (sym page) ∙ offset_of n inside in
-        let behind = past.past in
-        let first = kept_is in
-        let long = gone_long in
-        let k = n - (length pages - resizing.cut) in
-        let back : length pages - resizing.cut + k ≡ n = omega (arith, offset, behind, first) in
-        let low : k < length gone = omega (arith, back, inside, long) in
-        subst (λ (x : ℕ). Contains gone x) (gone_at k ∙ ap (λ (m : ℕ). slice_index pages m) back ∙ page) (Contains-get_or gone k 0 low)
+  of_past : (j : ℕ) → IsPastCut P W i z j → Contains gone j
+  of_past j past =
+      let (n, inside, is) = may.held.all j (record { in_range = past.in_range; owner = past.owner }) in
+      let page : slice_index pages n ≡ j = get_or_default pages n 0 j inside ∙ is in
+      let offset = ap (λ (x : ℕ). page_offset P W x) (sym page) ∙ offset_of n inside in
+      let behind = past.past in
+      let first = kept_is in
+      let long = gone_long in
+      let k = n - (length pages - resizing.cut) in
+      let back : length pages - resizing.cut + k ≡ n = omega (arith, offset, behind, first) in
+      let low : k < length gone = omega (arith, back, inside, long) in
+      subst (λ (x : ℕ). Contains gone x) (gone_at k ∙ ap (λ (m : ℕ). slice_index pages m) back ∙ page) (Contains-get_or gone k 0 low)
 
-    gives_past : (J : List ℕ) → GivesPages P (sized W i z) J (Contains gone) → GivesPages P (sized W i z) J (IsPastCut P W i z)
-    gives_past J gives = record {
-      size = gives.size;
-      owners = λ j past. gives.owners j (of_past j past);
-      others = λ a out. gives.others a (λ j there. out j (to_past j there));
-    }
+  gives_past : (J : List ℕ) → GivesPages P (sized W i z) J (Contains gone) → GivesPages P (sized W i z) J (IsPastCut P W i z)
+  gives_past J gives = record {
+    size = gives.size;
+    owners = λ j past. gives.owners j (of_past j past);
+    others = λ a out. gives.others a (λ j there. out j (to_past j there));
+  }
 
-    clears_past : (J K : List ℕ) → ClearsPages P J K (Contains gone) → ClearsPages P J K (IsPastCut P W i z)
-    clears_past J K clears = record {
-      size = clears.size;
-      rests = λ j f past. clears.rests j f (of_past j past);
-      others = λ a out. clears.others a (λ j f there. out j f (to_past j there));
-    }
+  clears_past : (J K : List ℕ) → ClearsPages P J K (Contains gone) → ClearsPages P J K (IsPastCut P W i z)
+  clears_past J K clears = record {
+    size = clears.size;
+    rests = λ j f past. clears.rests j f (of_past j past);
+    others = λ a out. clears.others a (λ j f there. out j f (to_past j there));
+  }
 
-    pub cuts_are : (J K : List ℕ) → GivesPages P (sized W i z) J (Contains gone) → ClearsPages P J K (Contains gone) → Cuts P W J K i z
-    cuts_are J K gives clears = record { gives = gives_past J gives; clears = clears_past J K clears }
+  pub cuts_are : (J K : List ℕ) → GivesPages P (sized W i z) J (Contains gone) → ClearsPages P J K (Contains gone) → Cuts P W J K i z
+  cuts_are J K gives clears = record { gives = gives_past J gives; clears = clears_past J K clears }
 
-    -- whatever the last step would leave, or the last two
-    pub cuts_given : (J : List ℕ) → GivesPages P (sized W i z) J (Contains gone) → (K : List ℕ) × Cuts P W J K i z
-    cuts_given J gives =
-        let (K, clears) = some_cleared P volume_size gone in_range J (gives.size ∙ sized_whole) in
-        (K, cuts_are J K gives clears)
+  -- ---- what the steps ask for
 
-    pub cuts_sized : (J : List ℕ) × (K : List ℕ) × Cuts P W J K i z
-    cuts_sized =
-        let (J, gives) = some_given P volume_size gone in_range (sized W i z) sized_whole in
-        let (K, cuts) = cuts_given J gives in
-        (J, K, cuts)
+  pub can_disown : CanDisown P (sized W i z) i gone
+  unfolding pages_of_size
+  can_disown =
+      let only = words.only P W i z may.can in
+      record {
+        whole = sized_whole;
+        least = may.held.least;
+        most = may.held.most;
+        live = (inl (only.node_kind i ∙ may.can.file), only.own i ∙ may.held.live.1);
+        first = length pages - resizing.cut;
+        behind = let first = kept_is in let size = ap (λ (n : ℕ). pieces n 4096) (words.size_is P W i z may.can) in omega (arith, first, size);
+        pages_are = from_sized;
+      }
 
-    -- ---- what the steps ask for
+  from_given : (J : List ℕ) → GivesPages P (sized W i z) J (Contains gone) → AreBytesFrom P J 0 (length pages - resizing.cut) gone
+  unfolding page_owner page_kind page_offset
+  from_given J gives = record {
+    in_range = in_range;
+    distinct = from_sized.distinct;
+    each = λ k low.
+        let page = slice_index gone k in
+        let stays : (f : ℕ) → f < 8 → f ≢ 0 → word J (descriptor_word_of P page f) ≡ word (sized W i z) (descriptor_word_of P page f)
+        = λ f few some. gives.others (descriptor_word_of P page f) (λ j there same. some (same_descriptor_word P page j f 0 few (omega arith) same).1) in
+        same_descriptor_fields (descriptor_of P J page) (record { owner = 0; kind = 1; offset = length pages - resizing.cut + k })
+        (gives.owners page (Contains-get_or gone k 0 low))
+        (stays 1 (omega arith) (λ same. omega (arith, same)) ∙ ap (λ (d : DescriptorFields). d.kind) (from_sized.each k low))
+        (stays 2 (omega arith) (λ same. omega (arith, same)) ∙ ap (λ (d : DescriptorFields). d.offset) (from_sized.each k low));
+  }
 
-    pub behind : (size : ℕ) → size ≡ z → pieces size 4096 ≤ length pages - resizing.cut
-    unfolding pages_of_size
-    behind size same = let first = kept_is in let here = ap (λ (n : ℕ). pieces n 4096) same in omega (arith, first, here)
+  pub can_release : (J : List ℕ) → GivesPages P (sized W i z) J (Contains gone) → CanRelease P J gone
+  can_release J gives = record { whole = gives.size ∙ sized_whole; first = length pages - resizing.cut; pages_are = from_given J gives }
 
-    pub from_owned : (S : List ℕ) (number : ℕ) → S ≡ sized W i z → number ≡ i → AreBytesFrom P S number (length pages - resizing.cut) gone
-    from_owned S number words same =
-        subst (λ (n : ℕ). AreBytesFrom P S n (length pages - resizing.cut) gone) (sym same)
-        (subst (λ (l : List ℕ). AreBytesFrom P l i (length pages - resizing.cut) gone) (sym words) from_sized)
+  -- ---- what the laws ask for
 
-    pub from_given : (J : List ℕ) → GivesPages P (sized W i z) J (Contains gone) → AreBytesFrom P J 0 (length pages - resizing.cut) gone
-    unfolding page_owner page_kind page_offset
-    from_given J gives = record {
-      in_range = in_range;
-      distinct = from_sized.distinct;
-      each = λ k low.
-          let page = slice_index gone k in
-          let stays : (f : ℕ) → f < 8 → f ≢ 0 → word J (descriptor_word_of P page f) ≡ word (sized W i z) (descriptor_word_of P page f)
-          = λ f few some. gives.others (descriptor_word_of P page f) (λ j there same. some (same_descriptor_word P page j f 0 few (omega arith) same).1) in
-          same_descriptor_fields (descriptor_of P J page) (record { owner = 0; kind = 1; offset = length pages - resizing.cut + k })
-          (gives.owners page (Contains-get_or gone k 0 low))
-          (stays 1 (omega arith) (λ same. omega (arith, same)) ∙ ap (λ (d : DescriptorFields). d.kind) (from_sized.each k low))
-          (stays 2 (omega arith) (λ same. omega (arith, same)) ∙ ap (λ (d : DescriptorFields). d.offset) (from_sized.each k low));
-    }
+  pub may_trim : MayTrim P (sized W i z) i (Contains gone)
+  may_trim =
+      let law = quiet.may_trim P W i z may.can in
+      record {
+        coherent = law.coherent;
+        reached = law.reached;
+        file = law.file;
+        decided = λ j. elim (law.decided j) [ inl past ↦ inl (of_past j past) | inr none ↦ inr (λ there. none (to_past j there)) ];
+        past = λ j there. law.past j (to_past j there);
+      }

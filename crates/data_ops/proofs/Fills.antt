@@ -18,6 +18,7 @@ use Rattle.page_state.proofs.Contents.{filled_is_own}
 use Rattle.page_state.proofs.NewStores.{new_is_own}
 use Rattle.page_state.proofs.PageLaws.{own_words_apart, same_descriptor_of}
 use Rattle.image_reading.specs.Reading.{IsPageOf}
+use Rattle.image_reading.specs.Soundness.{Rule}
 use Rattle.content_laws.specs.Range.{IsWrittenByte, WritesBelow, WritesTail}
 use Rattle.content_laws.specs.Growth.{FillsFile, IsFillWord}
 use Rattle.data_ops.specs.declared.grow.Growth.{Growth}
@@ -39,6 +40,9 @@ slice_at pages k j at =
     let low = slice_get_within pages k j at in
     let same : ◌≡◌ {A = Option ℕ} (Some (slice_index pages k)) (Some j) = sym (slice_get-get_or pages k 0 low) ∙ at in
     (low, cc)
+
+pub grown_whole : {P : ℕ} {W : List ℕ} {growth : Growth} {bytes old_pages new_pages : List ℕ} → MayGrow P W growth bytes old_pages new_pages → length W ≡ 512 * P
+grown_whole may = (may.can.tidy.coherent Rule.head 0).whole refl
 
 pub may_fill : (P : ℕ) (W : List ℕ) (growth : Growth) (bytes old_pages new_pages : List ℕ) → MayGrow P W growth bytes old_pages new_pages → MayFill P W growth bytes old_pages
 may_fill P W growth bytes old_pages new_pages may =

@@ -1,8 +1,6 @@
 -- What a crash leaves of a file's growth.
 use Rattle.std.proofs.Common.{◌≡◌, ◌≢◌, inl, inr, ℕ, ◌%◌, ◌==◌, ◌<◌, false, cond, List, length, Option, Some, None, unwrap_or, refl, sym, ap, subst, ◌∙◌, arith}
 use Rattle.std.proofs.lemmas.Bool.Decides.{nat_tests}
-use Rattle.pm_trait.specs.Trail.{Trail}
-use Rattle.pm_trait.specs.Device.{LeavesOnly}
 use Rattle.layout.specs.Fields.{word, inode_size}
 use Rattle.layout.proofs.ByteLaws.{page_byte-kept}
 use Rattle.tree_model.specs.PathText.{Route}
@@ -15,24 +13,25 @@ use Rattle.tree_model.specs.declared.command.Command.TheVariants.{Write}
 use Rattle.tree_model.specs.declared.reply.Refusal.{Refusal}
 use Rattle.tree_model.proofs.TreeLaws.{node_at-with_bytes_here}
 use Rattle.image_reading.specs.Reading.{Reads}
+use Rattle.image_reading.specs.Soundness.{IsCoherent}
 use Rattle.image_laws.specs.CreateStep.{IsStepped}
 use Rattle.image_laws.specs.Frame.{SameMeaning}
 use Rattle.image_laws.specs.Quiet.{IsMix}
 use Rattle.image_laws.proofs.Meaning.{meanings_chain}
 use Rattle.content_laws.specs.Torn.{ReadsTorn, SameRange}
-use Rattle.content_laws.specs.Growth.{CanGrow, FillsFile, TakesPages, sized, LeavesGrown}
-use Rattle.content_laws.specs.Moments.{IsLeftEarly, IsLeft}
+use Rattle.content_laws.specs.Growth.{CanGrow, FillsFile, TakesPages, sized}
+use Rattle.content_laws.specs.Moments.{IsEarly}
 use Rattle.content_laws.proofs.Bytes.{length-overwritten, length-resized}
-use Rattle.content_laws.proofs.Filling.{fill_torn, fill_quiet, fill_mixes}
-use Rattle.content_laws.proofs.Torn.{content_of, torn_means_law, torn_tree_law, same_torn_law}
+use Rattle.content_laws.proofs.Filling.{fill_torn, fill_quiet}
+use Rattle.content_laws.proofs.Torn.{content_of, torn_means_law, torn_tree_law}
 use Rattle.content_laws.proofs.Growth.{growth_law}
 use Rattle.content_laws.proofs.Steps.{resized_tree, write_past_step_law, lengthen_step_law}
-use Rattle.content_laws.proofs.Moments.{growth_hangs_law, growth_once_law}
+use Rattle.content_laws.proofs.Moments.{growth_once_law}
 use Rattle.volume.specs.Crashes.{MayReadAs}
-use Rattle.entry_steps.proofs.Moments.{Quietly, mix_of_new}
+use Rattle.entry_steps.proofs.Moments.{mix_of_new}
 use Rattle.data_ops.specs.declared.grow.Growth.{Growth}
 use Rattle.data_ops.specs.Growing.{MayGrow, IsGrowing, IsGrowthBy}
-use Rattle.data_ops.specs.Hanging.{HangsOnWords, IsRangeWord}
+use Rattle.data_ops.specs.Hanging.{IsRangeWord}
 
 pub mix_of_old : (a b : List ℕ) → IsMix a b a
 mix_of_old a b = record { size = refl; words = λ x. inl refl }
@@ -102,7 +101,7 @@ module _ {P : ℕ} {W : List ℕ} {state : State} {command : Command} {growth : 
 
   -- ---- torn, or where nothing is written the tree before
 
-  abbrev pub IsTornOrSame : List ℕ → Type 0
+  abbrev IsTornOrSame : List ℕ → Type 0
   IsTornOrSame M = ReadsTorn P W M i offset bytes × (length bytes ≡ 0 → SameMeaning P W M)
 
   allowed_by : (c : Command) → refusal_of P T state.room c ≡ None → IsGrowing growth bytes by.path c → (M : List ℕ) → IsTornOrSame M → MayReadAs P state (Some c) M
@@ -113,28 +112,34 @@ module _ {P : ℕ} {W : List ℕ} {state : State} {command : Command} {growth : 
       let same = left.1 (ap length none) in
       record { sound = same.coherent; tree = T; reads = same.reads T by.reads.tree; allowed = inl refl }
 
-  pub allowed : (M : List ℕ) → IsTornOrSame M → MayReadAs P state (Some command) M
+  allowed : (M : List ℕ) → IsTornOrSame M → MayReadAs P state (Some command) M
   allowed M left = allowed_by command by.accepted by.grows M left
 
   module _ (A : List ℕ) (fills : FillsFile P W A i offset bytes new_pages) where
-    pub filling : (M : List ℕ) → IsMix W A M → IsTornOrSame M
+    filling : (M : List ℕ) → IsMix W A M → IsTornOrSame M
     filling M mix = (
       fill_torn P W A i z offset bytes new_pages may.can fills M mix,
       (λ none. fill_quiet P W A i z offset bytes new_pages may.can fills M mix (λ o inside. let least = inside.least in let below = inside.below in absurd (omega (arith, none, least, below)))),
     )
 
-    pub filled : IsTornOrSame A
+    filled : IsTornOrSame A
     filled = filling A (mix_of_new W A fills.size)
 
+    after_filling : (M : List ℕ) → SameMeaning P A M → IsTornOrSame M
+    after_filling M same = (torn_means_law P W A M i offset bytes filled.0 same, (λ none. meanings_chain.chained P W A M (filled.1 none) same))
+
+    pub early_allowed : (M : List ℕ) → IsEarly P W A i M → MayReadAs P state (Some command) M
+    early_allowed M left = elim left [ inl mix ↦ allowed M (filling M mix) | inr taken ↦ allowed M (after_filling M taken.means) ]
+
+    -- before the size is stored nothing reads as the tree after
+    pub early : (M : List ℕ) → IsEarly P W A i M → ¬ Reads P M new
+    early M left reads =
+        let (made, whole, is) = fresh in
+        growth_once_law P W A M i z offset bytes new_pages made T may.can fills left whole (subst (λ (t : Tree). Reads P M t) (sym is) reads)
+
     module _ (B : List ℕ) (takes : TakesPages P A B i new_pages) where
-      law : LeavesGrown P W A B (sized B i z) i z offset bytes new_pages
-      law = growth_law P W A B i z offset bytes new_pages may.can fills takes
-
-      after_filling : (M : List ℕ) → SameMeaning P A M → IsTornOrSame M
-      after_filling M same = (torn_means_law P W A M i offset bytes filled.0 same, (λ none. meanings_chain.chained P W A M (filled.1 none) same))
-
-      pub taking : (M : List ℕ) → IsMix A B M → IsTornOrSame M
-      taking M mix = after_filling M (law.taking M mix)
+      pub new_coherent : IsCoherent P (sized B i z)
+      new_coherent = (growth_law P W A B i z offset bytes new_pages may.can fills takes).tidy.coherent
 
       -- ---- the end
 
@@ -151,42 +156,3 @@ module _ {P : ℕ} {W : List ℕ} {state : State} {command : Command} {growth : 
 
       pub new_reads : Reads P (sized B i z) new
       new_reads = subst (λ (t : Tree). Reads P (sized B i z) t) (stepped.tree ∙ sym tree_is) stepped.reads.tree
-
-      pub committing : (M : List ℕ) → IsMix B (sized B i z) M → MayReadAs P state (Some command) M
-      committing M mix = elim (law.commit M mix) [
-        | inl same ↦ allowed M (after_filling M same)
-        | inr end ↦ subst (λ (l : List ℕ). MayReadAs P state (Some command) l) (sym end) (record { sound = law.tidy.coherent; tree = new; reads = new_reads; allowed = inr (inl refl) })
-      ]
-
-      -- before the size is stored nothing reads as the tree after
-      pub early : (M : List ℕ) → IsLeftEarly W A B M → ¬ Reads P M new
-      early M left reads =
-          let (made, whole, is) = fresh in
-          growth_once_law P W A B M i z offset bytes new_pages made T may.can fills takes left whole (subst (λ (t : Tree). Reads P M t) (sym is) reads)
-
--- all three intervals
-pub hangs_growing : {old now : Option Trail} (P : ℕ) (W : List ℕ) (growth : Growth) (bytes old_pages new_pages : List ℕ) → MayGrow P W growth bytes old_pages new_pages → (A : List ℕ) → FillsFile P W A growth.inode growth.offset bytes new_pages
-    → (B : List ℕ) → TakesPages P A B growth.inode new_pages → LeavesOnly old now (Quietly (IsLeft W A B (sized B growth.inode growth.new_size))) → HangsOnWords P old now (IsRangeWord P W growth.inode growth.offset bytes)
-hangs_growing P W growth bytes old_pages new_pages may A fills B takes run =
-    let i = growth.inode in
-    let z = growth.new_size in
-    let offset = growth.offset in
-    record {
-      continues = run.continues;
-      each = λ moment image other tree from upto may_image may_other same reads.
-          growth_hangs_law P W A B image other i z offset bytes new_pages tree may.can fills takes (run.each moment image from upto may_image).1 (run.each moment other from upto may_other).1
-          (same_size P W image other i offset bytes same) (same_range P W image other i offset bytes same) reads;
-    }
-
--- where the first interval failed
-pub hangs_filling : {old now : Option Trail} (P : ℕ) (W A : List ℕ) (growth : Growth) (bytes old_pages new_pages : List ℕ) → MayGrow P W growth bytes old_pages new_pages → FillsFile P W A growth.inode growth.offset bytes new_pages
-    → LeavesOnly old now (Quietly (IsMix W A)) → HangsOnWords P old now (IsRangeWord P W growth.inode growth.offset bytes)
-hangs_filling P W A growth bytes old_pages new_pages may fills run =
-    let i = growth.inode in
-    let offset = growth.offset in
-    let mixes = fill_mixes P W A i growth.new_size offset bytes new_pages may.can fills in
-    record {
-      continues = run.continues;
-      each = λ moment image other tree from upto may_image may_other same reads.
-          (same_torn_law P W A image other i offset bytes fills.below (mixes image (run.each moment image from upto may_image).1) (mixes other (run.each moment other from upto may_other).1) (same_range P W image other i offset bytes same)).reads tree reads;
-    }

@@ -1,19 +1,22 @@
 -- Pages of a file that are written inside its size.
-use Rattle.std.proofs.Common.{◌≡◌, inl, inr, ℕ, ◌+◌, ◌-◌, ◌/◌, ◌%◌, ◌^◌, ◌<◌, ◌≤◌, Bool, true, cond, List, length, take, drop, min, refl, sym, ap, subst, ◌∙◌, arith, length-take, length-drop}
+use Rattle.std.proofs.Common.{◌≡◌, inl, inr, ℕ, ◌+◌, ◌-◌, ◌*◌, ◌/◌, ◌%◌, ◌^◌, ◌<◌, ◌≤◌, Bool, true, cond, List, length, take, drop, min, refl, sym, ap, subst, ◌∙◌, arith, length-take, length-drop}
 use Rattle.std.specs.Prelude.{Option, nat_lt}
 use Rattle.std.proofs.lemmas.Bool.{cases_lt}
 use Rattle.std.proofs.lemmas.Bool.Decides.{nat_tests}
 use Rattle.std.proofs.lemmas.List.{get_or-take, get_or-drop}
 use Rattle.pm_trait.specs.Trail.{Trail}
-use Rattle.pm_trait.specs.Device.{IsInterval}
+use Rattle.pm_trait.specs.Device.{IsInterval, IsFlushed}
+use Rattle.pm_trait.specs.DeviceView.{DeviceView, Stores}
 use Rattle.pm_trait.proofs.DeviceLaws.{interval_keeps, interval_length}
 use Rattle.layout.specs.Geometry.{pieces}
 use Rattle.layout.specs.Fields.{word, inode_size, page_byte}
+use Rattle.page_state.specs.declared.page.Touched.{Touched}
+use Rattle.page_state.specs.declared.page.Touched.TheVariants.{Words}
 use Rattle.page_state.specs.declared.span.FileSpan.{FileSpan}
 use Rattle.page_state.specs.Spans.{span_of, new_words, new_lines}
 use Rattle.page_state.specs.Laws.{CountsNew}
-use Rattle.page_state.specs.Page.{IsNewWordOf}
-use Rattle.page_state.specs.Events.{HaveBytes}
+use Rattle.page_state.specs.Page.{PageView, OfSome, IsOwnWord, IsNewWordOf}
+use Rattle.page_state.specs.Events.{HaveBytes, WritesSpan, FlushesPages}
 use Rattle.page_state.proofs.Counted.{inside_law}
 use Rattle.image_reading.specs.Reading.{IsPageOf, pages_of_size}
 use Rattle.image_reading.specs.Soundness.{Rule}
@@ -22,17 +25,23 @@ use Rattle.content_laws.specs.Inside.{WritesInside}
 use Rattle.volume.specs.Costs.{span_events}
 use Rattle.data_ops.specs.Files.{AreBytesFrom}
 use Rattle.data_ops.specs.Writing.{MayWriteInside, StoresInside}
-use Rattle.data_ops.proofs.Spans.{IsPart, bytes_part, byte_at, byte_kept, no_other, written_byte}
+use Rattle.data_ops.proofs.Spans.{IsPart, bytes_part, byte_at, byte_kept, no_other, written_byte, span_stored, span_flushed, new_of_pages, have_of_pages}
 
 -- the pieces of a page, as the code rounds up
-pub rounded : (n end : ℕ) → end ≡ n / 4096 + min 1 (n % 4096) → end ≡ pieces n 4096
-rounded n end is = omega (arith, is)
+pub rounded : (n : ℕ) {end : ℕ} → end ≡ n / 4096 + min 1 (n % 4096) → end ≡ pieces n 4096
+rounded n is = omega (arith, is)
 
-module _ (P : ℕ) (W : List ℕ) (i offset : ℕ) (bytes pages : List ℕ) (may : MayWriteInside P W i offset bytes pages) (first end : ℕ) (first_is : first ≡ offset / 4096) (end_is : end ≡ pieces (offset + length bytes) 4096) where
+pub whole : {P : ℕ} {W : List ℕ} {i offset : ℕ} {bytes pages : List ℕ} → MayWriteInside P W i offset bytes pages → length W ≡ 512 * P
+whole may = (may.can.tidy.coherent Rule.head 0).whole refl
+
+module _ {P : ℕ} {W : List ℕ} {i offset : ℕ} {bytes pages : List ℕ} (may : MayWriteInside P W i offset bytes pages) {end : ℕ} (end_is : end ≡ pieces (offset + length bytes) 4096) where
+  abbrev first : ℕ
+  first = offset / 4096
+
   abbrev part : List ℕ
   part = take (end - first) (drop first pages)
 
-  abbrev span : FileSpan
+  abbrev pub span : FileSpan
   span = span_of first 1099511627776 offset bytes
 
   pub small : inode_size W i ≤ 2 ^ 40
@@ -43,7 +52,7 @@ module _ (P : ℕ) (W : List ℕ) (i offset : ℕ) (bytes pages : List ℕ) (may
   count = may.held.count
 
   pub order : first < end
-  order = let some = may.some in omega (arith, first_is, end_is, some)
+  order = let some = may.some in omega (arith, end_is, some)
 
   pub within : end ≤ length pages
   within = let all = count in let inside = may.can.inside in omega (arith, all, inside, end_is)
@@ -71,7 +80,7 @@ module _ (P : ℕ) (W : List ℕ) (i offset : ℕ) (bytes pages : List ℕ) (may
       let all = long in
       let more = order in
       let top = few in
-      inside_law span (length part) (omega (arith, first_is)) may.some (omega (arith, all, more, end_is)) (omega (arith, all, more, top))
+      inside_law span (length part) (omega arith) may.some (omega (arith, all, more, end_is)) (omega (arith, all, more, top))
 
   pub some_words : 0 < new_words span (length part)
   some_words = let words = counted.words in let least = may.some in omega (arith, words, least)
@@ -89,7 +98,7 @@ module _ (P : ℕ) (W : List ℕ) (i offset : ℕ) (bytes pages : List ℕ) (may
     below : WritesBelow P W b i offset bytes
     below o j low page = elim (cases_lt (o / 4096) first) [
       | inl before ↦ record {
-        new = λ inside. let least = inside.least in absurd (omega (arith, least, before, first_is));
+        new = λ inside. let least = inside.least in absurd (omega (arith, least, before));
         kept = λ beside. byte_kept P W i pages may.held span bytes part parts run have o j page (inl before);
       }
       | inr there ↦ elim (cases_lt (o / 4096) (first + length part)) [
@@ -131,3 +140,20 @@ module _ (P : ℕ) (W : List ℕ) (i offset : ℕ) (bytes pages : List ℕ) (may
 
     pub stored : (d : List ℕ) → d ≡ b → StoresInside P W d i offset bytes
     stored d same = subst (λ (l : List ℕ). StoresInside P W l i offset bytes) (sym same) (record { writes = writes; kept = behind_kept })
+
+  -- ---- from the object as it was taken to the flush
+
+  module _ (live written : PageView) (volume : live.volume_pages ≡ P) (list : live.pages ≡ part) (volume_too : written.volume_pages ≡ live.volume_pages) (list_too : written.pages ≡ live.pages) (touched : written.touched ≡ Words span) {a b : DeviceView}
+      (run : WritesSpan live.volume_pages live.pages span bytes a b) where
+    pub all_stored : {c : DeviceView} → FlushesPages written.volume_pages written.pages written.touched b c → Stores (IsNewWordOf span P part) a c (span_events offset (offset + length bytes))
+    all_stored {c} flushes =
+        span_stored span bytes P live.volume_pages written.volume_pages (span_events offset (offset + length bytes)) part live.pages written.pages volume list (list_too ∙ list) events run
+        (subst (λ (t : Touched). FlushesPages written.volume_pages written.pages t b c) touched flushes)
+
+    pub all_flushed : {trail : Option Trail} → ((w : ℕ) → OfSome written.pages (IsOwnWord written.volume_pages) w → IsFlushed trail w) → (w : ℕ) → IsNewWordOf span P part w → IsFlushed trail w
+    all_flushed flushed = span_flushed span P written.volume_pages part written.pages (volume_too ∙ volume) (list_too ∙ list) flushed
+
+    pub all_written : a.words ≡ W → HaveBytes live.volume_pages live.pages span bytes (page_byte live.volume_pages a.words) b.words → (d : List ℕ) → d ≡ b.words → StoresInside P W d i offset bytes
+    all_written here have =
+        stored (subst (λ (l : List ℕ). IsInterval (IsNewWordOf span P part) l a.trail b.words b.trail) here (new_of_pages span P live.volume_pages part live.pages volume list run.interval))
+        (have_of_pages span bytes P live.volume_pages part live.pages W b.words volume list (subst (λ (l : List ℕ). HaveBytes live.volume_pages live.pages span bytes (page_byte live.volume_pages l) b.words) here have))

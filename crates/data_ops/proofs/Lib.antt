@@ -3,15 +3,15 @@ mod Sizes
 mod Pages
 mod ReadBytes
 mod WordBytes
-mod Wheres
 mod Spans
 mod Fills
 mod Raising
 mod NewPages
 mod OldPages
 mod InsidePages
-mod Turns
 mod Growing
+mod Told
+mod GrowCourse
 mod Writings
 mod WriteSteps
 mod Stepping
@@ -19,8 +19,7 @@ mod WriteLeft
 mod WriteCarrying
 mod NothingWritten
 mod CutPages
-mod CutStages
-mod CutBudget
+mod CutCourse
 mod CutKnown
 mod Truncations
 mod CutLeft

@@ -2,6 +2,8 @@
 use Rattle.std.proofs.Common.{◌≡◌, ◌≢◌, ◌⊎◌, ℕ, Bool, true, false, ◌==◌, cond, List, length, inl, inr, refl, sym, ap, subst, ◌∙◌, arith, true≢false}
 use Rattle.std.specs.Prelude.{Option, Some, Ok}
 use Rattle.std.proofs.lemmas.Bool.Decides.{nat_tests}
+use Rattle.pm_trait.specs.Trail.{Trail}
+use Rattle.pm_trait.specs.Device.{LeavesOnly, StaysOnce}
 use Rattle.pm_trait.specs.DeviceView.{DeviceView, IsSettledView}
 use Rattle.pm_trait.proofs.DeviceLaws.{leaves_here}
 use Rattle.pm_trait.proofs.DeviceViewLaws.{intervals_none}
@@ -39,7 +41,13 @@ use Rattle.entry_steps.proofs.Answered.{follows_as}
 use Rattle.entry_steps.proofs.Moments.{Quietly}
 use Rattle.data_ops.specs.Writing.{IsWriteOf}
 use Rattle.data_ops.proofs.Stepping
-use Rattle.data_ops.proofs.Wheres.{stays_all}
+
+-- what all reads as stays
+pub stays_all : {old new : Option Trail} {R : List ℕ → Type 0} (Q : List ℕ → Type 0) → LeavesOnly old new (Quietly R) → ((image : List ℕ) → R image → Q image) → StaysOnce old new Q
+stays_all Q run implies = record {
+  continues = run.continues;
+  each = λ first second from order upto all image may. implies image (run.each second image (omega (arith, from, order)) upto may).1;
+}
 
 nothing_written : (writing : Writing) → ChangesNothing ≢ WritesBytes writing
 nothing_written writing e = cc

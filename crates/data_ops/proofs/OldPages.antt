@@ -1,37 +1,47 @@
 -- Old pages of a file that are written to their end.
-use Rattle.std.proofs.Common.{◌≡◌, inl, inr, ℕ, ◌+◌, ◌-◌, ◌*◌, ◌/◌, ◌%◌, ◌^◌, ◌<◌, ◌≤◌, Bool, true, cond, List, length, take, drop, min, refl, sym, ap, ◌∙◌, arith, length-drop}
+use Rattle.std.proofs.Common.{◌≡◌, inl, inr, ℕ, ◌+◌, ◌-◌, ◌*◌, ◌/◌, ◌%◌, ◌^◌, ◌<◌, ◌≤◌, Bool, true, cond, List, length, take, drop, min, refl, sym, ap, subst, ◌∙◌, arith, length-drop}
 use Rattle.std.specs.Prelude.{Option, nat_lt}
 use Rattle.std.proofs.Math.Seq.{take-length}
 use Rattle.std.proofs.lemmas.Bool.{cases_lt}
 use Rattle.std.proofs.lemmas.Bool.Decides.{nat_tests}
 use Rattle.pm_trait.specs.Trail.{Trail}
-use Rattle.pm_trait.specs.Device.{IsInterval}
+use Rattle.pm_trait.specs.Device.{IsInterval, IsFlushed}
+use Rattle.pm_trait.specs.DeviceView.{DeviceView, Stores}
 use Rattle.layout.specs.Geometry.{pieces}
 use Rattle.layout.specs.Fields.{page_byte}
+use Rattle.page_state.specs.declared.page.Touched.{Touched}
+use Rattle.page_state.specs.declared.page.Touched.TheVariants.{Words}
 use Rattle.page_state.specs.declared.span.FileSpan.{FileSpan}
 use Rattle.page_state.specs.Spans.{span_of, new_words, new_lines}
 use Rattle.page_state.specs.Laws.{CountsNew}
-use Rattle.page_state.specs.Page.{IsNewWordOf}
-use Rattle.page_state.specs.Events.{HaveBytes}
+use Rattle.page_state.specs.Page.{PageView, OfSome, IsOwnWord, IsNewWordOf}
+use Rattle.page_state.specs.Events.{HaveBytes, WritesSpan, FlushesPages}
 use Rattle.page_state.proofs.Counted.{beyond_law}
 use Rattle.image_reading.specs.Reading.{pages_of_size}
 use Rattle.content_laws.specs.Range.{WritesBelow, WritesTail}
 use Rattle.data_ops.specs.declared.grow.Growth.{Growth}
 use Rattle.data_ops.specs.Files.{AreBytesFrom}
-use Rattle.data_ops.specs.Growing.{MayFill, old_page_events}
+use Rattle.data_ops.specs.Growing.{MayFill, IsTailWord, old_page_events}
 use Rattle.data_ops.proofs.Fills.{dropped_part}
-use Rattle.data_ops.proofs.Spans.{bytes_part, at_place, byte_at, byte_kept, written_byte, zero_byte}
+use Rattle.data_ops.proofs.Spans.{bytes_part, at_place, byte_at, byte_kept, written_byte, zero_byte, span_stored, span_flushed, new_of_pages, have_of_pages}
 
 -- the rest of a list, as a slice to its end
 pub all_dropped : (pages : List ℕ) (first : ℕ) → take (length pages - first) (drop first pages) ≡ drop first pages
 all_dropped pages first = ap (λ (n : ℕ). take n (drop first pages)) (sym (length-drop first pages)) ∙ take-length (drop first pages)
 
-module _ (P : ℕ) (W : List ℕ) (growth : Growth) (bytes pages : List ℕ) (may : MayFill P W growth bytes pages) (first : ℕ) (is : first ≡ min growth.offset growth.old_size / 4096) where
-  abbrev span : FileSpan
+-- where they begin
+pub first_is : (n : ℕ) {least : ℕ} → least ≡ n → least / 4096 ≡ n / 4096
+first_is n is = ap (λ (m : ℕ). m / 4096) is
+
+module _ {P : ℕ} {W : List ℕ} {growth : Growth} {bytes pages : List ℕ} (may : MayFill P W growth bytes pages) {first : ℕ} (is : first ≡ min growth.offset growth.old_size / 4096) where
+  abbrev pub span : FileSpan
   span = span_of first growth.old_size growth.offset bytes
 
   abbrev part : List ℕ
   part = drop first pages
+
+  abbrev slice : List ℕ
+  slice = take (length pages - first) (drop first pages)
 
   pub count : length pages ≡ pieces growth.old_size 4096
   unfolding pages_of_size
@@ -48,6 +58,15 @@ module _ (P : ℕ) (W : List ℕ) (growth : Growth) (bytes pages : List ℕ) (ma
 
   pub from_first : AreBytesFrom P W growth.inode first part
   from_first = bytes_part P W growth.inode first pages part may.held.bytes (dropped_part pages first)
+
+  pub from_slice : AreBytesFrom P W growth.inode first slice
+  from_slice = subst (λ (l : List ℕ). AreBytesFrom P W growth.inode first l) (sym (all_dropped pages first)) from_first
+
+  pub some_part : 0 < length slice → 0 < length part
+  some_part some = subst (λ (l : List ℕ). 0 < length l) (all_dropped pages first) some
+
+  pub none_part : length slice ≡ 0 → length part ≡ 0
+  none_part none = sym (ap (λ (l : List ℕ). length l) (all_dropped pages first)) ∙ none
 
   counted : CountsNew span (length part) (min growth.offset growth.old_size) (4096 * (first + length part))
   counted =
@@ -120,3 +139,40 @@ module _ (P : ℕ) (W : List ℕ) (growth : Growth) (bytes pages : List ℕ) (ma
       let all = long in
       let size = may.size in
       absurd (omega (arith, high, all, none, is, behind, size))
+
+  pub none_flushed : {trail : Option Trail} → length part ≡ 0 → (w : ℕ) → IsTailWord P growth bytes pages w → IsFlushed trail w
+  none_flushed {trail} none w tail =
+      let here : IsNewWordOf span P part w = subst (λ (n : ℕ). IsNewWordOf (span_of n growth.old_size growth.offset bytes) P (drop n pages) w) (sym is) tail in
+      let low = here.below in
+      absurd (omega (arith, none, low))
+
+  -- ---- from the object as it was taken to the flush
+
+  module _ (live written : PageView) (volume : live.volume_pages ≡ P) (list : live.pages ≡ slice) (volume_too : written.volume_pages ≡ live.volume_pages) (list_too : written.pages ≡ live.pages) (touched : written.touched ≡ Words span) {a b : DeviceView}
+      (run : WritesSpan live.volume_pages live.pages span bytes a b) where
+    list_is : live.pages ≡ part
+    list_is = list ∙ all_dropped pages first
+
+    pub all_stored : {c : DeviceView} → 0 < length slice → FlushesPages written.volume_pages written.pages written.touched b c → Stores (IsTailWord P growth bytes pages) a c (old_page_events growth)
+    all_stored {c} some flushes =
+        subst (λ (n : ℕ). Stores (IsNewWordOf (span_of n growth.old_size growth.offset bytes) P (drop n pages)) a c (old_page_events growth)) is
+        (span_stored span bytes P live.volume_pages written.volume_pages (old_page_events growth) part live.pages written.pages volume list_is (list_too ∙ list_is) (events (some_part some)) run
+        (subst (λ (t : Touched). FlushesPages written.volume_pages written.pages t b c) touched flushes))
+
+    pub all_flushed : {trail : Option Trail} → ((w : ℕ) → OfSome written.pages (IsOwnWord written.volume_pages) w → IsFlushed trail w) → (w : ℕ) → IsTailWord P growth bytes pages w → IsFlushed trail w
+    all_flushed {trail} flushed =
+        subst (λ (n : ℕ). (w : ℕ) → IsNewWordOf (span_of n growth.old_size growth.offset bytes) P (drop n pages) w → IsFlushed trail w) is
+        (span_flushed span P written.volume_pages part written.pages (volume_too ∙ volume) (list_too ∙ list_is) flushed)
+
+    module _ (here : a.words ≡ W) (have : HaveBytes live.volume_pages live.pages span bytes (page_byte live.volume_pages a.words) b.words) (d : List ℕ) (same : d ≡ b.words) where
+      of_part : IsInterval (IsNewWordOf span P part) W a.trail b.words b.trail
+      of_part = subst (λ (l : List ℕ). IsInterval (IsNewWordOf span P part) l a.trail b.words b.trail) here (new_of_pages span P live.volume_pages part live.pages volume list_is run.interval)
+
+      have_part : HaveBytes P part span bytes (page_byte P W) b.words
+      have_part = have_of_pages span bytes P live.volume_pages part live.pages W b.words volume list_is (subst (λ (l : List ℕ). HaveBytes live.volume_pages live.pages span bytes (page_byte live.volume_pages l) b.words) here have)
+
+      pub all_below : WritesBelow P W d growth.inode growth.offset bytes
+      all_below = subst (λ (l : List ℕ). WritesBelow P W l growth.inode growth.offset bytes) (sym same) (old_below of_part have_part)
+
+      pub all_tail : WritesTail P W d growth.inode growth.offset bytes
+      all_tail = subst (λ (l : List ℕ). WritesTail P W l growth.inode growth.offset bytes) (sym same) (old_tail of_part have_part)

@@ -1,12 +1,14 @@
 -- Pages that get an owner, or lose it or the rest of their descriptors.
 use Rattle.std.proofs.Common.{◌≡◌, ◌≢◌, inl, inr, ℕ, zero, suc, ◌+◌, ◌*◌, ◌==◌, ◌<◌, ◌≤◌, Bool, true, false, List, length, slice_index, Contains, refl, sym, ap, subst, ◌∙◌, arith}
-use Rattle.std.specs.Prelude.{Option, nat_lt}
+use Rattle.std.specs.Prelude.{Option, Result, Ok, nat_lt}
+use Rattle.pm_trait.specs.declared.event.PmFault.{PmFault}
 use Rattle.std.proofs.lemmas.Bool.Decides.{nat_tests}
 use Rattle.std.proofs.lemmas.List.{get_or_default}
 use Rattle.std.proofs.lemmas.List.Elements.{Contains-get_or}
+use Rattle.pm_trait.specs.declared.event.Event.{Event}
 use Rattle.pm_trait.specs.Trail.{Trail}
 use Rattle.pm_trait.specs.Device.{IsInterval, IsFlushed, IsClean, IsSettledAt}
-use Rattle.pm_trait.specs.DeviceView.{DeviceView, Stores}
+use Rattle.pm_trait.specs.DeviceView.{DeviceView, IsSettledView, Stores, Fences, StoresAndFences}
 use Rattle.pm_trait.proofs.DeviceLaws.{interval_keeps, interval_length}
 use Rattle.pm_trait.proofs.DeviceViewLaws.{stores_weaker, stores_flushed}
 use Rattle.layout.specs.declared.fields.DescriptorFields.{DescriptorFields}
@@ -22,6 +24,8 @@ use Rattle.page_state.proofs.PageLaws.{own_word_within}
 use Rattle.image_laws.specs.Drop.{GivesPages}
 use Rattle.content_laws.specs.Growth.{TakesPages}
 use Rattle.content_laws.specs.Cut.{ClearsPages}
+use Rattle.entry_steps.specs.Unfolds.{Fenced}
+use Rattle.entry_steps.proofs.Unfolding.{interval_ends}
 use Rattle.data_ops.specs.Files.{AreBytesFrom}
 
 -- on a settled device their words are clean
@@ -161,12 +165,44 @@ test_some n some = grind (arith, nat_tests)
 pub test_none : (n : ℕ) → n ≡ 0 → nat_lt 0 n ≡ false
 test_none n none = grind (arith, nat_tests)
 
+-- whether there are pages, as it was tested
+pub some_pages : (pages : List ℕ) (b : Bool) → b ≡ (length pages == 0) → b ≡ false → 0 < length pages
+some_pages pages b is test = grind (arith, nat_tests)
+
+pub no_pages : (pages : List ℕ) (b : Bool) → b ≡ (length pages == 0) → b ≡ true → length pages ≡ 0
+no_pages pages b is test = grind (arith, nat_tests)
+
+-- ---- an interval over words of the pages' descriptors, from the object as it was taken to the fence
+
+module _ (Q : ℕ → ℕ → ℕ → Type 0) (P : ℕ) (own : (page word : ℕ) → Q P page word → IsOwnWord P page word) (pages : List ℕ) (before after : PageView) (volume : before.volume_pages ≡ P) (list : before.pages ≡ pages)
+    (volume_too : after.volume_pages ≡ before.volume_pages) (list_too : after.pages ≡ before.pages) (lines : touched_lines after.touched (length after.pages) ≡ length after.pages) {a b : DeviceView} {events : List Event} {taken : ℕ} (each : ℕ) (one : taken ≤ each * length before.pages)
+    (run : StoresExactly (OfSome before.pages (Q before.volume_pages)) a b events taken) where
+  pub of_object : IsInterval (OfSome pages (Q P)) a.words a.trail b.words b.trail
+  of_object =
+      subst (λ (v : ℕ). IsInterval (OfSome pages (Q v)) a.words a.trail b.words b.trail) volume
+      (subst (λ (l : List ℕ). IsInterval (OfSome l (Q before.volume_pages)) a.words a.trail b.words b.trail) list run.interval)
+
+  pub each_of_object : (R : ℕ → ℕ → Type 0) → EachPage after.pages (R after.volume_pages) → EachPage pages (R P)
+  each_of_object R all = subst (λ (v : ℕ). EachPage pages (R v)) (volume_too ∙ volume) (subst (λ (l : List ℕ). EachPage l (R after.volume_pages)) (list_too ∙ list) all)
+
+  pub object_fenced : {T E : Type 0} {c d : DeviceView} → FlushesPages after.volume_pages after.pages after.touched b c → (result : Result T E) (count : ℕ) → (each + 1) * length pages ≤ count → IsSettledView a → ((word : ℕ) → OfSome after.pages (IsOwnWord after.volume_pages) word → IsFlushed c.trail word)
+      → Fences c d result → StoresAndFences a d (count + 1) result
+  object_fenced {c = c} flushes result count few settled flushed fence =
+      interval_ends result settled
+      (stores_weaker count (λ word is. is) few (pages_stored Q P before.volume_pages each pages before.pages after.pages after.volume_pages after.touched volume list (list_too ∙ list) lines one run flushes))
+      (words_flushed Q P after.volume_pages pages after.pages (volume_too ∙ volume) (list_too ∙ list) own flushed) fence
+
+-- ---- a step over pages, where there are any
+
+pub some_fenced : {T E : Type 0} {a b : DeviceView} {result : Result T E} (pages : List ℕ) (events : ℕ) (t : Bool) → t ≡ (length pages == 0) → t ≡ false → StoresAndFences a b events result → Fenced (nat_lt 0 (length pages)) events a b result
+some_fenced {a = a} {b} {result} pages events t is test one = subst (λ (some : Bool). Fenced some events a b result) (sym (test_some (length pages) (some_pages pages t is test))) one
+
+pub none_fenced : (device : DeviceView) (pages : List ℕ) (events : ℕ) (t : Bool) → t ≡ (length pages == 0) → t ≡ true → Fenced {T = Unit {0}} {E = PmFault} (nat_lt 0 (length pages)) events device device (Ok tt)
+none_fenced device pages events t is test = subst (λ (some : Bool). Fenced {T = Unit {0}} {E = PmFault} some events device device (Ok tt)) (sym (test_none (length pages) (no_pages pages t is test))) (refl, refl)
+
 -- an owner a page with the flush of its line, and the fence
 pub owners_events : {W : ℕ → Type 0} {a b : DeviceView} (n : ℕ) → Stores W a b (2 * n) → Stores W a b (n * 2)
 owners_events n stores = stores_weaker (n * 2) (λ word is. is) (omega arith) stores
-
-pub rests_events : {W : ℕ → Type 0} {a b : DeviceView} (n : ℕ) → Stores W a b (3 * n) → Stores W a b (n * 3)
-rests_events n stores = stores_weaker (n * 3) (λ word is. is) (omega arith) stores
 
 -- by other names of the volume's pages and of the list
 pub of_pages : {a b : List ℕ} {ta tb : Option Trail} (Q : ℕ → ℕ → ℕ → Type 0) (P V : ℕ) (pages ps : List ℕ) → V ≡ P → ps ≡ pages → IsInterval (OfSome ps (Q V)) a ta b tb → IsInterval (OfSome pages (Q P)) a ta b tb
@@ -175,10 +211,3 @@ of_pages {a} {b} {ta} {tb} Q P V pages ps volume list run =
 
 pub each_of_pages : (Q : ℕ → ℕ → Type 0) (P V : ℕ) (pages ps : List ℕ) → V ≡ P → ps ≡ pages → EachPage ps (Q V) → EachPage pages (Q P)
 each_of_pages Q P V pages ps volume list each = subst (λ (v : ℕ). EachPage pages (Q v)) volume (subst (λ (l : List ℕ). EachPage l (Q V)) list each)
-
--- whether there are pages, as it was tested
-pub some_pages : (pages : List ℕ) (b : Bool) → b ≡ (length pages == 0) → b ≡ false → 0 < length pages
-some_pages pages b is test = grind (arith, nat_tests)
-
-pub no_pages : (pages : List ℕ) (b : Bool) → b ≡ (length pages == 0) → b ≡ true → length pages ≡ 0
-no_pages pages b is test = grind (arith, nat_tests)

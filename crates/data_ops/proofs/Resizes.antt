@@ -1,6 +1,7 @@
 -- A file that gets another size: by its growth, or by a cut.
-use Rattle.std.proofs.Common.{◌≡◌, ℕ, ◌+◌, ◌^◌, ◌<◌, ◌≤◌, Bool, true, false, nat_lt, cond, List, [], length, refl, sym, ap, subst, arith}
-use Rattle.std.specs.Prelude.{Option, Result, Ok, Err, OnOk}
+use Rattle.std.proofs.Common.{◌≡◌, ◌⊎◌, inl, inr, ℕ, ◌+◌, ◌^◌, ◌<◌, ◌≤◌, Bool, true, false, nat_lt, cond, List, [], length, refl, sym, ap, subst, ◌∙◌, arith}
+use Rattle.std.specs.Prelude.{Option, Result, OnOk}
+use Rattle.std.proofs.lemmas.Bool.{cases_lt}
 use Rattle.std.proofs.lemmas.Bool.Decides.{nat_tests}
 use Rattle.pm_trait.specs.Trail.{Trail}
 use Rattle.pm_trait.specs.DeviceView.{DeviceView, MakesIntervals, IsSettledView}
@@ -9,22 +10,28 @@ use Rattle.layout.specs.Geometry.{inode_word_of}
 use Rattle.tree_model.specs.PathText.{Route}
 use Rattle.tree_model.specs.Run.{State}
 use Rattle.tree_model.specs.declared.command.Command.TheVariants.{Truncate}
+use Rattle.volume.specs.Carried.{IsAtomic}
 use Rattle.volume.specs.Commit.{HangsOn}
 use Rattle.volume.specs.Costs.{where_true, reserved_events, growth_events, fences_for_growth, commit_events, loss_events, fences_for_loss, events_of_resize, fences_of_resize}
 use Rattle.volume.specs.Deed.{SetsSize}
 use Rattle.volume.specs.declared.plan.Resizing.{Resizing}
 use Rattle.entry_steps.specs.Steps.{MayFence}
-use Rattle.data_ops.specs.Hanging.{HangsOnWords, IsRangeWord}
-use Rattle.data_ops.specs.Growing.{IsGrowing, IsGrowthBy, GrowsInTurn}
-use Rattle.data_ops.specs.Cutting.{growth_to, IsResizingAt, CutsInTurn, StoresSize}
-use Rattle.data_ops.proofs.CutStages
+use Rattle.entry_steps.specs.Unfolds.{events_in, fences_in, Unfolds}
+use Rattle.entry_steps.proofs.Turning.{HangsOnWords, hangs_on}
+use Rattle.entry_steps.proofs.Unfolding.{intervals, map_ok}
+use Rattle.data_ops.specs.Hanging.{IsRangeWord}
+use Rattle.data_ops.specs.Growing.{IsGrowing, IsGrowthBy}
+use Rattle.data_ops.specs.Steps.{growth_steps, either_steps}
+use Rattle.data_ops.specs.Cutting.{MayResize, growth_to, IsResizingAt, StoresSize, HasStoredSize, cut_steps, resize_steps}
+use Rattle.data_ops.proofs.CutCourse
+use Rattle.data_ops.proofs.GrowCourse
 
 -- where no byte is written only the size is a word of the range
 no_bytes : (P : ℕ) (W image other : List ℕ) (i offset : ℕ) → word other (inode_word_of i 2) ≡ word image (inode_word_of i 2) → (at : ℕ) → IsRangeWord P W i offset [] at → word other at ≡ word image at
 no_bytes P W image other i offset same at IsRangeWord.size = same
 no_bytes P W image other i offset same at (IsRangeWord.byte o j low inside page) = let least = inside.least in let below = inside.below in absurd (omega (arith, least, below))
 
-pub hangs_on_size : {old new : Option Trail} (P : ℕ) (W : List ℕ) (i offset : ℕ) → HangsOnWords P old new (IsRangeWord P W i offset []) → HangsOn P old new (inode_word_of i 2)
+hangs_on_size : {old new : Option Trail} (P : ℕ) (W : List ℕ) (i offset : ℕ) → HangsOnWords P old new (IsRangeWord P W i offset []) → HangsOn P old new (inode_word_of i 2)
 hangs_on_size P W i offset hangs = record {
   continues = hangs.continues;
   each = λ moment image other tree from upto may also same reads. hangs.each moment image other tree from upto may also (no_bytes P W image other i offset same) reads;
@@ -36,7 +43,7 @@ growth_by path resizing at = record {
   reads = at.reads;
   accepted = at.planned.accepted;
   path = path;
-  names = CutStages.named at;
+  names = CutCourse.named at;
   grows = IsGrowing.truncate refl refl;
 }
 
@@ -68,16 +75,62 @@ pub made_as : {T E : Type 0} {a b : DeviceView} {result : Result T E} (events ot
 made_as {a = a} {b} {result} events other fences more same again made =
     subst (λ (n : ℕ). MakesIntervals a b n more result) (sym same) (subst (λ (n : ℕ). MakesIntervals a b events n result) (sym again) made)
 
+-- ---- the steps of either way
+
+module _ {T E : Type 0} (P : ℕ) {old new : DeviceView} (resizing : Resizing) (pages : List ℕ) {result : Result T E} where
+  pub of_cut : resizing.new_size < resizing.old_size → Unfolds (cut_steps P resizing pages) old new result → Unfolds (resize_steps P resizing pages) old new result
+  of_cut less made = subst (λ (b : Bool). Unfolds (either_steps b (growth_steps P (growth_to resizing) [] resizing.new_pages) (cut_steps P resizing pages)) old new result) (sym (not_less_test resizing.old_size resizing.new_size less)) made
+
+  as_cut : resizing.new_size < resizing.old_size → Unfolds (resize_steps P resizing pages) old new result → Unfolds (cut_steps P resizing pages) old new result
+  as_cut less made = subst (λ (b : Bool). Unfolds (either_steps b (growth_steps P (growth_to resizing) [] resizing.new_pages) (cut_steps P resizing pages)) old new result) (not_less_test resizing.old_size resizing.new_size less) made
+
+  pub of_growth : resizing.old_size < resizing.new_size → Unfolds (growth_steps P (growth_to resizing) [] resizing.new_pages) old new result → Unfolds (resize_steps P resizing pages) old new result
+  of_growth more made = subst (λ (b : Bool). Unfolds (either_steps b (growth_steps P (growth_to resizing) [] resizing.new_pages) (cut_steps P resizing pages)) old new result) (sym (less_test resizing.old_size resizing.new_size more)) made
+
+  as_growth : resizing.old_size < resizing.new_size → Unfolds (resize_steps P resizing pages) old new result → Unfolds (growth_steps P (growth_to resizing) [] resizing.new_pages) old new result
+  as_growth more made = subst (λ (b : Bool). Unfolds (either_steps b (growth_steps P (growth_to resizing) [] resizing.new_pages) (cut_steps P resizing pages)) old new result) (less_test resizing.old_size resizing.new_size more) made
+
 -- ---- what it leaves
 
-pub resized_cut : {T E : Type 0} (P : ℕ) (before after : DeviceView) (resizing : Resizing) (result : Result T E) → resizing.new_size < resizing.old_size → OnOk result (CutsInTurn P before after resizing.inode resizing.new_size) → OnOk result (StoresSize P before after resizing)
-resized_cut P before after resizing (Ok done) less cut = record { grown = λ more. absurd (omega (arith, less, more)); cut = λ other. cut }
-resized_cut P before after resizing (Err fault) less cut = tt
+module _ {T E : Type 0} (P : ℕ) (old new : DeviceView) (resizing : Resizing) (pages : List ℕ) (result : Result T E) (may : MayResize P old.words resizing pages) (settled : IsSettledView old) (made : Unfolds (resize_steps P resizing pages) old new result) where
+  ways : (resizing.new_size < resizing.old_size) ⊎ (resizing.old_size < resizing.new_size)
+  ways = elim (cases_lt resizing.new_size resizing.old_size) [
+    | inl less ↦ inl less
+    | inr most ↦ inr (let other = may.other in omega (arith, most, other))
+  ]
 
-pub resized_grown : {T E : Type 0} (P : ℕ) (before after : DeviceView) (resizing : Resizing) (result : Result T E) → resizing.old_size < resizing.new_size → OnOk result (GrowsInTurn P before after resizing.inode resizing.new_size resizing.old_size [] resizing.new_pages)
-    → OnOk result (StoresSize P before after resizing)
-resized_grown P before after resizing (Ok done) more grown = record { grown = λ other. grown; cut = λ less. absurd (omega (arith, less, more)) }
-resized_grown P before after resizing (Err fault) more grown = tt
+  pub all_intervals : MakesIntervals old new (events_of_resize resizing) (fences_of_resize resizing) result
+  all_intervals = elim ways [
+    | inl less ↦
+        made_as (events_in (cut_steps P resizing pages)) (events_of_resize resizing) (fences_in (cut_steps P resizing pages)) (fences_of_resize resizing)
+        (cut_events resizing less ∙ CutCourse.costs old (may.cut less)) (cut_fences resizing less ∙ CutCourse.fences old (may.cut less)) (intervals settled (as_cut P resizing pages less made))
+    | inr more ↦
+        let growth = growth_to resizing in
+        made_as (events_in (growth_steps P growth [] resizing.new_pages)) (events_of_resize resizing) (fences_in (growth_steps P growth [] resizing.new_pages)) (fences_of_resize resizing)
+        (grown_events resizing more ∙ GrowCourse.costs P growth [] resizing.new_pages) (grown_fences resizing more ∙ GrowCourse.fences P growth [] resizing.new_pages) (intervals settled (as_growth P resizing pages more made))
+  ]
+
+  pub stores_size : OnOk result (StoresSize P old.words new.words resizing)
+  stores_size = elim ways [
+    | inl less ↦ map_ok _ _ result (λ cut. record { grown = λ more. absurd (omega (arith, less, more)); cut = λ again. cut }) (CutCourse.cut_done old (may.cut less) new result (as_cut P resizing pages less made))
+    | inr more ↦ map_ok _ _ result (λ grown. record { grown = λ again. grown; cut = λ less. absurd (omega (arith, less, more)) }) (GrowCourse.grown_done old (may.grow more) new result (as_growth P resizing pages more made))
+  ]
+
+  module _ {state : State} {path : Route} (at : IsResizingAt P old.words state path resizing) where
+    pub is_atomic : IsAtomic P old new state (Truncate path resizing.new_size)
+    is_atomic = elim ways [
+      | inl less ↦ (let under = CutCourse.underway old (may.cut less) new result (as_cut P resizing pages less made) settled at in record { any_moment = under.any_moment; stays = under.stays })
+      | inr more ↦ (let under = GrowCourse.underway old (may.grow more) new result (as_growth P resizing pages more made) settled (growth_by path resizing at) in record { any_moment = under.any_moment; stays = under.stays })
+    ]
+
+    hangs : HangsOn P old.trail new.trail (inode_word_of resizing.inode 2)
+    hangs = elim ways [
+      | inl less ↦ hangs_on (CutCourse.underway old (may.cut less) new result (as_cut P resizing pages less made) settled at).hangs
+      | inr more ↦ hangs_on_size P old.words resizing.inode resizing.old_size (GrowCourse.underway old (may.grow more) new result (as_growth P resizing pages more made) settled (growth_by path resizing at)).hangs
+    ]
+
+    pub has_stored : HasStoredSize P old new resizing pages result
+    has_stored = record { in_turn = made; made = stores_size; commit_word = hangs }
 
 -- ---- what its plan has reserved
 

@@ -1,6 +1,6 @@
 -- The plan of a truncation is carried out, once the file has its size on the device and its pages in the volume.
-use Rattle.std.proofs.Common.{◌≡◌, ℕ, ◌+◌, false, true, cond, nat_lt, length, refl, sym, ap, subst, ◌∙◌, arith}
-use Rattle.std.specs.Prelude.{Ok, Err}
+use Rattle.std.proofs.Common.{◌≡◌, ℕ, ◌+◌, false, true, cond, nat_lt, List, length, refl, sym, ap, subst, ◌∙◌, arith}
+use Rattle.std.specs.Prelude.{Result, Ok, Err}
 use Rattle.pm_trait.specs.DeviceView.{DeviceView, MakesIntervals}
 use Rattle.pm_trait.proofs.DeviceViewLaws.{intervals_as}
 use Rattle.tree_model.specs.PathText.{Route}
@@ -18,7 +18,21 @@ use Rattle.volume.specs.declared.plan.Resizing.{Resizing}
 use Rattle.volume.specs.declared.plan.Action.TheVariants.{Resize}
 use Rattle.volume.proofs.ContentPlans.{planned_resizing}
 use Rattle.entry_steps.proofs.Answered.{failed_as, follows_as}
-use Rattle.data_ops.specs.Cutting.{IsTruncation, IsResizingAt}
+use Rattle.entry_steps.specs.Unfolds.{Unfolds}
+use Rattle.entry_steps.proofs.Unfolding.{unfolds_as, unfolds_failed_as}
+use Rattle.data_ops.specs.Cutting.{IsTruncation, IsResizingAt, HasStoredSize, resize_steps}
+
+-- by the volume's own pages, and the file's
+pub steps_of_volume : {T E : Type 0} {P V : ℕ} {pages more : List ℕ} {old new : DeviceView} (resizing : Resizing) {result : Result T E} → P ≡ V → pages ≡ more → Unfolds (resize_steps P resizing pages) old new result → Unfolds (resize_steps V resizing more) old new result
+steps_of_volume {P = P} {more = more} {old = old} {new = new} resizing {result = result} volume list made =
+    subst (λ (v : ℕ). Unfolds (resize_steps v resizing more) old new result) volume (subst (λ (l : List ℕ). Unfolds (resize_steps P resizing l) old new result) list made)
+
+-- another value is answered, or another fault
+pub stored_as : {T E U F : Type 0} {P : ℕ} {before after : DeviceView} {resizing : Resizing} {pages : List ℕ} {value : T} (other : U) → HasStoredSize {E = E} P before after resizing pages (Ok value) → HasStoredSize {E = F} P before after resizing pages (Ok other)
+stored_as other stored = record { in_turn = unfolds_as other stored.in_turn; made = stored.made; commit_word = stored.commit_word }
+
+pub stored_failed : {T E U F : Type 0} {P : ℕ} {before after : DeviceView} {resizing : Resizing} {pages : List ℕ} {fault : E} (other : F) → HasStoredSize {T = T} P before after resizing pages (Err fault) → HasStoredSize {T = U} P before after resizing pages (Err other)
+stored_failed other stored = record { in_turn = unfolds_failed_as other stored.in_turn; made = tt; commit_word = stored.commit_word }
 
 some_events : (resizing : Resizing) → events_of (SetsSize resizing) ≡ 0 → ⊥
 some_events resizing none =

@@ -40,7 +40,7 @@ use Rattle.entry_steps.proofs.Answered.{follows_as}
 use Rattle.entry_steps.proofs.Moments.{Quietly}
 use Rattle.data_ops.specs.Cutting.{IsTruncation}
 use Rattle.data_ops.proofs.Stepping
-use Rattle.data_ops.proofs.Wheres.{stays_all}
+use Rattle.data_ops.proofs.NothingWritten.{stays_all}
 
 nothing_set : (resizing : Resizing) → ChangesNothing ≢ SetsSize resizing
 nothing_set resizing e = cc

@@ -1,6 +1,6 @@
 -- The plan of a write is carried out, once the bytes are on the device and the new pages in the volume.
 use Rattle.std.proofs.Common.{◌≡◌, ℕ, ◌+◌, ◌^◌, ◌<◌, ◌≤◌, false, true, cond, List, length, sym, ap, subst, ◌∙◌, arith}
-use Rattle.std.specs.Prelude.{Ok, Err, nat_le}
+use Rattle.std.specs.Prelude.{Result, Ok, Err, nat_le}
 use Rattle.pm_trait.specs.DeviceView.{DeviceView, IsSettledView, MakesIntervals}
 use Rattle.pm_trait.proofs.DeviceViewLaws.{intervals_as}
 use Rattle.tree_model.specs.PathText.{Route}
@@ -20,7 +20,9 @@ use Rattle.volume.specs.declared.plan.Action.TheVariants.{Write as Writes}
 use Rattle.volume.proofs.ContentPlans.{planned_writing}
 use Rattle.entry_steps.specs.Steps.{MayFence}
 use Rattle.entry_steps.proofs.Answered.{failed_as, follows_as}
-use Rattle.data_ops.specs.Writing.{IsWriteOf, IsWritingAt}
+use Rattle.entry_steps.specs.Unfolds.{Unfolds}
+use Rattle.entry_steps.proofs.Unfolding.{unfolds_as, unfolds_failed_as}
+use Rattle.data_ops.specs.Writing.{IsWriteOf, IsWritingAt, HasStoredBytes, write_steps}
 use Rattle.data_ops.proofs.Resizes.{room_of}
 
 some_events : (writing : Writing) → events_of (WritesBytes writing) ≡ 0 → ⊥
@@ -36,6 +38,17 @@ same_write path other offset at bytes more e = cc
 -- the plan has its room
 pub may_begin : (device : DeviceView) (writing : Writing) → IsSettledView device → reserved_events (WritesBytes writing) ≤ device.spare → device.fences < 2 ^ 63 → MayFence device (events_of_write writing) 3
 may_begin device writing settled room countable = record { settled = settled; room = room_of (events_of_write writing) device.spare room; countable = omega (arith, countable) }
+
+-- by the volume's own pages
+pub steps_of_volume : {T E : Type 0} {P V : ℕ} {old new : DeviceView} (writing : Writing) (bytes : List ℕ) {result : Result T E} → P ≡ V → Unfolds (write_steps P writing bytes) old new result → Unfolds (write_steps V writing bytes) old new result
+steps_of_volume {old = old} {new = new} writing bytes {result = result} volume made = subst (λ (v : ℕ). Unfolds (write_steps v writing bytes) old new result) volume made
+
+-- another value is answered, or another fault
+pub stored_as : {T E U F : Type 0} {P : ℕ} {before after : DeviceView} {writing : Writing} {bytes : List ℕ} {value : T} (other : U) → HasStoredBytes {E = E} P before after writing bytes (Ok value) → HasStoredBytes {E = F} P before after writing bytes (Ok other)
+stored_as other stored = record { in_turn = unfolds_as other stored.in_turn; made = stored.made; commit_word = stored.commit_word }
+
+pub stored_failed : {T E U F : Type 0} {P : ℕ} {before after : DeviceView} {writing : Writing} {bytes : List ℕ} {fault : E} (other : F) → HasStoredBytes {T = T} P before after writing bytes (Err fault) → HasStoredBytes {T = U} P before after writing bytes (Err other)
+stored_failed other stored = record { in_turn = unfolds_failed_as other stored.in_turn; made = tt; commit_word = stored.commit_word }
 
 module _ (volume after : VolumeView) (old new : DeviceView) (writing : Writing) (bytes : List ℕ)
     (atomic : (state : State) (path : Route) → IsWritingAt volume.size old.words state path bytes writing → IsAtomic volume.size old new state (Write path writing.offset bytes)) where

@@ -1,5 +1,5 @@
 -- Bytes that were written into a file leave a volume that stands for what the command leaves.
-use Rattle.std.proofs.Common.{◌≡◌, ℕ, ◌+◌, ◌<◌, ◌≤◌, List, [], ◌∷◌, length, inl, inr, refl, ap, sym, subst, ◌∙◌, arith}
+use Rattle.std.proofs.Common.{◌≡◌, ℕ, ◌+◌, ◌≤◌, List, [], ◌∷◌, length, inl, inr, refl, ap, sym, subst, arith}
 use Rattle.std.proofs.lemmas.Bool.{cases_lt}
 use Rattle.pm_trait.specs.DeviceView.{DeviceView, IsSettledView}
 use Rattle.tree_model.specs.PathText.{Route}
@@ -7,15 +7,11 @@ use Rattle.tree_model.specs.Run.{State}
 use Rattle.tree_model.specs.Step.{Count, least_free_id}
 use Rattle.tree_model.specs.declared.command.Command.TheVariants.{Write}
 use Rattle.image_reading.specs.Soundness.{Rule}
-use Rattle.image_reading.specs.Tidy.{Tidy}
 use Rattle.image_reading.proofs.Tidied.{tidied, as_tidy}
-use Rattle.image_laws.specs.CreateStep.{IsStepped}
 use Rattle.content_laws.specs.Gained.{HasGained}
-use Rattle.content_laws.specs.Growth.{LeavesGrown, CanGrow, sized}
 use Rattle.content_laws.specs.Inside.{WritesInside, LeavesWritten as Stands}
-use Rattle.content_laws.proofs.Growth.{growth_law}
 use Rattle.content_laws.proofs.Inside.{inside_law}
-use Rattle.content_laws.proofs.Steps.{inside_step_law, write_past_step_law}
+use Rattle.content_laws.proofs.Steps.{inside_step_law}
 use Rattle.volatile_index.specs.Index.{pages_of}
 use Rattle.volume.specs.Carried.{IsPlanFor, LeavesState}
 use Rattle.volume.specs.Costs.{fences_of_plan}
@@ -26,11 +22,12 @@ use Rattle.volume.specs.Volume.{VolumeView}
 use Rattle.volume.specs.declared.plan.Writing.{Writing}
 use Rattle.volume.specs.declared.plan.Action.TheVariants.{Write as Writes}
 use Rattle.volume.proofs.LowestPages.{rising_distinct}
-use Rattle.data_ops.specs.Growing.{MayGrow, StoresGrowth}
-use Rattle.data_ops.specs.Writing.{MayWriteInside, StoresBytes, growth_of}
+use Rattle.data_ops.specs.Writing.{MayWriteInside, StoresBytes}
 use Rattle.data_ops.proofs.GrownKnown
+use Rattle.data_ops.proofs.GrownLeft
 use Rattle.data_ops.proofs.Stepping
 use Rattle.data_ops.proofs.Writings
+use Rattle.data_ops.proofs.Writings.{write_grows}
 
 no_pages : (pages : List ℕ) → length pages ≡ 0 → pages ≡ []
 no_pages [] none = refl
@@ -43,20 +40,6 @@ module _ (volume : VolumeView) (device : DeviceView) (state : State) (path : Rou
   abbrev W : List ℕ
   W = device.words
 
-  -- by what the words read as, and what an index of them holds
-  left_by : (K : List ℕ) → Tidy P K → IsStepped P K state (Write path writing.offset bytes) (least_free_id state.tree) → HasGained P W K writing.inode writing.new_pages → (new : VolumeView) → EntersPages volume new writing.inode writing.new_pages
-      → (after : DeviceView) → after.words ≡ K → IsSettledView after → after.fences ≡ device.fences + fences_of_plan (WritesBytes writing)
-      → LeavesState volume new device after state (Write path writing.offset bytes) (Count (length bytes))
-  left_by K tidy stepped gained new enters after words settled counted =
-      let held = Writings.held volume device state path bytes writing plan in
-      let for = Writings.for_writing volume device state path bytes writing plan in
-      let knows : Knows new K =
-      GrownKnown.knows_after volume W K writing.inode writing.new_pages plan.stands.knows (tidied plan.stands.tidy).coherent held.least held.most
-      (Writings.reached volume device state path bytes writing plan) held.file held.count for.new_pages.each (rising_distinct writing.new_pages for.new_pages.rising) gained new enters
-      (((tidied tidy).coherent Rule.head 0).whole refl) in
-      Stepping.leaves_state volume device state (Write path writing.offset bytes) (Count (length bytes)) (WritesBytes writing) plan.stands plan.planned refl (λ gives. refl) K tidy stepped new after
-      (ap (λ (v : VolumeView). v.size) enters.rest) knows words settled counted
-
   -- ---- inside the size
 
   module _ (K : List ℕ) (inside : writing.offset + writing.count ≤ writing.old_size) (writes : WritesInside P W K writing.inode writing.offset bytes) where
@@ -66,41 +49,26 @@ module _ (volume : VolumeView) (device : DeviceView) (state : State) (path : Rou
     law : Stands P W K writing.inode writing.offset bytes
     law = inside_law P W K writing.inode writing.offset bytes may.can writes
 
-    pub left_inside : (new : VolumeView) → EntersPages volume new writing.inode writing.new_pages → (after : DeviceView) → after.words ≡ K → IsSettledView after → after.fences ≡ device.fences + fences_of_plan (WritesBytes writing)
+    left_inside : (new : VolumeView) → EntersPages volume new writing.inode writing.new_pages → (after : DeviceView) → after.words ≡ K → IsSettledView after → after.fences ≡ device.fences + fences_of_plan (WritesBytes writing)
         → LeavesState volume new device after state (Write path writing.offset bytes) (Count (length bytes))
     left_inside new enters after words settled counted =
-        left_by K (as_tidy law.tidy)
-        (inside_step_law P W K state path writing.inode writing.offset (least_free_id state.tree) bytes may.can writes may.some (Writings.for_writing volume device state path bytes writing plan).inode_is plan.stands.reads)
-        (subst (λ (l : List ℕ). HasGained P W K writing.inode l) (sym (no_pages writing.new_pages (Writings.none_added volume device state path bytes writing plan inside))) law.index)
-        new enters after words settled counted
-
-  -- ---- past it
-
-  module _ (K : List ℕ) (more : writing.old_size < writing.offset + writing.count) (grown : StoresGrowth P W K writing.inode (writing.offset + writing.count) writing.offset bytes writing.new_pages) where
-    may_grow : MayGrow P W (growth_of writing) bytes (pages_of volume.index writing.inode) writing.new_pages
-    may_grow = Writings.may_grow volume device state path bytes writing plan more
-
-    abbrev end : List ℕ
-    end = sized grown.taken writing.inode (writing.offset + writing.count)
-
-    growth : LeavesGrown P W grown.filled grown.taken end writing.inode (writing.offset + writing.count) writing.offset bytes writing.new_pages
-    growth = growth_law P W grown.filled grown.taken writing.inode (writing.offset + writing.count) writing.offset bytes writing.new_pages may_grow.can grown.fills grown.takes
-
-    stepped : IsStepped P end state (Write path writing.offset bytes) (least_free_id state.tree)
-    stepped =
         let for = Writings.for_writing volume device state path bytes writing plan in
-        subst (λ (n : ℕ). IsStepped P (sized grown.taken writing.inode (writing.offset + n)) state (Write path writing.offset bytes) (least_free_id state.tree)) (sym for.count_is)
-        (write_past_step_law P W grown.filled grown.taken state path writing.inode writing.offset (least_free_id state.tree) bytes writing.new_pages
-        (subst (λ (n : ℕ). CanGrow P W writing.inode (writing.offset + n) writing.offset bytes writing.new_pages) for.count_is may_grow.can) grown.fills grown.takes
-        (Writings.some volume device state path bytes writing plan) for.inode_is plan.stands.reads)
+        let gained = subst (λ (l : List ℕ). HasGained P W K writing.inode l) (sym (no_pages writing.new_pages (Writings.none_added volume device state path bytes writing plan inside))) law.index in
+        let tidy = as_tidy law.tidy in
+        let knows : Knows new K =
+        GrownKnown.knows_after volume W K writing.inode writing.new_pages plan.stands.knows may.can.tidy.coherent may.held.least may.held.most may.can.reached may.can.file may.held.count for.new_pages.each
+        (rising_distinct writing.new_pages for.new_pages.rising) gained new enters (((tidied tidy).coherent Rule.head 0).whole refl) in
+        Stepping.leaves_state volume device state (Write path writing.offset bytes) (Count (length bytes)) (WritesBytes writing) plan.stands plan.planned refl (λ gives. refl) K tidy
+        (inside_step_law P W K state path writing.inode writing.offset (least_free_id state.tree) bytes may.can writes may.some for.inode_is plan.stands.reads)
+        new after (ap (λ (v : VolumeView). v.size) enters.rest) knows words settled counted
 
-    pub left_past : (new : VolumeView) → EntersPages volume new writing.inode writing.new_pages → (after : DeviceView) → after.words ≡ K → IsSettledView after → after.fences ≡ device.fences + fences_of_plan (WritesBytes writing)
-        → LeavesState volume new device after state (Write path writing.offset bytes) (Count (length bytes))
-    left_past new enters after words settled counted = left_by end (as_tidy growth.tidy) stepped growth.index new enters after (words ∙ grown.size) settled counted
+  -- ---- and past it
 
-  pub leaves_state : (after : DeviceView) → StoresBytes P device after writing bytes → (new : VolumeView) → EntersPages volume new writing.inode writing.new_pages → IsSettledView after → after.fences ≡ device.fences + fences_of_plan (WritesBytes writing)
+  pub leaves_state : (after : DeviceView) → StoresBytes P device.words after.words writing bytes → (new : VolumeView) → EntersPages volume new writing.inode writing.new_pages → IsSettledView after → after.fences ≡ device.fences + fences_of_plan (WritesBytes writing)
       → LeavesState volume new device after state (Write path writing.offset bytes) (Count (length bytes))
   leaves_state after written new enters settled counted = elim (cases_lt writing.old_size (writing.offset + writing.count)) [
-    | inl more ↦ left_past after.words more (written.past more).stores new enters after refl settled counted
+    | inl more ↦
+        GrownLeft.leaves_state volume device state (Write path writing.offset bytes) (Count (length bytes)) (WritesBytes writing) plan.stands plan.planned refl (λ gives. refl) (Writings.may_grow volume device state path bytes writing plan more)
+        (write_grows path bytes writing (record { reads = plan.stands.reads; planned = plan.planned })) (rising_distinct writing.new_pages (Writings.for_writing volume device state path bytes writing plan).new_pages.rising) after.words (written.past more) new enters after refl settled counted
     | inr inside ↦ left_inside after.words inside (written.inside inside).writes new enters after refl settled counted
   ]

@@ -1,10 +1,13 @@
 -- What a crash leaves of a write inside the size, and what a write costs.
-use Rattle.std.proofs.Common.{◌≡◌, inr, ℕ, ◌+◌, ◌<◌, ◌≤◌, Bool, true, false, cond, List, length, Option, Some, sym, ap, subst, ◌∙◌, arith}
-use Rattle.std.specs.Prelude.{Result, Ok, Err, OnOk, nat_le}
+use Rattle.std.proofs.Common.{◌≡◌, ◌⊎◌, inl, inr, ℕ, ◌+◌, ◌<◌, ◌≤◌, Bool, true, false, cond, List, [], ◌∷◌, length, Option, Some, sym, ap, subst, ◌∙◌, arith}
+use Rattle.std.specs.Prelude.{Result, OnOk, nat_le}
+use Rattle.std.proofs.lemmas.Bool.{cases_lt}
 use Rattle.std.proofs.lemmas.Bool.Decides.{nat_tests}
 use Rattle.pm_trait.specs.Trail.{Trail}
 use Rattle.pm_trait.specs.Device.{LeavesOnly}
-use Rattle.pm_trait.specs.DeviceView.{DeviceView}
+use Rattle.pm_trait.specs.DeviceView.{DeviceView, IsSettledView, MakesIntervals}
+use Rattle.pm_trait.proofs.DeviceLaws.{fenced_stays}
+use Rattle.pm_trait.proofs.DeviceViewLaws.{intervals_one}
 use Rattle.tree_model.specs.PathText.{Route}
 use Rattle.tree_model.specs.Run.{State}
 use Rattle.tree_model.specs.Step.{outcome_of, step, least_free_id, with_bytes, overwritten}
@@ -18,21 +21,27 @@ use Rattle.content_laws.specs.Inside.{WritesInside, LeavesWritten as Stands}
 use Rattle.content_laws.proofs.Inside.{inside_law}
 use Rattle.content_laws.proofs.Moments.{inside_once_law}
 use Rattle.content_laws.proofs.Torn.{torn_tree_law}
+use Rattle.volume.specs.Carried.{IsAtomic}
 use Rattle.volume.specs.Costs.{span_events, fence_events, growth_events, fences_for_growth, events_of_write, fences_of_write}
 use Rattle.volume.specs.Crashes.{MayReadAs}
 use Rattle.volume.specs.declared.plan.Writing.{Writing}
-use Rattle.entry_steps.proofs.Moments.{Quietly}
-use Rattle.data_ops.specs.Growing.{GrowsInTurn}
+use Rattle.entry_steps.specs.Unfolds.{events_in, fences_in, Takes, Unfolds}
+use Rattle.entry_steps.proofs.Moments.{Quietly, quiet_fenced, is_mix, on_ok}
+use Rattle.entry_steps.proofs.Unfolding.{last, intervals, map_ok}
 use Rattle.data_ops.specs.Hanging.{HangsOnWords, IsRangeWord}
-use Rattle.data_ops.specs.Writing.{MayWriteInside, IsWritingAt, StoresInside, StoresBytes}
+use Rattle.data_ops.specs.Steps.{growth_steps, either_steps}
+use Rattle.data_ops.specs.Writing.{MayWriteInside, MayWriteBytes, IsWritingAt, StoresBytes, HasStoredBytes, growth_of, overwriting, write_steps}
+use Rattle.data_ops.proofs.GrowCourse
 use Rattle.data_ops.proofs.Growing.{written_tree, same_range}
-use Rattle.data_ops.proofs.Writings.{writing_at}
+use Rattle.data_ops.proofs.Resizes.{made_as}
+use Rattle.data_ops.proofs.Told.{only}
+use Rattle.data_ops.proofs.Writings.{writing_at, write_grows}
 
 module _ (P : ℕ) (W : List ℕ) (i offset : ℕ) (bytes pages : List ℕ) (may : MayWriteInside P W i offset bytes pages) (J : List ℕ) (writes : WritesInside P W J i offset bytes) where
   law : Stands P W J i offset bytes
   law = inside_law P W J i offset bytes may.can writes
 
-  pub hangs_inside : {old now : Option Trail} → LeavesOnly old now (Quietly (IsMix W J)) → HangsOnWords P old now (IsRangeWord P W i offset bytes)
+  hangs_inside : {old now : Option Trail} → LeavesOnly old now (Quietly (IsMix W J)) → HangsOnWords P old now (IsRangeWord P W i offset bytes)
   hangs_inside run = record {
     continues = run.continues;
     each = λ moment image other tree from upto may_image may_other same reads.
@@ -51,14 +60,14 @@ module _ {P : ℕ} {W : List ℕ} {state : State} (path : Route) (bytes pages : 
   abbrev new : Tree
   new = (step P state.tree state.room (Write path writing.offset bytes)).tree
 
-  pub inside_allowed : (M : List ℕ) → IsMix W J M → MayReadAs P state (Some (Write path writing.offset bytes)) M
+  inside_allowed : (M : List ℕ) → IsMix W J M → MayReadAs P state (Some (Write path writing.offset bytes)) M
   inside_allowed M mix =
       let torn = (law P W writing.inode writing.offset bytes pages may J writes).torn M mix in
       let (tree, reads, left) = torn_tree_law P W M state path writing.inode writing.offset bytes torn at.reads.tree (writing_at P W state path writing.offset bytes writing at.planned.plan_is).inode_is at.planned.accepted in
       record { sound = torn.coherent; tree = tree; reads = reads; allowed = inr (inr left) }
 
   -- where the words before read as the tree after, so does all that is left
-  pub inside_stays : Reads P W new → (M : List ℕ) → IsMix W J M → Reads P M new
+  inside_stays : Reads P W new → (M : List ℕ) → IsMix W J M → Reads P M new
   inside_stays has M mix =
       let same = write_tree path bytes writing at may.some in
       (inside_once_law P W J M writing.inode writing.offset bytes state.tree may.can writes mix at.reads.tree (subst (λ (tree : Tree). Reads P W tree) same has)).reads new has
@@ -77,23 +86,81 @@ module _ (writing : Writing) where
       ap (λ (t : Bool). cond t (span_events writing.offset (writing.offset + writing.count) + fence_events) (growth_events writing.old_size writing.offset (length writing.new_pages))) (at_most (writing.offset + writing.count) writing.old_size inside)
       ∙ ap (λ (n : ℕ). span_events writing.offset (writing.offset + n) + fence_events) is
 
-  pub inside_fences : writing.offset + writing.count ≤ writing.old_size → fences_of_write writing ≡ 1
+  inside_fences : writing.offset + writing.count ≤ writing.old_size → fences_of_write writing ≡ 1
   inside_fences inside = ap (λ (t : Bool). cond t 1 (fences_for_growth writing.new_pages)) (at_most (writing.offset + writing.count) writing.old_size inside)
 
   pub past_events : writing.old_size < writing.offset + writing.count → events_of_write writing ≡ growth_events writing.old_size writing.offset (length writing.new_pages)
   past_events more =
       ap (λ (t : Bool). cond t (span_events writing.offset (writing.offset + writing.count) + fence_events) (growth_events writing.old_size writing.offset (length writing.new_pages))) (more_than (writing.offset + writing.count) writing.old_size more)
 
-  pub past_fences : writing.old_size < writing.offset + writing.count → fences_of_write writing ≡ fences_for_growth writing.new_pages
+  past_fences : writing.old_size < writing.offset + writing.count → fences_of_write writing ≡ fences_for_growth writing.new_pages
   past_fences more = ap (λ (t : Bool). cond t 1 (fences_for_growth writing.new_pages)) (more_than (writing.offset + writing.count) writing.old_size more)
+
+-- ---- the steps of either way
+
+module _ {T E : Type 0} (P : ℕ) {old new : DeviceView} (writing : Writing) (bytes : List ℕ) {result : Result T E} where
+  pub of_inside : writing.offset + writing.count ≤ writing.old_size → Takes (overwriting P writing.inode writing.offset bytes) old new result → Unfolds (write_steps P writing bytes) old new result
+  of_inside inside takes =
+      subst (λ (t : Bool). Unfolds (either_steps t (overwriting P writing.inode writing.offset bytes ∷ []) (growth_steps P (growth_of writing) bytes writing.new_pages)) old new result) (sym (at_most (writing.offset + writing.count) writing.old_size inside))
+      (last result takes)
+
+  as_inside : writing.offset + writing.count ≤ writing.old_size → Unfolds (write_steps P writing bytes) old new result → Takes (overwriting P writing.inode writing.offset bytes) old new result
+  as_inside inside made =
+      only (subst (λ (t : Bool). Unfolds (either_steps t (overwriting P writing.inode writing.offset bytes ∷ []) (growth_steps P (growth_of writing) bytes writing.new_pages)) old new result) (at_most (writing.offset + writing.count) writing.old_size inside) made)
+
+  pub of_growth : writing.old_size < writing.offset + writing.count → Unfolds (growth_steps P (growth_of writing) bytes writing.new_pages) old new result → Unfolds (write_steps P writing bytes) old new result
+  of_growth more made =
+      subst (λ (t : Bool). Unfolds (either_steps t (overwriting P writing.inode writing.offset bytes ∷ []) (growth_steps P (growth_of writing) bytes writing.new_pages)) old new result) (sym (more_than (writing.offset + writing.count) writing.old_size more)) made
+
+  as_growth : writing.old_size < writing.offset + writing.count → Unfolds (write_steps P writing bytes) old new result → Unfolds (growth_steps P (growth_of writing) bytes writing.new_pages) old new result
+  as_growth more made =
+      subst (λ (t : Bool). Unfolds (either_steps t (overwriting P writing.inode writing.offset bytes ∷ []) (growth_steps P (growth_of writing) bytes writing.new_pages)) old new result) (more_than (writing.offset + writing.count) writing.old_size more) made
 
 -- ---- what it leaves
 
-pub written_inside : {T E : Type 0} (P : ℕ) (before after : DeviceView) (writing : Writing) (bytes : List ℕ) (result : Result T E) → writing.offset + writing.count ≤ writing.old_size → StoresInside P before.words after.words writing.inode writing.offset bytes → OnOk result (StoresBytes P before after writing bytes)
-written_inside P before after writing bytes (Ok done) inside stores = record { inside = λ other. stores; past = λ more. absurd (omega (arith, inside, more)) }
-written_inside P before after writing bytes (Err fault) inside stores = tt
+module _ {T E : Type 0} (P : ℕ) (old new : DeviceView) (writing : Writing) (bytes pages : List ℕ) (result : Result T E) (may : MayWriteBytes P old.words writing bytes pages) (settled : IsSettledView old) (made : Unfolds (write_steps P writing bytes) old new result) where
+  ways : (writing.old_size < writing.offset + writing.count) ⊎ (writing.offset + writing.count ≤ writing.old_size)
+  ways = cases_lt writing.old_size (writing.offset + writing.count)
 
-pub written_past : {T E : Type 0} (P : ℕ) (before after : DeviceView) (writing : Writing) (bytes : List ℕ) (result : Result T E) → writing.old_size < writing.offset + writing.count
-    → OnOk result (GrowsInTurn P before after writing.inode (writing.offset + writing.count) writing.offset bytes writing.new_pages) → OnOk result (StoresBytes P before after writing bytes)
-written_past P before after writing bytes (Ok done) more grown = record { inside = λ most. absurd (omega (arith, most, more)); past = λ other. grown }
-written_past P before after writing bytes (Err fault) more grown = tt
+  pub all_intervals : MakesIntervals old new (events_of_write writing) (fences_of_write writing) result
+  all_intervals = elim ways [
+    | inl more ↦
+        let growth = growth_of writing in
+        made_as (events_in (growth_steps P growth bytes writing.new_pages)) (events_of_write writing) (fences_in (growth_steps P growth bytes writing.new_pages)) (fences_of_write writing)
+        (past_events writing more ∙ GrowCourse.costs P growth bytes writing.new_pages) (past_fences writing more ∙ GrowCourse.fences P growth bytes writing.new_pages) (intervals settled (as_growth P writing bytes more made))
+    | inr inside ↦
+        made_as (span_events writing.offset (writing.offset + length bytes) + fence_events) (events_of_write writing) 1 (fences_of_write writing)
+        (inside_events writing (length bytes) may.count inside) (inside_fences writing inside) (intervals_one (as_inside P writing bytes inside made).fenced)
+  ]
+
+  pub stores_bytes : OnOk result (StoresBytes P old.words new.words writing bytes)
+  stores_bytes = elim ways [
+    | inl more ↦ map_ok _ _ result (λ grown. record { inside = λ most. absurd (omega (arith, most, more)); past = λ again. grown }) (GrowCourse.grown_done old (may.past more) new result (as_growth P writing bytes more made))
+    | inr inside ↦ on_ok result (record { inside = λ again. (as_inside P writing bytes inside made).makes; past = λ more. absurd (omega (arith, inside, more)) })
+  ]
+
+  module _ {state : State} {path : Route} (at : IsWritingAt P old.words state path bytes writing) where
+    pub is_atomic : IsAtomic P old new state (Write path writing.offset bytes)
+    is_atomic = elim ways [
+      | inl more ↦ (let under = GrowCourse.underway old (may.past more) new result (as_growth P writing bytes more made) settled (write_grows path bytes writing at) in record { any_moment = under.any_moment; stays = under.stays })
+      | inr inside ↦
+          let takes = as_inside P writing bytes inside made in
+          let can = may.inside inside in
+          record {
+            any_moment = quiet_fenced (MayReadAs P state (Some (Write path writing.offset bytes))) takes.fenced.fenced
+                (λ image mix. inside_allowed path bytes pages writing at can new.words takes.makes.writes image (is_mix old.words new.words image mix));
+            stays = fenced_stays (λ image. Reads P image (step P state.tree state.room (Write path writing.offset bytes)).tree) takes.fenced.fenced
+                (λ has image mix. inside_stays path bytes pages writing at can new.words takes.makes.writes has image (is_mix old.words new.words image mix));
+          }
+    ]
+
+    hangs : HangsOnWords P old.trail new.trail (IsRangeWord P old.words writing.inode writing.offset bytes)
+    hangs = elim ways [
+      | inl more ↦ (let under = GrowCourse.underway old (may.past more) new result (as_growth P writing bytes more made) settled (write_grows path bytes writing at) in record { continues = under.hangs.continues; each = under.hangs.each })
+      | inr inside ↦
+          let takes = as_inside P writing bytes inside made in
+          hangs_inside P old.words writing.inode writing.offset bytes pages (may.inside inside) new.words takes.makes.writes (quiet_fenced (IsMix old.words new.words) takes.fenced.fenced (is_mix old.words new.words))
+    ]
+
+    pub has_stored : HasStoredBytes P old new writing bytes result
+    has_stored = record { in_turn = made; made = stores_bytes; commit_word = hangs }

@@ -1,5 +1,5 @@
 -- A file that gets another size: the words that the intervals of a truncation store. P is the number of pages.
-use Rattle.std.specs.Prelude.{◌≡◌, ◌≢◌, ℕ, ◌-◌, ◌<◌, ◌≤◌, List, [], Result, OnOk}
+use Rattle.std.specs.Prelude.{◌≡◌, ◌≢◌, ℕ, ◌-◌, ◌<◌, ◌≤◌, nat_lt, List, [], ◌∷◌, length, drop, Result, OnOk}
 use Rattle.pm_trait.specs.DeviceView.{DeviceView}
 use Rattle.layout.specs.Geometry.{inode_word_of}
 use Rattle.tree_model.specs.PathText.{Route}
@@ -8,7 +8,6 @@ use Rattle.tree_model.specs.declared.command.Command.{Command}
 use Rattle.tree_model.specs.declared.command.Command.TheVariants.{Truncate}
 use Rattle.image_reading.specs.Reading.{ReadsAs, pages_of_size}
 use Rattle.layout.specs.Fields.{inode_size}
-use Rattle.content_laws.specs.Growth.{sized}
 use Rattle.content_laws.specs.Cut.{CanCut, Cuts}
 use Rattle.volume.specs.Commit.{HangsOn}
 use Rattle.volume.specs.Deed.{SetsSize}
@@ -16,10 +15,11 @@ use Rattle.volume.specs.Entered.{EntersPages, LeavesLastPages}
 use Rattle.volume.specs.Planned.{IsPlanned}
 use Rattle.volume.specs.Volume.{VolumeView}
 use Rattle.volume.specs.declared.plan.Resizing.{Resizing}
+use Rattle.entry_steps.specs.Unfolds.{Step, Unfolds}
 use Rattle.data_ops.specs.Files.{HasPages}
 use Rattle.data_ops.specs.declared.grow.Growth.{Growth}
-use Rattle.data_ops.specs.Growing.{MayGrow, GrowsInTurn}
-use Rattle.data_ops.specs.Turns.{SettledInTurn}
+use Rattle.data_ops.specs.Growing.{MayGrow, StoresGrowth}
+use Rattle.data_ops.specs.Steps.{sizing, giving, freeing, growth_steps, either_steps}
 
 -- it gives a file another size
 abbrev pub IsTruncation : Command → Type 0
@@ -31,6 +31,15 @@ pub record MayCut (P : ℕ) (W : List ℕ) (resizing : Resizing) (pages : List �
   pub held : HasPages P W resizing.inode pages
   pub old_size : inode_size W resizing.inode ≡ resizing.old_size
   pub cut : resizing.cut ≡ pages_of_size resizing.old_size - pages_of_size resizing.new_size
+
+-- the pages that a cut gives back, the last ones of the file's
+abbrev pub gone_pages : Resizing → List ℕ → List ℕ
+gone_pages resizing pages = drop (length pages - resizing.cut) pages
+
+-- The steps of a cut: the size, by which the file is cut; the owners of the pages behind its end, where there are any; and the rest of
+-- their descriptors.
+abbrev pub cut_steps : ℕ → Resizing → List ℕ → List Step
+cut_steps P resizing pages = sizing resizing.inode resizing.new_size ∷ giving P (gone_pages resizing pages) ∷ freeing P (gone_pages resizing pages) ∷ []
 
 -- a growth to the new size, in which no byte is written
 abbrev pub growth_to : Resizing → Growth
@@ -57,17 +66,18 @@ pub record StoresCut (P : ℕ) (W J : List ℕ) (i z : ℕ) : Type 0 where
   pub given : List ℕ
   pub cuts : Cuts P W given J i z
 
--- The file was cut from the one device to the other, and each interval was settled before the next.
-pub record CutsInTurn (P : ℕ) (before after : DeviceView) (i z : ℕ) : Type 0 where
-  pub stores : StoresCut P before.words after.words i z
-  pub in_turn : SettledInTurn before.trail after.trail (sized before.words i z) stores.given
+-- The steps of a truncation: to more those of a growth, and to less those of a cut. These are the file's pages.
+abbrev pub resize_steps : ℕ → Resizing → List ℕ → List Step
+resize_steps P resizing pages = either_steps (nat_lt resizing.old_size resizing.new_size) (growth_steps P (growth_to resizing) [] resizing.new_pages) (cut_steps P resizing pages)
 
--- From the one device to the other the file has its new size.
-pub record StoresSize (P : ℕ) (before after : DeviceView) (resizing : Resizing) : Type 0 where
-  pub grown : resizing.old_size < resizing.new_size → GrowsInTurn P before after resizing.inode resizing.new_size resizing.old_size [] resizing.new_pages
-  pub cut : resizing.new_size < resizing.old_size → CutsInTurn P before after resizing.inode resizing.new_size
+-- From W to J the file gets its new size.
+pub record StoresSize (P : ℕ) (W J : List ℕ) (resizing : Resizing) : Type 0 where
+  pub grown : resizing.old_size < resizing.new_size → StoresGrowth P W J resizing.inode resizing.new_size resizing.old_size [] resizing.new_pages
+  pub cut : resizing.new_size < resizing.old_size → StoresCut P W J resizing.inode resizing.new_size
 
--- Where it succeeds the words are those, and no other word has changed. What a crash leaves hangs on the size alone.
-pub record HasStoredSize {T E : Type 0} (P : ℕ) (before after : DeviceView) (resizing : Resizing) (result : Result T E) : Type 0 where
-  pub made : OnOk result (StoresSize P before after resizing)
+-- The steps were made in turn, each settled before the next. Where it succeeds the words are those, and no other word has changed.
+-- What a crash leaves hangs on the size alone.
+pub record HasStoredSize {T E : Type 0} (P : ℕ) (before after : DeviceView) (resizing : Resizing) (pages : List ℕ) (result : Result T E) : Type 0 where
+  pub in_turn : Unfolds (resize_steps P resizing pages) before after result
+  pub made : OnOk result (StoresSize P before.words after.words resizing)
   pub commit_word : HangsOn P before.trail after.trail (inode_word_of resizing.inode 2)

@@ -1,6 +1,5 @@
 -- A file that grows, and the words that its three intervals store. P is the number of pages, W the words before.
 use Rattle.std.specs.Prelude.{◌≡◌, ℕ, ◌+◌, ◌*◌, ◌/◌, ◌^◌, ◌<◌, ◌≤◌, min, List, [], length, drop, Some, None}
-use Rattle.pm_trait.specs.DeviceView.{DeviceView}
 use Rattle.layout.specs.Fields.{inode_size}
 use Rattle.layout.specs.Geometry.{pieces}
 use Rattle.tree_model.specs.PathText.{Route}
@@ -16,7 +15,6 @@ use Rattle.content_laws.specs.Growth.{CanGrow, FillsFile, TakesPages, sized}
 use Rattle.volume.specs.Costs.{span_events, page_events, word_events, descriptor_rest_events, fence_events}
 use Rattle.data_ops.specs.declared.grow.Growth.{Growth}
 use Rattle.data_ops.specs.Files.{HasPages, AreFree}
-use Rattle.data_ops.specs.Turns.{SettledInTurn}
 
 -- ---- what stands before
 
@@ -83,8 +81,3 @@ pub record StoresGrowth (P : ℕ) (W J : List ℕ) (i z offset : ℕ) (bytes pag
   pub fills : FillsFile P W filled i offset bytes pages
   pub takes : TakesPages P filled taken i pages
   pub size : J ≡ sized taken i z
-
--- The file has grown from the one device to the other, and each interval was settled before the next.
-pub record GrowsInTurn (P : ℕ) (before after : DeviceView) (i z offset : ℕ) (bytes pages : List ℕ) : Type 0 where
-  pub stores : StoresGrowth P before.words after.words i z offset bytes pages
-  pub in_turn : SettledInTurn before.trail after.trail stores.filled stores.taken

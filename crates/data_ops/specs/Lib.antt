@@ -1,7 +1,7 @@
 pub mod Files
 pub mod Hanging
 pub mod Reading
-pub mod Turns
 pub mod Growing
+pub mod Steps
 pub mod Writing
 pub mod Cutting

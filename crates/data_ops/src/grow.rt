@@ -1,28 +1,20 @@
 // A file grows, each interval settled by its fence: its bytes with the new pages, their owners, and then its size.
-ghost use Rattle.std.specs.Prelude.{◌≡◌, ◌≢◌, ◌+◌, ◌*◌, ◌^◌, ◌≤◌, ◌<◌, ℕ, nat_lt, length, OnOk};
-ghost use Rattle.pm_trait.specs.Device.{IsFlushed, IsClean, LeavesOnly, StaysOnce, Mix};
-ghost use Rattle.pm_trait.specs.DeviceView.{IsSettledView, Stores, StoresAndFences, MakesIntervals};
-ghost use Rattle.tree_model.specs.Tree.{Tree};
-ghost use Rattle.tree_model.specs.Run.{State};
-ghost use Rattle.tree_model.specs.declared.command.Command.{Command};
-ghost use Rattle.layout.specs.Geometry.{inodes_of};
-ghost use Rattle.inode_state.specs.States.{IsLive};
-ghost use Rattle.inode_state.specs.Inode.{fields_at};
-ghost use Rattle.inode_state.specs.Covered.{HasPagesFor};
-ghost use Rattle.image_reading.specs.Reading.{Reads};
+ghost use Rattle.std.specs.Prelude.{◌≡◌, ◌+◌, ◌*◌, ◌^◌, ◌≤◌, ℕ, nat_lt, length};
+ghost use Rattle.pm_trait.specs.Device.{IsFlushed, IsClean};
+ghost use Rattle.pm_trait.specs.DeviceView.{IsSettledView, Stores};
 ghost use Rattle.page_state.specs.Spans.{span_of};
 ghost use Rattle.page_state.specs.Page.{OfSome, IsOwnWord, IsFilledWord};
 ghost use Rattle.page_state.specs.Events.{HaveBytes};
 ghost use Rattle.content_laws.specs.Range.{WritesBelow, WritesTail};
-ghost use Rattle.content_laws.specs.Growth.{FillsFile, TakesPages, sized};
-ghost use Rattle.volume.specs.Carried.{IsAtomic};
-ghost use Rattle.volume.specs.Costs.{where_true, page_events, growth_events, fences_for_growth};
+ghost use Rattle.volume.specs.Costs.{where_true, page_events};
 ghost use Rattle.entry_steps.specs.Steps.{MayFence};
+ghost use Rattle.entry_steps.specs.Unfolds.{events_in, Takes, Unfolds};
 ghost use Rattle.data_ops.specs.Files.{AreBytesFrom, AreFree};
-ghost use Rattle.data_ops.specs.Hanging.{HangsOnWords, IsRangeWord};
-ghost use Rattle.data_ops.specs.Growing.{MayGrow, MayFill, IsTailWord, IsGrowthBy, old_page_events, fill_events, owner_events, GrowsInTurn};
+ghost use Rattle.data_ops.specs.Growing.{MayGrow, MayFill, IsTailWord, old_page_events, fill_events, owner_events};
+ghost use Rattle.data_ops.specs.Steps.{CanOwn, CanRaise, filling_file, owning, sizing, growth_steps};
 
-use fence_token::{Clean, fence};
+use crate::fencing::end_interval;
+use fence_token::Clean;
 use inode_state::{InodeH, Live as LiveNode};
 use layout::{Geometry, PAGE_BYTES};
 use page_state::{Filled, Free, Live, PageH};
@@ -106,39 +98,24 @@ fn fill<P: Pm>(
     new_pages: &[u64],
     bytes: &[u8],
 ) -> Result<(), PmFault>
-    requires whole { length (P.view pm.old).words ≡ 512 * geometry.now.pages }
-    requires may { MayGrow geometry.now.pages (P.view pm.old).words growth.now bytes.now old_pages.now new_pages.now }
+    requires ready { MayGrow geometry.now.pages (P.view pm.old).words growth.now bytes.now old_pages.now new_pages.now }
     requires begins { MayFence (P.view pm.old)
         (fill_events growth.now (length new_pages.now)) 1 }
-    ensures filled { FillsFile geometry.now.pages (P.view pm.old).words (P.view pm.new).words growth.now.inode
-        growth.now.offset bytes.now new_pages.now }
-    ensures device { StoresAndFences (P.view pm.old) (P.view pm.new)
-        (fill_events growth.now (length new_pages.now)) result }
+    ensures takes { Takes (filling_file geometry.now.pages growth.now bytes.now new_pages.now) (P.view pm.old)
+        (P.view pm.new) result }
 {
     fill_old(pm, geometry, growth, old_pages, bytes);
     let first = old_pages.len() as u64;
     fill_new(pm, geometry, new_pages, first, growth.offset, bytes);
-    match fence(pm) {
-        Ok(_settled) => Ok(()),
-        Err(fault) => Err(fault),
-    }
+    end_interval(pm)
 }
 
 // Gives filled pages to a file, where there are any.
 fn own<P: Pm>(pm: &mut P, geometry: &Geometry, pages: &[u64], inode: u64) -> Result<(), PmFault>
-    requires whole { length (P.view pm.old).words ≡ 512 * geometry.now.pages }
-    requires filled { (first : ℕ) × AreBytesFrom geometry.now.pages (P.view pm.old).words 0 first pages.now }
-    requires some_inode { inode ≢ 0 }
+    requires ready { CanOwn geometry.now.pages (P.view pm.old).words inode pages.now }
     requires begins { MayFence (P.view pm.old) (where_true (nat_lt 0 (length pages.now))
         (owner_events (length pages.now))) 1 }
-    ensures taken { TakesPages geometry.now.pages (P.view pm.old).words (P.view pm.new).words inode pages.now }
-    ensures any_moment { LeavesOnly (P.view pm.old).trail (P.view pm.new).trail
-        (λ acks image. (acks ≡ 0) × Mix (P.view pm.old).words (P.view pm.new).words image) }
-    ensures stays { (after : Tree) → ¬ Reads geometry.now.pages (P.view pm.old).words after
-        → StaysOnce (P.view pm.old).trail (P.view pm.new).trail (λ image. Reads geometry.now.pages image after) }
-    ensures device { MakesIntervals (P.view pm.old) (P.view pm.new)
-        (where_true (nat_lt 0 (length pages.now)) (owner_events (length pages.now)))
-        (where_true (nat_lt 0 (length pages.now)) 1) result }
+    ensures takes { Takes (owning geometry.now.pages inode pages.now) (P.view pm.old) (P.view pm.new) result }
 {
     if pages.is_empty() {
         return Ok(());
@@ -146,33 +123,19 @@ fn own<P: Pm>(pm: &mut P, geometry: &Geometry, pages: &[u64], inode: u64) -> Res
     let filled: PageH<Clean, Filled> = PageH::at(pm, geometry, pages);
     let claimed = filled.claim(pm, inode);
     let _flushed = claimed.flush(pm);
-    match fence(pm) {
-        Ok(_settled) => Ok(()),
-        Err(fault) => Err(fault),
-    }
+    end_interval(pm)
 }
 
 // Raises a file's size, for which its pages stand.
 fn raise_size<P: Pm>(pm: &mut P, geometry: &Geometry, inode: u64, size: u64) -> Result<(), PmFault>
-    requires whole { length (P.view pm.old).words ≡ 512 * geometry.now.pages }
-    requires from_one { 1 ≤ inode }
-    requires in_range { inode ≤ inodes_of geometry.now.pages }
-    requires live { IsLive inode (fields_at (P.view pm.old).words inode) }
-    requires covered { HasPagesFor geometry.now.pages inode size (P.view pm.old) }
+    requires ready { CanRaise geometry.now.pages (P.view pm.old) inode size }
     requires begins { MayFence (P.view pm.old) COMMIT_EVENTS 1 }
-    ensures raised { (P.view pm.new).words ≡ sized (P.view pm.old).words inode size }
-    ensures device { StoresAndFences (P.view pm.old) (P.view pm.new) COMMIT_EVENTS result }
+    ensures takes { Takes (sizing inode size) (P.view pm.old) (P.view pm.new) result }
 {
     let live: InodeH<Clean, LiveNode> = InodeH::at(pm, geometry, inode);
     let grown = live.grow_size(pm, size);
-    let flushed = grown.flush(pm);
-    match fence(pm) {
-        Ok(token) => {
-            let _file = flushed.settle(pm, &token).live();
-            Ok(())
-        }
-        Err(fault) => Err(fault),
-    }
+    let _flushed = grown.flush(pm);
+    end_interval(pm)
 }
 
 /// Makes a file grow on the device, over its old pages and the new ones that it needs, and writes the bytes from `growth.offset` on.
@@ -185,19 +148,11 @@ pub fn grow<P: Pm>(
     new_pages: &[u64],
     bytes: &[u8],
 ) -> Result<(), PmFault>
-    requires whole { length (P.view pm.old).words ≡ 512 * geometry.now.pages }
     requires may { MayGrow geometry.now.pages (P.view pm.old).words growth.now bytes.now old_pages.now new_pages.now }
-    requires begins { MayFence (P.view pm.old)
-        (growth_events growth.now.old_size growth.now.offset (length new_pages.now)) 3 }
-    ensures grown { OnOk result (GrowsInTurn geometry.now.pages (P.view pm.old) (P.view pm.new) growth.now.inode
-        growth.now.new_size growth.now.offset bytes.now new_pages.now) }
-    ensures atomic { (state : State) (command : Command) → IsGrowthBy geometry.now.pages (P.view pm.old).words state
-        command growth.now bytes.now → IsAtomic geometry.now.pages (P.view pm.old) (P.view pm.new) state command }
-    ensures commit_word { HangsOnWords geometry.now.pages (P.view pm.old).trail (P.view pm.new).trail
-        (IsRangeWord geometry.now.pages (P.view pm.old).words growth.now.inode growth.now.offset bytes.now) }
-    ensures device { MakesIntervals (P.view pm.old) (P.view pm.new)
-        (growth_events growth.now.old_size growth.now.offset (length new_pages.now))
-        (fences_for_growth new_pages.now) result }
+    requires begins { MayFence (P.view pm.old) (events_in (growth_steps geometry.now.pages growth.now bytes.now
+        new_pages.now)) 3 }
+    ensures unfolds { Unfolds (growth_steps geometry.now.pages growth.now bytes.now new_pages.now) (P.view pm.old)
+        (P.view pm.new) result }
 {
     fill(pm, geometry, growth, old_pages, new_pages, bytes)?;
     own(pm, geometry, new_pages, growth.inode)?;

@@ -1,6 +1,7 @@
 //! The calls that read a file of a mounted volume, write bytes into it and give it another size.
 #![tactic(auto)]
 
+mod fencing;
 mod grow;
 mod reading;
 mod truncate;

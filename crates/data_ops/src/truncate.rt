@@ -1,31 +1,24 @@
 // A file gets another size: a greater one by its growth; a smaller one in the size alone, and then the pages behind it are given back.
-ghost use Rattle.std.specs.Prelude.{◌≡◌, ◌≢◌, ◌+◌, ◌*◌, ◌<◌, ◌≤◌, ℕ, nat_lt, false, length, None, IfOk, OnOk, Contains};
-ghost use Rattle.pm_trait.specs.Device.{LeavesOnly, Mix};
-ghost use Rattle.pm_trait.specs.DeviceView.{StoresAndFences, MakesIntervals};
-ghost use Rattle.layout.specs.Geometry.{inodes_of, inode_word_of, pieces};
-ghost use Rattle.layout.specs.Fields.{inode_size};
+ghost use Rattle.std.specs.Prelude.{◌≡◌, ◌+◌, ◌*◌, ◌≤◌, ℕ, nat_lt, length};
 ghost use Rattle.tree_model.specs.PathText.{Route};
 ghost use Rattle.tree_model.specs.Run.{State};
 ghost use Rattle.tree_model.specs.Step.{Done};
 ghost use Rattle.tree_model.specs.declared.command.Command.TheVariants.{Truncate};
-ghost use Rattle.inode_state.specs.States.{IsLive, sized_fields};
-ghost use Rattle.inode_state.specs.Inode.{fields_at, InodeIsClean};
-ghost use Rattle.image_laws.specs.Drop.{GivesPages};
-ghost use Rattle.content_laws.specs.Growth.{sized};
-ghost use Rattle.content_laws.specs.Cut.{ClearsPages};
-ghost use Rattle.volume.specs.Carried.{IsPlanFor, MayCarry, IsAtomic, Carries};
-ghost use Rattle.volume.specs.Commit.{HangsOn};
-ghost use Rattle.volume.specs.Costs.{where_true, commit_events, loss_events, fences_for_loss, events_of_resize, fences_of_resize};
+ghost use Rattle.volatile_index.specs.Index.{pages_of};
+ghost use Rattle.volume.specs.Carried.{IsPlanFor, MayCarry, Carries};
+ghost use Rattle.volume.specs.Costs.{where_true, events_of_resize};
 ghost use Rattle.volume.specs.Entered.{HasPagePlaces, MayEnterPages, MayLosePages};
 ghost use Rattle.volume.specs.declared.plan.Resizing.{Resizing as Resized};
 ghost use Rattle.volume.specs.declared.plan.Action.TheVariants.{Resize as Resizes};
 ghost use Rattle.entry_steps.specs.Steps.{MayFence};
-ghost use Rattle.data_ops.specs.Files.{AreBytesFrom};
+ghost use Rattle.entry_steps.specs.Unfolds.{events_in, Takes, Unfolds};
 ghost use Rattle.data_ops.specs.Growing.{owner_events, release_events};
-ghost use Rattle.data_ops.specs.Cutting.{IsTruncation, MayCut, MayResize, TakesIn, IsResizingAt, CutsInTurn, HasStoredSize};
+ghost use Rattle.data_ops.specs.Steps.{CanLower, CanDisown, CanRelease, sizing, giving, freeing};
+ghost use Rattle.data_ops.specs.Cutting.{IsTruncation, MayCut, MayResize, TakesIn, HasStoredSize, cut_steps, resize_steps};
 
+use crate::fencing::end_interval;
 use crate::grow::{Growth, grow};
-use fence_token::{Clean, fence};
+use fence_token::Clean;
 use inode_state::{Cut, InodeH, Live as LiveNode};
 use layout::Geometry;
 use page_state::{Live, PageH, Released};
@@ -34,82 +27,40 @@ use tree_model::Reply;
 use volume::{Action, COMMIT_EVENTS, Plan, Resizing, Volume};
 
 // Lowers a file's size.
-fn lower_size<P: Pm>(
-    pm: &mut P,
-    geometry: &Geometry,
-    inode: u64,
-    size: u64,
-) -> Result<InodeH<Clean, Cut>, PmFault>
-    requires whole { length (P.view pm.old).words ≡ 512 * geometry.now.pages }
-    requires from_one { 1 ≤ inode }
-    requires in_range { inode ≤ inodes_of geometry.now.pages }
-    requires live { IsLive inode (fields_at (P.view pm.old).words inode) }
-    requires less { size < inode_size (P.view pm.old).words inode }
+fn lower_size<P: Pm>(pm: &mut P, geometry: &Geometry, inode: u64, size: u64) -> Result<(), PmFault>
+    requires ready { CanLower geometry.now.pages (P.view pm.old).words inode size }
     requires begins { MayFence (P.view pm.old) COMMIT_EVENTS 1 }
-    ensures lowered { (P.view pm.new).words ≡ sized (P.view pm.old).words inode size }
-    ensures object { IfOk result (λ file. file ≡ record {
-      pages = geometry.now.pages;
-      number = inode;
-      fields = sized_fields (fields_at (P.view pm.old).words inode) size;
-      ticket = None;
-    }) }
-    ensures clean { IfOk result (λ file. InodeIsClean file (P.view pm.new)) }
-    ensures device { StoresAndFences (P.view pm.old) (P.view pm.new) COMMIT_EVENTS result }
+    ensures takes { Takes (sizing inode size) (P.view pm.old) (P.view pm.new) result }
 {
     let live: InodeH<Clean, LiveNode> = InodeH::at(pm, geometry, inode);
     let cut = live.shrink_size(pm, size);
-    let flushed = cut.flush(pm);
-    match fence(pm) {
-        Ok(token) => Ok(flushed.settle(pm, &token)),
-        Err(fault) => Err(fault),
-    }
+    let _flushed = cut.flush(pm);
+    end_interval(pm)
 }
 
 // Takes the pages behind a file's end from it, where there are any.
-fn disown<P: Pm>(
-    pm: &mut P,
-    geometry: &Geometry,
-    file: &InodeH<Clean, Cut>,
-    pages: &[u64],
-) -> Result<(), PmFault>
-    requires whole { length (P.view pm.old).words ≡ 512 * geometry.now.pages }
-    requires file_clean { InodeIsClean file.now (P.view pm.old) }
-    requires some_inode { file.now.number ≢ 0 }
-    requires pages { (first : ℕ) × (pieces file.now.fields.size 4096 ≤ first)
-        × AreBytesFrom geometry.now.pages (P.view pm.old).words file.now.number first pages.now }
+fn disown<P: Pm>(pm: &mut P, geometry: &Geometry, inode: u64, pages: &[u64]) -> Result<(), PmFault>
+    requires ready { CanDisown geometry.now.pages (P.view pm.old).words inode pages.now }
     requires begins { MayFence (P.view pm.old) (where_true (nat_lt 0 (length pages.now))
         (owner_events (length pages.now))) 1 }
-    ensures given { GivesPages geometry.now.pages (P.view pm.old).words (P.view pm.new).words (Contains pages.now) }
-    ensures any_moment { LeavesOnly (P.view pm.old).trail (P.view pm.new).trail
-        (λ acks image. (acks ≡ 0) × Mix (P.view pm.old).words (P.view pm.new).words image) }
-    ensures device { MakesIntervals (P.view pm.old) (P.view pm.new)
-        (where_true (nat_lt 0 (length pages.now)) (owner_events (length pages.now)))
-        (where_true (nat_lt 0 (length pages.now)) 1) result }
+    ensures takes { Takes (giving geometry.now.pages pages.now) (P.view pm.old) (P.view pm.new) result }
 {
     if pages.is_empty() {
         return Ok(());
     }
+    let file: InodeH<Clean, Cut> = InodeH::at(pm, geometry, inode);
     let live: PageH<Clean, Live> = PageH::at(pm, geometry, pages);
-    let cut = live.cut_owner(pm, file);
+    let cut = live.cut_owner(pm, &file);
     let _flushed = cut.flush(pm);
-    match fence(pm) {
-        Ok(_settled) => Ok(()),
-        Err(fault) => Err(fault),
-    }
+    end_interval(pm)
 }
 
 // Makes pages that were a file's free ones, where there are any.
 fn release<P: Pm>(pm: &mut P, geometry: &Geometry, pages: &[u64]) -> Result<(), PmFault>
-    requires whole { length (P.view pm.old).words ≡ 512 * geometry.now.pages }
-    requires pages { (first : ℕ) × AreBytesFrom geometry.now.pages (P.view pm.old).words 0 first pages.now }
+    requires ready { CanRelease geometry.now.pages (P.view pm.old).words pages.now }
     requires begins { MayFence (P.view pm.old) (where_true (nat_lt 0 (length pages.now))
         (release_events (length pages.now))) 1 }
-    ensures cleared { ClearsPages geometry.now.pages (P.view pm.old).words (P.view pm.new).words (Contains pages.now) }
-    ensures any_moment { LeavesOnly (P.view pm.old).trail (P.view pm.new).trail
-        (λ acks image. (acks ≡ 0) × Mix (P.view pm.old).words (P.view pm.new).words image) }
-    ensures device { MakesIntervals (P.view pm.old) (P.view pm.new)
-        (where_true (nat_lt 0 (length pages.now)) (release_events (length pages.now)))
-        (where_true (nat_lt 0 (length pages.now)) 1) result }
+    ensures takes { Takes (freeing geometry.now.pages pages.now) (P.view pm.old) (P.view pm.new) result }
 {
     if pages.is_empty() {
         return Ok(());
@@ -117,10 +68,7 @@ fn release<P: Pm>(pm: &mut P, geometry: &Geometry, pages: &[u64]) -> Result<(), 
     let released: PageH<Clean, Released> = PageH::at(pm, geometry, pages);
     let free = released.release(pm);
     let _flushed = free.flush(pm);
-    match fence(pm) {
-        Ok(_settled) => Ok(()),
-        Err(fault) => Err(fault),
-    }
+    end_interval(pm)
 }
 
 // Cuts a file on the device, whose pages these are. It takes 1 fence, and 3 where pages are given back.
@@ -130,23 +78,15 @@ fn cut<P: Pm>(
     resizing: &Resizing,
     pages: &[u64],
 ) -> Result<(), PmFault>
-    requires whole { length (P.view pm.old).words ≡ 512 * geometry.now.pages }
     requires may { MayCut geometry.now.pages (P.view pm.old).words resizing.now pages.now }
-    requires begins { MayFence (P.view pm.old) (commit_events + loss_events resizing.now.cut false) 3 }
-    ensures cut { OnOk result (CutsInTurn geometry.now.pages (P.view pm.old) (P.view pm.new) resizing.now.inode
-        resizing.now.new_size) }
-    ensures atomic { (state : State) (path : Route) → IsResizingAt geometry.now.pages (P.view pm.old).words state path
-        resizing.now → IsAtomic geometry.now.pages (P.view pm.old) (P.view pm.new) state
-        (Truncate path resizing.now.new_size) }
-    ensures commit_word { HangsOn geometry.now.pages (P.view pm.old).trail (P.view pm.new).trail
-        (inode_word_of resizing.now.inode 2) }
-    ensures device { MakesIntervals (P.view pm.old) (P.view pm.new) (commit_events + loss_events resizing.now.cut false)
-        (1 + fences_for_loss resizing.now.cut false) result }
+    requires begins { MayFence (P.view pm.old) (events_in (cut_steps geometry.now.pages resizing.now pages.now)) 3 }
+    ensures unfolds { Unfolds (cut_steps geometry.now.pages resizing.now pages.now) (P.view pm.old) (P.view pm.new)
+        result }
 {
-    let file = lower_size(pm, geometry, resizing.inode, resizing.new_size)?;
+    lower_size(pm, geometry, resizing.inode, resizing.new_size)?;
     let kept = pages.len() - resizing.cut as usize;
     let gone = &pages[kept..];
-    disown(pm, geometry, &file, gone)?;
+    disown(pm, geometry, resizing.inode, gone)?;
     release(pm, geometry, gone)
 }
 
@@ -157,15 +97,10 @@ fn resize<P: Pm>(
     resizing: &Resizing,
     pages: &[u64],
 ) -> Result<(), PmFault>
-    requires whole { length (P.view pm.old).words ≡ 512 * geometry.now.pages }
     requires may { MayResize geometry.now.pages (P.view pm.old).words resizing.now pages.now }
     requires begins { MayFence (P.view pm.old) (events_of_resize resizing.now) 3 }
-    ensures stored { HasStoredSize geometry.now.pages (P.view pm.old) (P.view pm.new) resizing.now result }
-    ensures atomic { (state : State) (path : Route) → IsResizingAt geometry.now.pages (P.view pm.old).words state path
-        resizing.now → IsAtomic geometry.now.pages (P.view pm.old) (P.view pm.new) state
-        (Truncate path resizing.now.new_size) }
-    ensures device { MakesIntervals (P.view pm.old) (P.view pm.new) (events_of_resize resizing.now)
-        (fences_of_resize resizing.now) result }
+    ensures unfolds { Unfolds (resize_steps geometry.now.pages resizing.now pages.now) (P.view pm.old) (P.view pm.new)
+        result }
 {
     if resizing.new_size < resizing.old_size {
         return cut(pm, geometry, resizing, pages);
@@ -210,7 +145,8 @@ fn carry_resize<P: Pm>(
     requires ready { MayCarry volume.old (P.view pm.old) (Resizes resizing.now) }
     ensures carries { Carries volume.old volume.new (P.view pm.old) (P.view pm.new) (Resizes resizing.now) Done
         IsTruncation result }
-    ensures stored { HasStoredSize volume.old.size (P.view pm.old) (P.view pm.new) resizing.now result }
+    ensures stored { HasStoredSize volume.old.size (P.view pm.old) (P.view pm.new) resizing.now
+        (pages_of volume.old.index resizing.now.inode) result }
 {
     let geometry = *volume.geometry();
     let pages = volume.pages(resizing.inode);
@@ -237,7 +173,7 @@ pub fn apply_truncate<P: Pm>(volume: &mut Volume, plan: Plan, pm: &mut P) -> Res
     requires ready { MayCarry volume.old (P.view pm.old) plan }
     ensures carries { Carries volume.old volume.new (P.view pm.old) (P.view pm.new) plan Done IsTruncation result }
     ensures stored { (resizing : Resized) → plan ≡ Resizes resizing → HasStoredSize volume.old.size (P.view pm.old)
-        (P.view pm.new) resizing result }
+        (P.view pm.new) resizing (pages_of volume.old.index resizing.inode) result }
 {
     match plan.into_action() {
         Action::Resize(resizing) => carry_resize(volume, &resizing, pm),

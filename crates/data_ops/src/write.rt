@@ -1,19 +1,20 @@
 // Bytes are written into a file: in one interval inside its size, or with its growth.
 ghost use Rattle.std.specs.Prelude.{◌≡◌, ◌+◌, ◌*◌, ◌≤◌, ℕ, length};
-ghost use Rattle.pm_trait.specs.DeviceView.{StoresAndFences, MakesIntervals};
 ghost use Rattle.tree_model.specs.PathText.{Route};
 ghost use Rattle.tree_model.specs.Run.{State};
 ghost use Rattle.tree_model.specs.Step.{Count};
 ghost use Rattle.tree_model.specs.declared.command.Command.TheVariants.{Write};
-ghost use Rattle.volume.specs.Carried.{IsPlanFor, MayCarry, IsAtomic, Carries};
-ghost use Rattle.volume.specs.Costs.{span_events, fence_events, events_of_write, fences_of_write};
+ghost use Rattle.volume.specs.Carried.{IsPlanFor, MayCarry, Carries};
+ghost use Rattle.volume.specs.Costs.{span_events, fence_events, events_of_write};
 ghost use Rattle.volume.specs.declared.plan.Writing.{Writing as Written};
 ghost use Rattle.volume.specs.declared.plan.Action.TheVariants.{Write as Writes};
 ghost use Rattle.entry_steps.specs.Steps.{MayFence};
-ghost use Rattle.data_ops.specs.Writing.{IsWriteOf, MayWriteInside, MayWriteBytes, IsWritingAt, StoresInside, HasStoredBytes};
+ghost use Rattle.entry_steps.specs.Unfolds.{Takes, Unfolds};
+ghost use Rattle.data_ops.specs.Writing.{IsWriteOf, MayWriteInside, MayWriteBytes, HasStoredBytes, overwriting, write_steps};
 
+use crate::fencing::end_interval;
 use crate::grow::{Growth, grow};
-use fence_token::{Clean, fence};
+use fence_token::Clean;
 use layout::{Geometry, PAGE_BYTES};
 use page_state::{Live, PageH};
 use pm_trait::{Pm, PmFault};
@@ -29,13 +30,10 @@ fn write_inside<P: Pm>(
     offset: u64,
     bytes: &[u8],
 ) -> Result<(), PmFault>
-    requires whole { length (P.view pm.old).words ≡ 512 * geometry.now.pages }
-    requires may { MayWriteInside geometry.now.pages (P.view pm.old).words inode offset bytes.now pages.now }
+    requires ready { MayWriteInside geometry.now.pages (P.view pm.old).words inode offset bytes.now pages.now }
     requires begins { MayFence (P.view pm.old) (span_events offset (offset + length bytes.now) + fence_events) 1 }
-    ensures written { StoresInside geometry.now.pages (P.view pm.old).words (P.view pm.new).words inode offset
-        bytes.now }
-    ensures device { StoresAndFences (P.view pm.old) (P.view pm.new)
-        (span_events offset (offset + length bytes.now) + fence_events) result }
+    ensures takes { Takes (overwriting geometry.now.pages inode offset bytes.now) (P.view pm.old) (P.view pm.new)
+        result }
 {
     let first = offset / PAGE_BYTES;
     let end = (offset + bytes.len() as u64).div_ceil(PAGE_BYTES);
@@ -43,10 +41,7 @@ fn write_inside<P: Pm>(
     let live: PageH<Clean, Live> = PageH::at(pm, geometry, part);
     let written = live.write_span(pm, first, LONGEST_FILE, offset, bytes);
     let _flushed = written.flush(pm);
-    match fence(pm) {
-        Ok(_settled) => Ok(()),
-        Err(fault) => Err(fault),
-    }
+    end_interval(pm)
 }
 
 // Writes bytes into a file on the device, whose pages these are.
@@ -57,15 +52,10 @@ fn write_bytes<P: Pm>(
     pages: &[u64],
     bytes: &[u8],
 ) -> Result<(), PmFault>
-    requires whole { length (P.view pm.old).words ≡ 512 * geometry.now.pages }
     requires may { MayWriteBytes geometry.now.pages (P.view pm.old).words writing.now bytes.now pages.now }
     requires begins { MayFence (P.view pm.old) (events_of_write writing.now) 3 }
-    ensures stored { HasStoredBytes geometry.now.pages (P.view pm.old) (P.view pm.new) writing.now bytes.now result }
-    ensures atomic { (state : State) (path : Route) → IsWritingAt geometry.now.pages (P.view pm.old).words state path
-        bytes.now writing.now → IsAtomic geometry.now.pages (P.view pm.old) (P.view pm.new) state
-        (Write path writing.now.offset bytes.now) }
-    ensures device { MakesIntervals (P.view pm.old) (P.view pm.new) (events_of_write writing.now)
-        (fences_of_write writing.now) result }
+    ensures unfolds { Unfolds (write_steps geometry.now.pages writing.now bytes.now) (P.view pm.old) (P.view pm.new)
+        result }
 {
     let end = writing.offset + writing.count;
     if end <= writing.old_size {

@@ -4,6 +4,7 @@ use Rattle.pm_trait.specs.declared.event.PmFault.{PmFault}
 use Rattle.tree_model.specs.Step.{Done}
 use Rattle.tree_model.specs.declared.command.Command.TheVariants.{Truncate}
 use Rattle.tree_model.specs.declared.reply.Reply.TheVariants.{Done as Told}
+use Rattle.volatile_index.specs.Index.{pages_of}
 use Rattle.volume.specs.Carried.{IsPlanFor, MayCarry, Carries}
 use Rattle.volume.specs.declared.plan.Resizing.{Resizing}
 use Rattle.volume.specs.declared.plan.Action.{Action}
@@ -44,7 +45,7 @@ returns-in-Resize-clause-stored g c = λ other is.
     let old = g.P.Pm.view c.args.pm.now in
     let new = g.P.Pm.view c.carry_resize.new.pm in
     let same = same_resizing c.in-Resize.resizing other (sym (sym c.into_action.ensures ∙ c.in-Resize.is) ∙ is) in
-    subst (λ (resizing : Resizing). HasStoredSize c.args.volume.now.size old new resizing c.carry_resize.result) same c.carry_resize.ensures.stored
+    subst (λ (resizing : Resizing). HasStoredSize c.args.volume.now.size old new resizing (pages_of c.args.volume.now.index resizing.inode) c.carry_resize.result) same c.carry_resize.ensures.stored
 
 pub returns-in-Nothing-clause-carries : goal.returns-in-Nothing-clause-carries
 returns-in-Nothing-clause-carries g c =

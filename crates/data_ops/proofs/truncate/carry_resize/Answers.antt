@@ -1,14 +1,15 @@
-use Rattle.std.proofs.Common.{ℕ, ◌*◌, List, sym, ap, subst, ◌∙◌}
+use Rattle.std.proofs.Common.{ℕ, List, sym, subst}
 use Rattle.std.specs.Prelude.{Ok, Err}
 use Rattle.pm_trait.specs.declared.event.PmFault.{PmFault}
 use Rattle.tree_model.specs.declared.command.Command.TheVariants.{Truncate}
+use Rattle.tree_model.specs.declared.reply.Reply.TheVariants.{Done as Told}
 use Rattle.volatile_index.specs.Index.{pages_of}
-use Rattle.volume.specs.Carried.{IsAtomic}
 use Rattle.volume.proofs.FilePages.{may_enter_resized, may_lose_cut}
-use Rattle.data_ops.specs.Cutting.{MayResize, IsResizingAt, StoresSize, HasStoredSize}
+use Rattle.entry_steps.specs.Unfolds.{Unfolds}
+use Rattle.data_ops.specs.Cutting.{MayResize, resize_steps}
 use Rattle.data_ops.proofs.Left.{has_resized, leaves_state}
-use Rattle.data_ops.proofs.Resizes.{may_begin}
-use Rattle.data_ops.proofs.Resizing.{carried, carried_no_further}
+use Rattle.data_ops.proofs.Resizes.{may_begin, all_intervals, stores_size, is_atomic, has_stored}
+use Rattle.data_ops.proofs.Resizing.{steps_of_volume, stored_as, stored_failed, carried, carried_no_further}
 use Rattle.data_ops.proofs.Truncations
 use Rattle.data_ops.proofs.truncate.carry_resize.Goals as goal
 
@@ -21,11 +22,6 @@ pub pages-pages-requires-clause-in_range : goal.pages-pages-requires-clause-in_r
 pages-pages-requires-clause-in_range g c =
     let (state, path, plan) = c.requires.planned in
     (may_enter_resized c.args.volume.now (g.P.Pm.view c.args.pm.now) state (Truncate path c.args.resizing.now.new_size) c.args.resizing.now plan).most
-
-pub resize-requires-clause-whole : goal.resize-requires-clause-whole
-resize-requires-clause-whole g c =
-    let (state, path, plan) = c.requires.planned in
-    plan.stands.knows.whole ∙ ap (λ (p : ℕ). 512 * p) (sym c.geometry.ensures)
 
 pub resize-requires-clause-may : goal.resize-requires-clause-may
 resize-requires-clause-may g c =
@@ -53,47 +49,43 @@ take_in-requires-clause-may_lose g c =
     let (state, path, plan) = c.requires.planned in
     may_lose_cut c.args.volume.now (g.P.Pm.view c.args.pm.now) state (Truncate path c.args.resizing.now.new_size) c.args.resizing.now plan
 
-pub returns-in-Ok-clause-carries : goal.returns-in-Ok-clause-carries
-returns-in-Ok-clause-carries g c =
+pub returns-in-Ok : goal.returns-in-Ok
+returns-in-Ok g c =
     let (state, path, plan) = c.requires.planned in
     let volume = c.args.volume.now in
     let after = c.take_in.new.volume in
     let old = g.P.Pm.view c.args.pm.now in
     let new = g.P.Pm.view c.resize.new.pm in
     let resizing = c.args.resizing.now in
-    let size = c.geometry.ensures in
-    let done = c.in-Ok.ensures in
-    let resized = subst (λ (p : ℕ). StoresSize p old new resizing) size done.stored.made in
-    carried volume after old new resizing
-    (λ state path at. subst (λ (p : ℕ). IsAtomic p old new state (Truncate path resizing.new_size)) size (done.atomic state path (subst (λ (p : ℕ). IsResizingAt p old.words state path resizing) (sym size) at)))
-    _ (λ state path plan. leaves_state volume old state path resizing plan after c.take_in.ensures new resized done.device.settled done.device.counted)
-    (has_resized volume old state path resizing plan after c.take_in.ensures) done.device c.requires.ready.going
+    let pages = pages_of volume.index resizing.inode in
+    let made : Unfolds {T = Unit {0}} {E = PmFault} (resize_steps volume.size resizing pages) old new (Ok tt) =
+    steps_of_volume resizing c.geometry.ensures c.pages-pages.ensures c.in-Ok.ensures.unfolds in
+    let may = Truncations.may_resize volume old state path resizing plan in
+    let settled = plan.stands.settled in
+    let device = all_intervals volume.size old new resizing pages (Ok tt) may settled made in
+    let size = stores_size volume.size old new resizing pages (Ok tt) may settled made in
+    record {
+      carries = carried volume after old new resizing (λ state path at. is_atomic volume.size old new resizing pages (Ok tt) may settled made at) _
+          (λ state path plan. leaves_state volume old state path resizing plan after c.take_in.ensures new size device.settled device.counted)
+          (has_resized volume old state path resizing plan after c.take_in.ensures) device c.requires.ready.going;
+      stored = stored_as Told (has_stored volume.size old new resizing pages (Ok tt) may settled made (Truncations.cut_at volume old state path resizing plan));
+    }
 
-pub returns-in-Err-clause-carries : goal.returns-in-Err-clause-carries
-returns-in-Err-clause-carries g c =
+pub returns-in-Err : goal.returns-in-Err
+returns-in-Err g c =
+    let (state, path, plan) = c.requires.planned in
     let volume = c.args.volume.now in
-    let after = c.stop.new.self in
     let old = g.P.Pm.view c.args.pm.now in
     let new = g.P.Pm.view c.resize.new.pm in
     let resizing = c.args.resizing.now in
-    let size = c.geometry.ensures in
-    let failed = c.in-Err.ensures in
-    carried_no_further volume after old new resizing
-    (λ state path at. subst (λ (p : ℕ). IsAtomic p old new state (Truncate path resizing.new_size)) size (failed.atomic state path (subst (λ (p : ℕ). IsResizingAt p old.words state path resizing) (sym size) at)))
-    c.in-Err.fault failed.device c.stop.ensures
-
-pub returns-in-Ok-clause-stored : goal.returns-in-Ok-clause-stored
-returns-in-Ok-clause-stored g c =
-    let old = g.P.Pm.view c.args.pm.now in
-    let new = g.P.Pm.view c.resize.new.pm in
-    let done = c.in-Ok.ensures.stored in
-    let of_volume = subst (λ (p : ℕ). HasStoredSize {T = Unit {0}} {E = PmFault} p old new c.args.resizing.now (Ok tt)) c.geometry.ensures done in
-    record { made = of_volume.made; commit_word = of_volume.commit_word }
-
-pub returns-in-Err-clause-stored : goal.returns-in-Err-clause-stored
-returns-in-Err-clause-stored g c =
-    let old = g.P.Pm.view c.args.pm.now in
-    let new = g.P.Pm.view c.resize.new.pm in
-    let failed = c.in-Err.ensures.stored in
-    let of_volume = subst (λ (p : ℕ). HasStoredSize {T = Unit {0}} {E = PmFault} p old new c.args.resizing.now (Err c.in-Err.fault)) c.geometry.ensures failed in
-    record { made = tt; commit_word = of_volume.commit_word }
+    let pages = pages_of volume.index resizing.inode in
+    let fault = c.in-Err.fault in
+    let made : Unfolds {T = Unit {0}} {E = PmFault} (resize_steps volume.size resizing pages) old new (Err fault) =
+    steps_of_volume resizing c.geometry.ensures c.pages-pages.ensures c.in-Err.ensures.unfolds in
+    let may = Truncations.may_resize volume old state path resizing plan in
+    let settled = plan.stands.settled in
+    record {
+      carries = carried_no_further volume c.stop.new.self old new resizing (λ state path at. is_atomic volume.size old new resizing pages (Err fault) may settled made at) fault
+          (all_intervals volume.size old new resizing pages (Err fault) may settled made) c.stop.ensures;
+      stored = stored_failed fault (has_stored volume.size old new resizing pages (Err fault) may settled made (Truncations.cut_at volume old state path resizing plan));
+    }
