@@ -1,5 +1,5 @@
 // Which bytes of a file get new values, and what its words become.
-ghost use Rattle.std.specs.Prelude.{◌≡◌, ◌↔◌, ℕ, ◌+◌, ◌^◌, ◌<◌, ◌≤◌, IsTrue, IfSome, length, take, drop};
+ghost use Rattle.std.specs.Prelude.{◌≡◌, ◌⊎◌, ◌↔◌, ℕ, ◌+◌, ◌^◌, ◌<◌, ◌≤◌, IsTrue, IsSome, IfSome, length, take, drop};
 ghost use Rattle.layout.specs.Name.{word_of};
 ghost use Rattle.page_state.specs.Spans.{has_new as has_new_byte, byte_after as byte_that_becomes, word_after as word_that_becomes};
 
@@ -71,7 +71,10 @@ impl FileSpan {
         requires range { self.now.offset + self.now.length ≤ 2 ^ 40 }
         requires long { length bytes.now ≡ self.now.length }
         requires place { at ≤ 2 ^ 40 }
-        ensures { IfSome result (λ word. (old : ℕ) → word ≡ word_that_becomes self.now bytes.now at old) }
+        ensures word { IfSome result (λ word. (old : ℕ) → word ≡ word_that_becomes self.now bytes.now at old) }
+        ensures of_range { self.now.offset ≤ at → at + 8 ≤ self.now.offset + self.now.length → IsSome result }
+        ensures of_zeros { self.now.zero_from ≤ at → (self.now.length ≡ 0) ⊎ (at + 8 ≤ self.now.offset)
+            ⊎ (self.now.offset + self.now.length ≤ at) → IsSome result }
     {
         if !self.meets_range(at, at + WORD_BYTES) {
             return if self.zero_from <= at { Some(0) } else { None };
