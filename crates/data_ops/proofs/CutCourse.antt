@@ -25,11 +25,10 @@ use Rattle.volume.specs.Costs.{where_true, inode_events, descriptor_rest_events,
 use Rattle.volume.specs.Crashes.{MayReadAs}
 use Rattle.volume.specs.declared.plan.Resizing.{Resizing}
 use Rattle.volume.proofs.ContentPlans.{planned_resizing}
-use Rattle.entry_steps.specs.Steps.{MayFence}
-use Rattle.entry_steps.specs.Unfolds.{Along, events_in, fences_in, Takes, Unfolds}
+use Rattle.pm_trait.specs.Unfolds.{MayFence, Along, events_in, fences_in, Takes, Unfolds}
 use Rattle.entry_steps.proofs.Moments.{is_mix}
 use Rattle.entry_steps.proofs.Turning.{IsUnderway, Turns, one_side, turned}
-use Rattle.entry_steps.proofs.Unfolding.{map_ok, through, starts, next}
+use Rattle.pm_trait.proofs.Unfolding.{map_ok, through, starts, next}
 use Rattle.data_ops.specs.Growing.{owner_events, release_events}
 use Rattle.data_ops.specs.Steps.{sizing, giving, freeing}
 use Rattle.data_ops.specs.Cutting.{MayCut, IsResizingAt, StoresCut, gone_pages, cut_steps}
@@ -99,14 +98,14 @@ module _ {P : ℕ} (old : DeviceView) {resizing : Resizing} {pages : List ℕ} (
       ∙ ap (λ (n : ℕ). 1 + (where_true (nat_lt 0 n) 1 + where_true (nat_lt 0 n) 1)) (sym (CutPages.gone_long may))
       ∙ sum_of 1 _ _
 
-  module _ (begins : MayFence old (events_in (cut_steps P resizing pages)) 3) {T E : Type 0} (b : DeviceView) {value : T} (one : Takes {E = E} (sizing i z) old b (Ok value)) where
-    after_size : MayFence b (events_in (giving P gone ∷ freeing P gone ∷ [])) 2
+  module _ {words : ℕ} (begins : MayFence old words (events_in (cut_steps P resizing pages)) 3) {T E : Type 0} (b : DeviceView) {value : T} (one : Takes {E = E} (sizing i z) old b (Ok value)) where
+    after_size : MayFence b words (events_in (giving P gone ∷ freeing P gone ∷ [])) 2
     after_size = next (sizing i z) (giving P gone ∷ freeing P gone ∷ []) b one begins
 
-    pub may_give : MayFence b (where_true (nat_lt 0 (length gone)) (owner_events (length gone))) 1
+    pub may_give : MayFence b words (where_true (nat_lt 0 (length gone)) (owner_events (length gone))) 1
     may_give = starts (giving P gone) (freeing P gone ∷ []) after_size
 
-    pub may_free : {U F : Type 0} (c : DeviceView) {other : U} → Takes {E = F} (giving P gone) b c (Ok other) → MayFence c (where_true (nat_lt 0 (length gone)) (release_events (length gone))) 1
+    pub may_free : {U F : Type 0} (c : DeviceView) {other : U} → Takes {E = F} (giving P gone) b c (Ok other) → MayFence c words (where_true (nat_lt 0 (length gone)) (release_events (length gone))) 1
     may_free c two = starts (freeing P gone) [] (next (giving P gone) (freeing P gone ∷ []) c two after_size)
 
   -- ---- each mix

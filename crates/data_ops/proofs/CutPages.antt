@@ -157,7 +157,6 @@ module _ {P : ℕ} {W : List ℕ} {resizing : Resizing} {pages : List ℕ} (may 
   can_disown =
       let only = words.only P W i z may.can in
       record {
-        whole = sized_whole;
         least = may.held.least;
         most = may.held.most;
         live = (inl (only.node_kind i ∙ may.can.file), only.own i ∙ may.held.live.1);
@@ -182,7 +181,7 @@ module _ {P : ℕ} {W : List ℕ} {resizing : Resizing} {pages : List ℕ} (may 
   }
 
   pub can_release : (J : List ℕ) → GivesPages P (sized W i z) J (Contains gone) → CanRelease P J gone
-  can_release J gives = record { whole = gives.size ∙ sized_whole; first = length pages - resizing.cut; pages_are = from_given J gives }
+  can_release J gives = record { first = length pages - resizing.cut; pages_are = from_given J gives }
 
   -- ---- what the laws ask for
 

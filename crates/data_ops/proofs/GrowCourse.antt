@@ -17,11 +17,10 @@ use Rattle.content_laws.proofs.Growth.{inside}
 use Rattle.content_laws.proofs.Moments.{taking_law, growth_hangs_law}
 use Rattle.volume.specs.Costs.{where_true, commit_events, growth_events, fences_for_growth}
 use Rattle.volume.specs.Crashes.{MayReadAs}
-use Rattle.entry_steps.specs.Steps.{MayFence}
-use Rattle.entry_steps.specs.Unfolds.{events_in, fences_in, Takes, Unfolds}
+use Rattle.pm_trait.specs.Unfolds.{MayFence, events_in, fences_in, Takes, Unfolds}
 use Rattle.entry_steps.proofs.Moments.{is_mix}
 use Rattle.entry_steps.proofs.Turning.{IsUnderway, IsSide, Turns, one_side, turned}
-use Rattle.entry_steps.proofs.Unfolding.{map_ok, through, starts, next}
+use Rattle.pm_trait.proofs.Unfolding.{map_ok, through, starts, next}
 use Rattle.data_ops.specs.declared.grow.Growth.{Growth}
 use Rattle.data_ops.specs.Growing.{MayGrow, IsGrowthBy, StoresGrowth, fill_events, owner_events}
 use Rattle.data_ops.specs.Hanging.{IsRangeWord}
@@ -45,18 +44,18 @@ fences_are (page ∷ pages) =
 pub fences : (P : ℕ) (growth : Growth) (bytes pages : List ℕ) → fences_for_growth pages ≡ fences_in (growth_steps P growth bytes pages)
 fences P growth bytes pages = fences_are pages
 
-module _ (P : ℕ) (growth : Growth) (bytes pages : List ℕ) {a : DeviceView} (begins : MayFence a (events_in (growth_steps P growth bytes pages)) 3) where
-  pub may_fill : MayFence a (fill_events growth (length pages)) 1
+module _ (P : ℕ) (growth : Growth) (bytes pages : List ℕ) {a : DeviceView} {words : ℕ} (begins : MayFence a words (events_in (growth_steps P growth bytes pages)) 3) where
+  pub may_fill : MayFence a words (fill_events growth (length pages)) 1
   may_fill = starts (filling_file P growth bytes pages) (owning P growth.inode pages ∷ sizing growth.inode growth.new_size ∷ []) begins
 
-module _ (P : ℕ) (growth : Growth) (bytes pages : List ℕ) {a : DeviceView} (begins : MayFence a (events_in (growth_steps P growth bytes pages)) 3) {T E : Type 0} (b : DeviceView) {value : T} (one : Takes {E = E} (filling_file P growth bytes pages) a b (Ok value)) where
-  after_fill : MayFence b (events_in (owning P growth.inode pages ∷ sizing growth.inode growth.new_size ∷ [])) 2
+module _ (P : ℕ) (growth : Growth) (bytes pages : List ℕ) {a : DeviceView} {words : ℕ} (begins : MayFence a words (events_in (growth_steps P growth bytes pages)) 3) {T E : Type 0} (b : DeviceView) {value : T} (one : Takes {E = E} (filling_file P growth bytes pages) a b (Ok value)) where
+  after_fill : MayFence b words (events_in (owning P growth.inode pages ∷ sizing growth.inode growth.new_size ∷ [])) 2
   after_fill = next (filling_file P growth bytes pages) (owning P growth.inode pages ∷ sizing growth.inode growth.new_size ∷ []) b one begins
 
-  pub may_own : MayFence b (where_true (nat_lt 0 (length pages)) (owner_events (length pages))) 1
+  pub may_own : MayFence b words (where_true (nat_lt 0 (length pages)) (owner_events (length pages))) 1
   may_own = starts (owning P growth.inode pages) (sizing growth.inode growth.new_size ∷ []) after_fill
 
-  pub may_raise : {U F : Type 0} (c : DeviceView) {other : U} → Takes {E = F} (owning P growth.inode pages) b c (Ok other) → MayFence c commit_events 1
+  pub may_raise : {U F : Type 0} (c : DeviceView) {other : U} → Takes {E = F} (owning P growth.inode pages) b c (Ok other) → MayFence c words commit_events 1
   may_raise c two = starts (sizing growth.inode growth.new_size) [] (next (owning P growth.inode pages) (sizing growth.inode growth.new_size ∷ []) c two after_fill)
 
 -- ---- the whole call

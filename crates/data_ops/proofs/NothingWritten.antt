@@ -38,7 +38,7 @@ use Rattle.volume.specs.declared.plan.Action.{Action}
 use Rattle.volume.specs.declared.plan.Action.TheVariants.{Nothing}
 use Rattle.volume.specs.declared.plan.Action.TheVariants as actions
 use Rattle.entry_steps.proofs.Answered.{follows_as}
-use Rattle.entry_steps.proofs.Moments.{Quietly}
+use Rattle.pm_trait.specs.Unfolds.{Quietly}
 use Rattle.data_ops.specs.Writing.{IsWriteOf}
 use Rattle.data_ops.proofs.Stepping
 

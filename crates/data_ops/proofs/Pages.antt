@@ -24,8 +24,8 @@ use Rattle.page_state.proofs.PageLaws.{own_word_within}
 use Rattle.image_laws.specs.Drop.{GivesPages}
 use Rattle.content_laws.specs.Growth.{TakesPages}
 use Rattle.content_laws.specs.Cut.{ClearsPages}
-use Rattle.entry_steps.specs.Unfolds.{Fenced}
-use Rattle.entry_steps.proofs.Unfolding.{interval_ends}
+use Rattle.pm_trait.specs.Unfolds.{Fenced}
+use Rattle.pm_trait.proofs.Unfolding.{interval_ends}
 use Rattle.data_ops.specs.Files.{AreBytesFrom}
 
 -- on a settled device their words are clean

@@ -11,14 +11,13 @@ use Rattle.tree_model.specs.PathText.{Route}
 use Rattle.tree_model.specs.Run.{State}
 use Rattle.tree_model.specs.declared.command.Command.TheVariants.{Truncate}
 use Rattle.volume.specs.Carried.{IsAtomic}
-use Rattle.volume.specs.Commit.{HangsOn}
+use Rattle.volume.specs.Commit.{HangsOn, HangsOnWords}
 use Rattle.volume.specs.Costs.{where_true, reserved_events, growth_events, fences_for_growth, commit_events, loss_events, fences_for_loss, events_of_resize, fences_of_resize}
 use Rattle.volume.specs.Deed.{SetsSize}
 use Rattle.volume.specs.declared.plan.Resizing.{Resizing}
-use Rattle.entry_steps.specs.Steps.{MayFence}
-use Rattle.entry_steps.specs.Unfolds.{events_in, fences_in, Unfolds}
-use Rattle.entry_steps.proofs.Turning.{HangsOnWords, hangs_on}
-use Rattle.entry_steps.proofs.Unfolding.{intervals, map_ok}
+use Rattle.pm_trait.specs.Unfolds.{MayFence, events_in, fences_in, Unfolds}
+use Rattle.entry_steps.proofs.Turning.{hangs_on}
+use Rattle.pm_trait.proofs.Unfolding.{intervals, map_ok}
 use Rattle.data_ops.specs.Hanging.{IsRangeWord}
 use Rattle.data_ops.specs.Growing.{IsGrowing, IsGrowthBy}
 use Rattle.data_ops.specs.Steps.{growth_steps, either_steps}
@@ -68,8 +67,8 @@ module _ (resizing : Resizing) where
   pub grown_fences : resizing.old_size < resizing.new_size → fences_of_resize resizing ≡ fences_for_growth resizing.new_pages
   grown_fences less = ap (λ (b : Bool). cond b (fences_for_growth resizing.new_pages) (1 + fences_for_loss resizing.cut false)) (less_test resizing.old_size resizing.new_size less)
 
-pub may_as : (device : DeviceView) (events other made : ℕ) → events ≡ other → MayFence device events made → MayFence device other made
-may_as device events other made same may = subst (λ (n : ℕ). MayFence device n made) same may
+pub may_as : (device : DeviceView) {words : ℕ} (events other made : ℕ) → events ≡ other → MayFence device words events made → MayFence device words other made
+may_as device {words} events other made same may = subst (λ (n : ℕ). MayFence device words n made) same may
 
 pub made_as : {T E : Type 0} {a b : DeviceView} {result : Result T E} (events other fences more : ℕ) → other ≡ events → more ≡ fences → MakesIntervals a b events fences result → MakesIntervals a b other more result
 made_as {a = a} {b} {result} events other fences more same again made =
@@ -144,5 +143,5 @@ room_of n spare room =
     not_some : (m : ℕ) → nat_lt 0 m ≡ false → m ≡ 0
     not_some m is = grind (arith, nat_tests)
 
-pub may_begin : (device : DeviceView) (resizing : Resizing) → IsSettledView device → reserved_events (SetsSize resizing) ≤ device.spare → device.fences < 2 ^ 63 → MayFence device (events_of_resize resizing) 3
-may_begin device resizing settled room countable = record { settled = settled; room = room_of (events_of_resize resizing) device.spare room; countable = omega (arith, countable) }
+pub may_begin : (device : DeviceView) (words : ℕ) (resizing : Resizing) → length device.words ≡ words → IsSettledView device → reserved_events (SetsSize resizing) ≤ device.spare → device.fences < 2 ^ 63 → MayFence device words (events_of_resize resizing) 3
+may_begin device words resizing whole settled room countable = record { whole = whole; settled = settled; room = room_of (events_of_resize resizing) device.spare room; countable = omega (arith, countable) }

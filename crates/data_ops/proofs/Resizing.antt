@@ -18,8 +18,8 @@ use Rattle.volume.specs.declared.plan.Resizing.{Resizing}
 use Rattle.volume.specs.declared.plan.Action.TheVariants.{Resize}
 use Rattle.volume.proofs.ContentPlans.{planned_resizing}
 use Rattle.entry_steps.proofs.Answered.{failed_as, follows_as}
-use Rattle.entry_steps.specs.Unfolds.{Unfolds}
-use Rattle.entry_steps.proofs.Unfolding.{unfolds_as, unfolds_failed_as}
+use Rattle.pm_trait.specs.Unfolds.{Unfolds}
+use Rattle.pm_trait.proofs.Unfolding.{unfolds_as, unfolds_failed_as}
 use Rattle.data_ops.specs.Cutting.{IsTruncation, IsResizingAt, HasStoredSize, resize_steps}
 
 -- by the volume's own pages, and the file's

@@ -3,8 +3,8 @@
 use Rattle.std.proofs.Common.{◌≡◌, inl, inr, ℕ, false, true, List, [], ◌∷◌, refl, sym, subst}
 use Rattle.std.specs.Prelude.{Result, Ok, Err}
 use Rattle.pm_trait.specs.DeviceView.{DeviceView}
-use Rattle.entry_steps.specs.Unfolds.{Step, Takes, InTurn, Unfolds}
-use Rattle.entry_steps.proofs.Unfolding.{done}
+use Rattle.pm_trait.specs.Unfolds.{Step, Takes, InTurn, Unfolds}
+use Rattle.pm_trait.proofs.Unfolding.{done}
 
 -- the step, by the words that it made
 abbrev pub exactly : List ℕ → Step → Step

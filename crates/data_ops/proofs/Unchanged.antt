@@ -37,7 +37,7 @@ use Rattle.volume.specs.declared.plan.Resizing.{Resizing}
 use Rattle.volume.specs.declared.plan.Action.TheVariants.{Nothing}
 use Rattle.volume.proofs.Walked.{reached_at}
 use Rattle.entry_steps.proofs.Answered.{follows_as}
-use Rattle.entry_steps.proofs.Moments.{Quietly}
+use Rattle.pm_trait.specs.Unfolds.{Quietly}
 use Rattle.data_ops.specs.Cutting.{IsTruncation}
 use Rattle.data_ops.proofs.Stepping
 use Rattle.data_ops.proofs.NothingWritten.{stays_all}

@@ -18,10 +18,9 @@ use Rattle.volume.specs.Volume.{VolumeView}
 use Rattle.volume.specs.declared.plan.Writing.{Writing}
 use Rattle.volume.specs.declared.plan.Action.TheVariants.{Write as Writes}
 use Rattle.volume.proofs.ContentPlans.{planned_writing}
-use Rattle.entry_steps.specs.Steps.{MayFence}
+use Rattle.pm_trait.specs.Unfolds.{MayFence, Unfolds}
 use Rattle.entry_steps.proofs.Answered.{failed_as, follows_as}
-use Rattle.entry_steps.specs.Unfolds.{Unfolds}
-use Rattle.entry_steps.proofs.Unfolding.{unfolds_as, unfolds_failed_as}
+use Rattle.pm_trait.proofs.Unfolding.{unfolds_as, unfolds_failed_as}
 use Rattle.data_ops.specs.Writing.{IsWriteOf, IsWritingAt, HasStoredBytes, write_steps}
 use Rattle.data_ops.proofs.Resizes.{room_of}
 
@@ -36,8 +35,8 @@ same_write : (path other : Route) (offset at : ℕ) (bytes more : List ℕ) → 
 same_write path other offset at bytes more e = cc
 
 -- the plan has its room
-pub may_begin : (device : DeviceView) (writing : Writing) → IsSettledView device → reserved_events (WritesBytes writing) ≤ device.spare → device.fences < 2 ^ 63 → MayFence device (events_of_write writing) 3
-may_begin device writing settled room countable = record { settled = settled; room = room_of (events_of_write writing) device.spare room; countable = omega (arith, countable) }
+pub may_begin : (device : DeviceView) (words : ℕ) (writing : Writing) → length device.words ≡ words → IsSettledView device → reserved_events (WritesBytes writing) ≤ device.spare → device.fences < 2 ^ 63 → MayFence device words (events_of_write writing) 3
+may_begin device words writing whole settled room countable = record { whole = whole; settled = settled; room = room_of (events_of_write writing) device.spare room; countable = omega (arith, countable) }
 
 -- by the volume's own pages
 pub steps_of_volume : {T E : Type 0} {P V : ℕ} {old new : DeviceView} (writing : Writing) (bytes : List ℕ) {result : Result T E} → P ≡ V → Unfolds (write_steps P writing bytes) old new result → Unfolds (write_steps V writing bytes) old new result

@@ -25,10 +25,11 @@ use Rattle.volume.specs.Carried.{IsAtomic}
 use Rattle.volume.specs.Costs.{span_events, fence_events, growth_events, fences_for_growth, events_of_write, fences_of_write}
 use Rattle.volume.specs.Crashes.{MayReadAs}
 use Rattle.volume.specs.declared.plan.Writing.{Writing}
-use Rattle.entry_steps.specs.Unfolds.{events_in, fences_in, Takes, Unfolds}
-use Rattle.entry_steps.proofs.Moments.{Quietly, quiet_fenced, is_mix, on_ok}
-use Rattle.entry_steps.proofs.Unfolding.{last, intervals, map_ok}
-use Rattle.data_ops.specs.Hanging.{HangsOnWords, IsRangeWord}
+use Rattle.pm_trait.specs.Unfolds.{events_in, fences_in, Takes, Unfolds, Quietly}
+use Rattle.pm_trait.proofs.Unfolding.{quiet_fenced, last, intervals, map_ok}
+use Rattle.entry_steps.proofs.Moments.{is_mix, on_ok}
+use Rattle.volume.specs.Commit.{HangsOnWords}
+use Rattle.data_ops.specs.Hanging.{IsRangeWord}
 use Rattle.data_ops.specs.Steps.{growth_steps, either_steps}
 use Rattle.data_ops.specs.Writing.{MayWriteInside, MayWriteBytes, IsWritingAt, StoresBytes, HasStoredBytes, growth_of, overwriting, write_steps}
 use Rattle.data_ops.proofs.GrowCourse
@@ -156,7 +157,7 @@ module _ {T E : Type 0} (P : ℕ) (old new : DeviceView) (writing : Writing) (by
 
     hangs : HangsOnWords P old.trail new.trail (IsRangeWord P old.words writing.inode writing.offset bytes)
     hangs = elim ways [
-      | inl more ↦ (let under = GrowCourse.underway old (may.past more) new result (as_growth P writing bytes more made) settled (write_grows path bytes writing at) in record { continues = under.hangs.continues; each = under.hangs.each })
+      | inl more ↦ (GrowCourse.underway old (may.past more) new result (as_growth P writing bytes more made) settled (write_grows path bytes writing at)).hangs
       | inr inside ↦
           let takes = as_inside P writing bytes inside made in
           hangs_inside P old.words writing.inode writing.offset bytes pages (may.inside inside) new.words takes.makes.writes (quiet_fenced (IsMix old.words new.words) takes.fenced.fenced (is_mix old.words new.words))

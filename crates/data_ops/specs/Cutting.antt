@@ -15,7 +15,7 @@ use Rattle.volume.specs.Entered.{EntersPages, LeavesLastPages}
 use Rattle.volume.specs.Planned.{IsPlanned}
 use Rattle.volume.specs.Volume.{VolumeView}
 use Rattle.volume.specs.declared.plan.Resizing.{Resizing}
-use Rattle.entry_steps.specs.Unfolds.{Step, Unfolds}
+use Rattle.pm_trait.specs.Unfolds.{Step, Unfolds}
 use Rattle.data_ops.specs.Files.{HasPages}
 use Rattle.data_ops.specs.declared.grow.Growth.{Growth}
 use Rattle.data_ops.specs.Growing.{MayGrow, StoresGrowth}

@@ -1,5 +1,5 @@
 -- The steps of a truncation and of a write, and what each asks of the words before it. P is the number of pages, I those words.
-use Rattle.std.specs.Prelude.{◌≡◌, ℕ, ◌*◌, ◌<◌, ◌≤◌, Bool, true, false, nat_lt, List, [], ◌∷◌, length, Contains}
+use Rattle.std.specs.Prelude.{◌≡◌, ℕ, ◌<◌, ◌≤◌, Bool, true, false, nat_lt, List, [], ◌∷◌, length, Contains}
 use Rattle.pm_trait.specs.DeviceView.{DeviceView}
 use Rattle.layout.specs.Geometry.{inodes_of, pieces}
 use Rattle.layout.specs.Fields.{inode_size}
@@ -10,7 +10,7 @@ use Rattle.image_laws.specs.Drop.{GivesPages}
 use Rattle.content_laws.specs.Cut.{ClearsPages}
 use Rattle.content_laws.specs.Growth.{FillsFile, TakesPages, sized}
 use Rattle.volume.specs.Costs.{commit_events}
-use Rattle.entry_steps.specs.Unfolds.{Step}
+use Rattle.pm_trait.specs.Unfolds.{Step}
 use Rattle.data_ops.specs.declared.grow.Growth.{Growth}
 use Rattle.data_ops.specs.Files.{AreBytesFrom}
 use Rattle.data_ops.specs.Growing.{fill_events, owner_events, release_events}
@@ -19,7 +19,6 @@ use Rattle.data_ops.specs.Growing.{fill_events, owner_events, release_events}
 
 -- The file is longer than this.
 pub record CanLower (P : ℕ) (I : List ℕ) (inode size : ℕ) : Type 0 where
-  pub whole : length I ≡ 512 * P
   pub least : 1 ≤ inode
   pub most : inode ≤ inodes_of P
   pub live : IsLive inode (fields_at I inode)
@@ -27,7 +26,6 @@ pub record CanLower (P : ℕ) (I : List ℕ) (inode size : ℕ) : Type 0 where
 
 -- The pages are a file's, and stand past its end.
 pub record CanDisown (P : ℕ) (I : List ℕ) (inode : ℕ) (pages : List ℕ) : Type 0 where
-  pub whole : length I ≡ 512 * P
   pub least : 1 ≤ inode
   pub most : inode ≤ inodes_of P
   pub live : IsLive inode (fields_at I inode)
@@ -37,20 +35,17 @@ pub record CanDisown (P : ℕ) (I : List ℕ) (inode : ℕ) (pages : List ℕ) :
 
 -- The pages were a file's, and have no owner.
 pub record CanRelease (P : ℕ) (I pages : List ℕ) : Type 0 where
-  pub whole : length I ≡ 512 * P
   pub first : ℕ
   pub pages_are : AreBytesFrom P I 0 first pages
 
 -- The new pages are filled, for offsets that follow one another, and have no owner.
 pub record CanOwn (P : ℕ) (I : List ℕ) (inode : ℕ) (pages : List ℕ) : Type 0 where
-  pub whole : length I ≡ 512 * P
   pub least : 1 ≤ inode
   pub first : ℕ
   pub pages_are : AreBytesFrom P I 0 first pages
 
 -- The file has its pages for this size, and they are settled.
 pub record CanRaise (P : ℕ) (device : DeviceView) (inode size : ℕ) : Type 0 where
-  pub whole : length device.words ≡ 512 * P
   pub least : 1 ≤ inode
   pub most : inode ≤ inodes_of P
   pub live : IsLive inode (fields_at device.words inode)

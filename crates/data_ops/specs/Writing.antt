@@ -12,12 +12,13 @@ use Rattle.volume.specs.Costs.{span_events, fence_events}
 use Rattle.volume.specs.Deed.{WritesBytes}
 use Rattle.volume.specs.Planned.{IsPlanned}
 use Rattle.volume.specs.declared.plan.Writing.{Writing}
-use Rattle.entry_steps.specs.Unfolds.{Step, Unfolds}
+use Rattle.pm_trait.specs.Unfolds.{Step, Unfolds}
 use Rattle.data_ops.specs.declared.grow.Growth.{Growth}
 use Rattle.data_ops.specs.Files.{HasPages}
 use Rattle.data_ops.specs.Growing.{MayGrow, StoresGrowth}
 use Rattle.data_ops.specs.Steps.{growth_steps, either_steps}
-use Rattle.data_ops.specs.Hanging.{HangsOnWords, IsRangeWord}
+use Rattle.volume.specs.Commit.{HangsOnWords}
+use Rattle.data_ops.specs.Hanging.{IsRangeWord}
 
 -- it writes these bytes, wherever
 abbrev pub IsWriteOf : List ℕ → Command → Type 0

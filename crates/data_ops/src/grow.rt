@@ -7,14 +7,12 @@ ghost use Rattle.page_state.specs.Page.{OfSome, IsOwnWord, IsFilledWord};
 ghost use Rattle.page_state.specs.Events.{HaveBytes};
 ghost use Rattle.content_laws.specs.Range.{WritesBelow, WritesTail};
 ghost use Rattle.volume.specs.Costs.{where_true, page_events};
-ghost use Rattle.entry_steps.specs.Steps.{MayFence};
-ghost use Rattle.entry_steps.specs.Unfolds.{events_in, Takes, Unfolds};
+ghost use Rattle.pm_trait.specs.Unfolds.{MayFence, events_in, Takes, Unfolds};
 ghost use Rattle.data_ops.specs.Files.{AreBytesFrom, AreFree};
 ghost use Rattle.data_ops.specs.Growing.{MayGrow, MayFill, IsTailWord, old_page_events, fill_events, owner_events};
 ghost use Rattle.data_ops.specs.Steps.{CanOwn, CanRaise, filling_file, owning, sizing, growth_steps};
 
-use crate::fencing::end_interval;
-use fence_token::Clean;
+use fence_token::{Clean, end_interval};
 use inode_state::{InodeH, Live as LiveNode};
 use layout::{Geometry, PAGE_BYTES};
 use page_state::{Filled, Free, Live, PageH};
@@ -99,7 +97,7 @@ fn fill<P: Pm>(
     bytes: &[u8],
 ) -> Result<(), PmFault>
     requires ready { MayGrow geometry.now.pages (P.view pm.old).words growth.now bytes.now old_pages.now new_pages.now }
-    requires begins { MayFence (P.view pm.old)
+    requires begins { MayFence (P.view pm.old) (512 * geometry.now.pages)
         (fill_events growth.now (length new_pages.now)) 1 }
     ensures takes { Takes (filling_file geometry.now.pages growth.now bytes.now new_pages.now) (P.view pm.old)
         (P.view pm.new) result }
@@ -113,7 +111,7 @@ fn fill<P: Pm>(
 // Gives filled pages to a file, where there are any.
 fn own<P: Pm>(pm: &mut P, geometry: &Geometry, pages: &[u64], inode: u64) -> Result<(), PmFault>
     requires ready { CanOwn geometry.now.pages (P.view pm.old).words inode pages.now }
-    requires begins { MayFence (P.view pm.old) (where_true (nat_lt 0 (length pages.now))
+    requires begins { MayFence (P.view pm.old) (512 * geometry.now.pages) (where_true (nat_lt 0 (length pages.now))
         (owner_events (length pages.now))) 1 }
     ensures takes { Takes (owning geometry.now.pages inode pages.now) (P.view pm.old) (P.view pm.new) result }
 {
@@ -129,7 +127,7 @@ fn own<P: Pm>(pm: &mut P, geometry: &Geometry, pages: &[u64], inode: u64) -> Res
 // Raises a file's size, for which its pages stand.
 fn raise_size<P: Pm>(pm: &mut P, geometry: &Geometry, inode: u64, size: u64) -> Result<(), PmFault>
     requires ready { CanRaise geometry.now.pages (P.view pm.old) inode size }
-    requires begins { MayFence (P.view pm.old) COMMIT_EVENTS 1 }
+    requires begins { MayFence (P.view pm.old) (512 * geometry.now.pages) COMMIT_EVENTS 1 }
     ensures takes { Takes (sizing inode size) (P.view pm.old) (P.view pm.new) result }
 {
     let live: InodeH<Clean, LiveNode> = InodeH::at(pm, geometry, inode);
@@ -149,7 +147,7 @@ pub fn grow<P: Pm>(
     bytes: &[u8],
 ) -> Result<(), PmFault>
     requires may { MayGrow geometry.now.pages (P.view pm.old).words growth.now bytes.now old_pages.now new_pages.now }
-    requires begins { MayFence (P.view pm.old) (events_in (growth_steps geometry.now.pages growth.now bytes.now
+    requires begins { MayFence (P.view pm.old) (512 * geometry.now.pages) (events_in (growth_steps geometry.now.pages growth.now bytes.now
         new_pages.now)) 3 }
     ensures unfolds { Unfolds (growth_steps geometry.now.pages growth.now bytes.now new_pages.now) (P.view pm.old)
         (P.view pm.new) result }

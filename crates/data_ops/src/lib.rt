@@ -1,7 +1,6 @@
 //! The calls that read a file of a mounted volume, write bytes into it and give it another size.
 #![tactic(auto)]
 
-mod fencing;
 mod grow;
 mod reading;
 mod truncate;

@@ -10,15 +10,13 @@ ghost use Rattle.volume.specs.Costs.{where_true, events_of_resize};
 ghost use Rattle.volume.specs.Entered.{HasPagePlaces, MayEnterPages, MayLosePages};
 ghost use Rattle.volume.specs.declared.plan.Resizing.{Resizing as Resized};
 ghost use Rattle.volume.specs.declared.plan.Action.TheVariants.{Resize as Resizes};
-ghost use Rattle.entry_steps.specs.Steps.{MayFence};
-ghost use Rattle.entry_steps.specs.Unfolds.{events_in, Takes, Unfolds};
+ghost use Rattle.pm_trait.specs.Unfolds.{MayFence, events_in, Takes, Unfolds};
 ghost use Rattle.data_ops.specs.Growing.{owner_events, release_events};
 ghost use Rattle.data_ops.specs.Steps.{CanLower, CanDisown, CanRelease, sizing, giving, freeing};
 ghost use Rattle.data_ops.specs.Cutting.{IsTruncation, MayCut, MayResize, TakesIn, HasStoredSize, cut_steps, resize_steps};
 
-use crate::fencing::end_interval;
 use crate::grow::{Growth, grow};
-use fence_token::Clean;
+use fence_token::{Clean, end_interval};
 use inode_state::{Cut, InodeH, Live as LiveNode};
 use layout::Geometry;
 use page_state::{Live, PageH, Released};
@@ -29,7 +27,7 @@ use volume::{Action, COMMIT_EVENTS, Plan, Resizing, Volume};
 // Lowers a file's size.
 fn lower_size<P: Pm>(pm: &mut P, geometry: &Geometry, inode: u64, size: u64) -> Result<(), PmFault>
     requires ready { CanLower geometry.now.pages (P.view pm.old).words inode size }
-    requires begins { MayFence (P.view pm.old) COMMIT_EVENTS 1 }
+    requires begins { MayFence (P.view pm.old) (512 * geometry.now.pages) COMMIT_EVENTS 1 }
     ensures takes { Takes (sizing inode size) (P.view pm.old) (P.view pm.new) result }
 {
     let live: InodeH<Clean, LiveNode> = InodeH::at(pm, geometry, inode);
@@ -41,7 +39,7 @@ fn lower_size<P: Pm>(pm: &mut P, geometry: &Geometry, inode: u64, size: u64) -> 
 // Takes the pages behind a file's end from it, where there are any.
 fn disown<P: Pm>(pm: &mut P, geometry: &Geometry, inode: u64, pages: &[u64]) -> Result<(), PmFault>
     requires ready { CanDisown geometry.now.pages (P.view pm.old).words inode pages.now }
-    requires begins { MayFence (P.view pm.old) (where_true (nat_lt 0 (length pages.now))
+    requires begins { MayFence (P.view pm.old) (512 * geometry.now.pages) (where_true (nat_lt 0 (length pages.now))
         (owner_events (length pages.now))) 1 }
     ensures takes { Takes (giving geometry.now.pages pages.now) (P.view pm.old) (P.view pm.new) result }
 {
@@ -58,7 +56,7 @@ fn disown<P: Pm>(pm: &mut P, geometry: &Geometry, inode: u64, pages: &[u64]) -> 
 // Makes pages that were a file's free ones, where there are any.
 fn release<P: Pm>(pm: &mut P, geometry: &Geometry, pages: &[u64]) -> Result<(), PmFault>
     requires ready { CanRelease geometry.now.pages (P.view pm.old).words pages.now }
-    requires begins { MayFence (P.view pm.old) (where_true (nat_lt 0 (length pages.now))
+    requires begins { MayFence (P.view pm.old) (512 * geometry.now.pages) (where_true (nat_lt 0 (length pages.now))
         (release_events (length pages.now))) 1 }
     ensures takes { Takes (freeing geometry.now.pages pages.now) (P.view pm.old) (P.view pm.new) result }
 {
@@ -79,7 +77,7 @@ fn cut<P: Pm>(
     pages: &[u64],
 ) -> Result<(), PmFault>
     requires may { MayCut geometry.now.pages (P.view pm.old).words resizing.now pages.now }
-    requires begins { MayFence (P.view pm.old) (events_in (cut_steps geometry.now.pages resizing.now pages.now)) 3 }
+    requires begins { MayFence (P.view pm.old) (512 * geometry.now.pages) (events_in (cut_steps geometry.now.pages resizing.now pages.now)) 3 }
     ensures unfolds { Unfolds (cut_steps geometry.now.pages resizing.now pages.now) (P.view pm.old) (P.view pm.new)
         result }
 {
@@ -98,7 +96,7 @@ fn resize<P: Pm>(
     pages: &[u64],
 ) -> Result<(), PmFault>
     requires may { MayResize geometry.now.pages (P.view pm.old).words resizing.now pages.now }
-    requires begins { MayFence (P.view pm.old) (events_of_resize resizing.now) 3 }
+    requires begins { MayFence (P.view pm.old) (512 * geometry.now.pages) (events_of_resize resizing.now) 3 }
     ensures unfolds { Unfolds (resize_steps geometry.now.pages resizing.now pages.now) (P.view pm.old) (P.view pm.new)
         result }
 {

@@ -8,13 +8,11 @@ ghost use Rattle.volume.specs.Carried.{IsPlanFor, MayCarry, Carries};
 ghost use Rattle.volume.specs.Costs.{span_events, fence_events, events_of_write};
 ghost use Rattle.volume.specs.declared.plan.Writing.{Writing as Written};
 ghost use Rattle.volume.specs.declared.plan.Action.TheVariants.{Write as Writes};
-ghost use Rattle.entry_steps.specs.Steps.{MayFence};
-ghost use Rattle.entry_steps.specs.Unfolds.{Takes, Unfolds};
+ghost use Rattle.pm_trait.specs.Unfolds.{MayFence, Takes, Unfolds};
 ghost use Rattle.data_ops.specs.Writing.{IsWriteOf, MayWriteInside, MayWriteBytes, HasStoredBytes, overwriting, write_steps};
 
-use crate::fencing::end_interval;
 use crate::grow::{Growth, grow};
-use fence_token::Clean;
+use fence_token::{Clean, end_interval};
 use layout::{Geometry, PAGE_BYTES};
 use page_state::{Live, PageH};
 use pm_trait::{Pm, PmFault};
@@ -31,7 +29,7 @@ fn write_inside<P: Pm>(
     bytes: &[u8],
 ) -> Result<(), PmFault>
     requires ready { MayWriteInside geometry.now.pages (P.view pm.old).words inode offset bytes.now pages.now }
-    requires begins { MayFence (P.view pm.old) (span_events offset (offset + length bytes.now) + fence_events) 1 }
+    requires begins { MayFence (P.view pm.old) (512 * geometry.now.pages) (span_events offset (offset + length bytes.now) + fence_events) 1 }
     ensures takes { Takes (overwriting geometry.now.pages inode offset bytes.now) (P.view pm.old) (P.view pm.new)
         result }
 {
@@ -53,7 +51,7 @@ fn write_bytes<P: Pm>(
     bytes: &[u8],
 ) -> Result<(), PmFault>
     requires may { MayWriteBytes geometry.now.pages (P.view pm.old).words writing.now bytes.now pages.now }
-    requires begins { MayFence (P.view pm.old) (events_of_write writing.now) 3 }
+    requires begins { MayFence (P.view pm.old) (512 * geometry.now.pages) (events_of_write writing.now) 3 }
     ensures unfolds { Unfolds (write_steps geometry.now.pages writing.now bytes.now) (P.view pm.old) (P.view pm.new)
         result }
 {

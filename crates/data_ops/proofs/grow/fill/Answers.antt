@@ -2,7 +2,7 @@ use Rattle.std.proofs.Common.{◌∙◌, arith}
 use Rattle.pm_trait.proofs.DeviceLaws.{interval_length}
 use Rattle.pm_trait.proofs.DeviceViewLaws.{stores_then}
 use Rattle.image_reading.specs.Reading.{pages_of_size}
-use Rattle.entry_steps.proofs.Unfolding.{interval_ends}
+use Rattle.pm_trait.proofs.Unfolding.{interval_ends}
 use Rattle.data_ops.proofs.Fills.{grown_whole, may_fill, filled_apart, still_settled, still_free, fill_flushed, fills}
 use Rattle.data_ops.proofs.grow.fill.Goals as goal
 

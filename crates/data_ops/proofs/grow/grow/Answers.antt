@@ -1,6 +1,5 @@
-use Rattle.std.proofs.Common.{refl, ◌∙◌}
-use Rattle.entry_steps.proofs.Unfolding.{then, failed, last}
-use Rattle.data_ops.proofs.Fills.{grown_whole}
+use Rattle.std.proofs.Common.{refl}
+use Rattle.pm_trait.proofs.Unfolding.{then, failed, last}
 use Rattle.data_ops.proofs.GrowCourse
 use Rattle.data_ops.proofs.Raising.{filled_pages, still_live, covered}
 use Rattle.data_ops.proofs.grow.grow.Goals as goal
@@ -13,7 +12,6 @@ own-requires-clause-ready g c =
     let may = c.requires.may in
     let fills = c.fill.ensures.takes.makes in
     record {
-      whole = fills.size ∙ grown_whole may;
       least = may.held.least;
       first = _;
       pages_are = filled_pages c.args.geometry.now.pages (g.P.Pm.view c.args.pm.now).words c.args.growth.now c.args.bytes.now c.args.old_pages.now c.args.new_pages.now may (g.P.Pm.view c.fill.new.pm).words fills;
@@ -36,14 +34,12 @@ raise_size-requires-clause-ready g c =
     let fills = c.fill.ensures.takes.makes in
     let owned = g.P.Pm.view c.own.new.pm in
     let takes = c.own.ensures.takes.makes in
-    let whole = takes.size ∙ fills.size ∙ grown_whole may in
     let begins = GrowCourse.may_raise P growth bytes news c.requires.begins (g.P.Pm.view c.fill.new.pm) c.in_ok-fill.ensures.takes owned c.in_ok-own.ensures.takes in
     record {
-      whole = whole;
       least = may.held.least;
       most = may.held.most;
       live = still_live P W growth bytes olds news may A fills owned.words takes;
-      covered = covered P W growth bytes olds news may A fills owned.words takes c.args.geometry.now.volume_size owned refl whole begins.settled;
+      covered = covered P W growth bytes olds news may A fills owned.words takes c.args.geometry.now.volume_size owned refl begins.whole begins.settled;
     }
 
 pub raise_size-requires-clause-begins : goal.raise_size-requires-clause-begins

@@ -10,7 +10,7 @@ use Rattle.data_ops.proofs.grow.own.Goals as goal
 pub at-filled-requires-clause-settled : goal.at-filled-requires-clause-settled
 at-filled-requires-clause-settled g c =
     let device = g.P.Pm.view c.args.pm.now in
-    pages_settled c.args.geometry.now.pages c.args.pages.now device.words device.trail c.args.geometry.now.volume_size c.requires.ready.pages_are.in_range c.requires.ready.whole c.requires.begins.settled
+    pages_settled c.args.geometry.now.pages c.args.pages.now device.words device.trail c.args.geometry.now.volume_size c.requires.ready.pages_are.in_range c.requires.begins.whole c.requires.begins.settled
 
 pub at-filled-requires-clause-data_pages : goal.at-filled-requires-clause-data_pages
 at-filled-requires-clause-data_pages g c =

@@ -1,11 +1,11 @@
-use Rattle.std.proofs.Common.{ℕ, List, sym, subst}
+use Rattle.std.proofs.Common.{ℕ, ◌*◌, List, sym, ap, subst, ◌∙◌}
 use Rattle.std.specs.Prelude.{Ok, Err}
 use Rattle.pm_trait.specs.declared.event.PmFault.{PmFault}
 use Rattle.tree_model.specs.declared.command.Command.TheVariants.{Truncate}
 use Rattle.tree_model.specs.declared.reply.Reply.TheVariants.{Done as Told}
 use Rattle.volatile_index.specs.Index.{pages_of}
 use Rattle.volume.proofs.FilePages.{may_enter_resized, may_lose_cut}
-use Rattle.entry_steps.specs.Unfolds.{Unfolds}
+use Rattle.pm_trait.specs.Unfolds.{Unfolds}
 use Rattle.data_ops.specs.Cutting.{MayResize, resize_steps}
 use Rattle.data_ops.proofs.Left.{has_resized, leaves_state}
 use Rattle.data_ops.proofs.Resizes.{may_begin, all_intervals, stores_size, is_atomic, has_stored}
@@ -34,7 +34,7 @@ resize-requires-clause-may g c =
 pub resize-requires-clause-begins : goal.resize-requires-clause-begins
 resize-requires-clause-begins g c =
     let (state, path, plan) = c.requires.planned in
-    may_begin (g.P.Pm.view c.args.pm.now) c.args.resizing.now plan.stands.settled c.requires.ready.reserved.room c.requires.ready.countable
+    may_begin (g.P.Pm.view c.args.pm.now) _ c.args.resizing.now (plan.stands.knows.whole ∙ ap (λ (p : ℕ). 512 * p) (sym c.geometry.ensures)) plan.stands.settled c.requires.ready.reserved.room c.requires.ready.countable
 
 pub take_in-requires-clause-may_enter : goal.take_in-requires-clause-may_enter
 take_in-requires-clause-may_enter g c =

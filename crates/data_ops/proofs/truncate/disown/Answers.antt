@@ -12,12 +12,12 @@ use Rattle.data_ops.proofs.Pages.{pages_settled, bytes_alike, all_live, in_volum
 use Rattle.data_ops.proofs.truncate.disown.Goals as goal
 
 pub at-file-requires-clause-settled : goal.at-file-requires-clause-settled
-at-file-requires-clause-settled g c = inode_settled c.args.geometry.now.pages c.args.inode c.args.geometry.now.volume_size c.requires.ready.least c.requires.ready.most c.requires.ready.whole c.requires.begins.settled
+at-file-requires-clause-settled g c = inode_settled c.args.geometry.now.pages c.args.inode c.args.geometry.now.volume_size c.requires.ready.least c.requires.ready.most c.requires.begins.whole c.requires.begins.settled
 
 pub at-live-requires-clause-settled : goal.at-live-requires-clause-settled
 at-live-requires-clause-settled g c =
     let device = g.P.Pm.view c.args.pm.now in
-    pages_settled c.args.geometry.now.pages c.args.pages.now device.words device.trail c.args.geometry.now.volume_size c.requires.ready.pages_are.in_range c.requires.ready.whole c.requires.begins.settled
+    pages_settled c.args.geometry.now.pages c.args.pages.now device.words device.trail c.args.geometry.now.volume_size c.requires.ready.pages_are.in_range c.requires.begins.whole c.requires.begins.settled
 
 pub at-live-requires-clause-data_pages : goal.at-live-requires-clause-data_pages
 at-live-requires-clause-data_pages g c =

@@ -1,11 +1,11 @@
 use Rattle.std.proofs.Common.{ap, ◌∙◌}
 use Rattle.inode_state.specs.Inode.{InodeView}
-use Rattle.entry_steps.proofs.Unfolding.{interval_ends}
+use Rattle.pm_trait.proofs.Unfolding.{interval_ends}
 use Rattle.data_ops.proofs.Sizes.{inode_settled, size_stored, size_flushed, sized_is}
 use Rattle.data_ops.proofs.truncate.lower_size.Goals as goal
 
 pub at-live-requires-clause-settled : goal.at-live-requires-clause-settled
-at-live-requires-clause-settled g c = inode_settled c.args.geometry.now.pages c.args.inode c.args.geometry.now.volume_size c.requires.ready.least c.requires.ready.most c.requires.ready.whole c.requires.begins.settled
+at-live-requires-clause-settled g c = inode_settled c.args.geometry.now.pages c.args.inode c.args.geometry.now.volume_size c.requires.ready.least c.requires.ready.most c.requires.begins.whole c.requires.begins.settled
 
 pub returns : goal.returns
 returns g c =

@@ -8,7 +8,7 @@ use Rattle.data_ops.proofs.truncate.release.Goals as goal
 pub at-released-requires-clause-settled : goal.at-released-requires-clause-settled
 at-released-requires-clause-settled g c =
     let device = g.P.Pm.view c.args.pm.now in
-    pages_settled c.args.geometry.now.pages c.args.pages.now device.words device.trail c.args.geometry.now.volume_size c.requires.ready.pages_are.in_range c.requires.ready.whole c.requires.begins.settled
+    pages_settled c.args.geometry.now.pages c.args.pages.now device.words device.trail c.args.geometry.now.volume_size c.requires.ready.pages_are.in_range c.requires.begins.whole c.requires.begins.settled
 
 pub at-released-requires-clause-data_pages : goal.at-released-requires-clause-data_pages
 at-released-requires-clause-data_pages g c =

@@ -1,6 +1,6 @@
 use Rattle.std.proofs.Common.{ℕ, ◌<◌, List, [], length, sym, ap, subst, ◌∙◌, arith}
 use Rattle.volume.specs.Costs.{growth_events, events_of_resize}
-use Rattle.entry_steps.specs.Unfolds.{events_in, Unfolds}
+use Rattle.pm_trait.specs.Unfolds.{events_in, Unfolds}
 use Rattle.data_ops.specs.Growing.{MayGrow}
 use Rattle.data_ops.specs.Steps.{growth_steps}
 use Rattle.data_ops.specs.Cutting.{growth_to, cut_steps}

@@ -1,4 +1,4 @@
-use Rattle.std.proofs.Common.{ℕ, List, sym, subst}
+use Rattle.std.proofs.Common.{ℕ, ◌*◌, List, sym, ap, subst, ◌∙◌}
 use Rattle.std.specs.Prelude.{Ok, Err}
 use Rattle.pm_trait.specs.declared.event.PmFault.{PmFault}
 use Rattle.tree_model.specs.declared.command.Command.TheVariants.{Write}
@@ -6,7 +6,7 @@ use Rattle.tree_model.specs.declared.reply.Reply.TheVariants.{Count as Told}
 use Rattle.volatile_index.specs.Index.{pages_of}
 use Rattle.volume.specs.Entered.{MayEnterPages, HasPagePlaces, EntersPages}
 use Rattle.volume.proofs.FilePages.{may_enter_written}
-use Rattle.entry_steps.specs.Unfolds.{Unfolds}
+use Rattle.pm_trait.specs.Unfolds.{Unfolds}
 use Rattle.data_ops.specs.Writing.{MayWriteBytes, write_steps}
 use Rattle.data_ops.proofs.WriteLeft.{leaves_state}
 use Rattle.data_ops.proofs.WriteCarrying.{may_begin, steps_of_volume, stored_as, stored_failed, carried, carried_no_further}
@@ -36,7 +36,7 @@ write_bytes-requires-clause-may g c =
 pub write_bytes-requires-clause-begins : goal.write_bytes-requires-clause-begins
 write_bytes-requires-clause-begins g c =
     let (state, path, plan) = c.requires.planned in
-    may_begin (g.P.Pm.view c.args.pm.now) c.args.writing.now plan.stands.settled c.requires.ready.reserved.room c.requires.ready.countable
+    may_begin (g.P.Pm.view c.args.pm.now) _ c.args.writing.now (plan.stands.knows.whole ∙ ap (λ (p : ℕ). 512 * p) (sym c.geometry.ensures)) plan.stands.settled c.requires.ready.reserved.room c.requires.ready.countable
 
 pub enter_pages-requires-clause-may_enter : goal.enter_pages-requires-clause-may_enter
 enter_pages-requires-clause-may_enter g c =

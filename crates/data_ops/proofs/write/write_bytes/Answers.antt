@@ -1,6 +1,6 @@
 use Rattle.std.proofs.Common.{ℕ, ◌+◌, List, length, sym, ap, subst, ◌∙◌, arith}
 use Rattle.volume.specs.Costs.{span_events, fence_events, growth_events, events_of_write}
-use Rattle.entry_steps.specs.Unfolds.{events_in, Unfolds}
+use Rattle.pm_trait.specs.Unfolds.{events_in, Unfolds}
 use Rattle.data_ops.specs.Growing.{MayGrow}
 use Rattle.data_ops.specs.Steps.{growth_steps}
 use Rattle.data_ops.specs.Writing.{growth_of}
@@ -21,7 +21,7 @@ write_inside-requires-clause-begins g c =
     let bytes = c.args.bytes.now in
     let costs = may_as (g.P.Pm.view c.args.pm.now) (events_of_write writing) (span_events writing.offset (writing.offset + length bytes) + fence_events) 3 (inside_events writing (length bytes) c.requires.may.count c.if-end-writing.true) c.requires.begins in
     let few = costs.countable in
-    record { settled = costs.settled; room = costs.room; countable = omega (arith, few) }
+    record { whole = costs.whole; settled = costs.settled; room = costs.room; countable = omega (arith, few) }
 
 pub returns-then-end-writing : goal.returns-then-end-writing
 returns-then-end-writing g c = record { unfolds = of_inside c.args.geometry.now.pages c.args.writing.now c.args.bytes.now c.if-end-writing.true c.write_inside.ensures.takes }

@@ -3,7 +3,7 @@ use Rattle.layout.specs.declared.fields.DescriptorFields.{DescriptorFields}
 use Rattle.page_state.specs.Spans.{new_words, new_lines}
 use Rattle.page_state.specs.Page.{PageView, touched_lines}
 use Rattle.image_reading.specs.Soundness.{Rule}
-use Rattle.entry_steps.proofs.Unfolding.{interval_ends}
+use Rattle.pm_trait.proofs.Unfolding.{interval_ends}
 use Rattle.data_ops.proofs.Pages.{pages_settled, in_volume, all_live, bytes_alike}
 use Rattle.data_ops.proofs.InsidePages
 use Rattle.data_ops.proofs.InsidePages.{rounded}
