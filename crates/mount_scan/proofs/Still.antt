@@ -10,7 +10,7 @@ use Rattle.recovery.specs.declared.repairs.Repairs.{Repairs}
 use Rattle.recovery.specs.Changes.{fences_for, one_changes}
 use Rattle.recovery.specs.Plans.{IsListOf, IsPlanOf}
 use Rattle.recovery.specs.Repairs.{clear_changes, free_changes, fences_of_repairs}
-use Rattle.recovery.proofs.Starting.{one_fence}
+use Rattle.recovery.proofs.Stepping.{one_fence}
 
 pub few_fences : (r : Repairs) → fences_of_repairs r ≤ 4
 few_fences r = omega (arith, one_fence (one_changes r.left), one_fence (one_changes r.pointer), one_fence (clear_changes r), one_fence (free_changes r))

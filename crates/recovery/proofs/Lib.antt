@@ -3,7 +3,7 @@ pub mod Spans
 pub mod Stepping
 pub mod Planned
 pub mod Meaning
-pub mod Starting
+pub mod Course
 pub mod Objects
 pub mod Rows
 pub mod Listing

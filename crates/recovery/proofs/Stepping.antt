@@ -1,55 +1,64 @@
 -- Changes, and the fence after them where there are any, are a step.
-use Rattle.std.proofs.Common.{◌≡◌, ◌≢◌, inl, inr, ℕ, zero, suc, ◌+◌, ◌*◌, ◌≤◌, List, refl, sym, subst, arith}
-use Rattle.std.specs.Prelude.{Result, Ok, Err, Option, Some, None, length, slice_index}
-use Rattle.pm_trait.specs.Device.{Mix}
-use Rattle.pm_trait.specs.DeviceView.{DeviceView, Fences, IsSettledView, StoresAndFences}
-use Rattle.pm_trait.proofs.DeviceLaws.{leaves_here}
-use Rattle.pm_trait.proofs.DeviceViewLaws.{ok_ends, err_ends, intervals_one, intervals_none}
+use Rattle.std.proofs.Common.{◌≡◌, ◌≢◌, inl, inr, ℕ, zero, suc, ◌+◌, ◌*◌, ◌≤◌, nat_lt, Bool, true, false, List, [], ◌∷◌, refl, sym, ◌∙◌, subst, arith}
+use Rattle.std.specs.Prelude.{Result, Ok, Option, Some, None, length, slice_index, if◌then◌else◌}
+use Rattle.std.proofs.lemmas.Bool.{lt-ltb}
+use Rattle.pm_trait.specs.DeviceView.{DeviceView, Fences, IsSettledView}
+use Rattle.pm_trait.specs.Unfolds.{Step, Fenced, Takes, InTurn, Unfolds, fences_in}
+use Rattle.pm_trait.proofs.Unfolding.{interval_ends}
 use Rattle.repair_laws.specs.Mended.{IsAfter}
 use Rattle.recovery.specs.declared.part.Part.{Part}
 use Rattle.recovery.specs.declared.part.Part.TheVariants.{Owner, Name, Links, Descriptor, Inode}
 use Rattle.recovery.specs.declared.repairs.Repairs.{Repairs}
-use Rattle.recovery.specs.Changes.{Changes, MakesStep, IsInPart, IsOne, IsCleared, IsLinked, one_changes, step_events}
+use Rattle.recovery.specs.Changes.{Changes, IsInPart, IsOne, IsCleared, IsLinked, changing, one_changes, fences_for}
 use Rattle.recovery.specs.Repairs.{HasObjects, IsClearedBy, IsFreedBy, clear_changes, free_changes}
 use Rattle.recovery.proofs.Changing.{changes_after, changes_then}
 use Rattle.recovery.proofs.Spans.{cleared_none, owners_slots, cleared_links, descriptors_inodes}
 
-of_fenced : {T E : Type 0} {N : ℕ → ℕ → Type 0} {a c : DeviceView} {result : Result T E} (n : ℕ) → n ≢ 0 → IsAfter N a.words c.words → StoresAndFences a c (n + 1) result → MakesStep N a c n result
-of_fenced zero some after made = absurd (some refl)
-of_fenced (suc n) some after made = record {
-  words = after;
-  leaves = made.fenced.leaves;
-  device = intervals_one made;
-  quiet = λ none. absurd (some none);
+at_most_one : (stores : Bool) → (if stores then 1 else 0) ≤ 1
+at_most_one true = omega arith
+at_most_one false = omega arith
+
+pub one_fence : (n : ℕ) → fences_for n ≤ 1
+one_fence n = at_most_one (nat_lt 0 n)
+
+-- changes, and their fence
+pub step_ends : {T E : Type 0} {N : ℕ → ℕ → Type 0} {a b c : DeviceView} (n : ℕ) (result : Result T E) → n ≢ 0 → IsSettledView a → Changes N a b n → Fences b c result → Takes (changing N n) a c result
+step_ends {N = N} {a = a} {c = c} n result some settled changes fence = record {
+  makes = subst (λ (l : List ℕ). IsAfter N a.words l) (sym fence.words) (changes_after changes);
+  fenced = subst (λ (stores : Bool). Fenced stores (n + 1) a c result) (sym (lt-ltb 0 n (omega (arith, some))))
+      (interval_ends result settled changes.device (λ x has. changes.flushed x has.0 has.1) fence);
 }
-
-after_fence : {N : ℕ → ℕ → Type 0} {a b : DeviceView} {n : ℕ} (c : DeviceView) → Changes N a b n → c.words ≡ b.words → IsAfter N a.words c.words
-after_fence {N} {a} c changes same = subst (λ (l : List ℕ). IsAfter N a.words l) (sym same) (changes_after changes)
-
-pub step_done : {T E U F : Type 0} {N : ℕ → ℕ → Type 0} {a b c : DeviceView} {done : U} (n : ℕ) (value : T) → n ≢ 0 → IsSettledView a → Changes N a b n → Fences {E = F} b c (Ok done) → MakesStep {E = E} N a c n (Ok value)
-step_done {c = c} n value some settled changes fence = of_fenced n some (after_fence c changes fence.words) (ok_ends value settled changes.device (λ x has. changes.flushed x has.0 has.1) fence)
-
-pub step_failed : {T E U F : Type 0} {N : ℕ → ℕ → Type 0} {a b c : DeviceView} {failed : F} (n : ℕ) (fault : E) → n ≢ 0 → IsSettledView a → Changes N a b n → Fences {T = U} b c (Err failed) → MakesStep {T = T} N a c n (Err fault)
-step_failed {c = c} n fault some settled changes fence = of_fenced n some (after_fence c changes fence.words) (err_ends fault settled changes.device (λ x has. changes.flushed x has.0 has.1) fence)
 
 -- no changes
-pub step_none : {T E : Type 0} {N : ℕ → ℕ → Type 0} (device : DeviceView) (n : ℕ) (value : T) → n ≡ 0 → IsSettledView device → ((x v : ℕ) → N x v → ⊥) → MakesStep {E = E} N device device n (Ok value)
-step_none device (suc n) value is settled none = absurd (omega (arith, is))
-step_none device zero value is settled none = record {
-  words = record { size = refl; new = λ x v has. absurd (none x v has); words = λ x. inl refl };
-  leaves = leaves_here (λ _. Mix device.words device.words) settled (record { long = refl; each = λ x. inl refl });
-  device = intervals_none device value settled;
-  quiet = λ _. refl;
+pub step_none : {T E : Type 0} {N : ℕ → ℕ → Type 0} (device : DeviceView) (n : ℕ) (value : T) → n ≡ 0 → ((x v : ℕ) → N x v → ⊥) → Takes {E = E} (changing N n) device device (Ok value)
+step_none device (suc n) value is none = absurd (omega (arith, is))
+step_none device zero value is none = record {
+  makes = record { size = refl; new = λ x v has. absurd (none x v has); words = λ x. inl refl };
+  fenced = (refl, refl);
 }
+
+-- where no step has a store the device is as before
+still : {T E : Type 0} (stores : Bool) (events more : ℕ) (a b : DeviceView) (result : Result T E) → (if stores then 1 else 0) + more ≡ 0 → Fenced stores events a b result → b ≡ a
+still true events more a b result none one = absurd (omega (arith, none))
+still false events more a b result none one = one.0
+
+each_still : {T E : Type 0} (steps : List Step) (a c : DeviceView) (result : Result T E) → fences_in steps ≡ 0 → InTurn steps a c result → c ≡ a
+each_still [] a c result none made = made.0
+each_still (step ∷ later) a c result none (inl (one, is)) = still step.stores step.events (fences_in later) a c result none one.fenced
+each_still (step ∷ later) a c result none (inr (b, one, rest)) =
+    each_still later b c result (omega (arith, none)) rest ∙ still step.stores step.events (fences_in later) a b (Ok tt) none one.fenced
+
+pub all_still : {T E : Type 0} {steps : List Step} {a c : DeviceView} {result : Result T E} → fences_in steps ≡ 0 → Unfolds steps a c result → c ≡ a
+all_still {steps = steps} {a = a} {c = c} {result = result} none made = each_still steps a c result none made.in_turn
 
 -- ---- at most one word
 
-pub one_none : {E : Type 0} (P : ℕ) (part : Part) (slot : Option ℕ) (device : DeviceView) → slot ≡ None → IsSettledView device → MakesStep {T = Unit {0}} {E = E} (IsOne P part slot) device device (one_changes slot) (Ok tt)
-one_none P part None device is settled = step_none device 0 tt refl settled (λ a v none. none)
-one_none P part (Some number) device is settled = let none : ⊥ = cc is in absurd none
+pub one_none : {E : Type 0} (P : ℕ) (part : Part) (slot : Option ℕ) (device : DeviceView) → slot ≡ None → Takes {T = Unit {0}} {E = E} (changing (IsOne P part slot) (one_changes slot)) device device (Ok tt)
+one_none P part None device is = step_none device 0 tt refl (λ a v none. none)
+one_none P part (Some number) device is = let none : ⊥ = cc is in absurd none
 
-pub one_some : {E : Type 0} (P : ℕ) (part : Part) (slot : Option ℕ) (number : ℕ) {result : Result (Unit {0}) E} {a c : DeviceView} → slot ≡ Some number → MakesStep (IsInPart P part number 0) a c 2 result → MakesStep (IsOne P part slot) a c (one_changes slot) result
-one_some P part slot number {result} {a} {c} is made = subst (λ (o : Option ℕ). MakesStep (IsOne P part o) a c (one_changes o) result) (sym is) made
+pub one_some : {E : Type 0} (P : ℕ) (part : Part) (slot : Option ℕ) (number : ℕ) {result : Result (Unit {0}) E} {a c : DeviceView} → slot ≡ Some number → Takes (changing (IsInPart P part number 0) 2) a c result → Takes (changing (IsOne P part slot) (one_changes slot)) a c result
+one_some P part slot number {result} {a} {c} is made = subst (λ (o : Option ℕ). Takes (changing (IsOne P part o) (one_changes o)) a c result) (sym is) made
 
 -- ---- several lists
 
@@ -77,12 +86,3 @@ cleared_as {P} n {part} {a} {b} is one = subst (λ (l : List ℕ). Changes (IsCl
 pub linked_as : {P : ℕ} {a b : DeviceView} {inodes links counts items : List ℕ} → inodes ≡ links → counts ≡ items → Changes (IsLinked P inodes counts) a b (2 * length inodes) → Changes (IsLinked P links items) a b (2 * length links)
 linked_as {P} {a} {b} {inodes} {links} {counts} {items} is are one =
     subst (λ (l : List ℕ). Changes (IsLinked P links l) a b (2 * length links)) are (subst (λ (l : List ℕ). Changes (IsLinked P l counts) a b (2 * length l)) is one)
-
--- a step of so many changes has room for them
-pub room_of : (n spare : ℕ) → step_events n ≤ spare → n ≤ spare
-room_of zero spare room = omega arith
-room_of (suc n) spare room = omega (arith, room)
-
-pub room_of_fence : (n spare : ℕ) → n ≢ 0 → step_events n ≤ spare → n + 1 ≤ spare
-room_of_fence zero spare some room = absurd (some refl)
-room_of_fence (suc n) spare some room = omega (arith, room)

@@ -1,7 +1,8 @@
 -- What stores of words that stand for a list of changes do to a device.
-use Rattle.std.specs.Prelude.{◌≡◌, ℕ, zero, suc, ◌+◌, ◌-◌, ◌/◌, ◌<◌, ◌≤◌, List, length, slice_index, Option, Some, None, Result}
-use Rattle.pm_trait.specs.Device.{IsFlushed, LeavesOnly, Mix}
-use Rattle.pm_trait.specs.DeviceView.{DeviceView, Stores, MakesIntervals}
+use Rattle.std.specs.Prelude.{◌≡◌, ℕ, ◌+◌, ◌-◌, ◌/◌, ◌<◌, ◌≤◌, nat_lt, if◌then◌else◌, List, length, slice_index, Option, Some, None}
+use Rattle.pm_trait.specs.Device.{IsFlushed}
+use Rattle.pm_trait.specs.DeviceView.{DeviceView, Stores}
+use Rattle.pm_trait.specs.Unfolds.{Step}
 use Rattle.repair_laws.specs.Mended.{IsAfter}
 use Rattle.recovery.specs.declared.part.Part.{Part}
 use Rattle.recovery.specs.declared.part.Part.TheVariants.{Links}
@@ -51,25 +52,22 @@ abbrev pub IsOne : ℕ → Part → Option ℕ → ℕ → ℕ → Type 0
 IsOne P part None a v = ⊥
 IsOne P part (Some number) a v = IsInPart P part number 0 a v
 
--- ---- a step: changes, and a fence where there are any
-
-abbrev pub fences_for : ℕ → ℕ
-fences_for zero = 0
-fences_for (suc stores) = 1
-
--- the events of a step of so many stores and flushes
-abbrev pub step_events : ℕ → ℕ
-step_events changes = changes + fences_for changes
-
--- the store and the flush of a word of one object, where there is one
+-- the stores and flushes of a word of one object, where there is one
 abbrev pub one_changes : Option ℕ → ℕ
 one_changes None = 0
 one_changes (Some number) = 2
 
--- The words that become something have become so, and all others are as before. A crash at any moment leaves old and new
--- words mixed. Where there are no changes the device is as before.
-pub record MakesStep {T E : Type 0} (becomes : ℕ → ℕ → Type 0) (old new : DeviceView) (changes : ℕ) (result : Result T E) : Type 0 where
-  pub words : IsAfter becomes old.words new.words
-  pub leaves : LeavesOnly old.trail new.trail (λ _. Mix old.words new.words)
-  pub device : MakesIntervals old new (step_events changes) (fences_for changes) result
-  pub quiet : changes ≡ 0 → new ≡ old
+-- ---- a step
+
+-- A step of so many stores and flushes. The words that become something have become so, and all others are as before; where there are
+-- no changes nothing is stored, and no fence made.
+abbrev pub changing : (ℕ → ℕ → Type 0) → ℕ → Step
+changing becomes changes = record { Makes = λ I J. IsAfter becomes I J; stores = nat_lt 0 changes; events = changes + 1 }
+
+-- its fences
+abbrev pub fences_for : ℕ → ℕ
+fences_for changes = if nat_lt 0 changes then 1 else 0
+
+-- and its events
+abbrev pub events_for : ℕ → ℕ
+events_for changes = if nat_lt 0 changes then changes + 1 else 0

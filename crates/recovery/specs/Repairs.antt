@@ -1,18 +1,16 @@
 -- What each step of some repairs stores, and what all of them take.
-use Rattle.std.specs.Prelude.{◌≡◌, ◌⊎◌, ℕ, ◌+◌, ◌-◌, ◌*◌, ◌^◌, ◌<◌, ◌≤◌, List, length}
-use Rattle.pm_trait.specs.DeviceView.{DeviceView, IsSettledView}
+use Rattle.std.specs.Prelude.{◌≡◌, ◌⊎◌, ℕ, ◌+◌, ◌*◌, List, [], ◌∷◌, length, Option, IfSome}
+use Rattle.pm_trait.specs.Unfolds.{Step, events_in, fences_in}
 use Rattle.recovery.specs.declared.part.Part.{Part}
-use Rattle.recovery.specs.declared.part.Part.TheVariants.{Owner, Name, Links, Descriptor, Inode}
+use Rattle.recovery.specs.declared.part.Part.TheVariants.{Number, Pointer, Owner, Name, Links, Descriptor, Inode}
 use Rattle.recovery.specs.declared.repairs.Repairs.{Repairs}
-use Rattle.recovery.specs.Parts.{AreNumbers, IsRising}
-use Rattle.recovery.specs.Changes.{IsCleared, IsLinked, fences_for, step_events, one_changes}
+use Rattle.recovery.specs.Parts.{IsNumber, AreNumbers, IsRising, events_of_part}
+use Rattle.recovery.specs.Changes.{IsOne, IsCleared, IsLinked, changing, one_changes}
 
--- a step of so many stores and flushes may begin
-pub record IsStepStart (P : ℕ) (device : DeviceView) (changes : ℕ) : Type 0 where
-  pub whole : length device.words ≡ 512 * P
-  pub settled : IsSettledView device
-  pub room : step_events changes ≤ device.spare
-  pub countable : device.fences < 2 ^ 64 - 1
+-- The part is one word, and there is such an object where one is named.
+pub record CanClearWord (P : ℕ) (part : Part) (number : Option ℕ) : Type 0 where
+  pub one : events_of_part part ≡ 2
+  pub there : IfSome number (IsNumber P part)
 
 -- the numbers of a list are those of objects, each once, in rising order
 pub record AreObjects (P : ℕ) (part : Part) (numbers : List ℕ) : Type 0 where
@@ -43,10 +41,31 @@ clear_changes r = 2 * length r.owners.items + 17 * length r.slots.items + 2 * le
 abbrev pub free_changes : Repairs → ℕ
 free_changes r = 3 * length r.descriptors.items + 5 * length r.inodes.items
 
--- the stores, flushes and fences of all steps
-abbrev pub events_of_repairs : Repairs → ℕ
-events_of_repairs r = step_events (one_changes r.left) + (step_events (one_changes r.pointer) + (step_events (clear_changes r) + step_events (free_changes r)))
+-- ---- the steps
 
--- one fence for each step with a store
+-- the number of the slot that a committed rename left
+abbrev pub giving_up : Repairs → Step
+giving_up r = changing (IsOne r.geometry.pages Number r.left) (one_changes r.left)
+
+-- the rename pointer
+abbrev pub unpointing : Repairs → Step
+unpointing r = changing (IsOne r.geometry.pages Pointer r.pointer) (one_changes r.pointer)
+
+-- owners of pages, words 1 to 15 of dead slots, and links
+abbrev pub clearing : Repairs → Step
+clearing r = changing (IsClearedBy r) (clear_changes r)
+
+-- kinds and offsets of pages, and words of inodes
+abbrev pub freeing : Repairs → Step
+freeing r = changing (IsFreedBy r) (free_changes r)
+
+abbrev pub steps_of : Repairs → List Step
+steps_of r = giving_up r ∷ unpointing r ∷ clearing r ∷ freeing r ∷ []
+
+-- the stores, flushes and fences of all of them
+abbrev pub events_of_repairs : Repairs → ℕ
+events_of_repairs r = events_in (steps_of r)
+
+-- one fence for each that has a store
 abbrev pub fences_of_repairs : Repairs → ℕ
-fences_of_repairs r = fences_for (one_changes r.left) + (fences_for (one_changes r.pointer) + (fences_for (clear_changes r) + fences_for (free_changes r)))
+fences_of_repairs r = fences_in (steps_of r)

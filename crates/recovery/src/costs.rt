@@ -1,21 +1,21 @@
 // How many events a repair makes.
 ghost use Rattle.std.specs.Prelude.{◌≡◌, ◌^◌, ◌≤◌};
 ghost use Rattle.recovery.specs.Repairs.{clear_changes, free_changes, events_of_repairs};
-ghost use Rattle.recovery.specs.Changes.{step_events, one_changes};
+ghost use Rattle.recovery.specs.Changes.{events_for, one_changes};
 
 use crate::Repairs;
 
 // A step with stores has one fence.
 fn with_fence(changes: u64) -> u64
     requires { changes ≤ 2 ^ 32 }
-    ensures { result ≡ step_events changes }
+    ensures { result ≡ events_for changes }
 {
     if changes == 0 { 0 } else { changes + 1 }
 }
 
 // The events of a step that clears at most one word.
 fn events_of_one(number: Option<u64>) -> u64
-    ensures { result ≡ step_events (one_changes number) }
+    ensures { result ≡ events_for (one_changes number) }
 {
     match number {
         None => 0,

@@ -2,11 +2,12 @@
 ghost use Rattle.std.specs.Prelude.{◌≡◌, ◌^◌, ◌<◌, ◌≤◌, OnOk};
 ghost use Rattle.pm_trait.specs.Device.{LeavesOnly};
 ghost use Rattle.pm_trait.specs.DeviceView.{IsSettledView, MakesIntervals};
+ghost use Rattle.pm_trait.specs.Unfolds.{Unfolds};
 ghost use Rattle.image_reading.specs.Soundness.{Sound};
 ghost use Rattle.image_laws.specs.Frame.{SameMeaning};
 ghost use Rattle.repair_laws.specs.Mended.{IsMended};
 ghost use Rattle.recovery.specs.Plans.{IsPlanOf};
-ghost use Rattle.recovery.specs.Repairs.{events_of_repairs, fences_of_repairs};
+ghost use Rattle.recovery.specs.Repairs.{steps_of, events_of_repairs, fences_of_repairs};
 
 use crate::steps::{clear_objects, clear_word, free_objects};
 use crate::{Part, Repairs};
@@ -22,6 +23,7 @@ pub fn repair<P: Pm>(pm: &mut P, repairs: Repairs) -> Result<(), PmFault>
     requires room { events_of_repairs repairs ≤ (P.view pm.old).spare }
     requires countable { (P.view pm.old).fences < 2 ^ 63 }
 
+    ensures in_turn { Unfolds (steps_of repairs) (P.view pm.old) (P.view pm.new) result }
     ensures any_moment { LeavesOnly (P.view pm.old).trail (P.view pm.new).trail
         (λ acks image. (acks ≡ 0) × SameMeaning repairs.geometry.pages (P.view pm.old).words image) }
     ensures mended { OnOk result (IsMended repairs.geometry.pages (P.view pm.old).words (P.view pm.new).words) }

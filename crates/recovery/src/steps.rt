@@ -1,13 +1,12 @@
 // The steps of a repair. Each is settled by a fence of its own, which it has only where it stores anything.
-ghost use Rattle.std.specs.Prelude.{◌≡◌, ◌-◌, ◌*◌, ◌^◌, ◌<◌, ◌≤◌, length, IfSome};
-ghost use Rattle.pm_trait.specs.DeviceView.{IsSettledView};
-ghost use Rattle.recovery.specs.Parts.{IsNumber, events_of_part};
-ghost use Rattle.recovery.specs.Changes.{IsOne, MakesStep, one_changes, step_events};
-ghost use Rattle.recovery.specs.Repairs.{IsStepStart, HasObjects, IsClearedBy, IsFreedBy, clear_changes, free_changes};
+ghost use Rattle.std.specs.Prelude.{◌*◌};
+ghost use Rattle.pm_trait.specs.Unfolds.{MayFence, Takes};
+ghost use Rattle.recovery.specs.Changes.{IsOne, changing, one_changes, events_for};
+ghost use Rattle.recovery.specs.Repairs.{CanClearWord, HasObjects, clear_changes, free_changes, clearing, freeing};
 
 use crate::span::{clear_all, set_links, set_part};
 use crate::{Part, Repairs};
-use fence_token::fence;
+use fence_token::end_interval;
 use layout::Geometry;
 use pm_trait::{Pm, PmFault};
 
@@ -18,27 +17,24 @@ pub fn clear_word<P: Pm>(
     part: Part,
     slot: Option<u64>,
 ) -> Result<(), PmFault>
-    requires one { events_of_part part ≡ 2 }
-    requires slot { IfSome slot (IsNumber geometry.now.pages part) }
-    requires begins { IsStepStart geometry.now.pages (P.view pm.old) (one_changes slot) }
-    ensures { MakesStep (IsOne geometry.now.pages part slot) (P.view pm.old) (P.view pm.new) (one_changes slot)
-        result }
+    requires ready { CanClearWord geometry.now.pages part slot }
+    requires begins { MayFence (P.view pm.old) (512 * geometry.now.pages) (events_for (one_changes slot)) 1 }
+    ensures takes { Takes (changing (IsOne geometry.now.pages part slot) (one_changes slot)) (P.view pm.old)
+        (P.view pm.new) result }
 {
     let Some(number) = slot else {
         return Ok(());
     };
     set_part(pm, geometry, part, number, 0);
-    match fence(pm) {
-        Ok(_token) => Ok(()),
-        Err(fault) => Err(fault),
-    }
+    end_interval(pm)
 }
 
 /// Clears owners and slots, and sets links.
 pub fn clear_objects<P: Pm>(pm: &mut P, repairs: &Repairs) -> Result<(), PmFault>
-    requires objects { HasObjects repairs.now }
-    requires begins { IsStepStart repairs.now.geometry.pages (P.view pm.old) (clear_changes repairs.now) }
-    ensures { MakesStep (IsClearedBy repairs.now) (P.view pm.old) (P.view pm.new) (clear_changes repairs.now) result }
+    requires ready { HasObjects repairs.now }
+    requires begins { MayFence (P.view pm.old) (512 * repairs.now.geometry.pages)
+        (events_for (clear_changes repairs.now)) 1 }
+    ensures takes { Takes (clearing repairs.now) (P.view pm.old) (P.view pm.new) result }
 {
     if repairs.clear_changes() == 0 {
         return Ok(());
@@ -52,17 +48,15 @@ pub fn clear_objects<P: Pm>(pm: &mut P, repairs: &Repairs) -> Result<(), PmFault
         repairs.links.as_slice(),
         repairs.counts.as_slice(),
     );
-    match fence(pm) {
-        Ok(_token) => Ok(()),
-        Err(fault) => Err(fault),
-    }
+    end_interval(pm)
 }
 
 /// Clears descriptors and inodes.
 pub fn free_objects<P: Pm>(pm: &mut P, repairs: &Repairs) -> Result<(), PmFault>
-    requires objects { HasObjects repairs.now }
-    requires begins { IsStepStart repairs.now.geometry.pages (P.view pm.old) (free_changes repairs.now) }
-    ensures { MakesStep (IsFreedBy repairs.now) (P.view pm.old) (P.view pm.new) (free_changes repairs.now) result }
+    requires ready { HasObjects repairs.now }
+    requires begins { MayFence (P.view pm.old) (512 * repairs.now.geometry.pages)
+        (events_for (free_changes repairs.now)) 1 }
+    ensures takes { Takes (freeing repairs.now) (P.view pm.old) (P.view pm.new) result }
 {
     if repairs.free_changes() == 0 {
         return Ok(());
@@ -75,10 +69,7 @@ pub fn free_objects<P: Pm>(pm: &mut P, repairs: &Repairs) -> Result<(), PmFault>
         repairs.descriptors.as_slice(),
     );
     clear_all(pm, geometry, Part::Inode, repairs.inodes.as_slice());
-    match fence(pm) {
-        Ok(_token) => Ok(()),
-        Err(fault) => Err(fault),
-    }
+    end_interval(pm)
 }
 
 #[cfg(test)]
