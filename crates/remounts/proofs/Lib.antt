@@ -1,1 +1,2 @@
 mod Remounted
+mod Turns

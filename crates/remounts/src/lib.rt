@@ -1,10 +1,12 @@
 //! A volume that is mounted again and again, each time cut off by a crash.
 #![tactic(auto)]
 
-ghost use Rattle.std.specs.Prelude.{◌≡◌, ◌⊎◌, IfErr, IfOk};
+ghost use Rattle.std.specs.Prelude.{◌≡◌, ◌⊎◌, ◌<◌, length, Err, IfErr, IfOk};
 ghost use Rattle.image_reading.specs.Soundness.{pages_in_image};
 ghost use Rattle.image_laws.specs.Frame.{SameMeaning};
 ghost use Rattle.mount_scan.specs.Mounting.{IsSound};
+ghost use Rattle.mount_scan.specs.declared.error.MountError.{MountError};
+ghost use Rattle.remounts.specs.InTurn.{IsRefusedAs, IsRefusedInTurn, LeaveInTurn, LeavesImage};
 
 use mount_scan::{MountError, mount};
 use pm_memory::RamPm;
@@ -22,12 +24,18 @@ pub struct Crash<'a> {
 }
 
 /// A device of these words is mounted, and a crash comes; a device of the words that it leaves is mounted, and the next
-/// crash comes. Answers what the last one leaves: it means what the words mean, however many there were.
+/// crash comes. Answers what the last one leaves: of sound words what means the same, however many crashes there were. Of
+/// others the first mount is refused, and that is the answer. Without a crash nothing is mounted, and it is the words.
 pub fn words_after(
     alloc: Global,
     words: &[u64],
     crashes: &[Crash<'_>],
 ) -> Result<Vec<u64>, MountError>
+    ensures in_turn { IfOk result (λ after. LeaveInTurn crashes.now words.now after.items) }
+    ensures refused { IfErr result (λ error.
+        (error ≡ MountError.NoMemory) ⊎ IsRefusedInTurn crashes.now words.now error) }
+    ensures unsound { ¬ IsSound words.now → 0 < length crashes.now →
+        (error : MountError) × (result ≡ Err error) × IsRefusedAs words.now error }
     ensures means { IsSound words.now → IfOk result (λ after.
         SameMeaning (pages_in_image words.now) words.now after.items) }
     ensures fails { IsSound words.now → IfErr result (λ error.
@@ -42,6 +50,8 @@ pub fn words_after(
 
 // What one crash leaves in the mount of a device of these words.
 fn words_after_one(alloc: Global, words: &[u64], crash: &Crash<'_>) -> Result<Vec<u64>, MountError>
+    ensures leaves { IfOk result (λ image. LeavesImage crash.now words.now image.items) }
+    ensures refused { IfErr result (λ error. IsRefusedAs words.now error) }
     ensures means { IsSound words.now → IfOk result (λ after.
         SameMeaning (pages_in_image words.now) words.now after.items) }
     ensures fails { IsSound words.now → IfErr result (λ error.

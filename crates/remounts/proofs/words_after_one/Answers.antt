@@ -1,9 +1,36 @@
-use Rattle.std.proofs.Common.{arith}
+use Rattle.std.proofs.Common.{Bor, ◌≡◌, ℕ, ◌<◌, List, length, sym, ap, ◌∙◌, arith}
+use Rattle.std.proofs.lemmas.Bool.Decides.{nat_tests}
+use Rattle.std.proofs.lemmas.Result.{err_from_is_err_and}
+use Rattle.std.specs.Prelude.{Err}
+use Rattle.remounts.specs.InTurn.{keep_of}
+use Rattle.remounts.proofs.Turns.{keep_none, keep_some, leaves_image, refused_as}
 use Rattle.remounts.proofs.Remounted.{image_means}
 use Rattle.remounts.proofs.words_after_one.Goals as goal
+use Rattle.remounts.proofs.words_after_one.Goals.{then-is_empty, else-is_empty}
 
 pub returns-clause-means : goal.returns-clause-means
 returns-clause-means c =
     image_means _ c.in_ok-pm.ensures.device c.mount.ensures.any_moment
     (let least = c.min.ensures in let all = c.events.ensures in omega (arith, least, all))
     c.in_ok-left.ensures.crash_image
+
+pub returns-in_err-_volume-clause-refused : goal.returns-in_err-_volume-clause-refused
+returns-in_err-_volume-clause-refused c =
+    let p = err_from_is_err_and c.from_residual-in_err-_volume.result c.from_residual-in_err-_volume.ensures.1 in
+    let refused = refused_as c.in_err-_volume.field-0.0 c.in_ok-pm.ensures.device (λ is. c.in_err-_volume.ensures.not_volume.0 (ap Err is))
+    (λ violation is. c.in_err-_volume.ensures.damaged violation (ap Err is)) (λ is. c.in_err-_volume.ensures.failed (ap Err is)) in
+    rw (p.1, p.2) refused
+
+pub returns-clause-leaves : goal.returns-clause-leaves
+returns-clause-leaves c =
+    let keep : List ℕ = c.args.crash.now.keep.now in
+    let chosen_by : c.if-is_empty.keep.now ≡ keep_of keep = elim c.if-is_empty.branch [
+      | then-is_empty w ↦
+          let none : length keep ≡ 0 = grind (arith, nat_tests, w.if-is_empty.ensures) in
+          ap (λ (b : Bor (List ℕ)). b.now) w.keep-is ∙ w.as_slice-keep.ensures ∙ sym (keep_none keep none)
+      | else-is_empty w ↦
+          let some : 0 < length keep = grind (arith, nat_tests, w.if-is_empty.ensures) in
+          ap (λ (b : Bor (List ℕ)). b.now) w.keep-is ∙ sym (keep_some keep some)
+    ] in
+    leaves_image c.events.result c.min.result c.in_ok-pm.ensures.device c.in_ok-_volume.ensures.only_sound (λ state reads. (c.in_ok-_volume.ensures.mounted state reads).1)
+    c.events.ensures chosen_by c.min.ensures c.in_ok-left.ensures.chosen
