@@ -1,2 +1,3 @@
 mod CrashLaws
 mod Steps
+pub mod Course

@@ -1,3 +1,4 @@
 pub mod Outcome
 pub mod Crashes
 pub mod Tables
+pub mod Making

@@ -27,7 +27,3 @@ pub record SameBeside (first end : ℕ) (old new : List ℕ) : Type 0 where
 -- the stores, flushes and fence that write every word before the data pages but the first
 abbrev pub tables_events : ℕ → ℕ
 tables_events pages = let last = first_data_word_of pages - 1 in last + (last / 8 + 1) + 1
-
--- those of a whole format: beside them one store, flush and fence before and after
-abbrev pub format_events : ℕ → ℕ
-format_events pages = tables_events pages + 6

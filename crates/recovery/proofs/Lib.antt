@@ -5,6 +5,5 @@ pub mod Planned
 pub mod Meaning
 pub mod Course
 pub mod Objects
-pub mod Rows
 pub mod Listing
 pub mod Needing

@@ -169,6 +169,3 @@ fn litter_inodes(alloc: Global, scanned: &Scanned<'_>) -> Result<Vec<u64>, NoMem
     }
     Ok(inodes)
 }
-
-#[cfg(test)]
-mod tests;

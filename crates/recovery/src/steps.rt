@@ -71,6 +71,3 @@ pub fn free_objects<P: Pm>(pm: &mut P, repairs: &Repairs) -> Result<(), PmFault>
     clear_all(pm, geometry, Part::Inode, repairs.inodes.as_slice());
     end_interval(pm)
 }
-
-#[cfg(test)]
-mod tests;

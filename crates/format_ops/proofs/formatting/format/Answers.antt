@@ -1,11 +1,15 @@
-use Rattle.std.proofs.Common.{◌≡◌, ℕ, ◌/◌, inl, length, refl, sym, ap, subst, arith}
-use Rattle.std.specs.Prelude.{Option}
+use Rattle.std.proofs.Common.{rules, ◌≡◌, ℕ, ◌/◌, inl, length, refl, sym, ap, subst, arith}
+use Rattle.std.specs.Prelude.{Option, Err}
 use Rattle.pm_trait.specs.Trail.{Trail}
 use Rattle.pm_trait.specs.Device.{LeavesOnly}
 use Rattle.pm_trait.proofs.DeviceLaws.{leaves_here}
 use Rattle.image_reading.specs.Laws.{IsFresh}
 use Rattle.image_reading.proofs.Format.{format_law}
 use Rattle.format_ops.specs.Crashes.{IsOldHiddenOrFormatted}
+use Rattle.pm_trait.proofs.Unfolding.{intervals, unfolds_as, unfolds_failed_as}
+use Rattle.format_ops.specs.declared.error.FormatError.TheVariants.{PmFault}
+use Rattle.format_ops.specs.Outcome.{TakesSteps, Formats}
+use Rattle.format_ops.proofs.Course.{after_reserve}
 use Rattle.format_ops.proofs.formatting.format.Goals as goal
 
 pub returns-in_default-clause-any_moment : goal.returns-in_default-clause-any_moment
@@ -26,3 +30,27 @@ returns-clause-fresh g c =
     let is : geometry.pages ≡ length old / 512 = omega (arith, c.in-Some.ensures.whole, ap length c.image.ensures) in
     subst (λ (pages : ℕ). IsFresh pages (g.P.Pm.view c.make_volume.new.pm).words) is
     (format_law geometry.pages (g.P.Pm.view c.reserve.new.self).words (g.P.Pm.view c.make_volume.new.pm).words geometry.volume_size c.in_ok-make_volume.ensures.formatted)
+
+pub returns-in_err-make_volume-clause-in_turn : goal.returns-in_err-make_volume-clause-in_turn
+returns-in_err-make_volume-clause-in_turn g c =
+    let old = g.P.Pm.view c.args.pm.now in
+    let new = g.P.Pm.view c.make_volume.new.pm in
+    let geometry = c.in-Some.geometry in
+    let is : geometry.pages ≡ length old.words / 512 = omega (arith, c.in-Some.ensures.whole, ap length c.image.ensures) in
+    let fault : c.from_residual-in_err-make_volume.result ≡ Err PmFault = search rules in
+    subst (TakesSteps old new) (sym fault) (after_reserve is c.in_ok-reserve.ensures (unfolds_failed_as PmFault c.in_err-make_volume.ensures.unfolds))
+
+pub returns-in_err-make_volume-clause-device : goal.returns-in_err-make_volume-clause-device
+returns-in_err-make_volume-clause-device g c =
+    let old = g.P.Pm.view c.args.pm.now in
+    let new = g.P.Pm.view c.make_volume.new.pm in
+    let geometry = c.in-Some.geometry in
+    let is : geometry.pages ≡ length old.words / 512 = omega (arith, c.in-Some.ensures.whole, ap length c.image.ensures) in
+    let fault : c.from_residual-in_err-make_volume.result ≡ Err PmFault = search rules in
+    subst (Formats old new) (sym fault) (intervals c.requires.settled (after_reserve is c.in_ok-reserve.ensures (unfolds_failed_as PmFault c.in_err-make_volume.ensures.unfolds)))
+
+pub returns-clause-in_turn : goal.returns-clause-in_turn
+returns-clause-in_turn g c =
+    let geometry = c.in-Some.geometry in
+    let is : geometry.pages ≡ length (g.P.Pm.view c.args.pm.now).words / 512 = omega (arith, c.in-Some.ensures.whole, ap length c.image.ensures) in
+    after_reserve is c.in_ok-reserve.ensures (unfolds_as tt c.in_ok-make_volume.ensures.unfolds)
