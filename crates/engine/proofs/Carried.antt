@@ -1,5 +1,5 @@
 -- What a line leaves whose plan was carried out, or in which a fence failed.
-use Rattle.std.proofs.Common.{◌≡◌, ◌≢◌, ◌⊎◌, inl, inr, ℕ, ◌+◌, Bool, true, false, cond, nat_lt, nat_le, List, [], ◌∷◌, is_none, ◌&&◌, refl, sym, ap, subst, ◌∙◌, arith}
+use Rattle.std.proofs.Common.{◌≡◌, ◌≢◌, ◌⊎◌, inl, inr, ℕ, ◌+◌, ◌<◌, Bool, true, false, cond, nat_lt, nat_le, List, [], ◌∷◌, is_none, ◌&&◌, refl, sym, ap, subst, ◌∙◌, arith}
 use Rattle.std.specs.Prelude.{IsTrue, None, Result, Ok, Err, OnOk, OnErr, IfOk}
 use Rattle.pm_trait.specs.DeviceView.{DeviceView}
 use Rattle.pm_trait.specs.Device.{EndsInFault}
@@ -93,7 +93,7 @@ module _ (old new : SessionView) (before after : DeviceView) (action : Action) (
       → Carries old.volume new.volume before after action answer IsOurs result → Does old new before after state (Ok c) result
   does_carried state c result ours told change plan_for carries = record {
     executed = executed result follows.made carries.answered.reply carries.device.counted;
-    failed = failed result carries.device.halts;
+    failed = failed result carries.device.halts carries.device.fewer;
     stays = follows.stays;
   }
     where
@@ -122,13 +122,17 @@ module _ (old new : SessionView) (before after : DeviceView) (action : Action) (
       }
       executed (Err fault) left is made = tt
 
-      failed : (result : Result Reply PmFault) → OnErr result (EndsInFault after.trail) → OnErr result (HasFailed old.volume.size state (Ok c) before after)
-      failed (Ok replied) last = tt
-      failed (Err fault) last = record {
+      failed : (result : Result Reply PmFault) → OnErr result (EndsInFault after.trail) → OnErr result (after.fences < before.fences + fences_of_plan (deed_of action))
+          → OnErr result (HasFailed old.volume.size state (Ok c) before after)
+      failed (Ok replied) last fewer = tt
+      failed (Err fault) last fewer = record {
         fails = record { accepted = accepted_change old.volume.size state c changes plan_for.planned.accepted; answered = refl };
         any_moment = follows.any_moment;
         no_ack = carries.device.no_ack;
         last = last;
+        deed = deed_of action;
+        planned = plan_for.planned;
+        fewer = fewer;
       }
 
 module _ (old new : VolumeView) (before after : DeviceView) (action : Action) (answer : Answer) {IsOurs : Command → Type 0} (told : IsChangeReply (reply_of answer)) where

@@ -1,5 +1,5 @@
 -- What a line leaves for which nothing was done, and what preparing it adds to what was done.
-use Rattle.std.proofs.Common.{◌≡◌, inl, inr, ℕ, false, Option, Some, None, refl, sym, ap, subst, ◌∙◌, arith}
+use Rattle.std.proofs.Common.{◌≡◌, inl, inr, ℕ, List, false, Option, Some, None, refl, sym, ap, subst, ◌∙◌, arith}
 use Rattle.std.specs.Prelude.{IsTrue, ◌⊎◌, Result, Ok, Err, OnErr, IfOk}
 use Rattle.pm_trait.specs.Trail.{Trail}
 use Rattle.pm_trait.specs.DeviceView.{DeviceView}
@@ -25,7 +25,7 @@ use Rattle.volume.specs.Stands.{StandsFor}
 use Rattle.volume.specs.Crashes.{MayReadAs}
 use Rattle.volume.specs.Prepared.{IsRefusal, IsSameButPlaces, IsSameButRoom, Prepares}
 use Rattle.volume.specs.declared.plan.Action.{Action}
-use Rattle.engine.specs.Exec.{Executed, HasFailed, Does, LeavesVolume}
+use Rattle.engine.specs.Exec.{Executed, HasFailed, IsPlannedFor, Does, LeavesVolume}
 use Rattle.engine.specs.Replies.{IsReplyOf, IsChangeReply}
 use Rattle.engine.specs.Session.{SessionView}
 use Rattle.engine.specs.Run.{command_of, tree_after_line, IsAt}
@@ -137,6 +137,11 @@ module _ (old mid new : SessionView) (before between after : DeviceView) where
         any_moment = moments fails.any_moment;
         no_ack = none_acked fails.no_ack;
         last = fails.last;
+        deed = fails.deed;
+        planned =
+            subst (λ (words : List ℕ). IsPlannedFor old.volume.size words state line fails.deed) device.words
+            (subst (λ (p : ℕ). IsPlannedFor p between.words state line fails.deed) view.same_size fails.planned);
+        fewer = let few = fails.fewer in let same = device.fences in omega (arith, few, same);
       }
 
 module _ (old mid new : VolumeView) (before between after : DeviceView) where

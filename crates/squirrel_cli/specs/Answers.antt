@@ -1,5 +1,5 @@
 -- What a job answers, and what it leaves.
-use Rattle.std.specs.Prelude.{◌≡◌, ◌⊎◌, ℕ, ◌+◌, ◌*◌, ◌≤◌, List, length, Option, Some, IsSome}
+use Rattle.std.specs.Prelude.{◌≡◌, ◌⊎◌, ℕ, ◌+◌, ◌*◌, ◌<◌, ◌≤◌, List, length, Option, Some, IsSome}
 use Rattle.pm_trait.specs.Device.{LeavesOnly}
 use Rattle.pm_trait.specs.DeviceView.{DeviceView}
 use Rattle.io_edge.specs.Bytes.{Takes, TakesPrefix}
@@ -14,7 +14,7 @@ use Rattle.mount_scan.specs.Mounts.{IsLeftAlone}
 use Rattle.squirrel_cli.specs.declared.job.Job.{Job}
 use Rattle.squirrel_cli.specs.declared.job.Job.TheVariants.{Run}
 use Rattle.squirrel_cli.specs.declared.status.Status.{Status}
-use Rattle.squirrel_cli.specs.declared.status.Status.TheVariants.{Done, NoMemory, NotVolume, Damaged, WriteFault}
+use Rattle.squirrel_cli.specs.declared.status.Status.TheVariants.{Done, NoMemory, NotVolume, Damaged, DeviceFault, WriteFault}
 use Rattle.squirrel_cli.specs.Ends.{IsMountable, end_of}
 use Rattle.squirrel_cli.specs.Mounts.{IsOnlyMounted}
 use Rattle.squirrel_cli.specs.Told.{IsToldOrCut}
@@ -36,7 +36,10 @@ pub record Makes (pages : ℕ) (result : Status) (before after : DeviceView) (to
   pub told : result ≡ Done → Takes took (formatted_text pages) now
   pub cut : result ≡ WriteFault → TakesPrefix took (formatted_text pages) now
   pub any_moment : length before.words ≡ 512 * pages → LeavesOnly before.trail after.trail (λ acks image. (acks ≡ 0) × IsOldHiddenOrFormatted pages before.words image)
-  pub fences : after.fences ≤ before.fences + 3
+  -- it has made its three fences, or fewer where one failed
+  pub fences : (result ≡ Done) ⊎ (result ≡ WriteFault) → after.fences ≡ before.fences + 3
+  pub fewer : result ≡ DeviceFault → after.fences < before.fences + 3
+  pub most_fences : after.fences ≤ before.fences + 3
   pub acks : after.acks ≡ before.acks
 
 -- `run` tells that the device is no volume, or which rule it breaks first and where, and leaves it alone.

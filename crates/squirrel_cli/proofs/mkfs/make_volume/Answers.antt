@@ -42,7 +42,9 @@ returns-in-Ok-clause-makes g c =
       told = told_whole (λ other. cc other) told;
       cut = told_prefix (λ other. cc other) told;
       any_moment = λ long. format_leaves c.args.pages (g.met.P.Pm.honest c.args.pm.now) (g.met.P.Pm.honest c.format.new.pm) c.in-Ok.ensures.device.acks c.format.ensures.any_moment long;
-      fences = c.in-Ok.ensures.device.most_fences;
+      fences = λ ends. c.in-Ok.ensures.device.counted;
+      fewer = search rules;
+      most_fences = c.in-Ok.ensures.device.most_fences;
       acks = c.in-Ok.ensures.device.acks;
     }
 
@@ -55,5 +57,7 @@ returns-in-Err-PmFault-clause-makes g c = record {
   cut = search rules;
   any_moment = λ long. format_leaves c.args.pages (g.met.P.Pm.honest c.args.pm.now) (g.met.P.Pm.honest c.format.new.pm) (search rules) c.format.ensures.any_moment long;
   fences = search rules;
+  fewer = search rules;
+  most_fences = search rules;
   acks = search rules;
 }
