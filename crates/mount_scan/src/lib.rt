@@ -13,5 +13,3 @@ pub use mounting::mount;
 
 #[cfg(test)]
 mod tests;
-#[cfg(test)]
-mod volume_tests;

@@ -2,7 +2,7 @@ use Rattle.std.proofs.Common.{ap, arith}
 use Rattle.layout.specs.Geometry.{inodes_of}
 use Rattle.layout.proofs.GeometryLaws.{some_inodes}
 use Rattle.volume.specs.Volume.{VolumeView}
-use Rattle.mount_scan.proofs.volume_tests.a_directory_is_planned_beside_a_file.Goals as goal
+use Rattle.mount_scan.proofs.tests.a_volume_with_a_file.Goals as goal
 
 pub count-requires-clause-in_range : goal.count-requires-clause-in_range
 count-requires-clause-in_range g c =
