@@ -1,5 +1,5 @@
 -- What a node, its name and its commit leave of the other words.
-use Rattle.std.proofs.Common.{◌≡◌, ◌≢◌, inl, inr, ℕ, ◌+◌, ◌*◌, ◌<◌, ◌≤◌, List, length, slice_index, sym, ap, ◌∙◌, arith, get_or-set_same, get_or-set_other, length-set}
+use Rattle.std.proofs.Common.{◌≡◌, ◌≢◌, inl, inr, ℕ, ◌+◌, ◌*◌, ◌<◌, ◌≤◌, List, length, slice_index, sym, ap, ◌∙◌, arith, get_or-set_same, get_or-set_other}
 use Rattle.layout.specs.Geometry.{inodes_of, data_pages_of, slots_of, inode_word_of, descriptor_word_of, slot_word_of}
 use Rattle.layout.proofs.GeometryLaws.{same_inode_word, same_slot_word, slot_word_within, inode_word_not_slot_word, inode_word_not_descriptor_word, descriptor_word_not_slot_word}
 use Rattle.layout.specs.Fields.{word, inode_kind, slot_inode, slot_words}
@@ -27,9 +27,6 @@ module _ (P : ℕ) (B I J : List ℕ) (kind : NodeKind) (d s i : ℕ) (name : Li
   unset : (a : ℕ) → a ≢ slot_word_of P s 0 → word J a ≡ word I a
   unfolding word
   unset a apart = ap (λ (l : List ℕ). slice_index l a) commit ∙ get_or-set_other I (slot_word_of P s 0) a i 0 apart
-
-  pub placed_long : length J ≡ length B
-  placed_long = ap length commit ∙ length-set I (slot_word_of P s 0) i ∙ node.size
 
   pub placed_kind : (x : ℕ) → 1 ≤ x → x ≤ inodes_of P → x ≢ i → inode_kind J x ≡ inode_kind B x
   unfolding inode_kind

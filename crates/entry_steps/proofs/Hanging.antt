@@ -1,11 +1,10 @@
 -- On which word the reading of a make that crashed hangs.
-use Rattle.std.proofs.Common.{◌≡◌, ◌≢◌, inl, inr, ℕ, ◌≤◌, List, slice_index, set, sym, subst, ◌∙◌, arith, get_or-set_other}
+use Rattle.std.proofs.Common.{◌≡◌, ◌≢◌, inl, inr, ℕ, List, slice_index, set, sym, subst, ◌∙◌, get_or-set_other}
 use Rattle.std.specs.Prelude.{Option, Result}
-use Rattle.std.proofs.lemmas.Bool.{cases_eq, cases_lt}
+use Rattle.std.proofs.lemmas.Bool.{cases_eq}
 use Rattle.std.proofs.lemmas.Grind.{same_number_lists}
 use Rattle.pm_trait.specs.Trail.{Trail}
-use Rattle.pm_trait.specs.Device.{MayLeave, Mix, IsFenced, moment_of}
-use Rattle.pm_trait.proofs.ContinuesLaws.{continues_then, may_leave-more}
+use Rattle.pm_trait.specs.Device.{Mix, IsFenced}
 use Rattle.layout.specs.Fields.{word}
 use Rattle.image_reading.specs.Reading.{Reads}
 use Rattle.volume.specs.Commit.{HangsOn}
@@ -34,17 +33,3 @@ hangs_commit {a = a} {b = b} P commit value fenced is = record {
       subst (λ (l : List ℕ). Reads P l tree)
       (same_mix a b commit value image other is (fenced.leaves.each moment image from upto may) (fenced.leaves.each moment other from upto also) same) reads;
 }
-
--- one interval after another
-pub hangs_then : {a b c : Option Trail} {P commit : ℕ} → HangsOn P a b commit → HangsOn P b c commit → HangsOn P a c commit
-hangs_then {a} {b} {c} first second = record {
-  continues = continues_then first.continues second.continues;
-  each = λ moment image other tree from upto may also same reads. elim (cases_lt (moment_of b) moment) [
-    | inl later ↦ second.each moment image other tree (omega (arith, later)) upto may also same reads
-    | inr earlier ↦ first.each moment image other tree from earlier (less image moment earlier may) (less other moment earlier also) same reads
-  ];
-}
-  where
-    less : (image : List ℕ) (moment : ℕ) → moment ≤ moment_of b → MayLeave c moment image → MayLeave b moment image
-    less image moment upto may =
-        may_leave-more b second.continues.more moment image upto (subst (λ (t : Option Trail). MayLeave t moment image) second.continues.appended may)

@@ -51,9 +51,6 @@ module _ (P : ℕ) (W A : List ℕ) (page d : ℕ) (some : 1 ≤ d) (may : MayTa
 module _ (P : ℕ) (W B : List ℕ) (d : ℕ) (size : IsVolumeSize P) (whole : length W ≡ 512 * P) where
   -- ---- with a new page
   module _ (page : ℕ) (in_range : page < data_pages_of P) (A : List ℕ) (made : MakesPage P W A page) (is : B ≡ owned P A page d) where
-    owner_word : ℕ
-    owner_word = descriptor_word_of P page 0
-
     here : (a : ℕ) → word B a ≡ word (set A (descriptor_word_of P page 0) d) a
     here a = ap (λ (l : List ℕ). word l a) is
 

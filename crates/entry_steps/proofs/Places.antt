@@ -15,7 +15,6 @@ use Rattle.tree_model.specs.Accepted.{MayName}
 use Rattle.tree_model.specs.Capacity.{untaken}
 use Rattle.tree_model.specs.Step.{is_full}
 use Rattle.tree_model.specs.Run.{State, IsVolumeState}
-use Rattle.tree_model.specs.declared.command.Command.{Command}
 use Rattle.inode_state.specs.Inode.{fields_at}
 use Rattle.inode_state.proofs.InodeLaws.{same_fields_at}
 use Rattle.dentry_state.specs.States.{free_fields as free_slot}
@@ -34,8 +33,6 @@ use Rattle.image_counts.proofs.Slots.{absence_law}
 use Rattle.image_counts.proofs.States.{state_law}
 use Rattle.image_counts.proofs.Tidied.{page_count_law, room_law}
 use Rattle.image_laws.specs.Create.{CanName, IsVacant}
-use Rattle.image_laws.specs.Frame.{SameMeaning}
-use Rattle.volume.specs.Crashes.{MayReadAs}
 use Rattle.volume.specs.Planned.{IsVacantSlot, IsPlace, IsNewNameAt}
 use Rattle.volume.proofs.Ways.{whole_path}
 use Rattle.entry_steps.specs.Steps.{IsLinkable, MayTake, IsHolder, IsOpened}
@@ -92,10 +89,6 @@ module _ {P : ℕ} {W : List ℕ} {state : State} (tidy : Tidy P W) (reads : Rea
 
       made : (inode_kind W x ≡ 1) ⊎ (inode_kind W x ≡ 2) → inode_links W x < 2 ^ 64 - 1 → IsLinkable P W x
       made kind countable = record { least = range.least x reached; most = range.most x reached; live = (kind, (coherent_image Rule.kinds x).own reached); countable = countable }
-
-  -- what means the same may be left
-  pub may_same : (command : Command) (image : List ℕ) → SameMeaning P W image → MayReadAs P state (Some command) image
-  may_same command image same = record { sound = same.coherent; tree = state.tree; reads = same.reads state.tree reads.tree; allowed = inl refl }
 
 module _ {P : ℕ} {W : List ℕ} {state : State} {path : Route} {d : ℕ} {name : List ℕ} {slot : ℕ} {new_page : Option ℕ} (at : IsNamingAt P W state path d name slot new_page) where
   pub coherent : IsCoherent P W
