@@ -55,6 +55,7 @@ impl<F> FileMedium<F> {
     // Counts a call if it failed.
     fn counted<T>(&mut self, answer: io::Result<T>) -> io::Result<T>
         ensures answer { result ≡ answer }
+        ensures file { self.new.file ≡ self.old.file }
         ensures faults { CountsFaults self.old.faults self.new.faults result }
     {
         if answer.is_err() {
@@ -100,6 +101,7 @@ impl<F: ImageFile + OpenFile + Drop> FileMedium<F> {
     // lengthened it.
     fn sync_whole(&mut self) -> io::Result<()>
         ensures whole { OnOk result (F.is_length self.new.file.file self.old.file_bytes) }
+        ensures bytes { F.bytes self.new.file.file ≡ F.bytes self.old.file.file }
         ensures faults { self.new.faults ≡ self.old.faults }
     {
         self.file.sync()?;
@@ -120,17 +122,36 @@ impl<F: ImageFile + OpenFile + Drop> Medium for FileMedium<F> {
 
     ghost faults = { failed_calls };
 
-    fn read_pages(&mut self, page: u64, count: usize, words: &mut Vec<u64>) -> io::Result<()> {
+    fn read_pages(&mut self, page: u64, count: usize, words: &mut Vec<u64>) -> io::Result<()>
+        requires settled { (⟦<FileMedium<F> as Medium>⟧.safe self.old) ≡ (⟦<FileMedium<F> as Medium>⟧.held self.old) }
+        requires most { count ≤ 256 }
+        requires in_file { 4096 * (page + count) < 2 ^ 63 }
+        requires room { vec_len words.old + 512 * count ≤ vec_capacity words.old }
+        ensures read { OnOk result
+            (AppendsFrom (F.bytes self.old.file.file) (512 * page) (512 * count) words.old.items words.new.items) }
+        ensures capacity { vec_capacity words.old ≤ vec_capacity words.new }
+        ensures faults { CountsFaults self.old.faults self.new.faults result }
+    {
         let read = self.append_pages(page, count, words);
         self.counted(read)
     }
 
-    fn write_run(&mut self, line: u64, words: &[u64]) -> io::Result<()> {
+    fn write_run(&mut self, line: u64, words: &[u64]) -> io::Result<()>
+        requires most { length words.now ≤ 8 * 512 }
+        requires in_range { 64 * line < 2 ^ 63 }
+        ensures written { OnOk result (TakesBytes (F.bytes self.old.file.file) (F.bytes self.new.file.file)
+            (line_place line) (bytes_of_words words.now)) }
+        ensures faults { CountsFaults self.old.faults self.new.faults result }
+    {
         let written = self.write_words(line, words);
         self.counted(written)
     }
 
-    fn sync(&mut self) -> io::Result<()> {
+    fn sync(&mut self) -> io::Result<()>
+        ensures whole { OnOk result (F.is_length self.new.file.file self.old.file_bytes) }
+        ensures bytes { F.bytes self.new.file.file ≡ F.bytes self.old.file.file }
+        ensures faults { CountsFaults self.old.faults self.new.faults result }
+    {
         let synced = self.sync_whole();
         self.counted(synced)
     }

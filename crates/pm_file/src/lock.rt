@@ -1,5 +1,5 @@
 // A file that nobody else uses meanwhile.
-ghost use Rattle.std.specs.Prelude.{IsTrue, IfOk, OnOk, OnErr};
+ghost use Rattle.std.specs.Prelude.{◌≡◌, IsTrue, IfOk, OnOk, OnErr};
 ghost use Rattle.pm_file.specs.Placed.{HasBytes, TakesBytes};
 
 use crate::image_file::ImageFile;
@@ -28,9 +28,11 @@ impl<F: ImageFile + OpenFile + Drop> Locked<F> {
     }
 }
 
-impl<F: OpenFile> Locked<F> {
-    /// Waits until what was written is safe.
-    pub fn sync(&self) -> io::Result<()> {
+impl<F: ImageFile + OpenFile> Locked<F> {
+    /// Waits until what was written is safe. Of the length nothing is known behind it until it is asked again.
+    pub fn sync(&mut self) -> io::Result<()>
+        ensures { F.bytes self.new.file ≡ F.bytes self.old.file }
+    {
         self.file.sync_data()
     }
 }
@@ -45,7 +47,8 @@ impl<F: ImageFile> Locked<F> {
 
     /// The place where it ends.
     pub fn end(&mut self) -> io::Result<u64>
-        ensures { IfOk result (F.is_length self.new.file) }
+        ensures end { IfOk result (F.is_length self.new.file) }
+        ensures bytes { F.bytes self.new.file ≡ F.bytes self.old.file }
     {
         self.file.end()
     }

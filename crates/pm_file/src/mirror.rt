@@ -43,6 +43,7 @@ fn read_all<F: Medium>(medium: &mut F, words: &mut Vec<u64>, pages: usize) -> io
     ensures length { OnOk result (length words.new.items ≡ 512 * pages) }
     ensures read { OnOk result (ReadsFrom (F.safe medium.old) 0 (512 * pages) words.new.items) }
     ensures safe { F.safe medium.new ≡ F.safe medium.old }
+    ensures held { F.held medium.new ≡ F.held medium.old }
 {
     let mut done = 0;
     while done < pages {
@@ -127,6 +128,7 @@ impl<F: Medium + Drop> Mirror<F> {
         requires in_file { 4096 * pages < 2 ^ 63 }
         requires room { IsRoomFor pages room }
         ensures length { IfOk result (λ mirror. length mirror.words.items ≡ 512 * pages) }
+        ensures held { IfOk result (λ mirror. F.held mirror.medium ≡ F.held medium) }
         ensures safe { IfOk result (λ mirror. F.safe mirror.medium ≡ F.held medium) }
         ensures read { IfOk result (λ mirror. ReadsFrom (F.safe mirror.medium) 0 (512 * pages) mirror.words.items) }
     {
