@@ -127,8 +127,8 @@ fn the_root_alone_is_mended(rt: HostRuntime) -> Result<(), Fail> {
     Ok(())
 }
 
-// A pointer in an empty slot, and in the file's own; a name without a number, by itself and with a pointer; an inode that nothing names; pages that are past
-// the file's end or have a kind alone; links that are too high.
+// A pointer in an empty slot, and in the file's own; a name without a number, by itself, with a pointer, and its last word
+// alone; an inode that nothing names, and a number alone; pages that are past the file's end or have a kind alone; links that are too high.
 #[test]
 fn a_file_is_left_as_it_was(rt: HostRuntime) -> Result<(), Fail> {
     let volume = volume_with_a(rt.alloc())?;
@@ -137,7 +137,9 @@ fn a_file_is_left_as_it_was(rt: HostRuntime) -> Result<(), Fail> {
         ([(1_537, 2)].as_slice(), 1, 3),
         ([(1_554, 0x62_0001)].as_slice(), 1, 18),
         ([(1_553, 1), (1_554, 0x62_0001)].as_slice(), 2, 21),
+        ([(1_567, 1)].as_slice(), 1, 18),
         ([(544, 1)].as_slice(), 1, 6),
+        ([(547, 3)].as_slice(), 1, 6),
         ([(1_033, 2)].as_slice(), 1, 4),
         ([(1_032, 2), (1_033, 1)].as_slice(), 2, 7),
         ([(513, 9), (529, 7)].as_slice(), 1, 5),

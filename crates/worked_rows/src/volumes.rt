@@ -179,6 +179,7 @@ fn volumes_that_break_a_rule(rt: HostRuntime) -> Result<(), Fail> {
         (530, 1, "damaged 12 2\n"),
         (513, 1, "damaged 14 1\n"),
         (528, 2, "damaged 14 1\n"),
+        (529, 0, "damaged 14 2\n"),
     ] {
         compare_damaged(&rt, rt.alloc(), &[(word, value)], told)?;
     }
@@ -186,7 +187,8 @@ fn volumes_that_break_a_rule(rt: HostRuntime) -> Result<(), Fail> {
 }
 
 // Rename pointers in the slots 1 and 2, each of which names the other; the file's slot copied to the slot after it; a directory
-// in place of the file, with the name `b` in that slot; a size over 2^40; and one byte, for which the pages 1 and 2 stand.
+// in place of the file, with the name `b` in that slot; a size over 2^40; one byte, for which the pages 1 and 2 stand; and two
+// rules that are broken at once.
 #[test]
 fn volumes_that_break_a_rule_by_more_words(rt: HostRuntime) -> Result<(), Fail> {
     for (changes, told) in [
@@ -201,6 +203,7 @@ fn volumes_that_break_a_rule_by_more_words(rt: HostRuntime) -> Result<(), Fail> 
             [(530, 1), (1_032, 2), (1_033, 1), (1_040, 2), (1_041, 1)].as_slice(),
             "damaged 13 2\n",
         ),
+        ([(529, 0), (1_025, 1)].as_slice(), "damaged 10 0\n"),
     ] {
         compare_damaged(&rt, rt.alloc(), changes, told)?;
     }
@@ -221,7 +224,7 @@ fn words_that_are_not_read(rt: HostRuntime) -> Result<(), Fail> {
     Ok(())
 }
 
-// The file `/a` of 4,097 bytes, whose bytes stand in the pages 1 and 2.
+// The file `/a` of 4,097 bytes, the last of which stands in page 1, and the others in page 2.
 #[test]
 fn a_file_with_bytes_is_told(rt: HostRuntime) -> Result<(), Fail> {
     let image = with_words(
@@ -230,20 +233,91 @@ fn a_file_with_bytes_is_told(rt: HostRuntime) -> Result<(), Fail> {
             (530, 4_097),
             (1_032, 2),
             (1_033, 1),
+            (1_034, 1),
             (1_040, 2),
             (1_041, 1),
-            (1_042, 1),
+            (2_048, 0x62),
+            (2_560, 0x61),
         ],
     )?;
     let left = job_on(
         rt.alloc(),
         "squirrel run v",
         image.as_slice(),
-        b"stat /a\ndf\n",
+        b"stat /a\nread /a 4095 9\nread /a 0 1\ndf\n",
     )?;
     assert_eq!(rt;
         left.told.as_slice(),
-        b"ok file inode 2 links 1 size 4097\nok inodes 2 4 pages 10 13\n".as_slice()
+        b"ok file inode 2 links 1 size 4097\nok 2 0062\nok 1 61\nok inodes 2 4 pages 10 13\n".as_slice()
     );
+    Ok(())
+}
+
+// The name `e` stands in page 0, its directory's in page 1.
+const NAMED_BEFORE_ITS_DIRECTORY: [(usize, u64); 15] = [
+    (513, 3),
+    (528, 2),
+    (529, 3),
+    (531, 2),
+    (544, 2),
+    (545, 2),
+    (547, 3),
+    (1_024, 2),
+    (1_025, 2),
+    (1_032, 1),
+    (1_033, 2),
+    (1_536, 3),
+    (1_538, 0x65_0001),
+    (2_048, 2),
+    (2_050, 0x64_0001),
+];
+
+// A directory of the pages 1 and 2, with a name in each.
+const DIRECTORY_OF_TWO_PAGES: [(usize, u64); 22] = [
+    (513, 3),
+    (528, 2),
+    (529, 2),
+    (531, 2),
+    (544, 1),
+    (545, 1),
+    (547, 3),
+    (560, 1),
+    (561, 1),
+    (563, 4),
+    (1_024, 1),
+    (1_025, 2),
+    (1_032, 2),
+    (1_033, 2),
+    (1_040, 2),
+    (1_041, 2),
+    (1_536, 2),
+    (1_538, 0x64_0001),
+    (2_048, 3),
+    (2_050, 0x66_0001),
+    (2_640, 4),
+    (2_642, 0x67_0001),
+];
+
+#[test]
+fn directories_in_any_pages_are_told(rt: HostRuntime) -> Result<(), Fail> {
+    let volume = small_volume(rt.alloc())?;
+    for (words, script, told) in [
+        (
+            NAMED_BEFORE_ITS_DIRECTORY.as_slice(),
+            b"stat /d/e\nstat /\n".as_slice(),
+            "ok dir inode 3 links 2 names 0\nok dir inode 1 links 3 names 1\n",
+        ),
+        (
+            DIRECTORY_OF_TWO_PAGES.as_slice(),
+            b"list /d\nstat /d/g\n".as_slice(),
+            "ok 2 f g\nok file inode 4 links 1 size 0\n",
+        ),
+    ] {
+        let mut image = volume.clone()?;
+        set_words(&mut image, words)?;
+        let left = job_on(rt.alloc(), "squirrel run v", image.as_slice(), script)?;
+        assert_eq!(rt; left.told.as_slice(), told.as_bytes());
+        assert_eq!(rt; left.fences, 0, "fences for {told}");
+    }
     Ok(())
 }

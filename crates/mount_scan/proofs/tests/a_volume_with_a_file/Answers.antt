@@ -15,8 +15,3 @@ nth-first-requires-clause-in_range g c =
     let geometry = c.volume.inside.geometry in
     let same = ap (λ (volume : VolumeView). inodes_of volume.size) c.volume.view_is in
     omega (arith, some_inodes geometry.pages geometry.volume_size, same, c.in_ok-volume.ensures.standing.1.knows.nodes.each_inode)
-
-pub prepare-requires-2-clause-stands : goal.prepare-requires-2-clause-stands
-prepare-requires-2-clause-stands g c =
-    let (state, stands) = c.in_ok-volume.ensures.standing in
-    (state, c.prepare.ensures.stands state stands)

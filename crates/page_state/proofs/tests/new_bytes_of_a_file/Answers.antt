@@ -1,7 +1,7 @@
 use Rattle.std.proofs.Common.{◌≡◌, ℕ, zero, suc, ◌<◌, [], ◌∷◌, length, slice_index, ◌∙◌, ap, arith, rules}
 use Rattle.layout.specs.Geometry.{first_data_word_of, data_pages_of}
 use Rattle.page_state.specs.Page.{PageView, EachPage}
-use Rattle.page_state.proofs.FewBytes.{two_words, two_words_fit, two_lines_fit, room_after_two, zero_words, zero_words_fit, zero_lines_fit}
+use Rattle.page_state.proofs.FewBytes.{two_words, two_words_fit, two_lines_fit, room_after_two}
 use Rattle.fence_token.proofs.ObjectLaws.{stands_in_flight_fence}
 use Rattle.page_state.proofs.PageLaws.{free_pages_alike}
 use Rattle.page_state.proofs.Zeros.{free_pages, sixteen_pages}
@@ -46,16 +46,3 @@ flush-written-requires-clause-room g c =
 pub fence-requires-3-clause-room : goal.fence-requires-3-clause-room
 fence-requires-3-clause-room g c =
     room_after_two _ _ _ _ _ _ 1 (ap (λ (view : PageView). view.touched) c.write_span.ensures.object) (search rules) (search rules) c.write_span.ensures.device.room c.flush-written.ensures.device.room (search rules)
-
-pub write_span-requires-2-clause-some : goal.write_span-requires-2-clause-some
-write_span-requires-2-clause-some g c = let two : length c.settle-written.result.pages ≡ 2 = search rules in omega (arith, zero_words _ two)
-
-pub write_span-requires-2-clause-room : goal.write_span-requires-2-clause-room
-write_span-requires-2-clause-room g c =
-    zero_words_fit _ _ _ (search rules) c.fence-3.ensures.device.counts.room
-    (room_after_two _ _ _ _ _ _ 513 (ap (λ (view : PageView). view.touched) c.write_span.ensures.object) (search rules) (search rules) c.write_span.ensures.device.room c.flush-written.ensures.device.room (search rules))
-
-pub flush-zeroed-requires-clause-room : goal.flush-zeroed-requires-clause-room
-flush-zeroed-requires-clause-room g c =
-    zero_lines_fit _ _ _ _ _ _ (ap (λ (view : PageView). view.touched) c.write_span-2.ensures.object) (search rules) (search rules) c.fence-3.ensures.device.counts.room c.write_span-2.ensures.device.room
-    (room_after_two _ _ _ _ _ _ 577 (ap (λ (view : PageView). view.touched) c.write_span.ensures.object) (search rules) (search rules) c.write_span.ensures.device.room c.flush-written.ensures.device.room (search rules))

@@ -25,6 +25,3 @@ at-free-requires-clause-alike g c = free_pages_alike _ _ _ (at-free-requires-cla
 
 pub settle-filled-requires-clause-in_flight : goal.settle-filled-requires-clause-in_flight
 settle-filled-requires-clause-in_flight g c = stands_in_flight_fence c.fence.ensures.device.words c.in_ok-token.ensures.device.ok c.flush-filled.ensures.in_flight
-
-pub settle-live-requires-clause-in_flight : goal.settle-live-requires-clause-in_flight
-settle-live-requires-clause-in_flight g c = stands_in_flight_fence c.fence-2.ensures.device.words c.in_ok-token-2.ensures.device.ok c.flush-live.ensures.in_flight
