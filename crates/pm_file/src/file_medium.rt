@@ -9,7 +9,7 @@ use crate::bytes::{append_words, place_of_line, place_of_page, put_words};
 use crate::image_file::ImageFile;
 use crate::lock::Locked;
 use crate::medium::Medium;
-use crate::sizes::{BYTES_OF_A_CLEAR, BYTES_OF_A_PAGE, BYTES_OF_A_READ, BYTES_OF_A_WORD};
+use crate::sizes::{BYTES_OF_A_PAGE, BYTES_OF_A_READ, BYTES_OF_A_WORD};
 use std::alloc::{AllocError, Global};
 use std::fs::OpenFile;
 use std::io;
@@ -31,11 +31,7 @@ pub struct FileMedium<F> {
 pub fn take_buffer(alloc: Global) -> Result<Vec<u8>, AllocError>
     ensures { IfOk result (λ buffer. length buffer.items ≡ 1048576) }
 {
-    let mut buffer = Vec::with_capacity(alloc, BYTES_OF_A_READ)?;
-    for _ in 0..BYTES_OF_A_READ / BYTES_OF_A_CLEAR {
-        buffer.extend_from_slice(&[0; BYTES_OF_A_CLEAR])?;
-    }
-    Ok(buffer)
+    vec![in alloc; 0u8; BYTES_OF_A_READ]
 }
 
 impl<F> FileMedium<F> {

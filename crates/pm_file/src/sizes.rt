@@ -18,6 +18,3 @@ pub const BYTES_OF_A_PAGE: usize = PAGE_BYTES as usize;
 pub const PAGES_OF_A_READ: usize = 256;
 
 pub const BYTES_OF_A_READ: usize = PAGES_OF_A_READ * BYTES_OF_A_PAGE;
-
-/// A buffer is cleared by so many bytes at a time, which is cheaper than all of it at once.
-pub const BYTES_OF_A_CLEAR: usize = 1_024;
