@@ -4,6 +4,8 @@
 #[cfg(test)]
 mod contents;
 #[cfg(test)]
+mod costs;
+#[cfg(test)]
 mod crashes;
 #[cfg(test)]
 mod faults;
