@@ -25,10 +25,10 @@ const REMOVAL: u64 = 1 + 1 + 1 + LINKS + 15 + 2 + 1;
 const SIZE: u64 = 1 + 1 + 1;
 
 // A script, its replies, and how many fences and events it takes.
-type Cost<'a> = (&'a str, &'a str, u64, u64);
+pub(crate) type Cost<'a> = (&'a str, &'a str, u64, u64);
 
 // Runs each script on what those before it left.
-fn compare(
+pub(crate) fn compare(
     rt: &impl Abort,
     alloc: Global,
     volume: &[u64],

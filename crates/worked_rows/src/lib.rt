@@ -22,6 +22,8 @@ mod recoveries;
 #[cfg(test)]
 mod removals;
 #[cfg(test)]
+mod renames;
+#[cfg(test)]
 mod scarce;
 #[cfg(test)]
 mod space;
