@@ -38,7 +38,8 @@ pub data TargetAt (T : Tree) (to : Route) (i : ℕ) : Type 0 where
   absent : id_at T to ≡ None → TargetAt T to i
   other : (r : ℕ) → id_at T to ≡ Some r → i ≢ r → TargetAt T to i
 
-module _ (P : ℕ) (W : List ℕ) (pa pb from to : Route) (s x d : ℕ) (target : Target) (T : Tree) (can : CanRename P W pa pb s x d target) (paths : ArePaths P W pa pb from to s d target)
+module _ (P : ℕ) (W : List ℕ) (pa pb from to : Route) (s x d : ℕ) (target : Target) (T : Tree)
+    (can : CanRename P W pa pb s x d target) (paths : ArePaths P W pa pb from to s d target)
     (reads : Reads P W T) where
   coherent : IsCoherent P W
   coherent = can.tidy.coherent
@@ -47,10 +48,12 @@ module _ (P : ℕ) (W : List ℕ) (pa pb from to : Route) (s x d : ℕ) (target 
   form = form_law P W T coherent reads
 
   pub from_at : id_at T from ≡ Some (slot_inode P W s)
-  from_at = (reads.names from (slot_inode P W s)).1 (subst (λ q. Names P W q (slot_inode P W s)) (sym paths.from_is) (s, can.source_path, slot_leads P W coherent s can.source))
+  from_at = (reads.names from (slot_inode P W s)).1 (subst (λ q. Names P W q (slot_inode P W s)) (sym paths.from_is)
+      (s, can.source_path, slot_leads P W coherent s can.source))
 
   pub from_above : id_at T (parent from) ≡ Some (slot_owner P W s)
-  from_above = (reads.names (parent from) (slot_owner P W s)).1 (subst (λ q. Names P W q (slot_owner P W s)) (sym (parent_is from pa (slot_name P W s) paths.from_is)) can.source_path)
+  from_above = (reads.names (parent from) (slot_owner P W s)).1
+      (subst (λ q. Names P W q (slot_owner P W s)) (sym (parent_is from pa (slot_name P W s) paths.from_is)) can.source_path)
 
   pub to_above : id_at T (parent to) ≡ Some x
   to_above = (reads.names (parent to) x).1 (subst (λ q. Names P W q x) (sym (parent_is to pb (name_of P W d target) paths.to_is)) can.target_path)
@@ -65,7 +68,8 @@ module _ (P : ℕ) (W : List ℕ) (pa pb from to : Route) (s x d : ℕ) (target 
   pub new_at : (name : List ℕ) → CanName P W pb x name → name_of P W d target ≡ name_in_words name → id_at T to ≡ None
   new_at name place is = absent_if (id_at T to) (λ y there.
       let (t, b, leads) = to_names y there in
-      place.new t (reached_slot P W (name_of P W d target ∷ pb) y t (b, leads)) (one_inode P W coherent pb (slot_owner P W t) x b can.target_path) (leads.name ∙ is))
+      place.new t (reached_slot P W (name_of P W d target ∷ pb) y t (b, leads))
+      (one_inode P W coherent pb (slot_owner P W t) x b can.target_path) (leads.name ∙ is))
 
   -- one that is taken names what is replaced
   taken_names : (r : ℕ) → CanReplace P W s x d r → name_of P W d target ≡ slot_name P W d → Names P W (name_of P W d target ∷ pb) r
@@ -89,7 +93,8 @@ module _ (P : ℕ) (W : List ℕ) (pa pb from to : Route) (s x d : ℕ) (target 
   -- ---- two nodes
 
   differ_by : TargetAt T to (slot_inode P W s) → is_same_node T from to ≡ false
-  differ_by (TargetAt.absent none) = ap (λ o. is_number (id_at T from) (unwrap_or o root_id) && is_some o) none ∙ and_false (is_number (id_at T from) root_id)
+  differ_by (TargetAt.absent none) = ap (λ o. is_number (id_at T from) (unwrap_or o root_id) && is_some o) none
+      ∙ and_false (is_number (id_at T from) root_id)
     where
       and_false : (b : Bool) → b && false ≡ false
       and_false true = refl
@@ -116,9 +121,11 @@ module _ (P : ℕ) (W : List ℕ) (pa pb from to : Route) (s x d : ℕ) (target 
   empty_by (Taken r) take is p there below same =
       let (y, found) = some_is (id_at T p) there in
       let (t, b, leads) = subst (λ q. Names P W q y) (reverse_below p below) ((reads.names p y).0 found) in
-      let here : Names P W (name_of P W d target ∷ pb) (slot_owner P W t) = subst (λ q. Names P W q (slot_owner P W t)) (ap reverse same ∙ paths.to_is) b in
+      let here : Names P W (name_of P W d target ∷ pb) (slot_owner P W t) =
+      subst (λ q. Names P W q (slot_owner P W t)) (ap reverse same ∙ paths.to_is) b in
       let owner : slot_owner P W t ≡ r = one_inode P W coherent (name_of P W d target ∷ pb) (slot_owner P W t) r here (taken_names r take is) in
-      take.empty (subst (IsDirectory W) owner leads.directory) t (record { owner = (reverse (parent p), b); directory = leads.directory; live = leads.live }, owner)
+      take.empty (subst (IsDirectory W) owner leads.directory) t
+      (record { owner = (reverse (parent p), b); directory = leads.directory; live = leads.live }, owner)
 
   empty : HasNoNames T to
   empty = empty_by target can.target_slot refl
@@ -135,7 +142,8 @@ module _ (P : ℕ) (W : List ℕ) (pa pb from to : Route) (s x d : ℕ) (target 
   goes_on : (r : Route) → id_at T (from ++ r) ≡ Some x → is_directory T (slot_inode P W s) ≡ true
   goes_on [] there = ap (is_directory T) (same_some (slot_inode P W s) x (sym from_at ∙ ap (id_at T) (sym (append-nil from)) ∙ there)) ∙ holds
   goes_on (name ∷ rest) there =
-      let child = there-front T form rest (from ++ name ∷ []) (ap (λ q. is_some (id_at T q)) (append_assoc from (name ∷ []) rest) ∙ is_some_at (id_at T (from ++ name ∷ rest)) x there) in
+      let child = there-front T form rest (from ++ name ∷ []) (ap (λ q. is_some (id_at T q)) (append_assoc from (name ∷ []) rest)
+      ∙ is_some_at (id_at T (from ++ name ∷ rest)) x there) in
       let (y, found) = some_is (id_at T (from ++ name ∷ [])) child in
       let (directory, held, is) = above T form (from ++ name ∷ []) y found (not_root-below from name []) in
       ap (is_directory T) (same_some (slot_inode P W s) directory (sym from_at ∙ ap (id_at T) (sym (parent-below from name)) ∙ held)) ∙ is
@@ -146,7 +154,8 @@ module _ (P : ℕ) (W : List ℕ) (pa pb from to : Route) (s x d : ℕ) (target 
       let up : parent to ≡ from ++ parent (name ∷ rest) = ap parent e ∙ parent-append from name rest in
       let directory = (directory_is P W T coherent reads (slot_inode P W s) (goes_on (parent (name ∷ rest)) (ap (id_at T) (sym up) ∙ to_above))).1 in
       can.outside directory (reverse (parent (name ∷ rest))) (
-      sym (parent_is to pb (name_of P W d target) paths.to_is) ∙ ap reverse up ∙ reverse-append from (parent (name ∷ rest)) ∙ ap (λ q. reverse (parent (name ∷ rest)) ++ q) paths.from_is)
+      sym (parent_is to pb (name_of P W d target) paths.to_is) ∙ ap reverse up ∙ reverse-append from (parent (name ∷ rest))
+      ∙ ap (λ q. reverse (parent (name ∷ rest)) ++ q) paths.from_is)
 
   outside : rest_after from to ≡ None
   outside = not_some (rest_after from to) (λ r e. outside_at r (rest_after-some from to r e))
@@ -156,8 +165,10 @@ module _ (P : ℕ) (W : List ℕ) (pa pb from to : Route) (s x d : ℕ) (target 
   pub differs : Reads P W (renamed T from to) → ⊥
   differs after =
       let kept = less_kept T form to to_below empty from paths_differ ∙ from_at in
-      let clear_from = clear T form from to x from_below to_below to_above holds empty outside from (is_some_at (id_at (without_path T to) from) (slot_inode P W s) kept) in
-      let now : id_at (with_moved (without_path T to) from to) from ≡ Some (slot_inode P W s) = (after.names from (slot_inode P W s)).1 ((reads.names from (slot_inode P W s)).0 from_at) in
+      let clear_from = clear T form from to x from_below to_below to_above holds empty outside from
+      (is_some_at (id_at (without_path T to) from) (slot_inode P W s) kept) in
+      let now : id_at (with_moved (without_path T to) from to) from ≡ Some (slot_inode P W s) =
+      (after.names from (slot_inode P W s)).1 ((reads.names from (slot_inode P W s)).0 from_at) in
       elim (came_from T form from to x from_below to_below to_above holds empty outside from (slot_inode P W s) now) [
         | inl (r, rest, old) ↦ none_some r (sym clear_from ∙ rest)
         | inr (none_to, none_from, old) ↦ none_some [] (sym none_from ∙ ap (rest_after from) (sym (append-nil from)) ∙ rest_after-append from [])

@@ -31,7 +31,8 @@ full_source_law P W I J G K old pa pb s x d target rising falling ready finishes
     let source = ready.can.source in
     let words = has_room_words P W old ready.can.tidy reads (slot_owner P W s) source.owner source.directory in
     let place = slot_in P W s t (page_of_slot_below P s source.live.held.in_range) at in
-    let some = words.full.0 (equal_numbers (name_count old.tree (slot_owner P W s)) (names_per_page * pages_in old.room (slot_owner P W s)) full) t place in
+    let numbers = equal_numbers (name_count old.tree (slot_owner P W s)) (names_per_page * pages_in old.room (slot_owner P W s)) full in
+    let some = words.full.0 numbers t place in
     let index = moved_index_law P W I J G K pa pb s x d target rising falling ready finishes in
     let (stays, owner) = (index.entry.entries (slot_owner P W s) t).1 (inl (((words.live t place).1 some, place.owner), other)) in
     here.room_from P I pa pb s d ready.can_move K (slot_owner P W s) (page_of_slot s) t stays at owner

@@ -20,7 +20,8 @@ use Rattle.rename_laws.proofs.MoveNear as near
 abbrev pub IsNamedBeside : ℕ → List ℕ → ℕ → ℕ → Type 0
 IsNamedBeside P W d y = (t : ℕ) × IsNameOf P W y t × (t ≢ d)
 
-module _ (P : ℕ) (W I : List ℕ) (pa pb : Route) (s x d : ℕ) (target : Target) (rising : Option ℕ) (ready : IsMoveReady P W I pa pb s x d target rising) where
+module _ (P : ℕ) (W I : List ℕ) (pa pb : Route) (s x d : ℕ) (target : Target) (rising : Option ℕ)
+    (ready : IsMoveReady P W I pa pb s x d target rising) where
   c : CanMove P I pa pb s d
   c = ready.can_move
 
@@ -89,7 +90,8 @@ module _ (P : ℕ) (W I : List ℕ) (pa pb : Route) (s x d : ℕ) (target : Targ
       (t, record { slot = old; inode = sym (number_same t nd old) ∙ leads.inode }, nd)
 
   reached_before : (y : ℕ) → Reached P (moved P I s d) y → Reached P W y × (y ≡ slot_inode P I d → IsNamedBeside P W d y)
-  reached_before y (q, b) = (near.back P W I pa pb s x d target rising ready y (here.reached_back P I pa pb s d c y (q, b)), λ is. named_beside q y is b)
+  reached_before y (q, b) =
+      (near.back P W I pa pb s x d target rising ready y (here.reached_back P I pa pb s d c y (q, b)), λ is. named_beside q y is b)
 
   reached_after : (y : ℕ) → Reached P W y → (y ≡ slot_inode P I d → IsNamedBeside P W d y) → Reached P (moved P I s d) y
   reached_after y r named = elim (cases_eq y (slot_inode P I d)) [
@@ -98,15 +100,18 @@ module _ (P : ℕ) (W I : List ℕ) (pa pb : Route) (s x d : ℕ) (target : Targ
         let (t, n, nd) = named is in
         let ns : t ≢ s = λ e. other_number (sym is ∙ sym n.inode ∙ ap (slot_inode P W) e) in
         let there = after t ns nd n.slot in
-        subst (Reached P (moved P I s d)) (number_same t nd n.slot ∙ n.inode) (reach P (moved P I s d) t there (((here.after P I pa pb s d c).coherent Rule.inodes t).most there))
+        subst (Reached P (moved P I s d)) (number_same t nd n.slot ∙ n.inode)
+        (reach P (moved P I s d) t there (((here.after P I pa pb s d c).coherent Rule.inodes t).most there))
   ]
 
-  stays_forth : (now : Target) (y : ℕ) → slot_inode P I d ≡ old_number now → Reached P W y × (y ≡ slot_inode P I d → IsNamedBeside P W d y) → StaysReached P W d now y
+  stays_forth : (now : Target) (y : ℕ) → slot_inode P I d ≡ old_number now
+      → Reached P W y × (y ≡ slot_inode P I d → IsNamedBeside P W d y) → StaysReached P W d now y
   stays_forth (Vacant name) y is (r, named) = r
   stays_forth (Opened page name) y is (r, named) = r
   stays_forth (Taken replaced) y is (r, named) = (r, λ e. subst (IsNamedBeside P W d) e (named (e ∙ sym is)))
 
-  stays_back : (now : Target) (y : ℕ) → slot_inode P I d ≡ old_number now → StaysReached P W d now y → Reached P W y × (y ≡ slot_inode P I d → IsNamedBeside P W d y)
+  stays_back : (now : Target) (y : ℕ) → slot_inode P I d ≡ old_number now → StaysReached P W d now y
+      → Reached P W y × (y ≡ slot_inode P I d → IsNamedBeside P W d y)
   stays_back (Vacant name) y is r = (r, λ e. absurd (reached_pos P W y r (e ∙ is)))
   stays_back (Opened page name) y is r = (r, λ e. absurd (reached_pos P W y r (e ∙ is)))
   stays_back (Taken replaced) y is (r, named) = (r, λ e. (let there = e ∙ is in subst (IsNamedBeside P W d) (sym there) (named there)))

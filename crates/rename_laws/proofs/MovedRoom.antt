@@ -51,11 +51,13 @@ then_same T room x fits full y dir = entry T room fits y dir ∙ ap Some (elim (
 -- and one that is full
 pub then_more : (T : Tree) (room : Room) (x : ℕ) → IsRoom T room → is_full T room x ≡ true → HasPagesThen T room (Some x) (with_page room x)
 then_more T room x fits full y dir = elim (cases_eq x y) [
-  | inl e ↦ subst (λ z. get (with_page room x) z ≡ Some (gained T room x z)) e (get-here room x (pages_in room x + 1) ∙ ap Some (sym (gained_here T room x true full)))
+  | inl e ↦ subst (λ z. get (with_page room x) z ≡ Some (gained T room x z)) e
+      (get-here room x (pages_in room x + 1) ∙ ap Some (sym (gained_here T room x true full)))
   | inr ne ↦ get-other room x (pages_in room x + 1) y (λ z. ne (sym z)) ∙ entry T room fits y dir ∙ ap Some (sym (gained_other T room x y ne))
 ]
 
-module _ (T : Tree) (room : Room) (from to : Route) (o : ℕ) (gains : Option ℕ) (gains_is : gaining T (Rename from to) ≡ gains) (loses_is : losing T (Rename from to) ≡ Some o) where
+module _ (T : Tree) (room : Room) (from to : Route) (o : ℕ) (gains : Option ℕ)
+    (gains_is : gaining T (Rename from to) ≡ gains) (loses_is : losing T (Rename from to) ≡ Some o) where
   pages_by : Option ℕ → Option ℕ → Bool → ℕ → ℕ
   pages_by gain lose gives y =
       let now = pages_in room y + cond (is_number gain y) (page_for_name T room (Some y)) 0 in
@@ -66,7 +68,8 @@ module _ (T : Tree) (room : Room) (from to : Route) (o : ℕ) (gains : Option �
   gained_is None y = add-zero (pages_in room y)
   gained_is (Some x) y = refl
 
-  pages_are : (gives : Bool) (y : ℕ) → pages_after T room (Rename from to) gives y ≡ cond (is_number (Some o) y && gives) (pages_then T room gains y - 1) (pages_then T room gains y)
+  pages_are : (gives : Bool) (y : ℕ) → pages_after T room (Rename from to) gives y
+      ≡ cond (is_number (Some o) y && gives) (pages_then T room gains y - 1) (pages_then T room gains y)
   unfolding pages_by
   pages_are gives y =
       ap (λ g. pages_by g (losing T (Rename from to)) gives y) gains_is ∙ ap (λ l. pages_by gains l gives y) loses_is
@@ -86,7 +89,8 @@ module _ (T : Tree) (room : Room) (from to : Route) (o : ℕ) (gains : Option �
   pages_other y ne = pages_are true y ∙ ap (λ b. cond (b && true) (pages_then T room gains y - 1) (pages_then T room gains y)) (not_same o y ne)
 
   -- the old directory keeps its page, or gives it back
-  pub kept_entry : (after : Room) → HasPagesThen T room gains after → (y : ℕ) → is_directory T y ≡ true → get after y ≡ Some (pages_after T room (Rename from to) false y)
+  pub kept_entry : (after : Room) → HasPagesThen T room gains after → (y : ℕ) → is_directory T y ≡ true
+      → get after y ≡ Some (pages_after T room (Rename from to) false y)
   kept_entry after has y dir = has y dir ∙ ap Some (sym (pages_kept y))
 
   pub given_entry : (after : Room) → HasPagesThen T room gains after → is_directory T o ≡ true → (y : ℕ) → is_directory T y ≡ true
@@ -100,17 +104,22 @@ module _ (T : Tree) (room : Room) (from to : Route) (o : ℕ) (gains : Option �
 -- ---- the room of the last words
 
 -- It is that of the words that the commit leaves.
-pub room_ended : (P : ℕ) (I K : List ℕ) (pa pb : Route) (s d : ℕ) → CanMove P I pa pb s d → IsAlmostTidy P I s d → HasEnded P I K s d → HasRoomMoved P I K s d
+pub room_ended : (P : ℕ) (I K : List ℕ) (pa pb : Route) (s d : ℕ) → CanMove P I pa pb s d → IsAlmostTidy P I s d → HasEnded P I K s d
+    → HasRoomMoved P I K s d
 room_ended P I K pa pb s d c near end =
     let law = move_room_law P I pa pb s d c in
     let pages = ends.rooms P I K pa pb s d c near end (slot_owner P I s) (page_of_slot s) in
     record {
       kept = λ room has had there. end.means.room (remove room (slot_inode P I d)) (law.kept room has had (pages.1 there));
-      gained = λ room has none there. end.means.room (remove (with_page room (slot_owner P I d)) (slot_inode P I d)) (law.gained room has none (pages.1 there));
-      given = λ room has had gone. end.means.room (remove (without_page room (slot_owner P I s)) (slot_inode P I d)) (law.given room has had (λ there. gone (pages.0 there)));
-      both = λ room has none gone. end.means.room (remove (without_page (with_page room (slot_owner P I d)) (slot_owner P I s)) (slot_inode P I d)) (law.both room has none (λ there. gone (pages.0 there)));
+      gained = λ room has none there. end.means.room (remove (with_page room (slot_owner P I d)) (slot_inode P I d))
+          (law.gained room has none (pages.1 there));
+      given = λ room has had gone. end.means.room (remove (without_page room (slot_owner P I s)) (slot_inode P I d))
+          (law.given room has had (λ there. gone (pages.0 there)));
+      both = λ room has none gone. end.means.room (remove (without_page (with_page room (slot_owner P I d)) (slot_owner P I s)) (slot_inode P I d))
+          (law.both room has none (λ there. gone (pages.0 there)));
     }
 
 pub moved_room_law : MovedRoomLaw
 moved_room_law P W I J G K pa pb s x d target rising falling ready finishes =
-    room_ended P I K pa pb s d ready.can_move (before.near P W I pa pb s x d target rising ready) (ended P W I J G K pa pb s x d target rising falling ready finishes)
+    room_ended P I K pa pb s d ready.can_move (before.near P W I pa pb s x d target rising ready)
+    (ended P W I J G K pa pb s x d target rising falling ready finishes)

@@ -2,6 +2,7 @@
 use Rattle.std.proofs.Common.{◌≡◌, ◌≢◌, ◌⊎◌, inl, inr, ℕ, Bool, true, false, cond, List, Option, Some, None, is_some, unwrap_or, refl, sym, ap, subst, ◌∙◌, arith}
 use Rattle.layout.specs.Fields.{inode_kind, page_owner, slot_inode}
 use Rattle.layout.specs.Geometry.{page_of_slot}
+use Rattle.layout.specs.Name.{name_in_words}
 use Rattle.layout.proofs.GeometryLaws.{page_of_slot_below}
 use Rattle.tree_model.specs.PathText.{Route}
 use Rattle.tree_model.specs.Run.{State}
@@ -19,6 +20,7 @@ use Rattle.image_counts.proofs.Counting.{none_counted}
 use Rattle.image_counts.proofs.Decided.{room_counted}
 use Rattle.image_counts.proofs.States.{is_room}
 use Rattle.image_laws.specs.Add.{with_page}
+use Rattle.image_laws.specs.Create.{CanName}
 use Rattle.image_laws.specs.CreateStep.{IsStepped}
 use Rattle.image_laws.specs.Move.{HasRoomMoved}
 use Rattle.image_laws.specs.Remove.{without_page}
@@ -53,8 +55,10 @@ room_then room x (Vacant name) = room
 room_then room x (Opened page name) = with_page room x
 room_then room x (Taken r) = room
 
-module _ (P : ℕ) (W I J G K : List ℕ) (old : State) (pa pb from to : Route) (s x d n : ℕ) (target : Target) (rising falling : Option ℕ) (ready : IsMoveReady P W I pa pb s x d target rising)
-    (finishes : Finishes P W I J G K s x d target falling) (paths : ArePaths P W pa pb from to s d target) (reads : ReadsAs P W old) (fills : FillsItsPages old x target) where
+module _ (P : ℕ) (W I J G K : List ℕ) (old : State) (pa pb from to : Route) (s x d n : ℕ) (target : Target)
+    (rising falling : Option ℕ) (ready : IsMoveReady P W I pa pb s x d target rising)
+    (finishes : Finishes P W I J G K s x d target falling) (paths : ArePaths P W pa pb from to s d target)
+    (reads : ReadsAs P W old) (fills : FillsItsPages old x target) where
   end : HasEnded P I K s d
   end = ended P W I J G K pa pb s x d target rising falling ready finishes
 
@@ -90,16 +94,24 @@ module _ (P : ℕ) (W I J G K : List ℕ) (old : State) (pa pb from to : Route) 
   gains_by : (o g : Option ℕ) → id_at old.tree to ≡ o → cond (is_some o) None (Some x) ≡ g → gaining old.tree (Rename from to) ≡ g
   gains_by o g there e =
       ap (λ z. cond (is_some z) None (Some (id_of old.tree (parent to)))) there
-      ∙ ap (λ z. cond (is_some o) None (Some (unwrap_or z root_id))) (paths_of.to_above P W pa pb from to s x d target old.tree ready.can paths reads.tree) ∙ e
+      ∙ ap (λ z. cond (is_some o) None (Some (unwrap_or z root_id)))
+      (paths_of.to_above P W pa pb from to s x d target old.tree ready.can paths reads.tree)
+      ∙ e
 
-  gains_is : (now : Target) → CanTake P W pb s x d now → name_of P W d target ≡ name_of P W d now → gaining old.tree (Rename from to) ≡ gains_of now x
-  gains_is (Vacant name) take is = gains_by None (Some x) (paths_of.new_at P W pa pb from to s x d target old.tree ready.can paths reads.tree name take.0 is) refl
-  gains_is (Opened page name) take is = gains_by None (Some x) (paths_of.new_at P W pa pb from to s x d target old.tree ready.can paths reads.tree name take.0 is) refl
-  gains_is (Taken r) take is = gains_by (Some r) None (paths_of.taken_at P W pa pb from to s x d target old.tree ready.can paths reads.tree r take is) refl
+  new_at : (name : List ℕ) → CanName P W pb x name → name_of P W d target ≡ name_in_words name → id_at old.tree to ≡ None
+  new_at = paths_of.new_at P W pa pb from to s x d target old.tree ready.can paths reads.tree
+
+  gains_is : (now : Target) → CanTake P W pb s x d now → name_of P W d target ≡ name_of P W d now
+      → gaining old.tree (Rename from to) ≡ gains_of now x
+  gains_is (Vacant name) take is = gains_by None (Some x) (new_at name take.0 is) refl
+  gains_is (Opened page name) take is = gains_by None (Some x) (new_at name take.0 is) refl
+  gains_is (Taken r) take is =
+      gains_by (Some r) None (paths_of.taken_at P W pa pb from to s x d target old.tree ready.can paths reads.tree r take is) refl
 
   -- ---- the pages of the new directory
 
-  pages_then_is : (now : Target) → CanTake P W pb s x d now → FillsItsPages old x now → HasPagesThen old.tree old.room (gains_of now x) (room_then old.room x now)
+  pages_then_is : (now : Target) → CanTake P W pb s x d now → FillsItsPages old x now
+      → HasPagesThen old.tree old.room (gains_of now x) (room_then old.room x now)
   pages_then_is (Vacant name) take full = rooms.then_same old.tree old.room x fits (not_full P W old pb x d name take.0 take.1 reads)
   pages_then_is (Opened page name) take full = rooms.then_more old.tree old.room x fits full
   pages_then_is (Taken r) take full = rooms.then_none old.tree old.room fits
@@ -122,14 +134,16 @@ module _ (P : ℕ) (W I J G K : List ℕ) (old : State) (pa pb from to : Route) 
   page_there : (now : Target) → CanTake P W pb s x d now → IsRoomOf P W x (page_of_slot d) ⊎ IsOpenedPage now (page_of_slot d)
   page_there (Vacant name) take = inl (owned_room take.1.held take.1.owner)
   page_there (Opened page name) take = inr take.2
-  page_there (Taken r) take = inl (record { reached = x_reached; directory = ready.can.target_directory; slot = (d, refl, take.entry.1, take.entry.0.live) })
+  page_there (Taken r) take =
+      inl (record { reached = x_reached; directory = ready.can.target_directory; slot = (d, refl, take.entry.1, take.entry.0.live) })
 
   HadPage : Type 0
   HadPage = IsRoomOf P I (slot_owner P I d) (page_of_slot d)
 
   had_page : IsRoomOf P W x (page_of_slot d) → HadPage
   unfolding HadPage
-  had_page there = subst (λ y. IsRoomOf P I y (page_of_slot d)) (sym ready.owner) (before.room_forth P W I pa pb s x d target rising ready x (page_of_slot d) there)
+  had_page there = subst (λ y. IsRoomOf P I y (page_of_slot d)) (sym ready.owner)
+      (before.room_forth P W I pa pb s x d target rising ready x (page_of_slot d) there)
 
   new_page : IsOpenedPage target (page_of_slot d) → HadPage → ⊥
   unfolding HadPage
@@ -159,7 +173,8 @@ module _ (P : ℕ) (W I J G K : List ℕ) (old : State) (pa pb from to : Route) 
   unfolding HadPage HasPage
   more_left none = record { kept = moved_room.gained old.room room_before none; given = moved_room.both old.room room_before none }
 
-  left_room : (now : Target) → CanTake P W pb s x d now → (IsOpenedPage now (page_of_slot d) → IsOpenedPage target (page_of_slot d)) → IsLeftRoom (room_then old.room x now)
+  left_room : (now : Target) → CanTake P W pb s x d now → (IsOpenedPage now (page_of_slot d) → IsOpenedPage target (page_of_slot d))
+      → IsLeftRoom (room_then old.room x now)
   left_room (Vacant name) take same = same_left (elim (page_there (Vacant name) take) [ inl there ↦ had_page there | inr new ↦ absurd new ])
   left_room (Opened page name) take same = subst (λ y. IsLeftRoom (with_page old.room y)) ready.owner (more_left (new_page (same take.2)))
   left_room (Taken r) take same = same_left (elim (page_there (Taken r) take) [ inl there ↦ had_page there | inr new ↦ absurd new ])
@@ -187,7 +202,8 @@ module _ (P : ℕ) (W I J G K : List ℕ) (old : State) (pa pb from to : Route) 
       ∙ ap (λ U. cond (is_directory U y) (Some (pages_after old.tree old.room (Rename from to) gives y)) None) tree_is
 
   -- a room of the last words whose entries, but for the replaced, are these
-  same_after : (gives : Bool) (R : Room) → HasRoom P K (remove R (slot_inode P I d)) → ((y : ℕ) → is_directory old.tree y ≡ true → get R y ≡ Some (pages_after old.tree old.room (Rename from to) gives y))
+  same_after : (gives : Bool) (R : Room) → HasRoom P K (remove R (slot_inode P I d))
+      → ((y : ℕ) → is_directory old.tree y ≡ true → get R y ≡ Some (pages_after old.tree old.room (Rename from to) gives y))
       → remove R (slot_inode P I d) ≡ room_after n old.tree old.room (Rename from to) gives
   same_after gives R has each = same_room (remove R (slot_inode P I d)) (room_after n old.tree old.room (Rename from to) gives) (λ y.
       at y (is_directory (renamed old.tree from to) y) refl ∙ sym (after_at gives y))
@@ -229,9 +245,11 @@ module _ (P : ℕ) (W I J G K : List ℕ) (old : State) (pa pb from to : Route) 
       (subst (IsDirectory W) (sym (before.source_owner P W I pa pb s x d target rising ready)) ready.can.source.directory)
 
   -- where the page of slot s keeps a name
-  move_room_kept : IsRoomOf P K (slot_owner P I s) (page_of_slot s) → remove (room_then old.room x target) (slot_inode P I d) ≡ room_after n old.tree old.room (Rename from to) false
+  move_room_kept : IsRoomOf P K (slot_owner P I s) (page_of_slot s)
+      → remove (room_then old.room x target) (slot_inode P I d) ≡ room_after n old.tree old.room (Rename from to) false
   unfolding then_room HasPage
-  move_room_kept there = same_after false then_room (rooms_there.kept there) (rooms.kept_entry old.tree old.room from to (slot_owner P I s) (gains_of target x) gains_there loses_is then_room pages_there)
+  move_room_kept there = same_after false then_room (rooms_there.kept there)
+      (rooms.kept_entry old.tree old.room from to (slot_owner P I s) (gains_of target x) gains_there loses_is then_room pages_there)
 
   -- and where it is given back
   move_room_given : (IsRoomOf P K (slot_owner P I s) (page_of_slot s) → ⊥)
@@ -240,7 +258,8 @@ module _ (P : ℕ) (W I J G K : List ℕ) (old : State) (pa pb from to : Route) 
   move_room_given none = same_after true (without_page then_room (slot_owner P I s)) (rooms_there.given none)
       (rooms.given_entry old.tree old.room from to (slot_owner P I s) (gains_of target x) gains_there loses_is then_room pages_there source_directory)
 
-  stepped : (gives : Bool) (room : Room) → HasRoom P K room → room ≡ room_after n old.tree old.room (Rename from to) gives → IsStepped P K old (Rename from to) n
+  stepped : (gives : Bool) (room : Room) → HasRoom P K room → room ≡ room_after n old.tree old.room (Rename from to) gives
+      → IsStepped P K old (Rename from to) n
   stepped gives room has follows = record {
     new = record { tree = renamed old.tree from to; room = room };
     reads = record { tree = read; room = has };
@@ -261,8 +280,10 @@ module _ (P : ℕ) (W I J G K : List ℕ) (old : State) (pa pb from to : Route) 
   step_room =
       let owner : slot_owner P I s ≡ slot_owner P W s = before.source_owner P W I pa pb s x d target rising ready in
       record {
-        kept = λ there. (let page = subst (λ o. IsRoomOf P K o (page_of_slot s)) (sym owner) there in subst (HasRoom P K) (move_room_kept page) (rooms_there.kept page));
-        given = λ none. (let gone = subst (λ o. IsRoomOf P K o (page_of_slot s) → ⊥) (sym owner) none in subst (HasRoom P K) (move_room_given gone) (rooms_there.given gone));
+        kept = λ there. (let page = subst (λ o. IsRoomOf P K o (page_of_slot s)) (sym owner) there in
+            subst (HasRoom P K) (move_room_kept page) (rooms_there.kept page));
+        given = λ none. (let gone = subst (λ o. IsRoomOf P K o (page_of_slot s) → ⊥) (sym owner) none in
+            subst (HasRoom P K) (move_room_given gone) (rooms_there.given gone));
       }
 
   pub move_stepped : IsStepped P K old (Rename from to) n
