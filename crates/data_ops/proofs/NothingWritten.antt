@@ -25,7 +25,7 @@ use Rattle.image_counts.proofs.States.{state_law}
 use Rattle.image_laws.specs.CreateStep.{IsStepped}
 use Rattle.volume.specs.Carried.{IsPlanFor, IsAtomic, LeavesState, Follows, Carries}
 use Rattle.volume.specs.Crashes.{MayReadAs}
-use Rattle.volume.specs.Deed.{Deed, WritesBytes, ChangesNothing, deed_of}
+use Rattle.volume.specs.declared.plan.Action.TheVariants.{Write as WriteBytes, WriteNothing, KeepSize, KeepNames}
 use Rattle.volume.specs.Planned.{IsWritingFor, IsNothingOr}
 use Rattle.volume.specs.Stands.{StandsFor}
 use Rattle.volume.specs.Volume.{VolumeView}
@@ -35,7 +35,6 @@ use Rattle.volume.specs.declared.plan.Reading.{Reading}
 use Rattle.volume.specs.declared.plan.Removal.{Removal}
 use Rattle.volume.specs.declared.plan.Writing.{Writing}
 use Rattle.volume.specs.declared.plan.Action.{Action}
-use Rattle.volume.specs.declared.plan.Action.TheVariants.{Nothing}
 use Rattle.volume.specs.declared.plan.Action.TheVariants as actions
 use Rattle.entry_steps.proofs.Answered.{follows_as}
 use Rattle.pm_trait.specs.Unfolds.{Quietly}
@@ -49,10 +48,10 @@ stays_all Q run implies = record {
   each = λ first second from order upto all image may. implies image (run.each second image (omega (arith, from, order)) upto may).1;
 }
 
-nothing_written : (writing : Writing) → ChangesNothing ≢ WritesBytes writing
+nothing_written : (writing : Writing) → ChangesNothing ≢ WriteBytes writing
 nothing_written writing e = cc
 
-none_by : (nothing : Bool) (For : Writing → Type 0) → IsNothingOr nothing (λ deed. (x : Writing) × (deed ≡ WritesBytes x) × For x) ChangesNothing → nothing ≡ true
+none_by : (nothing : Bool) (For : Writing → Type 0) → IsNothingOr nothing (λ action. (x : Writing) × (action ≡ WriteBytes x) × For x) ChangesNothing → nothing ≡ true
 none_by true For plan = refl
 none_by false For (writing, is, for) = absurd (nothing_written writing is)
 
@@ -155,16 +154,16 @@ other_writes_none action (inr (inr (inr (inr (inr (inl (inode, is))))))) = ap is
 other_writes_none action (inr (inr (inr (inr (inr (inr is)))))) = ap is_writing is
 
 -- a test of deeds, of which those of a write pass
-abbrev writes_or_nothing : Deed → Bool
-writes_or_nothing (WritesBytes writing) = true
+abbrev writes_or_nothing : Action → Bool
+writes_or_nothing (WriteBytes writing) = true
 writes_or_nothing ChangesNothing = true
 writes_or_nothing _ = false
 
-deed_by : (nothing : Bool) (For : Writing → Type 0) (deed : Deed) → IsNothingOr nothing (λ deed. (x : Writing) × (deed ≡ WritesBytes x) × For x) deed → writes_or_nothing deed ≡ true
-deed_by true For deed plan = ap writes_or_nothing plan
-deed_by false For deed (x, is, for) = ap writes_or_nothing is
+deed_by : (nothing : Bool) (For : Writing → Type 0) (action : Action) → IsNothingOr nothing (λ action. (x : Writing) × (action ≡ WriteBytes x) × For x) action → writes_or_nothing action ≡ true
+deed_by true For action plan = ap writes_or_nothing plan
+deed_by false For action (x, is, for) = ap writes_or_nothing is
 
-action_by : (action : Action) → writes_or_nothing (deed_of action) ≡ true → is_writing action ≡ true
+action_by : (action : Action) → writes_or_nothing action ≡ true → is_writing action ≡ true
 action_by (actions.Write writing) is = refl
 action_by actions.Nothing is = refl
 action_by (actions.Make entry) is = is
@@ -179,6 +178,6 @@ action_by actions.Space is = is
 -- no other action is the plan of one
 pub no_other : (volume : VolumeView) (device : DeviceView) (state : State) (path : Route) (offset : ℕ) (bytes : List ℕ) (plan action : Action) → plan ≡ action → is_writing action ≡ false → IsPlanFor volume device state (Write path offset bytes) plan → ⊥
 no_other volume device state path offset bytes plan action is other planned =
-    let writes = action_by plan (deed_by (length bytes == 0) (IsWritingFor volume.size device.words state path offset bytes) (deed_of plan) planned.planned.plan_is) in
+    let writes = action_by plan (deed_by (length bytes == 0) (IsWritingFor volume.size device.words state path offset bytes) plan planned.planned.plan_is) in
     let clash : true ≡ false = sym writes ∙ ap is_writing is ∙ other in
     absurd (true≢false clash)

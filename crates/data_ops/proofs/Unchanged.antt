@@ -29,12 +29,11 @@ use Rattle.content_laws.proofs.Bytes.{length-resized, resized_at}
 use Rattle.content_laws.proofs.Steps.{stepped, resized_tree}
 use Rattle.volume.specs.Carried.{IsPlanFor, IsAtomic, LeavesState, Follows, Carries}
 use Rattle.volume.specs.Crashes.{MayReadAs}
-use Rattle.volume.specs.Deed.{SetsSize, ChangesNothing}
+use Rattle.volume.specs.declared.plan.Action.TheVariants.{WriteNothing, Resize, KeepSize, KeepNames}
 use Rattle.volume.specs.Planned.{IsResizingFor, IsNothingOr, is_size_of}
 use Rattle.volume.specs.Stands.{StandsFor}
 use Rattle.volume.specs.Volume.{VolumeView}
 use Rattle.volume.specs.declared.plan.Resizing.{Resizing}
-use Rattle.volume.specs.declared.plan.Action.TheVariants.{Nothing}
 use Rattle.volume.proofs.Walked.{reached_at}
 use Rattle.entry_steps.proofs.Answered.{follows_as}
 use Rattle.pm_trait.specs.Unfolds.{Quietly}
@@ -42,10 +41,10 @@ use Rattle.data_ops.specs.Cutting.{IsTruncation}
 use Rattle.data_ops.proofs.Stepping
 use Rattle.data_ops.proofs.NothingWritten.{stays_all}
 
-nothing_set : (resizing : Resizing) → ChangesNothing ≢ SetsSize resizing
+nothing_set : (resizing : Resizing) → ChangesNothing ≢ Resize resizing
 nothing_set resizing e = cc
 
-same_by : (nothing : Bool) (For : Resizing → Type 0) → IsNothingOr nothing (λ deed. (x : Resizing) × (deed ≡ SetsSize x) × For x) ChangesNothing → nothing ≡ true
+same_by : (nothing : Bool) (For : Resizing → Type 0) → IsNothingOr nothing (λ action. (x : Resizing) × (action ≡ Resize x) × For x) ChangesNothing → nothing ≡ true
 same_by true For plan = refl
 same_by false For (resizing, is, for) = absurd (nothing_set resizing is)
 

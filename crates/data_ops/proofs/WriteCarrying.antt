@@ -12,11 +12,10 @@ use Rattle.tree_model.specs.declared.reply.Reply.{Reply}
 use Rattle.tree_model.specs.declared.reply.Reply.TheVariants.{Count as Told}
 use Rattle.volume.specs.Carried.{IsPlanFor, IsAtomic, LeavesState, Follows, Carries}
 use Rattle.volume.specs.Costs.{span_events, fence_events, growth_events, events_of, events_of_write, fences_of_plan, reserved_events}
-use Rattle.volume.specs.Deed.{WritesBytes}
+use Rattle.volume.specs.declared.plan.Action.TheVariants.{Write as WriteBytes, Write as Writes}
 use Rattle.volume.specs.Entered.{EntersPages}
 use Rattle.volume.specs.Volume.{VolumeView}
 use Rattle.volume.specs.declared.plan.Writing.{Writing}
-use Rattle.volume.specs.declared.plan.Action.TheVariants.{Write as Writes}
 use Rattle.volume.proofs.ContentPlans.{planned_writing}
 use Rattle.pm_trait.specs.Unfolds.{MayFence, Unfolds}
 use Rattle.entry_steps.proofs.Answered.{failed_as, follows_as}
@@ -24,7 +23,7 @@ use Rattle.pm_trait.proofs.Unfolding.{unfolds_as, unfolds_failed_as}
 use Rattle.data_ops.specs.Writing.{IsWriteOf, IsWritingAt, HasStoredBytes, write_steps}
 use Rattle.data_ops.proofs.Resizes.{room_of}
 
-some_events : (writing : Writing) → events_of (WritesBytes writing) ≡ 0 → ⊥
+some_events : (writing : Writing) → events_of (WriteBytes writing) ≡ 0 → ⊥
 some_events writing none =
     (elim (nat_le (writing.offset + writing.count) writing.old_size) as (λ b. cond b (span_events writing.offset (writing.offset + writing.count) + fence_events) (growth_events writing.old_size writing.offset (length writing.new_pages)) ≡ 0 → ⊥) [
       | true ↦ λ is. omega (arith, is)
@@ -35,7 +34,7 @@ same_write : (path other : Route) (offset at : ℕ) (bytes more : List ℕ) → 
 same_write path other offset at bytes more e = cc
 
 -- the plan has its room
-pub may_begin : (device : DeviceView) (words : ℕ) (writing : Writing) → length device.words ≡ words → IsSettledView device → reserved_events (WritesBytes writing) ≤ device.spare → device.fences < 2 ^ 63 → MayFence device words (events_of_write writing) 3
+pub may_begin : (device : DeviceView) (words : ℕ) (writing : Writing) → length device.words ≡ words → IsSettledView device → reserved_events (WriteBytes writing) ≤ device.spare → device.fences < 2 ^ 63 → MayFence device words (events_of_write writing) 3
 may_begin device words writing whole settled room countable = record { whole = whole; settled = settled; room = room_of (events_of_write writing) device.spare room; countable = omega (arith, countable) }
 
 -- by the volume's own pages
@@ -66,7 +65,7 @@ module _ (volume after : VolumeView) (old new : DeviceView) (writing : Writing) 
 
   pub carried : {E T : Type 0} (done : T) (count : ℕ) → count ≡ length bytes
       → ((state : State) (path : Route) → IsPlanFor volume old state (Write path writing.offset bytes) (Writes writing) → LeavesState volume after old new state (Write path writing.offset bytes) (Count (length bytes)))
-      → EntersPages volume after writing.inode writing.new_pages → MakesIntervals {E = E} old new (events_of (WritesBytes writing)) (fences_of_plan (WritesBytes writing)) (Ok done) → volume.stopped ≡ false
+      → EntersPages volume after writing.inode writing.new_pages → MakesIntervals {E = E} old new (events_of (WriteBytes writing)) (fences_of_plan (WriteBytes writing)) (Ok done) → volume.stopped ≡ false
       → Carries {E = E} volume after old new (Writes writing) (Count (length bytes)) (IsWriteOf bytes) (Ok (Told count))
   carried {E} done count long made enters device going = record {
     meaning = λ state command ours plan.
@@ -86,7 +85,7 @@ module _ (volume after : VolumeView) (old new : DeviceView) (writing : Writing) 
   }
 
   -- a fence failed, and the volume is stopped
-  pub carried_no_further : {E F T : Type 0} {failed : F} (fault : E) → MakesIntervals {T = T} old new (events_of (WritesBytes writing)) (fences_of_plan (WritesBytes writing)) (Err failed)
+  pub carried_no_further : {E F T : Type 0} {failed : F} (fault : E) → MakesIntervals {T = T} old new (events_of (WriteBytes writing)) (fences_of_plan (WriteBytes writing)) (Err failed)
       → after ≡ record volume { stopped = true } → Carries {E = E} volume after old new (Writes writing) (Count (length bytes)) (IsWriteOf bytes) (Err fault)
   carried_no_further {E} fault device stopped = record {
     meaning = λ state command ours plan.

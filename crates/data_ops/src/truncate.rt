@@ -175,7 +175,7 @@ pub fn apply_truncate<P: Pm>(volume: &mut Volume, plan: Plan, pm: &mut P) -> Res
 {
     match plan.into_action() {
         Action::Resize(resizing) => carry_resize(volume, &resizing, pm),
-        Action::Nothing => Ok(Reply::Done),
+        Action::KeepSize => Ok(Reply::Done),
         Action::Write(_writing) => unreachable!(),
         Action::Make(_)
         | Action::Name(_)

@@ -124,7 +124,7 @@ pub fn apply_write<P: Pm>(
 {
     match plan.into_action() {
         Action::Write(writing) => carry_write(volume, &writing, bytes, pm),
-        Action::Nothing => Ok(Reply::Count(0)),
+        Action::WriteNothing => Ok(Reply::Count(0)),
         Action::Resize(_resizing) => unreachable!(),
         Action::Make(_)
         | Action::Name(_)

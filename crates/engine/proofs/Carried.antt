@@ -13,10 +13,9 @@ use Rattle.volume.specs.Volume.{VolumeView}
 use Rattle.volume.specs.Carried.{IsPlanFor, LeavesState, Follows, Carries}
 use Rattle.volume.specs.Prepared.{IsChange}
 use Rattle.volume.specs.Costs.{events_of, fences_for_loss, fences_for_growth, fences_of_plan}
-use Rattle.volume.specs.Deed.{MakesNode, AddsName, RemovesName, WritesBytes, SetsSize, ChangesNothing, deed_of}
+use Rattle.volume.specs.declared.plan.Action.TheVariants.{Make, Name, Remove, Write as WriteBytes, WriteNothing, Resize, KeepSize, KeepNames, Read as ReadBytes, Status, Names, Space}
 use Rattle.volume.specs.Planned.{IsPlanOf}
 use Rattle.volume.specs.declared.plan.Action.{Action}
-use Rattle.volume.specs.declared.plan.Action.TheVariants.{Make, Name, Remove, Write as WriteBytes, Resize, Nothing, Read as ReadBytes, Status, Names, Space}
 use Rattle.volume.proofs.Plans.{is_change, change_is, fences_of_plan-le}
 use Rattle.engine.specs.Exec.{Executed, HasFailed, Does, LeavesVolume}
 use Rattle.engine.specs.Replies.{IsTold, IsChangeReply}
@@ -31,7 +30,7 @@ either_some true one other some some_other = some
 either_some false one other some some_other = some_other
 
 -- what changes something takes a fence, or does nothing
-change_fences : (action : Action) → IsChange action → (fences_of_plan (deed_of action) ≢ 0) ⊎ (events_of (deed_of action) ≡ 0)
+change_fences : (action : Action) → IsChange action → (fences_of_plan action ≢ 0) ⊎ (events_of action ≡ 0)
 change_fences (Make entry) is = inl (λ none. omega (arith, none))
 change_fences (Name link) is = inl (λ none. omega (arith, none))
 change_fences (Remove removal) is = inl (λ none. omega (arith, none))
@@ -45,8 +44,8 @@ change_fences (Status inode) is = absurd is
 change_fences (Names inode) is = absurd is
 change_fences Space is = absurd is
 
--- a plan changes something where its deed does
-pub changing : (action : Action) → is_change (deed_of action) ≡ true → IsChange action
+-- a plan changes something where its action does
+pub changing : (action : Action) → is_change action ≡ true → IsChange action
 changing (Make entry) is = tt
 changing (Name link) is = tt
 changing (Remove removal) is = tt
@@ -73,12 +72,12 @@ change_told session device Fault is = absurd is
 change_told session device Stopped is = absurd is
 
 -- its command may change the tree
-change_may : (P : ℕ) (I : List ℕ) (state : State) (c : Command) (action : Action) → IsChange action → IsPlanOf P I state c (deed_of action) → is_changing c ≡ true
-change_may P I state c (Make entry) is plan = change_is P I state c (MakesNode entry) plan
-change_may P I state c (Name link) is plan = change_is P I state c (AddsName link) plan
-change_may P I state c (Remove removal) is plan = change_is P I state c (RemovesName removal) plan
-change_may P I state c (WriteBytes writing) is plan = change_is P I state c (WritesBytes writing) plan
-change_may P I state c (Resize resizing) is plan = change_is P I state c (SetsSize resizing) plan
+change_may : (P : ℕ) (I : List ℕ) (state : State) (c : Command) (action : Action) → IsChange action → IsPlanOf P I state c action → is_changing c ≡ true
+change_may P I state c (Make entry) is plan = change_is P I state c (Make entry) plan
+change_may P I state c (Name link) is plan = change_is P I state c (Name link) plan
+change_may P I state c (Remove removal) is plan = change_is P I state c (Remove removal) plan
+change_may P I state c (WriteBytes writing) is plan = change_is P I state c (WriteBytes writing) plan
+change_may P I state c (Resize resizing) is plan = change_is P I state c (Resize resizing) plan
 change_may P I state c Nothing is plan = change_is P I state c ChangesNothing plan
 change_may P I state c (ReadBytes reading) is plan = absurd is
 change_may P I state c (Status inode) is plan = absurd is
@@ -104,7 +103,7 @@ module _ (old new : SessionView) (before after : DeviceView) (action : Action) (
       changes = change_may old.volume.size before.words state c action change plan_for.planned.plan_is
 
       executed : (result : Result Reply PmFault) → OnOk result (LeavesState old.volume new.volume before after state c answer) → IfOk result (λ replied. replied ≡ reply_of answer)
-          → OnOk result (after.fences ≡ before.fences + fences_of_plan (deed_of action)) → IfOk result (λ replied. Executed old.volume.size state (Ok c) new replied before after)
+          → OnOk result (after.fences ≡ before.fences + fences_of_plan action) → IfOk result (λ replied. Executed old.volume.size state (Ok c) new replied before after)
       executed (Ok replied) left is made = record {
         answer = answer;
         new = left.later;
@@ -122,7 +121,7 @@ module _ (old new : SessionView) (before after : DeviceView) (action : Action) (
       }
       executed (Err fault) left is made = tt
 
-      failed : (result : Result Reply PmFault) → OnErr result (EndsInFault after.trail) → OnErr result (after.fences < before.fences + fences_of_plan (deed_of action))
+      failed : (result : Result Reply PmFault) → OnErr result (EndsInFault after.trail) → OnErr result (after.fences < before.fences + fences_of_plan action)
           → OnErr result (HasFailed old.volume.size state (Ok c) before after)
       failed (Ok replied) last fewer = tt
       failed (Err fault) last fewer = record {
@@ -130,7 +129,7 @@ module _ (old new : SessionView) (before after : DeviceView) (action : Action) (
         any_moment = follows.any_moment;
         no_ack = carries.device.no_ack;
         last = last;
-        deed = deed_of action;
+        action = deed_of action;
         planned = plan_for.planned;
         fewer = fewer;
       }

@@ -18,7 +18,7 @@ pub mod ContentRows
 pub mod ContentPlans
 pub mod Grown
 pub mod Plans
-pub mod PlanDeeds
+pub mod PlanActions
 pub mod Listed
 pub mod PlanRows
 pub mod Staying

@@ -25,7 +25,7 @@ use Rattle.volatile_index.specs.Index.{entries_of}
 use Rattle.volume.specs.Volume.{VolumeView}
 use Rattle.volume.specs.Stands.{StandsFor}
 use Rattle.volume.specs.Walks.{name_row}
-use Rattle.volume.specs.Deed.{RemovesName}
+use Rattle.volume.specs.declared.plan.Action.TheVariants.{Remove}
 use Rattle.volume.specs.Planned.{IsNameAt, IsAlone, IsGivenBack, IsPlanned}
 use Rattle.volume.specs.declared.plan.Removal.{Removal}
 use Rattle.volume.proofs.Ways.{walk_last, parent_walked, walk_fails}
@@ -124,7 +124,7 @@ module _ (volume : VolumeView) (device : DeviceView) (state : State) (stands : S
     unlink_directory is = unlink_row true is
 
     pub unlink_planned : (links pages : ℕ) (given_back : Option ℕ) → is_directory state.tree inode ≡ false → links ≡ inode_links device.words inode → IsLeft (links == 1) pages given_back
-        → IsPlanned volume.size device.words state (Unlink path) (RemovesName (removal_of File (links == 1) pages given_back))
+        → IsPlanned volume.size device.words state (Unlink path) (Remove (removal_of File (links == 1) pages given_back))
     unlink_planned links pages given_back is links_are (all, none, given) =
         let accepted = unlink_row false is in
         let found = Accepted-from_row (untaken volume.size) state.tree state.room (Unlink path) (stands_tree volume device state stands) accepted in
@@ -175,7 +175,7 @@ module _ (volume : VolumeView) (device : DeviceView) (state : State) (stands : S
       rmdir_some some = rmdir_row false true (no_file (node_at state.tree inode) is) (ap (nat_lt 0) (sym counted) ∙ is_some_test names some)
 
       pub rmdir_planned : (pages : ℕ) (given_back : Option ℕ) → names ≤ 0 → IsLeft true pages given_back
-          → IsPlanned volume.size device.words state (Rmdir path) (RemovesName (removal_of Directory true pages given_back))
+          → IsPlanned volume.size device.words state (Rmdir path) (Remove (removal_of Directory true pages given_back))
       rmdir_planned pages given_back none (all, nothing, given) =
           let accepted = rmdir_row false false (no_file (node_at state.tree inode) is) (ap (nat_lt 0) (sym counted) ∙ is_none_test names none) in
           let found = Accepted-from_row (untaken volume.size) state.tree state.room (Rmdir path) (stands_tree volume device state stands) accepted in

@@ -3,17 +3,16 @@ use Rattle.tree_model.specs.Step.{Done}
 use Rattle.tree_model.specs.declared.command.Command.{Command}
 use Rattle.tree_model.specs.declared.reply.Reply.TheVariants as reply
 use Rattle.volume.specs.Carried.{IsPlanFor}
-use Rattle.volume.specs.Deed.{deed_of}
+use Rattle.volume.specs.declared.plan.Action.TheVariants.{Write as WriteBytes, WriteNothing, Resize, KeepSize, KeepNames}
 use Rattle.volume.specs.Planned.{IsPlanOf, IsPlanned}
 use Rattle.volume.specs.declared.plan.Action.{Action}
-use Rattle.volume.specs.declared.plan.Action.TheVariants.{Write as WriteBytes, Resize, Nothing}
 use Rattle.volume.specs.declared.plan.Writing.{Writing}
 use Rattle.volume.specs.declared.plan.Resizing.{Resizing}
 use Rattle.volume.specs.Prepared.{IsChange, making}
 use Rattle.layout.specs.declared.kinds.NodeKind.{NodeKind}
 use Rattle.engine.specs.Session.{session_of}
 use Rattle.volume.proofs.Plans.{planned_making, telling_reads}
-use Rattle.volume.proofs.PlanDeeds.{planned_linking}
+use Rattle.volume.proofs.PlanActions.{planned_linking}
 use Rattle.engine.proofs.Carried.{does_carried, leaves_carried, reads_carried}
 use Rattle.engine.proofs.Commands.{does_told, leaves_still}
 use Rattle.engine.proofs.Lines.{IsOfContents, contents_of_plan}
@@ -28,7 +27,7 @@ apply_create-requires-clause-planned g c =
     let volume = c.args.volume.now in
     let device = g.P.Pm.view c.args.pm.now in
     let (state, plan_for) = c.requires.planned in
-    let (path, is) = planned_making volume.size device.words state c.args.command.now c.in-Make.entry (subst (λ (a : Action). IsPlanOf volume.size device.words state c.args.command.now (deed_of a)) (sym c.action.ensures ∙ c.in-Make.is) plan_for.planned.plan_is) in
+    let (path, is) = planned_making volume.size device.words state c.args.command.now c.in-Make.entry (subst (λ (a : Action). IsPlanOf volume.size device.words state c.args.command.now a) (sym c.action.ensures ∙ c.in-Make.is) plan_for.planned.plan_is) in
     (state, path, subst (λ (asked : Command). IsPlanFor volume device state asked c.args.plan) (is ∙ ap (λ (kind : NodeKind). making kind path) c.in-File.is) plan_for)
 
 pub returns-in-File-clause-does : goal.returns-in-File-clause-does
@@ -49,7 +48,7 @@ apply_mkdir-requires-clause-planned g c =
     let volume = c.args.volume.now in
     let device = g.P.Pm.view c.args.pm.now in
     let (state, plan_for) = c.requires.planned in
-    let (path, is) = planned_making volume.size device.words state c.args.command.now c.in-Make.entry (subst (λ (a : Action). IsPlanOf volume.size device.words state c.args.command.now (deed_of a)) (sym c.action.ensures ∙ c.in-Make.is) plan_for.planned.plan_is) in
+    let (path, is) = planned_making volume.size device.words state c.args.command.now c.in-Make.entry (subst (λ (a : Action). IsPlanOf volume.size device.words state c.args.command.now a) (sym c.action.ensures ∙ c.in-Make.is) plan_for.planned.plan_is) in
     (state, path, subst (λ (asked : Command). IsPlanFor volume device state asked c.args.plan) (is ∙ ap (λ (kind : NodeKind). making kind path) c.in-Directory.is) plan_for)
 
 pub returns-in-Directory-clause-does : goal.returns-in-Directory-clause-does
@@ -72,7 +71,7 @@ apply_link-requires-clause-planned g c =
     let volume = c.args.volume.now in
     let device = g.P.Pm.view c.args.pm.now in
     let (state, plan_for) = c.requires.planned in
-    let (from, to, is, for) = planned_linking volume.size device.words state c.args.command.now c.in-Name.field-0 (subst (λ (a : Action). IsPlanOf volume.size device.words state c.args.command.now (deed_of a)) (sym c.action.ensures ∙ c.in-Name.is) plan_for.planned.plan_is) in
+    let (from, to, is, for) = planned_linking volume.size device.words state c.args.command.now c.in-Name.field-0 (subst (λ (a : Action). IsPlanOf volume.size device.words state c.args.command.now a) (sym c.action.ensures ∙ c.in-Name.is) plan_for.planned.plan_is) in
     (state, from, to, subst (λ (asked : Command). IsPlanFor volume device state asked c.args.plan) is plan_for)
 
 pub returns-in-Name-clause-does : goal.returns-in-Name-clause-does
@@ -95,7 +94,7 @@ apply_unlink-requires-clause-planned g c =
     let volume = c.args.volume.now in
     let device = g.P.Pm.view c.args.pm.now in
     let (state, plan_for) = c.requires.planned in
-    let (path, is) = planned_removal volume.size device.words state (state_is volume device plan_for.stands).tree c.args.command.now c.in-Remove.removal (subst (λ (a : Action). IsPlanned volume.size device.words state c.args.command.now (deed_of a)) (sym c.action.ensures ∙ c.in-Remove.is) plan_for.planned) in
+    let (path, is) = planned_removal volume.size device.words state (state_is volume device plan_for.stands).tree c.args.command.now c.in-Remove.removal (subst (λ (a : Action). IsPlanned volume.size device.words state c.args.command.now a) (sym c.action.ensures ∙ c.in-Remove.is) plan_for.planned) in
     (state, path, subst (λ (asked : Command). IsPlanFor volume device state asked c.args.plan) (is ∙ ap (λ (kind : NodeKind). removing kind path) c.in-File-kind.is) plan_for)
 
 pub returns-in-File-kind-clause-does : goal.returns-in-File-kind-clause-does
@@ -116,7 +115,7 @@ apply_rmdir-requires-clause-planned g c =
     let volume = c.args.volume.now in
     let device = g.P.Pm.view c.args.pm.now in
     let (state, plan_for) = c.requires.planned in
-    let (path, is) = planned_removal volume.size device.words state (state_is volume device plan_for.stands).tree c.args.command.now c.in-Remove.removal (subst (λ (a : Action). IsPlanned volume.size device.words state c.args.command.now (deed_of a)) (sym c.action.ensures ∙ c.in-Remove.is) plan_for.planned) in
+    let (path, is) = planned_removal volume.size device.words state (state_is volume device plan_for.stands).tree c.args.command.now c.in-Remove.removal (subst (λ (a : Action). IsPlanned volume.size device.words state c.args.command.now a) (sym c.action.ensures ∙ c.in-Remove.is) plan_for.planned) in
     (state, path, subst (λ (asked : Command). IsPlanFor volume device state asked c.args.plan) (is ∙ ap (λ (kind : NodeKind). removing kind path) c.in-Directory-kind.is) plan_for)
 
 pub returns-in-Directory-kind-clause-does : goal.returns-in-Directory-kind-clause-does
@@ -134,16 +133,16 @@ returns-in-Directory-kind-clause-reads g c =
 
 -- ---- contents
 
-sets_contents : (action : Action) → ((writing : Writing) × (action ≡ WriteBytes writing)) ⊎ (((resizing : Resizing) × (action ≡ Resize resizing)) ⊎ (action ≡ Nothing)) → IsOfContents (deed_of action)
-sets_contents action (inl (writing, is)) = subst (λ (a : Action). IsOfContents (deed_of a)) (sym is) tt
-sets_contents action (inr (inl (resizing, is))) = subst (λ (a : Action). IsOfContents (deed_of a)) (sym is) tt
-sets_contents action (inr (inr is)) = subst (λ (a : Action). IsOfContents (deed_of a)) (sym is) tt
+sets_contents : (action : Action) → ((writing : Writing) × (action ≡ WriteBytes writing)) ⊎ (((resizing : Resizing) × (action ≡ Resize resizing)) ⊎ (action ≡ Nothing)) → IsOfContents action
+sets_contents action (inl (writing, is)) = subst (λ (a : Action). IsOfContents a) (sym is) tt
+sets_contents action (inr (inl (resizing, is))) = subst (λ (a : Action). IsOfContents a) (sym is) tt
+sets_contents action (inr (inr is)) = subst (λ (a : Action). IsOfContents a) (sym is) tt
 
 pub carry_contents-requires-clause-contents : goal.carry_contents-requires-clause-contents
 carry_contents-requires-clause-contents g c =
     let (state, plan_for) = c.requires.planned in
-    contents_of_plan c.args.volume.now.size (g.P.Pm.view c.args.pm.now).words state c.args.command.now (deed_of c.args.plan) c.requires.has_line
-    (subst (λ (a : Action). IsOfContents (deed_of a)) c.action.ensures (sets_contents c.action.result.now c.in-Write.is)) plan_for.planned.plan_is
+    contents_of_plan c.args.volume.now.size (g.P.Pm.view c.args.pm.now).words state c.args.command.now c.args.plan c.requires.has_line
+    (subst (λ (a : Action). IsOfContents a) c.action.ensures (sets_contents c.action.result.now c.in-Write.is)) plan_for.planned.plan_is
 
 -- ---- what is told
 
