@@ -21,7 +21,7 @@ use Rattle.image_counts.proofs.Nodes.{size_law}
 use Rattle.image_counts.proofs.States.{state_law}
 use Rattle.volatile_index.specs.Index.{pages_of}
 use Rattle.volume.specs.Carried.{IsPlanFor}
-use Rattle.volume.specs.declared.plan.Action.TheVariants.{WriteNothing, Resize, KeepSize, KeepNames}
+use Rattle.volume.specs.declared.plan.Action.TheVariants.{Resize, KeepSize}
 use Rattle.volume.specs.Planned.{IsResizingFor, IsNothingOr, is_size_of, IsPlanOf}
 use Rattle.volume.specs.Stands.{StandsFor}
 use Rattle.volume.specs.Volume.{VolumeView}
@@ -51,10 +51,10 @@ no_pages (page ∷ pages) none = absurd (omega (arith, none))
 not_equal : (a b : ℕ) → (a == b) ≡ false → a ≢ b
 not_equal a b test same = grind (arith, nat_tests)
 
-not_nothing : (resizing : Resizing) → Resize resizing ≢ ChangesNothing
+not_nothing : (resizing : Resizing) → Resize resizing ≢ KeepSize
 not_nothing resizing e = cc
 
-differs_by : (nothing : Bool) (For : Resizing → Type 0) (resizing : Resizing) → IsNothingOr nothing (λ action. (x : Resizing) × (action ≡ Resize x) × For x) (Resize resizing) → nothing ≡ false
+differs_by : (same : Bool) (For : Resizing → Type 0) (resizing : Resizing) → IsNothingOr same KeepSize (λ action. (x : Resizing) × (action ≡ Resize x) × For x) (Resize resizing) → same ≡ false
 differs_by true For resizing plan = absurd (not_nothing resizing plan)
 differs_by false For resizing plan = refl
 

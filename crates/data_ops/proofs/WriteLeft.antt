@@ -15,7 +15,7 @@ use Rattle.content_laws.proofs.Steps.{inside_step_law}
 use Rattle.volatile_index.specs.Index.{pages_of}
 use Rattle.volume.specs.Carried.{IsPlanFor, LeavesState}
 use Rattle.volume.specs.Costs.{fences_of_plan}
-use Rattle.volume.specs.declared.plan.Action.TheVariants.{Write as WriteBytes, Write as Writes}
+use Rattle.volume.specs.declared.plan.Action.TheVariants.{Write as WriteBytes}
 use Rattle.volume.specs.Entered.{EntersPages}
 use Rattle.volume.specs.Stands.{Knows}
 use Rattle.volume.specs.Volume.{VolumeView}
@@ -32,7 +32,7 @@ no_pages : (pages : List ℕ) → length pages ≡ 0 → pages ≡ []
 no_pages [] none = refl
 no_pages (page ∷ pages) none = absurd (omega (arith, none))
 
-module _ (volume : VolumeView) (device : DeviceView) (state : State) (path : Route) (bytes : List ℕ) (writing : Writing) (plan : IsPlanFor volume device state (Write path writing.offset bytes) (Writes writing)) where
+module _ (volume : VolumeView) (device : DeviceView) (state : State) (path : Route) (bytes : List ℕ) (writing : Writing) (plan : IsPlanFor volume device state (Write path writing.offset bytes) (WriteBytes writing)) where
   abbrev P : ℕ
   P = volume.size
 

@@ -125,13 +125,6 @@ pub fn apply_write<P: Pm>(
     match plan.into_action() {
         Action::Write(writing) => carry_write(volume, &writing, bytes, pm),
         Action::WriteNothing => Ok(Reply::Count(0)),
-        Action::Resize(_resizing) => unreachable!(),
-        Action::Make(_)
-        | Action::Name(_)
-        | Action::Remove(_)
-        | Action::Read(_)
-        | Action::Status(_)
-        | Action::Names(_)
-        | Action::Space => unreachable!(),
+        _other => unreachable!(),
     }
 }
