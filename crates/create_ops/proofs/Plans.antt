@@ -22,7 +22,8 @@ use Rattle.inode_state.specs.Inode.{fields_at}
 use Rattle.layout.specs.declared.kinds.NodeKind.{NodeKind}
 use Rattle.layout.specs.declared.kinds.NodeKind.TheVariants.{File as AFile, Directory as ADirectory}
 use Rattle.volume.specs.declared.plan.NewEntry.{NewEntry}
-use Rattle.volume.specs.Deed.{Deed, MakesNode as MakesEntry}
+use Rattle.volume.specs.declared.plan.Action.{Action}
+use Rattle.volume.specs.declared.plan.Action.TheVariants.{Make}
 use Rattle.volume.specs.Planned.{IsEntryFor, IsPlanned, IsPlanOf}
 use Rattle.volume.specs.Prepared.{making}
 use Rattle.image_counts.proofs.States.{state_law}
@@ -32,23 +33,23 @@ use Rattle.entry_steps.proofs.Places
 use Rattle.entry_steps.proofs.Places.{IsNamingAt}
 use Rattle.entry_steps.proofs.Zeros.{zero_inode}
 
-same_entry : (one two : NewEntry) → ◌≡◌ {A = Deed} (MakesEntry one) (MakesEntry two) → two ≡ one
+same_entry : (one two : NewEntry) → ◌≡◌ {A = Action} (Make one) (Make two) → two ≡ one
 same_entry one two e = cc
 
-entry_by : (P : ℕ) (I : List ℕ) (state : State) (path : Route) (kind : NodeKind) (entry : NewEntry) → IsPlanOf P I state (making kind path) (MakesEntry entry) → IsEntryFor P I state path kind entry
+entry_by : (P : ℕ) (I : List ℕ) (state : State) (path : Route) (kind : NodeKind) (entry : NewEntry) → IsPlanOf P I state (making kind path) (Make entry) → IsEntryFor P I state path kind entry
 entry_by P I state path AFile entry (other, is, for) = subst (λ (e : NewEntry). IsEntryFor P I state path AFile e) (same_entry entry other is) for
 entry_by P I state path ADirectory entry (other, is, for) = subst (λ (e : NewEntry). IsEntryFor P I state path ADirectory e) (same_entry entry other is) for
 
-may_by : (P : ℕ) (I : List ℕ) (state : State) (path : Route) (kind : NodeKind) (deed : Deed) → IsTree state.tree → IsPlanned P I state (making kind path) deed → MayMake (untaken P) state.tree state.room path
-may_by P I state path AFile deed tree planned = Accepted-from_row (untaken P) state.tree state.room (Create path) tree planned.accepted
-may_by P I state path ADirectory deed tree planned = Accepted-from_row (untaken P) state.tree state.room (Mkdir path) tree planned.accepted
+may_by : (P : ℕ) (I : List ℕ) (state : State) (path : Route) (kind : NodeKind) (action : Action) → IsTree state.tree → IsPlanned P I state (making kind path) action → MayMake (untaken P) state.tree state.room path
+may_by P I state path AFile action tree planned = Accepted-from_row (untaken P) state.tree state.room (Create path) tree planned.accepted
+may_by P I state path ADirectory action tree planned = Accepted-from_row (untaken P) state.tree state.room (Mkdir path) tree planned.accepted
 
 module _ (P : ℕ) (W : List ℕ) (state : State) (path : Route) (entry : NewEntry) (at : IsPlannedAt P W state path entry) where
   pub for_entry : IsEntryFor P W state path entry.kind entry
   for_entry = entry_by P W state path entry.kind entry at.planned.plan_is
 
   pub may : MayMake (untaken P) state.tree state.room path
-  may = may_by P W state path entry.kind (MakesEntry entry) (state_law P W state (tidied at.tidy).coherent at.reads).tree at.planned
+  may = may_by P W state path entry.kind (Make entry) (state_law P W state (tidied at.tidy).coherent at.reads).tree at.planned
 
   -- its name has a new place
   pub naming : IsNamingAt P W state path entry.directory entry.name entry.slot entry.new_page

@@ -14,12 +14,11 @@ use Rattle.content_laws.proofs.CutTidy.{cut_law, cut_index_law}
 use Rattle.volatile_index.specs.Index.{pages_of}
 use Rattle.volume.specs.Carried.{IsPlanFor, LeavesState}
 use Rattle.volume.specs.Costs.{fences_of_plan}
-use Rattle.volume.specs.Deed.{SetsSize}
+use Rattle.volume.specs.declared.plan.Action.TheVariants.{Resize}
 use Rattle.volume.specs.Entered.{LeavesLastPages}
 use Rattle.volume.specs.Stands.{Knows}
 use Rattle.volume.specs.Volume.{VolumeView}
 use Rattle.volume.specs.declared.plan.Resizing.{Resizing}
-use Rattle.volume.specs.declared.plan.Action.TheVariants.{Resize}
 use Rattle.data_ops.specs.Cutting.{MayCut, StoresCut}
 use Rattle.data_ops.proofs.CutPages
 use Rattle.data_ops.proofs.CutCourse
@@ -47,8 +46,8 @@ module _ (volume : VolumeView) (device : DeviceView) (state : State) (path : Rou
         (cut_index_law volume.size device.words is_cut.given K resizing.inode resizing.new_size may.can is_cut.cuts) new leaves
         (((tidied tidy_after).coherent Rule.head 0).whole refl)
 
-    pub leaves_state : (after : DeviceView) → after.words ≡ K → IsSettledView after → after.fences ≡ device.fences + fences_of_plan (SetsSize resizing)
+    pub leaves_state : (after : DeviceView) → after.words ≡ K → IsSettledView after → after.fences ≡ device.fences + fences_of_plan (Resize resizing)
         → LeavesState volume new device after state (Truncate path resizing.new_size) Done
     leaves_state after words settled counted =
-        Stepping.leaves_state volume device state (Truncate path resizing.new_size) Done (SetsSize resizing) plan.stands plan.planned refl (λ gives. refl) K tidy_after truncated.stepped new after
+        Stepping.leaves_state volume device state (Truncate path resizing.new_size) Done (Resize resizing) plan.stands plan.planned refl (λ gives. refl) K tidy_after truncated.stepped new after
         (ap (λ (v : VolumeView). v.size) leaves.rest) knows_left words settled counted

@@ -14,7 +14,7 @@ use Rattle.content_laws.proofs.Growth.{growth_law}
 use Rattle.volatile_index.specs.Index.{pages_of}
 use Rattle.volume.specs.Carried.{LeavesState}
 use Rattle.volume.specs.Costs.{fences_of_plan}
-use Rattle.volume.specs.Deed.{Deed}
+use Rattle.volume.specs.declared.plan.Action.{Action}
 use Rattle.volume.specs.Entered.{EntersPages}
 use Rattle.volume.specs.Laws.{gives_back}
 use Rattle.volume.specs.Planned.{IsPlanned}
@@ -26,9 +26,9 @@ use Rattle.data_ops.proofs.GrownKnown
 use Rattle.data_ops.proofs.Growing
 use Rattle.data_ops.proofs.Stepping
 
-module _ (volume : VolumeView) (device : DeviceView) (state : State) (command : Command) (answer : Answer) (deed : Deed) (stands : StandsFor volume device state) (planned : IsPlanned volume.size device.words state command deed)
+module _ (volume : VolumeView) (device : DeviceView) (state : State) (command : Command) (answer : Answer) (action : Action) (stands : StandsFor volume device state) (planned : IsPlanned volume.size device.words state command action)
     (told : answer_of (untaken volume.size) state.tree state.room command ≡ answer)
-    (kept : (gives : Bool) → room_after (least_free_id state.tree) state.tree state.room command gives ≡ room_after (least_free_id state.tree) state.tree state.room command (gives_back deed))
+    (kept : (gives : Bool) → room_after (least_free_id state.tree) state.tree state.room command gives ≡ room_after (least_free_id state.tree) state.tree state.room command (gives_back action))
     {growth : Growth} {bytes new_pages : List ℕ} (may : MayGrow volume.size device.words growth bytes (pages_of volume.index growth.inode) new_pages) (by : IsGrowthBy volume.size device.words state command growth bytes)
     (distinct : IsDistinct new_pages) (K : List ℕ) (grown : StoresGrowth volume.size device.words K growth.inode growth.new_size growth.offset bytes new_pages) where
   law : LeavesGrown volume.size device.words grown.filled grown.taken (sized grown.taken growth.inode growth.new_size) growth.inode growth.new_size growth.offset bytes new_pages
@@ -43,7 +43,7 @@ module _ (volume : VolumeView) (device : DeviceView) (state : State) (command : 
         GrownKnown.knows_after volume device.words (sized grown.taken growth.inode growth.new_size) growth.inode new_pages stands.knows (tidied stands.tidy).coherent may.held.least may.held.most may.can.reached may.can.file
         may.held.count may.can.free distinct law.index new enters (((tidied tidy_after).coherent Rule.head 0).whole refl)
 
-    pub leaves_state : (after : DeviceView) → after.words ≡ K → IsSettledView after → after.fences ≡ device.fences + fences_of_plan deed → LeavesState volume new device after state command answer
+    pub leaves_state : (after : DeviceView) → after.words ≡ K → IsSettledView after → after.fences ≡ device.fences + fences_of_plan action → LeavesState volume new device after state command answer
     leaves_state after words settled counted =
-        Stepping.leaves_state volume device state command answer deed stands planned told kept (sized grown.taken growth.inode growth.new_size) tidy_after
+        Stepping.leaves_state volume device state command answer action stands planned told kept (sized grown.taken growth.inode growth.new_size) tidy_after
         (Growing.stepped may by grown.filled grown.fills grown.taken grown.takes) new after (ap (λ (v : VolumeView). v.size) enters.rest) knows_left (words ∙ grown.size) settled counted

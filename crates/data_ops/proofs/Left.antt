@@ -8,11 +8,10 @@ use Rattle.tree_model.specs.Step.{Done}
 use Rattle.tree_model.specs.declared.command.Command.TheVariants.{Truncate}
 use Rattle.volume.specs.Carried.{IsPlanFor, LeavesState}
 use Rattle.volume.specs.Costs.{fences_of_plan}
-use Rattle.volume.specs.Deed.{SetsSize}
+use Rattle.volume.specs.declared.plan.Action.TheVariants.{Resize}
 use Rattle.volume.specs.Entered.{HasResized}
 use Rattle.volume.specs.Volume.{VolumeView}
 use Rattle.volume.specs.declared.plan.Resizing.{Resizing}
-use Rattle.volume.specs.declared.plan.Action.TheVariants.{Resize}
 use Rattle.volume.proofs.LowestPages.{rising_distinct}
 use Rattle.volume.proofs.Grown.{has_grown, has_cut}
 use Rattle.data_ops.specs.Cutting.{TakesIn, StoresSize}
@@ -29,13 +28,13 @@ module _ (volume : VolumeView) (device : DeviceView) (state : State) (path : Rou
     | inr most ↦ has_grown volume new resizing (takes.grown most) (Truncations.none_cut volume device state path resizing plan most)
   ]
 
-  pub leaves_state : (after : DeviceView) → StoresSize volume.size device.words after.words resizing → IsSettledView after → after.fences ≡ device.fences + fences_of_plan (SetsSize resizing)
+  pub leaves_state : (after : DeviceView) → StoresSize volume.size device.words after.words resizing → IsSettledView after → after.fences ≡ device.fences + fences_of_plan (Resize resizing)
       → LeavesState volume new device after state (Truncate path resizing.new_size) Done
   leaves_state after resized settled counted = elim (cases_lt resizing.new_size resizing.old_size) [
     | inl less ↦ CutLeft.leaves_state volume device state path resizing plan less after.words (resized.cut less) new (takes.cut less) after refl settled counted
     | inr most ↦
         let other = Truncations.other volume device state path resizing plan in
         let more : resizing.old_size < resizing.new_size = omega (arith, most, other) in
-        GrownLeft.leaves_state volume device state (Truncate path resizing.new_size) Done (SetsSize resizing) plan.stands plan.planned refl (λ gives. refl) (Truncations.may_grow volume device state path resizing plan more)
+        GrownLeft.leaves_state volume device state (Truncate path resizing.new_size) Done (Resize resizing) plan.stands plan.planned refl (λ gives. refl) (Truncations.may_grow volume device state path resizing plan more)
         (growth_by path resizing (Truncations.cut_at volume device state path resizing plan)) (rising_distinct resizing.new_pages (Truncations.for_resizing volume device state path resizing plan).new_pages.rising) after.words (resized.grown more) new (takes.grown most) after refl settled counted
   ]

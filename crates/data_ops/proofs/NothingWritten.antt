@@ -25,18 +25,12 @@ use Rattle.image_counts.proofs.States.{state_law}
 use Rattle.image_laws.specs.CreateStep.{IsStepped}
 use Rattle.volume.specs.Carried.{IsPlanFor, IsAtomic, LeavesState, Follows, Carries}
 use Rattle.volume.specs.Crashes.{MayReadAs}
-use Rattle.volume.specs.Deed.{Deed, WritesBytes, ChangesNothing, deed_of}
+use Rattle.volume.specs.declared.plan.Action.TheVariants.{Write as WriteBytes, WriteNothing}
 use Rattle.volume.specs.Planned.{IsWritingFor, IsNothingOr}
 use Rattle.volume.specs.Stands.{StandsFor}
 use Rattle.volume.specs.Volume.{VolumeView}
-use Rattle.volume.specs.declared.plan.NewEntry.{NewEntry}
-use Rattle.volume.specs.declared.plan.NewName.{NewName}
-use Rattle.volume.specs.declared.plan.Reading.{Reading}
-use Rattle.volume.specs.declared.plan.Removal.{Removal}
 use Rattle.volume.specs.declared.plan.Writing.{Writing}
 use Rattle.volume.specs.declared.plan.Action.{Action}
-use Rattle.volume.specs.declared.plan.Action.TheVariants.{Nothing}
-use Rattle.volume.specs.declared.plan.Action.TheVariants as actions
 use Rattle.entry_steps.proofs.Answered.{follows_as}
 use Rattle.pm_trait.specs.Unfolds.{Quietly}
 use Rattle.data_ops.specs.Writing.{IsWriteOf}
@@ -49,17 +43,17 @@ stays_all Q run implies = record {
   each = λ first second from order upto all image may. implies image (run.each second image (omega (arith, from, order)) upto may).1;
 }
 
-nothing_written : (writing : Writing) → ChangesNothing ≢ WritesBytes writing
+nothing_written : (writing : Writing) → WriteNothing ≢ WriteBytes writing
 nothing_written writing e = cc
 
-none_by : (nothing : Bool) (For : Writing → Type 0) → IsNothingOr nothing (λ deed. (x : Writing) × (deed ≡ WritesBytes x) × For x) ChangesNothing → nothing ≡ true
+none_by : (none : Bool) (For : Writing → Type 0) → IsNothingOr none WriteNothing (λ action. (x : Writing) × (action ≡ WriteBytes x) × For x) WriteNothing → none ≡ true
 none_by true For plan = refl
 none_by false For (writing, is, for) = absurd (nothing_written writing is)
 
 zero : (n : ℕ) → (n == 0) ≡ true → n ≡ 0
 zero n test = grind (arith, nat_tests)
 
-module _ (volume : VolumeView) (device : DeviceView) (state : State) (path : Route) (offset : ℕ) (bytes : List ℕ) (plan : IsPlanFor volume device state (Write path offset bytes) Nothing) where
+module _ (volume : VolumeView) (device : DeviceView) (state : State) (path : Route) (offset : ℕ) (bytes : List ℕ) (plan : IsPlanFor volume device state (Write path offset bytes) WriteNothing) where
   stands : StandsFor volume device state
   stands = plan.stands
 
@@ -91,7 +85,7 @@ module _ (volume : VolumeView) (device : DeviceView) (state : State) (path : Rou
       }
 
   made : LeavesState volume volume device device state (Write path offset bytes) (Count (length bytes))
-  made = Stepping.leaves_state volume device state (Write path offset bytes) (Count (length bytes)) ChangesNothing stands plan.planned refl (λ gives. refl) device.words stands.tidy is_stepped volume device refl stands.knows refl stands.settled (omega arith)
+  made = Stepping.leaves_state volume device state (Write path offset bytes) (Count (length bytes)) WriteNothing stands plan.planned refl (λ gives. refl) device.words stands.tidy is_stepped volume device refl stands.knows refl stands.settled (omega arith)
 
   reads_after : Reads volume.size device.words (step volume.size state.tree state.room (Write path offset bytes)).tree
   reads_after =
@@ -110,11 +104,11 @@ module _ (volume : VolumeView) (device : DeviceView) (state : State) (path : Rou
   follows reply = record { made = made; atomic = atomic }
 
 -- the plan of a write that has nothing to do
-pub carried_nothing : {E : Type 0} (volume : VolumeView) (device : DeviceView) (bytes : List ℕ) → length bytes ≡ 0 → IsSettledView device → volume.stopped ≡ false → Carries {E = E} volume volume device device Nothing (Count (length bytes)) (IsWriteOf bytes) (Ok (Told 0))
+pub carried_nothing : {E : Type 0} (volume : VolumeView) (device : DeviceView) (bytes : List ℕ) → length bytes ≡ 0 → IsSettledView device → volume.stopped ≡ false → Carries {E = E} volume volume device device WriteNothing (Count (length bytes)) (IsWriteOf bytes) (Ok (Told 0))
 carried_nothing {E} volume device bytes none settled going = record {
   meaning = λ state command ours plan.
       let (path, offset, is) = ours in
-      follows_as (Write path offset bytes) command is (follows volume device state path offset bytes (subst (λ (c : Command). IsPlanFor volume device state c Nothing) is plan) {E = E} (Told 0));
+      follows_as (Write path offset bytes) command is (follows volume device state path offset bytes (subst (λ (c : Command). IsPlanFor volume device state c WriteNothing) is plan) {E = E} (Told 0));
   answered = record { reply = ap (λ (n : ℕ). let reply : Reply = Told n in reply) (sym none); going = going; knows = refl; stopped = tt; size = refl };
   device = intervals_none device (Told 0) settled;
   idle = λ none. (refl, refl);
@@ -122,63 +116,12 @@ carried_nothing {E} volume device bytes none settled going = record {
 
 -- ---- the actions of a write
 
-abbrev pub is_writing : Action → Bool
-is_writing (actions.Write writing) = true
-is_writing actions.Nothing = true
-is_writing (actions.Make entry) = false
-is_writing (actions.Name link) = false
-is_writing (actions.Remove removal) = false
-is_writing (actions.Resize resizing) = false
-is_writing (actions.Read reading) = false
-is_writing (actions.Status inode) = false
-is_writing (actions.Names inode) = false
-is_writing actions.Space = false
+-- it writes its bytes, or nothing
+writes_or_nothing : (none : Bool) (For : Writing → Type 0) (action : Action) → IsNothingOr none WriteNothing (λ action. (x : Writing) × (action ≡ WriteBytes x) × For x) action
+    → ((writing : Writing) × (action ≡ WriteBytes writing)) ⊎ (action ≡ WriteNothing)
+writes_or_nothing true For action plan = inr plan
+writes_or_nothing false For action (x, is, for) = inl (x, is)
 
--- an action of another call, that has no size either
-abbrev pub IsOther : Action → Type 0
-IsOther action =
-    ((entry : NewEntry) × (action ≡ actions.Make entry))
-    ⊎ (((link : NewName) × (action ≡ actions.Name link))
-    ⊎ (((removal : Removal) × (action ≡ actions.Remove removal))
-    ⊎ (((reading : Reading) × (action ≡ actions.Read reading))
-    ⊎ (((inode : ℕ) × (action ≡ actions.Status inode))
-    ⊎ (((inode : ℕ) × (action ≡ actions.Names inode))
-    ⊎ (action ≡ actions.Space))))))
-
-pub other_writes_none : (action : Action) → IsOther action → is_writing action ≡ false
-other_writes_none action (inl (entry, is)) = ap is_writing is
-other_writes_none action (inr (inl (link, is))) = ap is_writing is
-other_writes_none action (inr (inr (inl (removal, is)))) = ap is_writing is
-other_writes_none action (inr (inr (inr (inl (reading, is))))) = ap is_writing is
-other_writes_none action (inr (inr (inr (inr (inl (inode, is)))))) = ap is_writing is
-other_writes_none action (inr (inr (inr (inr (inr (inl (inode, is))))))) = ap is_writing is
-other_writes_none action (inr (inr (inr (inr (inr (inr is)))))) = ap is_writing is
-
--- a test of deeds, of which those of a write pass
-abbrev writes_or_nothing : Deed → Bool
-writes_or_nothing (WritesBytes writing) = true
-writes_or_nothing ChangesNothing = true
-writes_or_nothing _ = false
-
-deed_by : (nothing : Bool) (For : Writing → Type 0) (deed : Deed) → IsNothingOr nothing (λ deed. (x : Writing) × (deed ≡ WritesBytes x) × For x) deed → writes_or_nothing deed ≡ true
-deed_by true For deed plan = ap writes_or_nothing plan
-deed_by false For deed (x, is, for) = ap writes_or_nothing is
-
-action_by : (action : Action) → writes_or_nothing (deed_of action) ≡ true → is_writing action ≡ true
-action_by (actions.Write writing) is = refl
-action_by actions.Nothing is = refl
-action_by (actions.Make entry) is = is
-action_by (actions.Name link) is = is
-action_by (actions.Remove removal) is = is
-action_by (actions.Resize resizing) is = is
-action_by (actions.Read reading) is = is
-action_by (actions.Status inode) is = is
-action_by (actions.Names inode) is = is
-action_by actions.Space is = is
-
--- no other action is the plan of one
-pub no_other : (volume : VolumeView) (device : DeviceView) (state : State) (path : Route) (offset : ℕ) (bytes : List ℕ) (plan action : Action) → plan ≡ action → is_writing action ≡ false → IsPlanFor volume device state (Write path offset bytes) plan → ⊥
-no_other volume device state path offset bytes plan action is other planned =
-    let writes = action_by plan (deed_by (length bytes == 0) (IsWritingFor volume.size device.words state path offset bytes) (deed_of plan) planned.planned.plan_is) in
-    let clash : true ≡ false = sym writes ∙ ap is_writing is ∙ other in
-    absurd (true≢false clash)
+pub writing_or_nothing : (volume : VolumeView) (device : DeviceView) (state : State) (path : Route) (offset : ℕ) (bytes : List ℕ) (action : Action) → IsPlanFor volume device state (Write path offset bytes) action
+    → ((writing : Writing) × (action ≡ WriteBytes writing)) ⊎ (action ≡ WriteNothing)
+writing_or_nothing volume device state path offset bytes action plan = writes_or_nothing (length bytes == 0) (IsWritingFor volume.size device.words state path offset bytes) action plan.planned.plan_is

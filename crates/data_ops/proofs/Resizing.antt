@@ -11,11 +11,10 @@ use Rattle.tree_model.specs.declared.command.Command.TheVariants.{Truncate}
 use Rattle.tree_model.specs.declared.reply.Reply.TheVariants.{Done as Told}
 use Rattle.volume.specs.Carried.{IsPlanFor, IsAtomic, LeavesState, Follows, Carries}
 use Rattle.volume.specs.Costs.{growth_events, commit_events, loss_events, events_of, fences_of_plan}
-use Rattle.volume.specs.Deed.{SetsSize}
+use Rattle.volume.specs.declared.plan.Action.TheVariants.{Resize}
 use Rattle.volume.specs.Entered.{HasResized}
 use Rattle.volume.specs.Volume.{VolumeView}
 use Rattle.volume.specs.declared.plan.Resizing.{Resizing}
-use Rattle.volume.specs.declared.plan.Action.TheVariants.{Resize}
 use Rattle.volume.proofs.ContentPlans.{planned_resizing}
 use Rattle.entry_steps.proofs.Answered.{failed_as, follows_as}
 use Rattle.pm_trait.specs.Unfolds.{Unfolds}
@@ -34,7 +33,7 @@ stored_as other stored = record { in_turn = unfolds_as other stored.in_turn; mad
 pub stored_failed : {T E U F : Type 0} {P : ℕ} {before after : DeviceView} {resizing : Resizing} {pages : List ℕ} {fault : E} (other : F) → HasStoredSize {T = T} P before after resizing pages (Err fault) → HasStoredSize {T = U} P before after resizing pages (Err other)
 stored_failed other stored = record { in_turn = unfolds_failed_as other stored.in_turn; made = tt; commit_word = stored.commit_word }
 
-some_events : (resizing : Resizing) → events_of (SetsSize resizing) ≡ 0 → ⊥
+some_events : (resizing : Resizing) → events_of (Resize resizing) ≡ 0 → ⊥
 some_events resizing none =
     (elim (nat_lt resizing.old_size resizing.new_size) as (λ b. cond b (growth_events resizing.old_size resizing.old_size (length resizing.new_pages)) (commit_events + loss_events resizing.cut false) ≡ 0 → ⊥) [
       | true ↦ λ is. omega (arith, is)
@@ -56,7 +55,7 @@ module _ (volume after : VolumeView) (old new : DeviceView) (resizing : Resizing
   atomic_of state path plan = atomic state path (record { reads = plan.stands.reads; planned = plan.planned })
 
   pub carried : {E T : Type 0} (done : T) → ((state : State) (path : Route) → IsPlanFor volume old state (Truncate path resizing.new_size) (Resize resizing) → LeavesState volume after old new state (Truncate path resizing.new_size) Done)
-      → HasResized volume after resizing → MakesIntervals {E = E} old new (events_of (SetsSize resizing)) (fences_of_plan (SetsSize resizing)) (Ok done) → volume.stopped ≡ false
+      → HasResized volume after resizing → MakesIntervals {E = E} old new (events_of (Resize resizing)) (fences_of_plan (Resize resizing)) (Ok done) → volume.stopped ≡ false
       → Carries {E = E} volume after old new (Resize resizing) Done IsTruncation (Ok Told)
   carried {E} done made resized device going = record {
     meaning = λ state command ours plan.
@@ -76,7 +75,7 @@ module _ (volume after : VolumeView) (old new : DeviceView) (resizing : Resizing
   }
 
   -- a fence failed, and the volume is stopped
-  pub carried_no_further : {E F T : Type 0} {failed : F} (fault : E) → MakesIntervals {T = T} old new (events_of (SetsSize resizing)) (fences_of_plan (SetsSize resizing)) (Err failed)
+  pub carried_no_further : {E F T : Type 0} {failed : F} (fault : E) → MakesIntervals {T = T} old new (events_of (Resize resizing)) (fences_of_plan (Resize resizing)) (Err failed)
       → after ≡ record volume { stopped = true } → Carries {E = E} volume after old new (Resize resizing) Done IsTruncation (Err fault)
   carried_no_further {E} fault device stopped = record {
     meaning = λ state command ours plan.

@@ -16,16 +16,16 @@ use Rattle.image_counts.proofs.States.{state_law}
 use Rattle.image_laws.specs.CreateStep.{IsStepped}
 use Rattle.volume.specs.Carried.{LeavesState}
 use Rattle.volume.specs.Costs.{fences_of_plan}
-use Rattle.volume.specs.Deed.{Deed}
+use Rattle.volume.specs.declared.plan.Action.{Action}
 use Rattle.volume.specs.Laws.{gives_back}
 use Rattle.volume.specs.Planned.{IsPlanned}
 use Rattle.volume.specs.Stands.{StandsFor, Knows}
 use Rattle.volume.specs.Volume.{VolumeView}
 use Rattle.volume.proofs.PlanFences.{plan_fences_law}
 
-module _ (volume : VolumeView) (device : DeviceView) (state : State) (command : Command) (answer : Answer) (deed : Deed) (stands : StandsFor volume device state) (planned : IsPlanned volume.size device.words state command deed)
+module _ (volume : VolumeView) (device : DeviceView) (state : State) (command : Command) (answer : Answer) (action : Action) (stands : StandsFor volume device state) (planned : IsPlanned volume.size device.words state command action)
     (told : answer_of (untaken volume.size) state.tree state.room command ≡ answer)
-    (kept : (gives : Bool) → room_after (least_free_id state.tree) state.tree state.room command gives ≡ room_after (least_free_id state.tree) state.tree state.room command (gives_back deed)) where
+    (kept : (gives : Bool) → room_after (least_free_id state.tree) state.tree state.room command gives ≡ room_after (least_free_id state.tree) state.tree state.room command (gives_back action)) where
   tree_steps : (step volume.size state.tree state.room command).tree ≡ tree_after (least_free_id state.tree) state.tree command
   tree_steps = ap (λ (o : Option Refusal). (outcome_of o (untaken volume.size) (least_free_id state.tree) state.tree state.room command).tree) planned.accepted
 
@@ -48,7 +48,7 @@ module _ (volume : VolumeView) (device : DeviceView) (state : State) (command : 
     fits = (state_law volume.size K later (tidied tidy).coherent later_reads).room
 
     -- no directory gives a page back
-    room_is : later.room ≡ room_after (least_free_id state.tree) state.tree state.room command (gives_back deed)
+    room_is : later.room ≡ room_after (least_free_id state.tree) state.tree state.room command (gives_back action)
     unfolding later
     room_is = let (gives, is, other) = stepped.room in is ∙ kept gives
 
@@ -60,12 +60,12 @@ module _ (volume : VolumeView) (device : DeviceView) (state : State) (command : 
       room = subst (λ (o : Option Refusal). RoomAfter o state.tree state.room command stepped.new.room) (sym planned.accepted) stepped.room;
     }
 
-    fences : fences_of_plan deed ≡ fences_of state (Ok command) answer later
+    fences : fences_of_plan action ≡ fences_of state (Ok command) answer later
     fences =
-        plan_fences_law volume.size device.words state later command deed (tidied stands.tidy) stands.reads planned (record { tree = later_tree; room = room_is; fits = fits })
+        plan_fences_law volume.size device.words state later command action (tidied stands.tidy) stands.reads planned (record { tree = later_tree; room = room_is; fits = fits })
         ∙ ap (λ (a : Answer). fences_of state (Ok command) a later) answer_is
 
-    pub leaves_state : (new : VolumeView) (after : DeviceView) → new.size ≡ volume.size → Knows new K → after.words ≡ K → IsSettledView after → after.fences ≡ device.fences + fences_of_plan deed
+    pub leaves_state : (new : VolumeView) (after : DeviceView) → new.size ≡ volume.size → Knows new K → after.words ≡ K → IsSettledView after → after.fences ≡ device.fences + fences_of_plan action
         → LeavesState volume new device after state command answer
     leaves_state new after same knows words settled counted = record {
       later = later;

@@ -21,12 +21,11 @@ use Rattle.image_counts.proofs.Nodes.{size_law}
 use Rattle.image_counts.proofs.States.{state_law}
 use Rattle.volatile_index.specs.Index.{pages_of}
 use Rattle.volume.specs.Carried.{IsPlanFor}
-use Rattle.volume.specs.Deed.{SetsSize, ChangesNothing}
+use Rattle.volume.specs.declared.plan.Action.TheVariants.{Resize, KeepSize}
 use Rattle.volume.specs.Planned.{IsResizingFor, IsNothingOr, is_size_of, IsPlanOf}
 use Rattle.volume.specs.Stands.{StandsFor}
 use Rattle.volume.specs.Volume.{VolumeView}
 use Rattle.volume.specs.declared.plan.Resizing.{Resizing}
-use Rattle.volume.specs.declared.plan.Action.TheVariants.{Resize}
 use Rattle.volume.proofs.ContentPlans.{planned_resizing}
 use Rattle.volume.proofs.LowestPages.{rising_distinct}
 use Rattle.volume.proofs.Walked.{reached_at}
@@ -39,7 +38,7 @@ same_truncation : (path other : Route) (size more : ℕ) → ◌≡◌ {A = Comm
 same_truncation path other size more e = let one : other ≡ path = cc in let two : more ≡ size = cc in (one, two)
 
 -- the row of a truncation, at its own path
-pub resizing_at : (P : ℕ) (W : List ℕ) (state : State) (path : Route) (size : ℕ) (resizing : Resizing) → IsPlanOf P W state (Truncate path size) (SetsSize resizing) → IsResizingFor P W state path size resizing
+pub resizing_at : (P : ℕ) (W : List ℕ) (state : State) (path : Route) (size : ℕ) (resizing : Resizing) → IsPlanOf P W state (Truncate path size) (Resize resizing) → IsResizingFor P W state path size resizing
 resizing_at P W state path size resizing plan =
     let (other, more, is, for) = planned_resizing P W state (Truncate path size) resizing plan in
     let (one, two) = same_truncation path other size more is in
@@ -52,10 +51,10 @@ no_pages (page ∷ pages) none = absurd (omega (arith, none))
 not_equal : (a b : ℕ) → (a == b) ≡ false → a ≢ b
 not_equal a b test same = grind (arith, nat_tests)
 
-not_nothing : (resizing : Resizing) → SetsSize resizing ≢ ChangesNothing
+not_nothing : (resizing : Resizing) → Resize resizing ≢ KeepSize
 not_nothing resizing e = cc
 
-differs_by : (nothing : Bool) (For : Resizing → Type 0) (resizing : Resizing) → IsNothingOr nothing (λ deed. (x : Resizing) × (deed ≡ SetsSize x) × For x) (SetsSize resizing) → nothing ≡ false
+differs_by : (same : Bool) (For : Resizing → Type 0) (resizing : Resizing) → IsNothingOr same KeepSize (λ action. (x : Resizing) × (action ≡ Resize x) × For x) (Resize resizing) → same ≡ false
 differs_by true For resizing plan = absurd (not_nothing resizing plan)
 differs_by false For resizing plan = refl
 

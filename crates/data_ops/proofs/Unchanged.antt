@@ -1,5 +1,5 @@
 -- A truncation to the size that the file has: nothing is to be done.
-use Rattle.std.proofs.Common.{◌≡◌, ◌≢◌, ℕ, Bool, true, false, ◌==◌, List, length, Some, unwrap_or, inl, inr, refl, sym, ap, subst, ◌∙◌, arith}
+use Rattle.std.proofs.Common.{◌≡◌, ◌≢◌, ◌⊎◌, ℕ, Bool, true, false, ◌==◌, List, length, Some, unwrap_or, inl, inr, refl, sym, ap, subst, ◌∙◌, arith}
 use Rattle.std.specs.Prelude.{Option, Ok}
 use Rattle.std.proofs.lemmas.Bool.{cases_eq}
 use Rattle.std.proofs.lemmas.Bool.Decides.{nat_tests}
@@ -29,12 +29,12 @@ use Rattle.content_laws.proofs.Bytes.{length-resized, resized_at}
 use Rattle.content_laws.proofs.Steps.{stepped, resized_tree}
 use Rattle.volume.specs.Carried.{IsPlanFor, IsAtomic, LeavesState, Follows, Carries}
 use Rattle.volume.specs.Crashes.{MayReadAs}
-use Rattle.volume.specs.Deed.{SetsSize, ChangesNothing}
+use Rattle.volume.specs.declared.plan.Action.{Action}
+use Rattle.volume.specs.declared.plan.Action.TheVariants.{Resize, KeepSize}
 use Rattle.volume.specs.Planned.{IsResizingFor, IsNothingOr, is_size_of}
 use Rattle.volume.specs.Stands.{StandsFor}
 use Rattle.volume.specs.Volume.{VolumeView}
 use Rattle.volume.specs.declared.plan.Resizing.{Resizing}
-use Rattle.volume.specs.declared.plan.Action.TheVariants.{Nothing}
 use Rattle.volume.proofs.Walked.{reached_at}
 use Rattle.entry_steps.proofs.Answered.{follows_as}
 use Rattle.pm_trait.specs.Unfolds.{Quietly}
@@ -42,17 +42,17 @@ use Rattle.data_ops.specs.Cutting.{IsTruncation}
 use Rattle.data_ops.proofs.Stepping
 use Rattle.data_ops.proofs.NothingWritten.{stays_all}
 
-nothing_set : (resizing : Resizing) → ChangesNothing ≢ SetsSize resizing
+nothing_set : (resizing : Resizing) → KeepSize ≢ Resize resizing
 nothing_set resizing e = cc
 
-same_by : (nothing : Bool) (For : Resizing → Type 0) → IsNothingOr nothing (λ deed. (x : Resizing) × (deed ≡ SetsSize x) × For x) ChangesNothing → nothing ≡ true
+same_by : (same : Bool) (For : Resizing → Type 0) → IsNothingOr same KeepSize (λ action. (x : Resizing) × (action ≡ Resize x) × For x) KeepSize → same ≡ true
 same_by true For plan = refl
 same_by false For (resizing, is, for) = absurd (nothing_set resizing is)
 
 equal : (a b : ℕ) → (a == b) ≡ true → a ≡ b
 equal a b test = grind (arith, nat_tests)
 
-module _ (volume : VolumeView) (device : DeviceView) (state : State) (path : Route) (size : ℕ) (plan : IsPlanFor volume device state (Truncate path size) Nothing) where
+module _ (volume : VolumeView) (device : DeviceView) (state : State) (path : Route) (size : ℕ) (plan : IsPlanFor volume device state (Truncate path size) KeepSize) where
   stands : StandsFor volume device state
   stands = plan.stands
 
@@ -110,7 +110,7 @@ module _ (volume : VolumeView) (device : DeviceView) (state : State) (path : Rou
       (resized_tree state.tree path found.source.id size (least_free_id state.tree) named) refl refl
 
   made : LeavesState volume volume device device state (Truncate path size) Done
-  made = Stepping.leaves_state volume device state (Truncate path size) Done ChangesNothing stands plan.planned refl (λ gives. refl) device.words stands.tidy is_stepped volume device refl stands.knows refl stands.settled (omega arith)
+  made = Stepping.leaves_state volume device state (Truncate path size) Done KeepSize stands plan.planned refl (λ gives. refl) device.words stands.tidy is_stepped volume device refl stands.knows refl stands.settled (omega arith)
 
   reads_after : Reads volume.size device.words (step volume.size state.tree state.room (Truncate path size)).tree
   reads_after =
@@ -130,12 +130,24 @@ module _ (volume : VolumeView) (device : DeviceView) (state : State) (path : Rou
   follows = record { made = made; atomic = atomic }
 
 -- the plan of a truncation that has nothing to do
-pub carried_nothing : {E : Type 0} (volume : VolumeView) (device : DeviceView) → IsSettledView device → volume.stopped ≡ false → Carries {E = E} volume volume device device Nothing Done IsTruncation (Ok Told)
+pub carried_nothing : {E : Type 0} (volume : VolumeView) (device : DeviceView) → IsSettledView device → volume.stopped ≡ false → Carries {E = E} volume volume device device KeepSize Done IsTruncation (Ok Told)
 carried_nothing {E} volume device settled going = record {
   meaning = λ state command ours plan.
       let (path, size, is) = ours in
-      follows_as (Truncate path size) command is (follows volume device state path size (subst (λ (c : Command). IsPlanFor volume device state c Nothing) is plan) {E = E});
+      follows_as (Truncate path size) command is (follows volume device state path size (subst (λ (c : Command). IsPlanFor volume device state c KeepSize) is plan) {E = E});
   answered = record { reply = refl; going = going; knows = refl; stopped = tt; size = refl };
   device = intervals_none device Told settled;
   idle = λ none. (refl, refl);
 }
+
+-- ---- the actions of a truncation
+
+-- it gives the file another size, or nothing
+sets_or_keeps : (same : Bool) (For : Resizing → Type 0) (action : Action) → IsNothingOr same KeepSize (λ action. (x : Resizing) × (action ≡ Resize x) × For x) action
+    → ((resizing : Resizing) × (action ≡ Resize resizing)) ⊎ (action ≡ KeepSize)
+sets_or_keeps true For action plan = inr plan
+sets_or_keeps false For action (x, is, for) = inl (x, is)
+
+pub resizing_or_nothing : (volume : VolumeView) (device : DeviceView) (state : State) (path : Route) (size : ℕ) (action : Action) → IsPlanFor volume device state (Truncate path size) action
+    → ((resizing : Resizing) × (action ≡ Resize resizing)) ⊎ (action ≡ KeepSize)
+resizing_or_nothing volume device state path size action plan = sets_or_keeps (is_size_of state path size) (IsResizingFor volume.size device.words state path size) action plan.planned.plan_is

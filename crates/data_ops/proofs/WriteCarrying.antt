@@ -12,11 +12,10 @@ use Rattle.tree_model.specs.declared.reply.Reply.{Reply}
 use Rattle.tree_model.specs.declared.reply.Reply.TheVariants.{Count as Told}
 use Rattle.volume.specs.Carried.{IsPlanFor, IsAtomic, LeavesState, Follows, Carries}
 use Rattle.volume.specs.Costs.{span_events, fence_events, growth_events, events_of, events_of_write, fences_of_plan, reserved_events}
-use Rattle.volume.specs.Deed.{WritesBytes}
+use Rattle.volume.specs.declared.plan.Action.TheVariants.{Write as WriteBytes}
 use Rattle.volume.specs.Entered.{EntersPages}
 use Rattle.volume.specs.Volume.{VolumeView}
 use Rattle.volume.specs.declared.plan.Writing.{Writing}
-use Rattle.volume.specs.declared.plan.Action.TheVariants.{Write as Writes}
 use Rattle.volume.proofs.ContentPlans.{planned_writing}
 use Rattle.pm_trait.specs.Unfolds.{MayFence, Unfolds}
 use Rattle.entry_steps.proofs.Answered.{failed_as, follows_as}
@@ -24,7 +23,7 @@ use Rattle.pm_trait.proofs.Unfolding.{unfolds_as, unfolds_failed_as}
 use Rattle.data_ops.specs.Writing.{IsWriteOf, IsWritingAt, HasStoredBytes, write_steps}
 use Rattle.data_ops.proofs.Resizes.{room_of}
 
-some_events : (writing : Writing) → events_of (WritesBytes writing) ≡ 0 → ⊥
+some_events : (writing : Writing) → events_of (WriteBytes writing) ≡ 0 → ⊥
 some_events writing none =
     (elim (nat_le (writing.offset + writing.count) writing.old_size) as (λ b. cond b (span_events writing.offset (writing.offset + writing.count) + fence_events) (growth_events writing.old_size writing.offset (length writing.new_pages)) ≡ 0 → ⊥) [
       | true ↦ λ is. omega (arith, is)
@@ -35,7 +34,7 @@ same_write : (path other : Route) (offset at : ℕ) (bytes more : List ℕ) → 
 same_write path other offset at bytes more e = cc
 
 -- the plan has its room
-pub may_begin : (device : DeviceView) (words : ℕ) (writing : Writing) → length device.words ≡ words → IsSettledView device → reserved_events (WritesBytes writing) ≤ device.spare → device.fences < 2 ^ 63 → MayFence device words (events_of_write writing) 3
+pub may_begin : (device : DeviceView) (words : ℕ) (writing : Writing) → length device.words ≡ words → IsSettledView device → reserved_events (WriteBytes writing) ≤ device.spare → device.fences < 2 ^ 63 → MayFence device words (events_of_write writing) 3
 may_begin device words writing whole settled room countable = record { whole = whole; settled = settled; room = room_of (events_of_write writing) device.spare room; countable = omega (arith, countable) }
 
 -- by the volume's own pages
@@ -52,22 +51,22 @@ stored_failed other stored = record { in_turn = unfolds_failed_as other stored.i
 module _ (volume after : VolumeView) (old new : DeviceView) (writing : Writing) (bytes : List ℕ)
     (atomic : (state : State) (path : Route) → IsWritingAt volume.size old.words state path bytes writing → IsAtomic volume.size old new state (Write path writing.offset bytes)) where
   -- the command of its plan, of these bytes
-  found : (state : State) (command : Command) → IsWriteOf bytes command → IsPlanFor volume old state command (Writes writing) → (path : Route) × (command ≡ Write path writing.offset bytes)
+  found : (state : State) (command : Command) → IsWriteOf bytes command → IsPlanFor volume old state command (WriteBytes writing) → (path : Route) × (command ≡ Write path writing.offset bytes)
   found state command (place, at, ours) plan =
       let (path, offset, more, is, for) = planned_writing volume.size old.words state command writing plan.planned.plan_is in
       let same = same_write place path at offset bytes more (sym ours ∙ is) in
       (path, is ∙ ap (λ (n : ℕ). Write path n more) (sym for.offset_is) ∙ ap (λ (l : List ℕ). Write path writing.offset l) (sym same))
 
-  by_path : (state : State) (command : Command) (path : Route) → command ≡ Write path writing.offset bytes → IsPlanFor volume old state command (Writes writing) → IsPlanFor volume old state (Write path writing.offset bytes) (Writes writing)
-  by_path state command path same plan = subst (λ (c : Command). IsPlanFor volume old state c (Writes writing)) same plan
+  by_path : (state : State) (command : Command) (path : Route) → command ≡ Write path writing.offset bytes → IsPlanFor volume old state command (WriteBytes writing) → IsPlanFor volume old state (Write path writing.offset bytes) (WriteBytes writing)
+  by_path state command path same plan = subst (λ (c : Command). IsPlanFor volume old state c (WriteBytes writing)) same plan
 
-  atomic_of : (state : State) (path : Route) → IsPlanFor volume old state (Write path writing.offset bytes) (Writes writing) → IsAtomic volume.size old new state (Write path writing.offset bytes)
+  atomic_of : (state : State) (path : Route) → IsPlanFor volume old state (Write path writing.offset bytes) (WriteBytes writing) → IsAtomic volume.size old new state (Write path writing.offset bytes)
   atomic_of state path plan = atomic state path (record { reads = plan.stands.reads; planned = plan.planned })
 
   pub carried : {E T : Type 0} (done : T) (count : ℕ) → count ≡ length bytes
-      → ((state : State) (path : Route) → IsPlanFor volume old state (Write path writing.offset bytes) (Writes writing) → LeavesState volume after old new state (Write path writing.offset bytes) (Count (length bytes)))
-      → EntersPages volume after writing.inode writing.new_pages → MakesIntervals {E = E} old new (events_of (WritesBytes writing)) (fences_of_plan (WritesBytes writing)) (Ok done) → volume.stopped ≡ false
-      → Carries {E = E} volume after old new (Writes writing) (Count (length bytes)) (IsWriteOf bytes) (Ok (Told count))
+      → ((state : State) (path : Route) → IsPlanFor volume old state (Write path writing.offset bytes) (WriteBytes writing) → LeavesState volume after old new state (Write path writing.offset bytes) (Count (length bytes)))
+      → EntersPages volume after writing.inode writing.new_pages → MakesIntervals {E = E} old new (events_of (WriteBytes writing)) (fences_of_plan (WriteBytes writing)) (Ok done) → volume.stopped ≡ false
+      → Carries {E = E} volume after old new (WriteBytes writing) (Count (length bytes)) (IsWriteOf bytes) (Ok (Told count))
   carried {E} done count long made enters device going = record {
     meaning = λ state command ours plan.
         let (path, same) = found state command ours plan in
@@ -86,8 +85,8 @@ module _ (volume after : VolumeView) (old new : DeviceView) (writing : Writing) 
   }
 
   -- a fence failed, and the volume is stopped
-  pub carried_no_further : {E F T : Type 0} {failed : F} (fault : E) → MakesIntervals {T = T} old new (events_of (WritesBytes writing)) (fences_of_plan (WritesBytes writing)) (Err failed)
-      → after ≡ record volume { stopped = true } → Carries {E = E} volume after old new (Writes writing) (Count (length bytes)) (IsWriteOf bytes) (Err fault)
+  pub carried_no_further : {E F T : Type 0} {failed : F} (fault : E) → MakesIntervals {T = T} old new (events_of (WriteBytes writing)) (fences_of_plan (WriteBytes writing)) (Err failed)
+      → after ≡ record volume { stopped = true } → Carries {E = E} volume after old new (WriteBytes writing) (Count (length bytes)) (IsWriteOf bytes) (Err fault)
   carried_no_further {E} fault device stopped = record {
     meaning = λ state command ours plan.
         let (path, same) = found state command ours plan in

@@ -15,12 +15,11 @@ use Rattle.content_laws.proofs.Steps.{inside_step_law}
 use Rattle.volatile_index.specs.Index.{pages_of}
 use Rattle.volume.specs.Carried.{IsPlanFor, LeavesState}
 use Rattle.volume.specs.Costs.{fences_of_plan}
-use Rattle.volume.specs.Deed.{WritesBytes}
+use Rattle.volume.specs.declared.plan.Action.TheVariants.{Write as WriteBytes}
 use Rattle.volume.specs.Entered.{EntersPages}
 use Rattle.volume.specs.Stands.{Knows}
 use Rattle.volume.specs.Volume.{VolumeView}
 use Rattle.volume.specs.declared.plan.Writing.{Writing}
-use Rattle.volume.specs.declared.plan.Action.TheVariants.{Write as Writes}
 use Rattle.volume.proofs.LowestPages.{rising_distinct}
 use Rattle.data_ops.specs.Writing.{MayWriteInside, StoresBytes}
 use Rattle.data_ops.proofs.GrownKnown
@@ -33,7 +32,7 @@ no_pages : (pages : List ℕ) → length pages ≡ 0 → pages ≡ []
 no_pages [] none = refl
 no_pages (page ∷ pages) none = absurd (omega (arith, none))
 
-module _ (volume : VolumeView) (device : DeviceView) (state : State) (path : Route) (bytes : List ℕ) (writing : Writing) (plan : IsPlanFor volume device state (Write path writing.offset bytes) (Writes writing)) where
+module _ (volume : VolumeView) (device : DeviceView) (state : State) (path : Route) (bytes : List ℕ) (writing : Writing) (plan : IsPlanFor volume device state (Write path writing.offset bytes) (WriteBytes writing)) where
   abbrev P : ℕ
   P = volume.size
 
@@ -49,7 +48,7 @@ module _ (volume : VolumeView) (device : DeviceView) (state : State) (path : Rou
     law : Stands P W K writing.inode writing.offset bytes
     law = inside_law P W K writing.inode writing.offset bytes may.can writes
 
-    left_inside : (new : VolumeView) → EntersPages volume new writing.inode writing.new_pages → (after : DeviceView) → after.words ≡ K → IsSettledView after → after.fences ≡ device.fences + fences_of_plan (WritesBytes writing)
+    left_inside : (new : VolumeView) → EntersPages volume new writing.inode writing.new_pages → (after : DeviceView) → after.words ≡ K → IsSettledView after → after.fences ≡ device.fences + fences_of_plan (WriteBytes writing)
         → LeavesState volume new device after state (Write path writing.offset bytes) (Count (length bytes))
     left_inside new enters after words settled counted =
         let for = Writings.for_writing volume device state path bytes writing plan in
@@ -58,17 +57,17 @@ module _ (volume : VolumeView) (device : DeviceView) (state : State) (path : Rou
         let knows : Knows new K =
         GrownKnown.knows_after volume W K writing.inode writing.new_pages plan.stands.knows may.can.tidy.coherent may.held.least may.held.most may.can.reached may.can.file may.held.count for.new_pages.each
         (rising_distinct writing.new_pages for.new_pages.rising) gained new enters (((tidied tidy).coherent Rule.head 0).whole refl) in
-        Stepping.leaves_state volume device state (Write path writing.offset bytes) (Count (length bytes)) (WritesBytes writing) plan.stands plan.planned refl (λ gives. refl) K tidy
+        Stepping.leaves_state volume device state (Write path writing.offset bytes) (Count (length bytes)) (WriteBytes writing) plan.stands plan.planned refl (λ gives. refl) K tidy
         (inside_step_law P W K state path writing.inode writing.offset (least_free_id state.tree) bytes may.can writes may.some for.inode_is plan.stands.reads)
         new after (ap (λ (v : VolumeView). v.size) enters.rest) knows words settled counted
 
   -- ---- and past it
 
-  pub leaves_state : (after : DeviceView) → StoresBytes P device.words after.words writing bytes → (new : VolumeView) → EntersPages volume new writing.inode writing.new_pages → IsSettledView after → after.fences ≡ device.fences + fences_of_plan (WritesBytes writing)
+  pub leaves_state : (after : DeviceView) → StoresBytes P device.words after.words writing bytes → (new : VolumeView) → EntersPages volume new writing.inode writing.new_pages → IsSettledView after → after.fences ≡ device.fences + fences_of_plan (WriteBytes writing)
       → LeavesState volume new device after state (Write path writing.offset bytes) (Count (length bytes))
   leaves_state after written new enters settled counted = elim (cases_lt writing.old_size (writing.offset + writing.count)) [
     | inl more ↦
-        GrownLeft.leaves_state volume device state (Write path writing.offset bytes) (Count (length bytes)) (WritesBytes writing) plan.stands plan.planned refl (λ gives. refl) (Writings.may_grow volume device state path bytes writing plan more)
+        GrownLeft.leaves_state volume device state (Write path writing.offset bytes) (Count (length bytes)) (WriteBytes writing) plan.stands plan.planned refl (λ gives. refl) (Writings.may_grow volume device state path bytes writing plan more)
         (write_grows path bytes writing (record { reads = plan.stands.reads; planned = plan.planned })) (rising_distinct writing.new_pages (Writings.for_writing volume device state path bytes writing plan).new_pages.rising) after.words (written.past more) new enters after refl settled counted
     | inr inside ↦ left_inside after.words inside (written.inside inside).writes new enters after refl settled counted
   ]

@@ -21,12 +21,11 @@ use Rattle.image_counts.proofs.Nodes.{size_law}
 use Rattle.image_counts.proofs.States.{state_law}
 use Rattle.volatile_index.specs.Index.{pages_of}
 use Rattle.volume.specs.Carried.{IsPlanFor}
-use Rattle.volume.specs.Deed.{WritesBytes, ChangesNothing}
+use Rattle.volume.specs.declared.plan.Action.TheVariants.{Write as WriteBytes, WriteNothing}
 use Rattle.volume.specs.Planned.{IsPlanOf, IsWritingFor, IsNothingOr}
 use Rattle.volume.specs.Stands.{StandsFor}
 use Rattle.volume.specs.Volume.{VolumeView}
 use Rattle.volume.specs.declared.plan.Writing.{Writing}
-use Rattle.volume.specs.declared.plan.Action.TheVariants.{Write as Writes}
 use Rattle.volume.proofs.ContentPlans.{planned_writing}
 use Rattle.volume.proofs.LowestPages.{rising_distinct}
 use Rattle.volume.proofs.Walked.{reached_at}
@@ -42,7 +41,7 @@ same_write : (path other : Route) (offset at : ℕ) (bytes more : List ℕ) → 
 same_write path other offset at bytes more e = let one : other ≡ path = cc in let two : at ≡ offset = cc in let three : more ≡ bytes = cc in (one, two, three)
 
 -- the row of a write, at its own path, offset and bytes
-pub writing_at : (P : ℕ) (W : List ℕ) (state : State) (path : Route) (offset : ℕ) (bytes : List ℕ) (writing : Writing) → IsPlanOf P W state (Write path offset bytes) (WritesBytes writing) → IsWritingFor P W state path offset bytes writing
+pub writing_at : (P : ℕ) (W : List ℕ) (state : State) (path : Route) (offset : ℕ) (bytes : List ℕ) (writing : Writing) → IsPlanOf P W state (Write path offset bytes) (WriteBytes writing) → IsWritingFor P W state path offset bytes writing
 writing_at P W state path offset bytes writing plan =
     let (other, at, more, is, for) = planned_writing P W state (Write path offset bytes) writing plan in
     let (one, two, three) = same_write path other offset at bytes more is in
@@ -50,17 +49,17 @@ writing_at P W state path offset bytes writing plan =
     (subst (λ (n : ℕ). IsWritingFor P W state other n bytes writing) two
     (subst (λ (l : List ℕ). IsWritingFor P W state other at l writing) three for))
 
-not_nothing : (writing : Writing) → WritesBytes writing ≢ ChangesNothing
+not_nothing : (writing : Writing) → WriteBytes writing ≢ WriteNothing
 not_nothing writing e = cc
 
-some_by : (nothing : Bool) (For : Writing → Type 0) (writing : Writing) → IsNothingOr nothing (λ deed. (x : Writing) × (deed ≡ WritesBytes x) × For x) (WritesBytes writing) → nothing ≡ false
+some_by : (none : Bool) (For : Writing → Type 0) (writing : Writing) → IsNothingOr none WriteNothing (λ action. (x : Writing) × (action ≡ WriteBytes x) × For x) (WriteBytes writing) → none ≡ false
 some_by true For writing plan = absurd (not_nothing writing plan)
 some_by false For writing plan = refl
 
 not_zero : (n : ℕ) → (n == 0) ≡ false → 0 < n
 not_zero n test = grind (arith, nat_tests)
 
-module _ (volume : VolumeView) (device : DeviceView) (state : State) (path : Route) (bytes : List ℕ) (writing : Writing) (plan : IsPlanFor volume device state (Write path writing.offset bytes) (Writes writing)) where
+module _ (volume : VolumeView) (device : DeviceView) (state : State) (path : Route) (bytes : List ℕ) (writing : Writing) (plan : IsPlanFor volume device state (Write path writing.offset bytes) (WriteBytes writing)) where
   abbrev P : ℕ
   P = volume.size
 

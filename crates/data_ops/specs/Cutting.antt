@@ -10,7 +10,7 @@ use Rattle.image_reading.specs.Reading.{ReadsAs, pages_of_size}
 use Rattle.layout.specs.Fields.{inode_size}
 use Rattle.content_laws.specs.Cut.{CanCut, Cuts}
 use Rattle.volume.specs.Commit.{HangsOn}
-use Rattle.volume.specs.Deed.{SetsSize}
+use Rattle.volume.specs.declared.plan.Action.TheVariants.{Resize}
 use Rattle.volume.specs.Entered.{EntersPages, LeavesLastPages}
 use Rattle.volume.specs.Planned.{IsPlanned}
 use Rattle.volume.specs.Volume.{VolumeView}
@@ -59,7 +59,7 @@ pub record TakesIn (old new : VolumeView) (resizing : Resizing) : Type 0 where
 -- The words read as the state, and the resizing is what an accepted command of this path does.
 pub record IsResizingAt (P : ℕ) (W : List ℕ) (state : State) (path : Route) (resizing : Resizing) : Type 0 where
   pub reads : ReadsAs P W state
-  pub planned : IsPlanned P W state (Truncate path resizing.new_size) (SetsSize resizing)
+  pub planned : IsPlanned P W state (Truncate path resizing.new_size) (Resize resizing)
 
 -- From W to J the file is cut, in the intervals of the laws.
 pub record StoresCut (P : ℕ) (W J : List ℕ) (i z : ℕ) : Type 0 where

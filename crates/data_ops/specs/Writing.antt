@@ -9,7 +9,7 @@ use Rattle.layout.specs.Fields.{inode_size, page_byte}
 use Rattle.image_reading.specs.Reading.{ReadsAs, IsPageOf}
 use Rattle.content_laws.specs.Inside.{CanWrite, WritesInside}
 use Rattle.volume.specs.Costs.{span_events, fence_events}
-use Rattle.volume.specs.Deed.{WritesBytes}
+use Rattle.volume.specs.declared.plan.Action.TheVariants.{Write as WriteBytes}
 use Rattle.volume.specs.Planned.{IsPlanned}
 use Rattle.volume.specs.declared.plan.Writing.{Writing}
 use Rattle.pm_trait.specs.Unfolds.{Step, Unfolds}
@@ -44,7 +44,7 @@ pub record MayWriteBytes (P : ℕ) (W : List ℕ) (writing : Writing) (bytes pag
 -- The words read as the state, and the writing is what an accepted command of this path does.
 pub record IsWritingAt (P : ℕ) (W : List ℕ) (state : State) (path : Route) (bytes : List ℕ) (writing : Writing) : Type 0 where
   pub reads : ReadsAs P W state
-  pub planned : IsPlanned P W state (Write path writing.offset bytes) (WritesBytes writing)
+  pub planned : IsPlanned P W state (Write path writing.offset bytes) (WriteBytes writing)
 
 -- From W to J the range is written, and every byte of the file's pages behind its size stays, also in a word that the range shares.
 pub record StoresInside (P : ℕ) (W J : List ℕ) (i offset : ℕ) (bytes : List ℕ) : Type 0 where

@@ -175,14 +175,7 @@ pub fn apply_truncate<P: Pm>(volume: &mut Volume, plan: Plan, pm: &mut P) -> Res
 {
     match plan.into_action() {
         Action::Resize(resizing) => carry_resize(volume, &resizing, pm),
-        Action::Nothing => Ok(Reply::Done),
-        Action::Write(_writing) => unreachable!(),
-        Action::Make(_)
-        | Action::Name(_)
-        | Action::Remove(_)
-        | Action::Read(_)
-        | Action::Status(_)
-        | Action::Names(_)
-        | Action::Space => unreachable!(),
+        Action::KeepSize => Ok(Reply::Done),
+        _other => unreachable!(),
     }
 }

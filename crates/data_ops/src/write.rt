@@ -124,14 +124,7 @@ pub fn apply_write<P: Pm>(
 {
     match plan.into_action() {
         Action::Write(writing) => carry_write(volume, &writing, bytes, pm),
-        Action::Nothing => Ok(Reply::Count(0)),
-        Action::Resize(_resizing) => unreachable!(),
-        Action::Make(_)
-        | Action::Name(_)
-        | Action::Remove(_)
-        | Action::Read(_)
-        | Action::Status(_)
-        | Action::Names(_)
-        | Action::Space => unreachable!(),
+        Action::WriteNothing => Ok(Reply::Count(0)),
+        _other => unreachable!(),
     }
 }

@@ -10,10 +10,11 @@ use Rattle.tree_model.specs.Run.{State}
 use Rattle.tree_model.specs.declared.command.Command.{Command}
 use Rattle.tree_model.specs.declared.command.Command.TheVariants.{Unlink, Rmdir}
 use Rattle.tree_model.proofs.AcceptedLaws.{Accepted-from_row}
-use Rattle.volume.specs.Deed.{RemovesName, is_directory_kind}
+use Rattle.volume.specs.Moves.{is_directory_kind}
+use Rattle.volume.specs.declared.plan.Action.TheVariants.{Remove}
 use Rattle.volume.specs.Planned.{IsRemovalFor, IsPlanned}
 use Rattle.volume.specs.declared.plan.Removal.{Removal}
-use Rattle.volume.proofs.PlanDeeds.{planned_removing}
+use Rattle.volume.proofs.PlanActions.{planned_removing}
 
 -- an unlink takes the name of a file away, a rmdir that of a directory
 abbrev pub removing : NodeKind → Route → Command
@@ -36,7 +37,7 @@ module _ (P : ℕ) (I : List ℕ) (state : State) (tree : IsTree state.tree) (co
   kind_at : (path : Route) (id : ℕ) → IsRemovalFor P I state command path removal → id_at state.tree path ≡ Some id → is_directory_kind removal.loss.kind ≡ is_directory state.tree id
   kind_at path id for named = sym for.loss.kind_is ∙ ap (is_directory state.tree) (same_inode removal.loss.inode id (sym for.named.inode_is ∙ named))
 
-  pub planned_removal : IsPlanned P I state command (RemovesName removal) → (path : Route) × (command ≡ removing removal.loss.kind path)
+  pub planned_removal : IsPlanned P I state command (Remove removal) → (path : Route) × (command ≡ removing removal.loss.kind path)
   planned_removal planned =
       let (path, which, for) = planned_removing P I state command removal planned.plan_is in
       elim which [

@@ -23,11 +23,10 @@ use Rattle.image_counts.proofs.States.{state_law}
 use Rattle.volatile_index.specs.Index.{inodes_of_index, entries_of}
 use Rattle.volume.specs.Volume.{VolumeView}
 use Rattle.volume.specs.Stands.{StandsFor, HasNode}
-use Rattle.volume.specs.Deed.{ReadsBytes, TellsNode, ListsNames, TellsSpace, deed_of}
+use Rattle.volume.specs.declared.plan.Action.TheVariants.{Read as ReadBytes, Status, Names, Space}
 use Rattle.volume.specs.Planned.{IsPlanOf}
 use Rattle.volume.specs.declared.plan.Reading.{Reading}
 use Rattle.volume.specs.declared.plan.Action.{Action}
-use Rattle.volume.specs.declared.plan.Action.TheVariants.{Read as ReadAction, Status, Names, Space}
 use Rattle.volume.specs.Carried.{IsPlanFor}
 use Rattle.engine.specs.Replies.{IsReplyOf}
 use Rattle.engine.specs.Session.{session_of}
@@ -101,7 +100,7 @@ module _ (P : ℕ) (T : Tree) (room : Room) (path : Route) (t : IsTree T) where
 -- ---- the command of a plan that makes nothing
 
 module _ (P : ℕ) (I : List ℕ) (state : State) where
-  pub status_of_plan : (c : Command) (inode : ℕ) → is_changing c ≡ false → IsPlanOf P I state c (TellsNode inode) → (path : Route) × (c ≡ Tell path) × (inode ≡ id_of state.tree path)
+  pub status_of_plan : (c : Command) (inode : ℕ) → is_changing c ≡ false → IsPlanOf P I state c (Status inode) → (path : Route) × (c ≡ Tell path) × (inode ≡ id_of state.tree path)
   status_of_plan (Create path) inode reads plan = absurd (cc reads)
   status_of_plan (Mkdir path) inode reads plan = absurd (cc reads)
   status_of_plan (Link from to) inode reads plan = absurd (cc reads)
@@ -115,7 +114,7 @@ module _ (P : ℕ) (I : List ℕ) (state : State) where
   status_of_plan (Show path) inode reads plan = absurd (cc plan)
   status_of_plan Df inode reads plan = absurd (cc plan)
 
-  pub names_of_plan : (c : Command) (inode : ℕ) → is_changing c ≡ false → IsPlanOf P I state c (ListsNames inode) → (path : Route) × (c ≡ Show path) × (inode ≡ id_of state.tree path)
+  pub names_of_plan : (c : Command) (inode : ℕ) → is_changing c ≡ false → IsPlanOf P I state c (Names inode) → (path : Route) × (c ≡ Show path) × (inode ≡ id_of state.tree path)
   names_of_plan (Create path) inode reads plan = absurd (cc reads)
   names_of_plan (Mkdir path) inode reads plan = absurd (cc reads)
   names_of_plan (Link from to) inode reads plan = absurd (cc reads)
@@ -129,10 +128,10 @@ module _ (P : ℕ) (I : List ℕ) (state : State) where
   names_of_plan (Show path) inode reads plan = (path, refl, cc plan)
   names_of_plan Df inode reads plan = absurd (cc plan)
 
-  same_reading : (one other : Reading) → ReadsBytes one ≡ ReadsBytes other → one ≡ other
+  same_reading : (one other : Reading) → ReadBytes one ≡ ReadBytes other → one ≡ other
   same_reading one other e = cc e
 
-  pub reading_of_plan : (c : Command) (reading : Reading) → is_changing c ≡ false → IsPlanOf P I state c (ReadsBytes reading)
+  pub reading_of_plan : (c : Command) (reading : Reading) → is_changing c ≡ false → IsPlanOf P I state c (ReadBytes reading)
       → (path : Route) × (c ≡ Read path reading.offset reading.count) × (id_at state.tree path ≡ Some reading.inode)
   reading_of_plan (Create path) reading reads plan = absurd (cc reads)
   reading_of_plan (Mkdir path) reading reads plan = absurd (cc reads)
@@ -152,7 +151,7 @@ module _ (P : ℕ) (I : List ℕ) (state : State) where
   reading_of_plan (Show path) reading reads plan = absurd (cc plan)
   reading_of_plan Df reading reads plan = absurd (cc plan)
 
-  pub space_of_plan : (c : Command) → is_changing c ≡ false → IsPlanOf P I state c TellsSpace → c ≡ Df
+  pub space_of_plan : (c : Command) → is_changing c ≡ false → IsPlanOf P I state c Space → c ≡ Df
   space_of_plan (Create path) reads plan = absurd (cc reads)
   space_of_plan (Mkdir path) reads plan = absurd (cc reads)
   space_of_plan (Link from to) reads plan = absurd (cc reads)
@@ -187,14 +186,14 @@ module _ (volume : VolumeView) (device : DeviceView) where
     -- the node that is told of
     pub node_told : (inode : ℕ) → action ≡ Status inode → HasNode volume device inode
     node_told inode is =
-        let (path, c_is, inode_is) = status_of_plan volume.size device.words state c inode reads (subst (λ (a : Action). IsPlanOf volume.size device.words state c (deed_of a)) is planned.planned.plan_is) in
+        let (path, c_is, inode_is) = status_of_plan volume.size device.words state c inode reads (subst (λ (a : Action). IsPlanOf volume.size device.words state c a) is planned.planned.plan_is) in
         let there = status_there volume.size state.tree state.room path (state_is planned.stands).tree (ap (refusal_of volume.size state.tree state.room) (sym c_is) ∙ planned.planned.accepted) in
         (state, planned.stands, subst (λ (id : ℕ). IsTrue (is_some (node_at state.tree id))) (sym inode_is) there)
 
     -- the directory that is listed
     pub directory_listed : (inode : ℕ) → action ≡ Names inode → is_directory state.tree inode ≡ true
     directory_listed inode is =
-        let (path, c_is, inode_is) = names_of_plan volume.size device.words state c inode reads (subst (λ (a : Action). IsPlanOf volume.size device.words state c (deed_of a)) is planned.planned.plan_is) in
+        let (path, c_is, inode_is) = names_of_plan volume.size device.words state c inode reads (subst (λ (a : Action). IsPlanOf volume.size device.words state c a) is planned.planned.plan_is) in
         let there = listed_there volume.size state.tree state.room path (state_is planned.stands).tree (ap (refusal_of volume.size state.tree state.room) (sym c_is) ∙ planned.planned.accepted) in
         ap (is_directory state.tree) inode_is ∙ there
 
@@ -204,7 +203,7 @@ module _ (volume : VolumeView) (device : DeviceView) where
     pub status_replied : (bytes : List ℕ) (inode : ℕ) (status : Stat) → action ≡ Status inode → status ≡ status_of state.tree inode
         → IsReplyOf (session_of volume bytes) device (step volume.size state.tree state.room c).answer (reply.Status status)
     status_replied bytes inode status is told =
-        let (path, c_is, inode_is) = status_of_plan volume.size device.words state c inode reads (subst (λ (a : Action). IsPlanOf volume.size device.words state c (deed_of a)) is planned.planned.plan_is) in
+        let (path, c_is, inode_is) = status_of_plan volume.size device.words state c inode reads (subst (λ (a : Action). IsPlanOf volume.size device.words state c a) is planned.planned.plan_is) in
         subst (λ (answer : Answer). IsReplyOf (session_of volume bytes) device answer (reply.Status status))
         (answered_by (StatusAnswer status) (ap (answer_of (untaken volume.size) state.tree state.room) c_is ∙ ap (λ (id : ℕ). StatusAnswer (status_of state.tree id)) (sym inode_is) ∙ ap StatusAnswer (sym told)))
         (record { reply_is = refl; told = tt })
@@ -212,7 +211,7 @@ module _ (volume : VolumeView) (device : DeviceView) where
     pub names_replied : (bytes : List ℕ) (inode count : ℕ) → action ≡ Names inode → volume.stopped ≡ false → count ≡ length (entries_of volume.index inode) → count ≡ length (names_in state.tree inode)
         → IsReplyOf (session_of volume bytes) device (step volume.size state.tree state.room c).answer (reply.Names inode count)
     names_replied bytes inode count is going indexed counted =
-        let (path, c_is, inode_is) = names_of_plan volume.size device.words state c inode reads (subst (λ (a : Action). IsPlanOf volume.size device.words state c (deed_of a)) is planned.planned.plan_is) in
+        let (path, c_is, inode_is) = names_of_plan volume.size device.words state c inode reads (subst (λ (a : Action). IsPlanOf volume.size device.words state c a) is planned.planned.plan_is) in
         subst (λ (answer : Answer). IsReplyOf (session_of volume bytes) device answer (reply.Names inode count))
         (answered_by (Listed inode (names_in state.tree inode)) (ap (answer_of (untaken volume.size) state.tree state.room) c_is ∙ ap (λ (id : ℕ). Listed id (names_in state.tree id)) (sym inode_is)))
         (record {
@@ -221,16 +220,16 @@ module _ (volume : VolumeView) (device : DeviceView) where
         })
 
     -- the file that is read
-    pub file_read : (reading : Reading) → action ≡ ReadAction reading → IsTrue (is_file state.tree reading.inode) × (reading.count ≤ read_limit)
+    pub file_read : (reading : Reading) → action ≡ ReadBytes reading → IsTrue (is_file state.tree reading.inode) × (reading.count ≤ read_limit)
     file_read reading is =
-        let (path, c_is, inode_is) = reading_of_plan volume.size device.words state c reading reads (subst (λ (a : Action). IsPlanOf volume.size device.words state c (deed_of a)) is planned.planned.plan_is) in
+        let (path, c_is, inode_is) = reading_of_plan volume.size device.words state c reading reads (subst (λ (a : Action). IsPlanOf volume.size device.words state c a) is planned.planned.plan_is) in
         let there = read_there volume.size state.tree state.room path (state_is planned.stands).tree reading.offset reading.count (ap (refusal_of volume.size state.tree state.room) (sym c_is) ∙ planned.planned.accepted) in
         (subst (λ (id : ℕ). IsTrue (is_file state.tree id)) (id_is volume.size state.tree state.room path (state_is planned.stands).tree reading.inode inode_is) there.0, there.1)
 
-    pub read_replied : (bytes : List ℕ) (reading : Reading) (count : ℕ) → action ≡ ReadAction reading → bytes ≡ take reading.count (drop reading.offset (bytes_of state.tree reading.inode)) → count ≡ length bytes
+    pub read_replied : (bytes : List ℕ) (reading : Reading) (count : ℕ) → action ≡ ReadBytes reading → bytes ≡ take reading.count (drop reading.offset (bytes_of state.tree reading.inode)) → count ≡ length bytes
         → IsReplyOf (session_of volume bytes) device (step volume.size state.tree state.room c).answer (reply.Bytes count)
     read_replied bytes reading count is read counted =
-        let (path, c_is, inode_is) = reading_of_plan volume.size device.words state c reading reads (subst (λ (a : Action). IsPlanOf volume.size device.words state c (deed_of a)) is planned.planned.plan_is) in
+        let (path, c_is, inode_is) = reading_of_plan volume.size device.words state c reading reads (subst (λ (a : Action). IsPlanOf volume.size device.words state c a) is planned.planned.plan_is) in
         let id = id_is volume.size state.tree state.room path (state_is planned.stands).tree reading.inode inode_is in
         subst (λ (answer : Answer). IsReplyOf (session_of volume bytes) device answer (reply.Bytes count))
         (answered_by (BytesAnswer bytes) (ap (answer_of (untaken volume.size) state.tree state.room) c_is
@@ -240,7 +239,7 @@ module _ (volume : VolumeView) (device : DeviceView) where
     pub space_replied : (bytes : List ℕ) (free : Free) → action ≡ Space → free ≡ space_of (untaken volume.size) state.tree state.room
         → IsReplyOf (session_of volume bytes) device (step volume.size state.tree state.room c).answer (reply.Space free)
     space_replied bytes free is told =
-        let c_is = space_of_plan volume.size device.words state c reads (subst (λ (a : Action). IsPlanOf volume.size device.words state c (deed_of a)) is planned.planned.plan_is) in
+        let c_is = space_of_plan volume.size device.words state c reads (subst (λ (a : Action). IsPlanOf volume.size device.words state c a) is planned.planned.plan_is) in
         subst (λ (answer : Answer). IsReplyOf (session_of volume bytes) device answer (reply.Space free))
         (answered_by (SpaceAnswer free) (ap (answer_of (untaken volume.size) state.tree state.room) c_is ∙ ap SpaceAnswer (sym told)))
         (record { reply_is = refl; told = tt })

@@ -13,7 +13,7 @@ use Rattle.tree_model.specs.declared.reply.Reply.TheVariants as replies
 use Rattle.image_reading.specs.Reading.{Reads}
 use Rattle.volume.specs.Volume.{VolumeView}
 use Rattle.volume.specs.Costs.{fences_of_plan}
-use Rattle.volume.specs.Deed.{Deed}
+use Rattle.volume.specs.declared.plan.Action.{Action}
 use Rattle.volume.specs.Planned.{IsPlanned}
 use Rattle.volume.specs.Prepared.{IsSameButPlaces}
 use Rattle.volume.specs.Crashes.{MayReadAs}
@@ -43,10 +43,10 @@ pub record Executed (P : ℕ) (old : State) (line : Line) (session : SessionView
   -- one that needs no place of a table is answered NoMemory only where the device refused room
   pub no_memory : answer ≡ Refused NoMemory → IsTrue (line_needs_places old line) ⊎ HasRisen before.refused after.refused
 
--- the deed of a plan that is made for the line
-abbrev pub IsPlannedFor : ℕ → List ℕ → State → Line → Deed → Type 0
-IsPlannedFor P words old (Ok command) deed = IsPlanned P words old command deed
-IsPlannedFor P words old (Err fault) deed = ⊥
+-- the action of a plan that is made for the line
+abbrev pub IsPlannedFor : ℕ → List ℕ → State → Line → Action → Type 0
+IsPlannedFor P words old (Ok command) action = IsPlanned P words old command action
+IsPlannedFor P words old (Err fault) action = ⊥
 
 -- A fence failed in it, and nothing was done after that. Fewer fences were made than the line's plan has; those of a plan are
 -- what its command takes between two states (`PlanFencesLaw`).
@@ -55,9 +55,9 @@ pub record HasFailed (P : ℕ) (old : State) (line : Line) (before after : Devic
   pub any_moment : LeavesOnly before.trail after.trail (λ acks image. (acks ≡ 0) × MayReadAs P old (command_of (Some line)) image)
   pub no_ack : acks_from before.trail after.trail (moment_of after.trail) ≡ 0
   pub last : EndsInFault after.trail
-  pub deed : Deed
-  pub planned : IsPlannedFor P before.words old line deed
-  pub fewer : after.fences < before.fences + fences_of_plan deed
+  pub action : Action
+  pub planned : IsPlannedFor P before.words old line action
+  pub fewer : after.fences < before.fences + fences_of_plan action
 
 -- Once all that a crash may leave reads as the tree that the line leaves, it stays so.
 abbrev pub StaysAsAfter : ℕ → State → Line → DeviceView → DeviceView → Type 0

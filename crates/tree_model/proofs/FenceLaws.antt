@@ -3,7 +3,7 @@ use Rattle.std.proofs.Common.{◌≡◌, ℕ, ◌+◌, ◌*◌, ◌≤◌, Bool,
 use Rattle.layout.specs.Geometry.{pieces}
 use Rattle.tree_model.specs.PathText.{Route}
 use Rattle.tree_model.specs.Tree.{Tree, Room, page_bytes}
-use Rattle.tree_model.specs.Step.{Answer, Done, Count, Status, Bytes, Listed, Space, Refused, Unread, Fault, Stopped, is_full, is_same_node, is_there, gaining, page_for_name, resolved}
+use Rattle.tree_model.specs.Step.{Answer, Done, Count, Status, Bytes, Listed, Space, Refused, Unread, Fault, Stopped, is_full, is_same_node, gaining, page_for_name, resolved}
 use Rattle.tree_model.specs.Run.{State, Line, is_changing}
 use Rattle.tree_model.specs.Fences.{most_fences, one_where, needs_pages, gave, gone, clears_owners, size_before, pages_before, fences_for_loss, fences_of_growth, fences_of_write, fences_of_truncate, fences_of_rename, fences_of_accepted, fences_of_change, fences_of, fences_of_run}
 use Rattle.tree_model.specs.declared.command.Command.{Command}
@@ -43,14 +43,13 @@ truncate-le old path size =
     (choice-le (nat_lt (size_before old path) size) _ _ 3 (growth-le old (Truncate path size))
     (choice-le (nat_lt (pieces size page_bytes) (pages_before old path)) 3 1 3 (omega arith) (omega arith)))
 
-rename-le : (old : State) (from to : Route) (new : State) → fences_of_rename old from to new ≤ 10
+rename-le : (old : State) (from to : Route) (new : State) → fences_of_rename old from to new ≤ most_fences
 rename-le old from to new =
     let page = page_for_name-le old.tree old.room (gaining old.tree (Rename from to)) in
     let loss = loss-le old (Rename from to) to new in
-    let steps = choice-le (is_there old.tree to) 5 6 6 (omega arith) (omega arith) in
-    choice-le (is_same_node old.tree from to) 0 _ 10 (omega arith) (omega (arith, page, loss, steps))
+    choice-le (is_same_node old.tree from to) 0 _ most_fences (omega arith) (omega (arith, page, loss))
 
-accepted-le : (old : State) (c : Command) (new : State) → fences_of_accepted old c new ≤ 10
+accepted-le : (old : State) (c : Command) (new : State) → fences_of_accepted old c new ≤ most_fences
 accepted-le old (Create path) new = let page = page_for_name-le old.tree old.room (gaining old.tree (Create path)) in omega (arith, page)
 accepted-le old (Mkdir path) new = let page = page_for_name-le old.tree old.room (gaining old.tree (Mkdir path)) in omega (arith, page)
 accepted-le old (Link from to) new = let page = page_for_name-le old.tree old.room (gaining old.tree (Link from to)) in omega (arith, page)

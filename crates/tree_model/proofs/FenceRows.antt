@@ -119,7 +119,7 @@ renames_of_one_node = refl
 -- inside a directory, with a new page, with a page given back, and with both
 renames_to_a_new_name :
     on 16 (Create a ∷ Rename a b ∷ []) ++ on 16 (Create a ∷ Mkdir d ∷ Rename a (in_d 1) ∷ Rename (in_d 1) a ∷ []) ++ on 64 (Mkdir d ∷ Mkdir p ∷ Create (in_d 1) ∷ Rename (in_d 1) (below (codes "p") (codes "x")) ∷ [])
-    ≡ done (4 ∷ 6 ∷ []) ++ done (4 ∷ 2 ∷ 8 ∷ 8 ∷ []) ++ done (4 ∷ 2 ∷ 4 ∷ 10 ∷ [])
+    ≡ done (4 ∷ 4 ∷ []) ++ done (4 ∷ 2 ∷ 6 ∷ 6 ∷ []) ++ done (4 ∷ 2 ∷ 4 ∷ 8 ∷ [])
 unfolding inodes_of data_pages_of
 renames_to_a_new_name = refl
 
@@ -127,7 +127,7 @@ renames_to_a_new_name = refl
 renames_over_a_name :
     on 64 (Create a ∷ Link a b ∷ Create c ∷ Rename c b ∷ Write a 0 (codes "hi") ∷ Link a d ∷ Rename b d ∷ []) ++ on 64 (Create a ∷ Create b ∷ Rename a b ∷ []) ++ on 64 (Create a ∷ Create b ∷ Write b 0 (codes "hi") ∷ Rename a b ∷ [])
     ++ on 64 (Mkdir d ∷ Mkdir p ∷ Rename d p ∷ [])
-    ≡ done (4 ∷ 2 ∷ 2 ∷ 5 ∷ []) ++ (3, Count 2) ∷ done (2 ∷ 5 ∷ []) ++ done (4 ∷ 2 ∷ 6 ∷ []) ++ (4, Done) ∷ (2, Done) ∷ (3, Count 2) ∷ (7, Done) ∷ done (4 ∷ 2 ∷ 6 ∷ [])
+    ≡ done (4 ∷ 2 ∷ 2 ∷ 4 ∷ []) ++ (3, Count 2) ∷ done (2 ∷ 4 ∷ []) ++ done (4 ∷ 2 ∷ 5 ∷ []) ++ (4, Done) ∷ (2, Done) ∷ (3, Count 2) ∷ (6, Done) ∷ done (4 ∷ 2 ∷ 5 ∷ [])
 unfolding inodes_of data_pages_of
 renames_over_a_name = refl
 
@@ -135,7 +135,7 @@ renames_over_a_name = refl
 renames_of_a_last_name_over_a_name :
     on 64 (Create a ∷ Link a b ∷ Mkdir d ∷ Create (in_d 1) ∷ Rename (in_d 1) b ∷ []) ++ on 64 (Create a ∷ Mkdir d ∷ Create (in_d 1) ∷ Rename (in_d 1) a ∷ [])
     ++ on 64 (Create a ∷ Write a 0 (codes "hi") ∷ Mkdir d ∷ Create (in_d 1) ∷ Rename (in_d 1) a ∷ [])
-    ≡ done (4 ∷ 2 ∷ 2 ∷ 4 ∷ 7 ∷ []) ++ done (4 ∷ 2 ∷ 4 ∷ 7 ∷ []) ++ (4, Done) ∷ (3, Count 2) ∷ done (2 ∷ 4 ∷ 7 ∷ [])
+    ≡ done (4 ∷ 2 ∷ 2 ∷ 4 ∷ 6 ∷ []) ++ done (4 ∷ 2 ∷ 4 ∷ 6 ∷ []) ++ (4, Done) ∷ (3, Count 2) ∷ done (2 ∷ 4 ∷ 6 ∷ [])
 unfolding inodes_of data_pages_of
 renames_of_a_last_name_over_a_name = refl
 
@@ -226,7 +226,7 @@ unfolding inodes_of data_pages_of
 a_file_grows_and_is_cut = refl
 
 -- a rename, and one of a path to itself
-plain_rename : on 16 (Create a ∷ Rename a b ∷ Rename b b ∷ []) ≡ done (4 ∷ 6 ∷ 0 ∷ [])
+plain_rename : on 16 (Create a ∷ Rename a b ∷ Rename b b ∷ []) ≡ done (4 ∷ 4 ∷ 0 ∷ [])
 unfolding inodes_of data_pages_of
 plain_rename = refl
 
@@ -236,12 +236,12 @@ directories_move :
     ∷ Rename (below (codes "p") (codes "d")) (below (codes "q") (codes "e")) ∷ Mkdir (below (codes "q") (codes "f"))
     ∷ Rename (below (codes "q") (codes "e")) (below (codes "q") (codes "f")) ∷ Mkdir (below (codes "p") (codes "g"))
     ∷ Rename (below (codes "q") (codes "f")) (below (codes "p") (codes "g")) ∷ Df ∷ [])
-    ≡ done (4 ∷ 2 ∷ 4 ∷ 4 ∷ 10 ∷ 2 ∷ 6 ∷ 4 ∷ 7 ∷ []) ++ space 11 16 58 61 ∷ []
+    ≡ done (4 ∷ 2 ∷ 4 ∷ 4 ∷ 8 ∷ 2 ∷ 5 ∷ 4 ∷ 6 ∷ []) ++ space 11 16 58 61 ∷ []
 unfolding inodes_of data_pages_of
 directories_move = refl
 
 -- a file with another name is replaced, and then one without
-files_are_replaced : on 64 (Create a ∷ Link a b ∷ Create c ∷ Rename c b ∷ Rename a b ∷ Df ∷ []) ≡ done (4 ∷ 2 ∷ 2 ∷ 5 ∷ 6 ∷ []) ++ space 14 16 60 61 ∷ []
+files_are_replaced : on 64 (Create a ∷ Link a b ∷ Create c ∷ Rename c b ∷ Rename a b ∷ Df ∷ []) ≡ done (4 ∷ 2 ∷ 2 ∷ 4 ∷ 5 ∷ []) ++ space 14 16 60 61 ∷ []
 unfolding inodes_of data_pages_of
 files_are_replaced = refl
 
@@ -249,7 +249,7 @@ files_are_replaced = refl
 renames_in_a_full_directory :
     on 64 (Mkdir d ∷ Create z ∷ map (λ n. Link z (in_d n)) (range_with_len 0 32) ++ Df ∷ Rename (in_d 0) (in_d 100) ∷ Df ∷ Rename (in_d 1) (in_d 101) ∷ Df
     ∷ Rename z (in_d 102) ∷ Df ∷ [])
-    ≡ done (4 ∷ 2 ∷ 4 ∷ replicate 31 2) ++ space 13 16 59 61 ∷ (8, Done) ∷ space 13 16 58 61 ∷ (6, Done) ∷ space 13 16 58 61 ∷ (6, Done) ∷ space 13 16 58 61 ∷ []
+    ≡ done (4 ∷ 2 ∷ 4 ∷ replicate 31 2) ++ space 13 16 59 61 ∷ (6, Done) ∷ space 13 16 58 61 ∷ (4, Done) ∷ space 13 16 58 61 ∷ (4, Done) ∷ space 13 16 58 61 ∷ []
 unfolding inodes_of data_pages_of
 renames_in_a_full_directory = refl
 
@@ -264,7 +264,7 @@ pages_pass_between_files = refl
 file_over_a_longer_one :
     on 64 (Mkdir p ∷ Mkdir q ∷ Create (below (codes "p") (codes "s")) ∷ Write (below (codes "p") (codes "s")) 0 (codes "hi") ∷ Create (below (codes "q") (codes "t"))
     ∷ Truncate (below (codes "q") (codes "t")) 5000 ∷ Df ∷ Rename (below (codes "p") (codes "s")) (below (codes "q") (codes "t")) ∷ Df ∷ [])
-    ≡ (4, Done) ∷ (2, Done) ∷ (4, Done) ∷ (3, Count 2) ∷ (4, Done) ∷ (3, Done) ∷ space 11 16 55 61 ∷ (7, Done) ∷ space 12 16 58 61 ∷ []
+    ≡ (4, Done) ∷ (2, Done) ∷ (4, Done) ∷ (3, Count 2) ∷ (4, Done) ∷ (3, Done) ∷ space 11 16 55 61 ∷ (6, Done) ∷ space 12 16 58 61 ∷ []
 unfolding inodes_of data_pages_of
 file_over_a_longer_one = refl
 

@@ -3,14 +3,14 @@ use Rattle.std.specs.Prelude.{ℕ, ◌+◌, ◌*◌, Bool, false, ◌&&◌, ◌|
 use Rattle.layout.specs.Geometry.{pieces}
 use Rattle.tree_model.specs.PathText.{Route}
 use Rattle.tree_model.specs.Tree.{id_at, node_at, bytes_of, page_bytes, file_pages, pages_in}
-use Rattle.tree_model.specs.Step.{Answer, Done, Count, Status, Bytes, Listed, Space, Refused, Unread, Fault, Stopped, id_of, is_there, is_same_node, losing, need, pages_after, resolved}
+use Rattle.tree_model.specs.Step.{Answer, Done, Count, Status, Bytes, Listed, Space, Refused, Unread, Fault, Stopped, id_of, is_same_node, losing, need, pages_after, resolved}
 use Rattle.tree_model.specs.Run.{Line, State}
 use Rattle.tree_model.specs.declared.command.Command.{Command}
 use Rattle.tree_model.specs.declared.command.Command.TheVariants.{Create, Mkdir, Link, Unlink, Rmdir, Rename, Write, Truncate, Read, Stat as Tell, List as Show, Df}
 
 -- no line takes more
 abbrev pub most_fences : ℕ
-most_fences = 10
+most_fences = 8
 
 abbrev pub one_where : Bool → ℕ
 one_where holds = if holds then 1 else 0
@@ -60,7 +60,7 @@ fences_for_loss old c path new = one_where (clears_owners old c path new) + one_
 abbrev pub fences_of_rename : State → Route → Route → State → ℕ
 fences_of_rename old from to new =
     if is_same_node old.tree from to then 0
-    else (if is_there old.tree to then 5 else 6) + fences_for_name old (Rename from to) + fences_for_loss old (Rename from to) to new
+    else 4 + fences_for_name old (Rename from to) + fences_for_loss old (Rename from to) to new
 
 -- a file gets a greater size
 abbrev pub fences_of_growth : State → Command → ℕ

@@ -25,7 +25,7 @@ use Rattle.image_laws.proofs.DropTidy.{owner_after}
 use Rattle.image_laws.proofs.Rooms.{dec_room}
 use Rattle.volume.specs.Carried.{LeavesState}
 use Rattle.volume.specs.Costs.{fences_of_plan}
-use Rattle.volume.specs.Deed.{RemovesName}
+use Rattle.volume.specs.declared.plan.Action.TheVariants.{Remove}
 use Rattle.volume.specs.Entered.{HasRemoved}
 use Rattle.volume.specs.Planned.{IsAlone, IsGivenBack}
 use Rattle.volume.specs.Stands.{Knows}
@@ -142,10 +142,10 @@ module _ {P : ℕ} {W : List ℕ} {state : State} (kind : steps.Removal) (path :
   unfolding later
   steps_are = record { answered = sym (Removals.answer_is kind path at); tree = refl; room = room_follows }
 
-  fences : fences_of_plan (RemovesName removal) ≡ fences_of state (Ok (removing kind path)) Done later
+  fences : fences_of_plan (Remove removal) ≡ fences_of state (Ok (removing kind path)) Done later
   unfolding later room_left
   fences =
-      plan_fences_law P W state later (removing kind path) (RemovesName removal) (tidied at.tidy) at.reads at.planned (record { tree = refl; room = refl; fits = fits })
+      plan_fences_law P W state later (removing kind path) (Remove removal) (tidied at.tidy) at.reads at.planned (record { tree = refl; room = refl; fits = fits })
       ∙ ap (λ (answer : Answer). fences_of state (Ok (removing kind path)) answer later) (Removals.answer_is kind path at)
 
   -- ---- what the volume knows
@@ -160,7 +160,7 @@ module _ {P : ℕ} {W : List ℕ} {state : State} (kind : steps.Removal) (path :
     knows_left : Knows new K
     knows_left = knows_after P W K state later removal at.tidy at.reads tidy_after reads_after left volume new size knows has
 
-    pub leaves_state : (before after : DeviceView) → after.words ≡ K → IsSettledView after → after.fences ≡ before.fences + fences_of_plan (RemovesName removal)
+    pub leaves_state : (before after : DeviceView) → after.words ≡ K → IsSettledView after → after.fences ≡ before.fences + fences_of_plan (Remove removal)
         → LeavesState volume new before after state (removing kind path) Done
     leaves_state before after words settled counted = record {
       later = later;

@@ -36,7 +36,9 @@ use Rattle.image_laws.proofs.Removes.{remove_law}
 use Rattle.image_laws.proofs.RemoveTree.{remove_tree_law}
 use Rattle.layout.specs.declared.kinds.NodeKind.{NodeKind}
 use Rattle.layout.specs.declared.kinds.NodeKind.TheVariants.{File, Directory}
-use Rattle.volume.specs.Deed.{Deed, RemovesName, is_directory_kind}
+use Rattle.volume.specs.Moves.{is_directory_kind}
+use Rattle.volume.specs.declared.plan.Action.{Action}
+use Rattle.volume.specs.declared.plan.Action.TheVariants.{Remove}
 use Rattle.volume.specs.Planned.{IsAlone, IsGivenBack, IsRemovalFor, IsPlanOf}
 use Rattle.volume.specs.declared.plan.Removal.{Removal}
 use Rattle.volume.proofs.Ways.{whole_path}
@@ -47,10 +49,10 @@ use Rattle.unlink_ops.specs.Taking.{falling_by}
 some_one : (x y : ℕ) → ◌≡◌ {A = Option ℕ} (Some x) (Some y) → x ≡ y
 some_one x y e = cc
 
-same_removal : (one two : Removal) → ◌≡◌ {A = Deed} (RemovesName one) (RemovesName two) → two ≡ one
+same_removal : (one two : Removal) → ◌≡◌ {A = Action} (Remove one) (Remove two) → two ≡ one
 same_removal one two e = cc
 
-removal_by : (P : ℕ) (I : List ℕ) (state : State) (path : Route) (kind : steps.Removal) (removal : Removal) → IsPlanOf P I state (removing kind path) (RemovesName removal) → IsRemovalFor P I state (removing kind path) path removal
+removal_by : (P : ℕ) (I : List ℕ) (state : State) (path : Route) (kind : steps.Removal) (removal : Removal) → IsPlanOf P I state (removing kind path) (Remove removal) → IsRemovalFor P I state (removing kind path) path removal
 removal_by P I state path file removal (other, is, for) = subst (λ (r : Removal). IsRemovalFor P I state (Unlink path) path r) (same_removal removal other is) for
 removal_by P I state path directory removal (other, is, for) = subst (λ (r : Removal). IsRemovalFor P I state (Rmdir path) path r) (same_removal removal other is) for
 

@@ -19,98 +19,93 @@ use Rattle.image_reading.proofs.Tidied.{tidied}
 use Rattle.image_counts.proofs.States.{state_law}
 use Rattle.volume.specs.Volume.{VolumeView}
 use Rattle.volume.specs.Stands.{StandsFor}
-use Rattle.volume.specs.Deed.{Deed, MakesNode, AddsName, RemovesName, MovesName, WritesBytes, SetsSize, ChangesNothing, ReadsBytes, TellsNode, ListsNames, TellsSpace}
+use Rattle.volume.specs.declared.plan.Action.{Action}
+use Rattle.volume.specs.declared.plan.Action.TheVariants.{Make, Name, Remove, Move, Write as WriteBytes, WriteNothing, Resize, KeepSize, KeepNames, Read as ReadBytes, Status, Names, Space}
 use Rattle.volume.specs.Planned.{IsMovingFor, IsWritingFor, IsResizingFor, IsNothingOr, IsPlanOf, IsPlanned}
 use Rattle.volume.specs.Prepared.{IsBoundedWriting, IsBoundedResizing}
 use Rattle.volume.specs.declared.plan.Writing.{Writing}
 use Rattle.volume.specs.declared.plan.Resizing.{Resizing}
 use Rattle.volume.proofs.Plans.{nothing_or}
 
--- ---- the command of a deed
+-- ---- the command of an action
 
-same_writing : (writing other : Writing) → WritesBytes writing ≡ WritesBytes other → writing ≡ other
+same_writing : (writing other : Writing) → WriteBytes writing ≡ WriteBytes other → writing ≡ other
 same_writing writing other is = cc
 
-same_resizing : (resizing other : Resizing) → SetsSize resizing ≡ SetsSize other → resizing ≡ other
+same_resizing : (resizing other : Resizing) → Resize resizing ≡ Resize other → resizing ≡ other
 same_resizing resizing other is = cc
 
-abbrev writes_bytes : Deed → Bool
-writes_bytes (WritesBytes writing) = true
+abbrev writes_bytes : Action → Bool
+writes_bytes (WriteBytes writing) = true
 writes_bytes _ = false
 
-abbrev sets_size : Deed → Bool
-sets_size (SetsSize resizing) = true
+abbrev sets_size : Action → Bool
+sets_size (Resize resizing) = true
 sets_size _ = false
 
--- two deeds are told apart by a test
-apart : {X : Type 0} (test : Deed → Bool) (deed other : Deed) → deed ≡ other → test deed ≡ true → test other ≡ false → X
-apart test deed other is one none = let both : true ≡ false = sym one ∙ ap test is ∙ none in absurd (cc)
-
--- where nothing is to be done, or what is made of some x, for which it is
-nothing_or_made : (R : Type 0) {A : Type 0} (make : A → Deed) (For : A → Type 0) (deed : Deed) (nothing : Bool) → IsNothingOr nothing (λ deed. (x : A) × (deed ≡ make x) × For x) deed
-    → (deed ≡ ChangesNothing → R) → ((x : A) → deed ≡ make x → For x → R) → R
-nothing_or_made R make For deed true plan none some = none plan
-nothing_or_made R make For deed false (x, is, made) none some = some x is made
+-- two actions are told apart by a test
+apart : {X : Type 0} (test : Action → Bool) (action other : Action) → action ≡ other → test action ≡ true → test other ≡ false → X
+apart test action other is one none = let both : true ≡ false = sym one ∙ ap test is ∙ none in absurd (cc)
 
 abbrev pub IsOfWriting : ℕ → List ℕ → State → Command → Writing → Type 0
 IsOfWriting P I state command writing = (path : Route) × (offset : ℕ) × (bytes : List ℕ) × (command ≡ Write path offset bytes) × IsWritingFor P I state path offset bytes writing
 
-pub planned_writing : (P : ℕ) (I : List ℕ) (state : State) (command : Command) (writing : Writing) → IsPlanOf P I state command (WritesBytes writing) → IsOfWriting P I state command writing
-planned_writing P I state (Create path) writing (entry, is, for) = apart writes_bytes (WritesBytes writing) (MakesNode entry) is refl refl
-planned_writing P I state (Mkdir path) writing (entry, is, for) = apart writes_bytes (WritesBytes writing) (MakesNode entry) is refl refl
-planned_writing P I state (Link from to) writing (link, is, for) = apart writes_bytes (WritesBytes writing) (AddsName link) is refl refl
-planned_writing P I state (Unlink path) writing (removal, is, for) = apart writes_bytes (WritesBytes writing) (RemovesName removal) is refl refl
-planned_writing P I state (Rmdir path) writing (removal, is, for) = apart writes_bytes (WritesBytes writing) (RemovesName removal) is refl refl
+pub planned_writing : (P : ℕ) (I : List ℕ) (state : State) (command : Command) (writing : Writing) → IsPlanOf P I state command (WriteBytes writing) → IsOfWriting P I state command writing
+planned_writing P I state (Create path) writing (entry, is, for) = apart writes_bytes (WriteBytes writing) (Make entry) is refl refl
+planned_writing P I state (Mkdir path) writing (entry, is, for) = apart writes_bytes (WriteBytes writing) (Make entry) is refl refl
+planned_writing P I state (Link from to) writing (link, is, for) = apart writes_bytes (WriteBytes writing) (Name link) is refl refl
+planned_writing P I state (Unlink path) writing (removal, is, for) = apart writes_bytes (WriteBytes writing) (Remove removal) is refl refl
+planned_writing P I state (Rmdir path) writing (removal, is, for) = apart writes_bytes (WriteBytes writing) (Remove removal) is refl refl
 planned_writing P I state (Rename from to) writing plan =
-    nothing_or (IsOfWriting P I state (Rename from to) writing) MovesName (IsMovingFor P I state from to) (WritesBytes writing) _ plan
-    (λ is. apart writes_bytes (WritesBytes writing) ChangesNothing is refl refl) (λ moving is. apart writes_bytes (WritesBytes writing) (MovesName moving) is refl refl)
+    nothing_or (IsOfWriting P I state (Rename from to) writing) Move (IsMovingFor P I state from to) KeepNames (WriteBytes writing) _ plan
+    (λ is. apart writes_bytes (WriteBytes writing) KeepNames is refl refl) (λ moving is for. apart writes_bytes (WriteBytes writing) (Move moving) is refl refl)
 planned_writing P I state (Write path offset bytes) writing plan =
-    nothing_or_made (IsOfWriting P I state (Write path offset bytes) writing) WritesBytes (IsWritingFor P I state path offset bytes) (WritesBytes writing) _ plan
-    (λ is. apart writes_bytes (WritesBytes writing) ChangesNothing is refl refl)
+    nothing_or (IsOfWriting P I state (Write path offset bytes) writing) WriteBytes (IsWritingFor P I state path offset bytes) WriteNothing (WriteBytes writing) _ plan
+    (λ is. apart writes_bytes (WriteBytes writing) WriteNothing is refl refl)
     (λ other is for. (path, offset, bytes, refl, subst (IsWritingFor P I state path offset bytes) (sym (same_writing writing other is)) for))
 planned_writing P I state (Truncate path size) writing plan =
-    nothing_or (IsOfWriting P I state (Truncate path size) writing) SetsSize (IsResizingFor P I state path size) (WritesBytes writing) _ plan
-    (λ is. apart writes_bytes (WritesBytes writing) ChangesNothing is refl refl) (λ other is. apart writes_bytes (WritesBytes writing) (SetsSize other) is refl refl)
-planned_writing P I state (Read path offset count) writing (reading, is, for) = apart writes_bytes (WritesBytes writing) (ReadsBytes reading) is refl refl
-planned_writing P I state (Tell path) writing is = apart writes_bytes (WritesBytes writing) (TellsNode _) is refl refl
-planned_writing P I state (Show path) writing is = apart writes_bytes (WritesBytes writing) (ListsNames _) is refl refl
-planned_writing P I state Df writing is = apart writes_bytes (WritesBytes writing) TellsSpace is refl refl
+    nothing_or (IsOfWriting P I state (Truncate path size) writing) Resize (IsResizingFor P I state path size) KeepSize (WriteBytes writing) _ plan
+    (λ is. apart writes_bytes (WriteBytes writing) KeepSize is refl refl) (λ other is for. apart writes_bytes (WriteBytes writing) (Resize other) is refl refl)
+planned_writing P I state (Read path offset count) writing (reading, is, for) = apart writes_bytes (WriteBytes writing) (ReadBytes reading) is refl refl
+planned_writing P I state (Tell path) writing is = apart writes_bytes (WriteBytes writing) (Status _) is refl refl
+planned_writing P I state (Show path) writing is = apart writes_bytes (WriteBytes writing) (Names _) is refl refl
+planned_writing P I state Df writing is = apart writes_bytes (WriteBytes writing) Space is refl refl
 
 abbrev pub IsOfResizing : ℕ → List ℕ → State → Command → Resizing → Type 0
 IsOfResizing P I state command resizing = (path : Route) × (size : ℕ) × (command ≡ Truncate path size) × IsResizingFor P I state path size resizing
 
-pub planned_resizing : (P : ℕ) (I : List ℕ) (state : State) (command : Command) (resizing : Resizing) → IsPlanOf P I state command (SetsSize resizing) → IsOfResizing P I state command resizing
-planned_resizing P I state (Create path) resizing (entry, is, for) = apart sets_size (SetsSize resizing) (MakesNode entry) is refl refl
-planned_resizing P I state (Mkdir path) resizing (entry, is, for) = apart sets_size (SetsSize resizing) (MakesNode entry) is refl refl
-planned_resizing P I state (Link from to) resizing (link, is, for) = apart sets_size (SetsSize resizing) (AddsName link) is refl refl
-planned_resizing P I state (Unlink path) resizing (removal, is, for) = apart sets_size (SetsSize resizing) (RemovesName removal) is refl refl
-planned_resizing P I state (Rmdir path) resizing (removal, is, for) = apart sets_size (SetsSize resizing) (RemovesName removal) is refl refl
+pub planned_resizing : (P : ℕ) (I : List ℕ) (state : State) (command : Command) (resizing : Resizing) → IsPlanOf P I state command (Resize resizing) → IsOfResizing P I state command resizing
+planned_resizing P I state (Create path) resizing (entry, is, for) = apart sets_size (Resize resizing) (Make entry) is refl refl
+planned_resizing P I state (Mkdir path) resizing (entry, is, for) = apart sets_size (Resize resizing) (Make entry) is refl refl
+planned_resizing P I state (Link from to) resizing (link, is, for) = apart sets_size (Resize resizing) (Name link) is refl refl
+planned_resizing P I state (Unlink path) resizing (removal, is, for) = apart sets_size (Resize resizing) (Remove removal) is refl refl
+planned_resizing P I state (Rmdir path) resizing (removal, is, for) = apart sets_size (Resize resizing) (Remove removal) is refl refl
 planned_resizing P I state (Rename from to) resizing plan =
-    nothing_or (IsOfResizing P I state (Rename from to) resizing) MovesName (IsMovingFor P I state from to) (SetsSize resizing) _ plan
-    (λ is. apart sets_size (SetsSize resizing) ChangesNothing is refl refl) (λ moving is. apart sets_size (SetsSize resizing) (MovesName moving) is refl refl)
+    nothing_or (IsOfResizing P I state (Rename from to) resizing) Move (IsMovingFor P I state from to) KeepNames (Resize resizing) _ plan
+    (λ is. apart sets_size (Resize resizing) KeepNames is refl refl) (λ moving is for. apart sets_size (Resize resizing) (Move moving) is refl refl)
 planned_resizing P I state (Write path offset bytes) resizing plan =
-    nothing_or (IsOfResizing P I state (Write path offset bytes) resizing) WritesBytes (IsWritingFor P I state path offset bytes) (SetsSize resizing) _ plan
-    (λ is. apart sets_size (SetsSize resizing) ChangesNothing is refl refl) (λ other is. apart sets_size (SetsSize resizing) (WritesBytes other) is refl refl)
+    nothing_or (IsOfResizing P I state (Write path offset bytes) resizing) WriteBytes (IsWritingFor P I state path offset bytes) WriteNothing (Resize resizing) _ plan
+    (λ is. apart sets_size (Resize resizing) WriteNothing is refl refl) (λ other is for. apart sets_size (Resize resizing) (WriteBytes other) is refl refl)
 planned_resizing P I state (Truncate path size) resizing plan =
-    nothing_or_made (IsOfResizing P I state (Truncate path size) resizing) SetsSize (IsResizingFor P I state path size) (SetsSize resizing) _ plan
-    (λ is. apart sets_size (SetsSize resizing) ChangesNothing is refl refl)
+    nothing_or (IsOfResizing P I state (Truncate path size) resizing) Resize (IsResizingFor P I state path size) KeepSize (Resize resizing) _ plan
+    (λ is. apart sets_size (Resize resizing) KeepSize is refl refl)
     (λ other is for. (path, size, refl, subst (IsResizingFor P I state path size) (sym (same_resizing resizing other is)) for))
-planned_resizing P I state (Read path offset count) resizing (reading, is, for) = apart sets_size (SetsSize resizing) (ReadsBytes reading) is refl refl
-planned_resizing P I state (Tell path) resizing is = apart sets_size (SetsSize resizing) (TellsNode _) is refl refl
-planned_resizing P I state (Show path) resizing is = apart sets_size (SetsSize resizing) (ListsNames _) is refl refl
-planned_resizing P I state Df resizing is = apart sets_size (SetsSize resizing) TellsSpace is refl refl
+planned_resizing P I state (Read path offset count) resizing (reading, is, for) = apart sets_size (Resize resizing) (ReadBytes reading) is refl refl
+planned_resizing P I state (Tell path) resizing is = apart sets_size (Resize resizing) (Status _) is refl refl
+planned_resizing P I state (Show path) resizing is = apart sets_size (Resize resizing) (Names _) is refl refl
+planned_resizing P I state Df resizing is = apart sets_size (Resize resizing) Space is refl refl
 
 -- ---- which need places
 
 some_test : (n : ℕ) → 0 < n → nat_lt 0 n ≡ true
 some_test n some = grind (arith, nat_tests)
 
-pub writing_needs : (P : ℕ) (I : List ℕ) (state : State) (command : Command) (writing : Writing) → IsPlanOf P I state command (WritesBytes writing) → 0 < length writing.new_pages → needs_places state command ≡ true
+pub writing_needs : (P : ℕ) (I : List ℕ) (state : State) (command : Command) (writing : Writing) → IsPlanOf P I state command (WriteBytes writing) → 0 < length writing.new_pages → needs_places state command ≡ true
 writing_needs P I state command writing plan takes =
     let (path, offset, bytes, is, for) = planned_writing P I state command writing plan in
     ap (needs_places state) is ∙ ap (nat_lt 0) (sym for.new_pages.count_is) ∙ some_test (length writing.new_pages) takes
 
-pub resizing_needs : (P : ℕ) (I : List ℕ) (state : State) (command : Command) (resizing : Resizing) → IsPlanOf P I state command (SetsSize resizing) → 0 < length resizing.new_pages → needs_places state command ≡ true
+pub resizing_needs : (P : ℕ) (I : List ℕ) (state : State) (command : Command) (resizing : Resizing) → IsPlanOf P I state command (Resize resizing) → 0 < length resizing.new_pages → needs_places state command ≡ true
 resizing_needs P I state command resizing plan takes =
     let (path, size, is, for) = planned_resizing P I state command resizing plan in
     ap (needs_places state) is ∙ ap (nat_lt 0) (sym for.new_pages.count_is) ∙ some_test (length resizing.new_pages) takes
@@ -159,7 +154,7 @@ module _ (volume : VolumeView) (device : DeviceView) (state : State) (stands : S
       let below = data_pages_below volume.size size in
       omega (arith, is, most, below, size)
 
-  pub bounded_writing : (command : Command) (writing : Writing) → IsPlanned volume.size device.words state command (WritesBytes writing) → IsBoundedWriting writing
+  pub bounded_writing : (command : Command) (writing : Writing) → IsPlanned volume.size device.words state command (WriteBytes writing) → IsBoundedWriting writing
   bounded_writing command writing planned =
       let (path, offset, bytes, is, for) = planned_writing volume.size device.words state command writing planned.plan_is in
       let limits = passes_limits (fault_of (walk state.tree path)) (at IsDir (is_directory state.tree (id_of state.tree path))) (nat_lt file_limit (offset + length bytes)) (lacks_pages (untaken volume.size) state.tree state.room (Write path offset bytes))
@@ -173,7 +168,7 @@ module _ (volume : VolumeView) (device : DeviceView) (state : State) (stands : S
         new_pages = pages_within (length writing.new_pages) (need state.tree state.room (Write path offset bytes)) for.new_pages.count_is limits.1;
       }
 
-  pub bounded_resizing : (command : Command) (resizing : Resizing) → IsPlanned volume.size device.words state command (SetsSize resizing) → IsBoundedResizing resizing
+  pub bounded_resizing : (command : Command) (resizing : Resizing) → IsPlanned volume.size device.words state command (Resize resizing) → IsBoundedResizing resizing
   bounded_resizing command resizing planned =
       let (path, size, is, for) = planned_resizing volume.size device.words state command resizing planned.plan_is in
       let limits = passes_limits (fault_of (walk state.tree path)) (at IsDir (is_directory state.tree (id_of state.tree path))) (nat_lt file_limit size) (lacks_pages (untaken volume.size) state.tree state.room (Truncate path size))

@@ -22,7 +22,7 @@ use Rattle.allocators.specs.Numbers.{IsFree, free_in}
 use Rattle.volume.specs.Volume.{VolumeView}
 use Rattle.volume.specs.Stands.{StandsFor}
 use Rattle.volume.specs.Walks.{file_row, IsSizedFile}
-use Rattle.volume.specs.Deed.{WritesBytes, SetsSize, ChangesNothing, ReadsBytes}
+use Rattle.volume.specs.declared.plan.Action.TheVariants.{Write as WriteBytes, WriteNothing, Resize, KeepSize, Read as ReadBytes}
 use Rattle.volume.specs.Lowest.{AreLowestOf}
 use Rattle.volume.specs.Planned.{IsWritingFor, IsResizingFor, IsNothingOr, IsPlanned}
 use Rattle.volume.specs.Prepared.{IsRefusal, LacksPages}
@@ -147,12 +147,12 @@ module _ (volume : VolumeView) (device : DeviceView) (state : State) (stands : S
             ≡ limits false (lacks (cond (length bytes == 0) 0 (rise (bytes_of state.tree (id_of state.tree path)) (offset + length bytes))))
         write_limits = write_row ∙ ap (λ b. limits b (lacks (cond (length bytes == 0) 0 (rise (bytes_of state.tree (id_of state.tree path)) (offset + length bytes))))) (not_less_test file_limit (offset + length bytes) fits)
 
-        pub write_nothing : length bytes == 0 ≡ true → IsPlanned volume.size device.words state (Write path offset bytes) ChangesNothing
+        pub write_nothing : length bytes == 0 ≡ true → IsPlanned volume.size device.words state (Write path offset bytes) WriteNothing
         write_nothing none = record {
           accepted = write_limits
               ∙ ap (λ b. limits false (lacks (cond b 0 (rise (bytes_of state.tree (id_of state.tree path)) (offset + length bytes))))) none
               ∙ ap (limits false) (enough 0 (omega arith));
-          plan_is = subst (λ b. IsNothingOr b (λ deed. (writing : Writing) × (deed ≡ WritesBytes writing) × IsWritingFor volume.size device.words state path offset bytes writing) ChangesNothing) (sym none) refl;
+          plan_is = subst (λ b. IsNothingOr b WriteNothing (λ action. (writing : Writing) × (action ≡ WriteBytes writing) × IsWritingFor volume.size device.words state path offset bytes writing) WriteNothing) (sym none) refl;
         }
 
         module _ (some : length bytes == 0 ≡ false) where
@@ -176,7 +176,7 @@ module _ (volume : VolumeView) (device : DeviceView) (state : State) (stands : S
           ]
 
           pub write_planned : (pages : List ℕ) → AreLowestOf (IsFree volume.data_pages) (pieces (offset + length bytes) 4096 - pieces size 4096) pages → pieces (offset + length bytes) 4096 - pieces size 4096 ≤ free_in volume.data_pages
-              → IsPlanned volume.size device.words state (Write path offset bytes) (WritesBytes (record { inode = inode; offset = offset; count = length bytes; old_size = size; new_pages = pages }))
+              → IsPlanned volume.size device.words state (Write path offset bytes) (WriteBytes (record { inode = inode; offset = offset; count = length bytes; old_size = size; new_pages = pages }))
           write_planned pages lowest most =
               let writing : Writing = record { inode = inode; offset = offset; count = length bytes; old_size = size; new_pages = pages } in
               let for : IsWritingFor volume.size device.words state path offset bytes writing = record {
@@ -188,7 +188,7 @@ module _ (volume : VolumeView) (device : DeviceView) (state : State) (stands : S
               } in
               record {
                 accepted = write_accepted most;
-                plan_is = subst (λ b. IsNothingOr b (λ deed. (other : Writing) × (deed ≡ WritesBytes other) × IsWritingFor volume.size device.words state path offset bytes other) (WritesBytes writing)) (sym some) (writing, refl, for);
+                plan_is = subst (λ b. IsNothingOr b WriteNothing (λ action. (other : Writing) × (action ≡ WriteBytes other) × IsWritingFor volume.size device.words state path offset bytes other) (WriteBytes writing)) (sym some) (writing, refl, for);
               }
 
     -- ---- another size
@@ -212,10 +212,10 @@ module _ (volume : VolumeView) (device : DeviceView) (state : State) (stands : S
         same_need : new_size ≡ size → pieces new_size 4096 - pieces size 4096 ≡ 0
         same_need same = ap (λ n. pieces n 4096 - pieces size 4096) same ∙ (omega arith)
 
-        pub truncate_nothing : new_size ≡ size → IsPlanned volume.size device.words state (Truncate path new_size) ChangesNothing
+        pub truncate_nothing : new_size ≡ size → IsPlanned volume.size device.words state (Truncate path new_size) KeepSize
         truncate_nothing same = record {
           accepted = truncate_accepted (let none = same_need same in omega (arith, none));
-          plan_is = subst (λ b. IsNothingOr b (λ deed. (resizing : Resizing) × (deed ≡ SetsSize resizing) × IsResizingFor volume.size device.words state path new_size resizing) ChangesNothing)
+          plan_is = subst (λ b. IsNothingOr b KeepSize (λ action. (resizing : Resizing) × (action ≡ Resize resizing) × IsResizingFor volume.size device.words state path new_size resizing) KeepSize)
               (sym (same_test new_size (length (bytes_of state.tree (id_of state.tree path))) (same ∙ its_size))) refl;
         }
 
@@ -231,7 +231,7 @@ module _ (volume : VolumeView) (device : DeviceView) (state : State) (stands : S
 
         pub truncate_planned : (pages : List ℕ) (cut : ℕ) → new_size == size ≡ false → cut ≡ pieces size 4096 - pieces new_size 4096
             → AreLowestOf (IsFree volume.data_pages) (pieces new_size 4096 - pieces size 4096) pages → pieces new_size 4096 - pieces size 4096 ≤ free_in volume.data_pages
-            → IsPlanned volume.size device.words state (Truncate path new_size) (SetsSize (record { inode = inode; old_size = size; new_size = new_size; new_pages = pages; cut = cut }))
+            → IsPlanned volume.size device.words state (Truncate path new_size) (Resize (record { inode = inode; old_size = size; new_size = new_size; new_pages = pages; cut = cut }))
         truncate_planned pages cut other cut_is lowest most =
             let resizing : Resizing = record { inode = inode; old_size = size; new_size = new_size; new_pages = pages; cut = cut } in
             let for : IsResizingFor volume.size device.words state path new_size resizing = record {
@@ -243,7 +243,7 @@ module _ (volume : VolumeView) (device : DeviceView) (state : State) (stands : S
             } in
             record {
               accepted = truncate_accepted most;
-              plan_is = subst (λ b. IsNothingOr b (λ deed. (made : Resizing) × (deed ≡ SetsSize made) × IsResizingFor volume.size device.words state path new_size made) (SetsSize resizing))
+              plan_is = subst (λ b. IsNothingOr b KeepSize (λ action. (made : Resizing) × (action ≡ Resize made) × IsResizingFor volume.size device.words state path new_size made) (Resize resizing))
                   (sym (ap (λ long. new_size == long) (sym its_size) ∙ other)) (resizing, refl, for);
             }
 
@@ -256,7 +256,7 @@ module _ (volume : VolumeView) (device : DeviceView) (state : State) (stands : S
       pub read_too_big : read_limit < count → refusal_of volume.size state.tree state.room (Read path offset count) ≡ Some TooBig
       read_too_big big = read_row ∙ ap (λ b. first (at TooBig b ∷ [])) (less_test read_limit count big)
 
-      pub read_planned : count ≤ read_limit → IsPlanned volume.size device.words state (Read path offset count) (ReadsBytes (record { inode = inode; offset = offset; count = count }))
+      pub read_planned : count ≤ read_limit → IsPlanned volume.size device.words state (Read path offset count) (ReadBytes (record { inode = inode; offset = offset; count = count }))
       read_planned most = record {
         accepted = read_row ∙ ap (λ b. first (at TooBig b ∷ [])) (not_less_test read_limit count most);
         plan_is = (record { inode = inode; offset = offset; count = count }, refl, record { inode_is = file.inode_is; offset_is = refl; count_is = refl });

@@ -12,13 +12,14 @@ pub mod Given
 pub mod Removed
 pub mod FilePages
 pub mod RemovalRows
+pub mod RenameRows
 pub mod Readings
 pub mod LowestPages
 pub mod ContentRows
 pub mod ContentPlans
 pub mod Grown
 pub mod Plans
-pub mod PlanDeeds
+pub mod PlanActions
 pub mod Listed
 pub mod PlanRows
 pub mod Staying

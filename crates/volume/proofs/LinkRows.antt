@@ -17,9 +17,10 @@ use Rattle.volatile_index.specs.Index.{entries_of}
 use Rattle.volume.specs.Volume.{VolumeView}
 use Rattle.volume.specs.Stands.{StandsFor}
 use Rattle.volume.specs.Planned.{IsVacantSlot, IsPlace, IsPlanned}
-use Rattle.volume.specs.Deed.{AddsName}
+use Rattle.volume.specs.declared.plan.Action.TheVariants.{Name}
 use Rattle.volume.proofs.Walked.{stands_tree}
-use Rattle.volume.proofs.Holders.{WouldHold, held, present, absent, lacks_page, has_page}
+use Rattle.volume.specs.Walks.{WouldHold}
+use Rattle.volume.proofs.Holders.{held, present, absent, lacks_page, has_page}
 
 abbrev row : Option Refusal → Option Refusal → Bool → Bool → Bool → Bool → Option Refusal
 row walked held is_the_root there directory pages = first (walked ∷ held ∷ at Root is_the_root ∷ at Exists there ∷ at IsDir directory ∷ at NoPages pages ∷ [])
@@ -66,7 +67,7 @@ module _ (volume : VolumeView) (device : DeviceView) (state : State) (stands : S
             λ i. row (fault_of (walked i)) (fault_of (holder.walked i)) (holder.below i) (missing i) (kind i) (short i)
 
         pub link_planned : (slot : ℕ) (new_page : Option ℕ) → is_directory state.tree inode ≡ false → IsPlace volume.size device.words d slot new_page
-            → IsPlanned volume.size device.words state (Link from to) (AddsName (record { directory = d; name = name; inode = inode; slot = slot; new_page = new_page }))
+            → IsPlanned volume.size device.words state (Link from to) (Name (record { directory = d; name = name; inode = inode; slot = slot; new_page = new_page }))
         link_planned slot new_page is place =
             let missing = absent volume device state stands to d name holder none in
             let kind = its_kind ∙ is in

@@ -10,7 +10,7 @@ use Rattle.tree_model.specs.Table.{get}
 use Rattle.tree_model.specs.Tree.{Tree, Node, Directory, File, IsTree, IsRoom, root_id, parent, is_number, id_at, node_at, is_directory, is_directory_node, is_file_node, bytes_of, bytes_of_node, name_count, pages_in, page_bytes, file_pages}
 use Rattle.tree_model.specs.Capacity.{untaken}
 use Rattle.tree_model.specs.Accepted.{HasHolder, MayMove}
-use Rattle.tree_model.specs.Step.{answer_of, outcome_of, refusal_of, least_free_id, tree_after, room_after, id_of, is_there, is_full, is_same_node, gaining, losing, page_for_name, need, without_path, without_unnamed, with_moved}
+use Rattle.tree_model.specs.Step.{answer_of, outcome_of, refusal_of, least_free_id, tree_after, room_after, id_of, is_full, is_same_node, gaining, losing, page_for_name, need, without_path, without_unnamed, with_moved}
 use Rattle.tree_model.specs.Run.{State}
 use Rattle.tree_model.specs.Fences.{fences_of, one_where, gave, gone, pages_before, size_before, is_gone, fences_for_loss as fences_of_lost}
 use Rattle.tree_model.specs.declared.command.Command.{Command}
@@ -30,7 +30,9 @@ use Rattle.image_counts.proofs.Counting.{none_counted}
 use Rattle.image_counts.proofs.Nodes.{size_law}
 use Rattle.image_counts.proofs.States.{state_law}
 use Rattle.image_counts.proofs.Tidied.{room_law, file_pages_law}
-use Rattle.volume.specs.Deed.{Deed, Moving, RemovesName, MovesName, WritesBytes, SetsSize}
+use Rattle.volume.specs.declared.plan.Moving.{Moving}
+use Rattle.volume.specs.declared.plan.Action.{Action}
+use Rattle.volume.specs.declared.plan.Action.TheVariants.{Remove, Move, Write as WriteBytes, WriteNothing, Resize, KeepSize, KeepNames}
 use Rattle.volume.specs.declared.plan.Loss.{Loss}
 use Rattle.volume.specs.declared.plan.Removal.{Removal}
 use Rattle.volume.specs.Planned.{IsPlace, IsLossOf, IsTargetOf, IsRemovalFor, IsMovingFor, IsWritingFor, IsResizingFor, IsNothingOr, IsPlanOf}
@@ -79,11 +81,11 @@ cut_steps a b cut is =
     none : nat_lt b a ≡ false → nat_lt 0 cut ≡ false
     none not = grind (arith, nat_tests)
 
--- nothing is to be done, or the plan is made of some x
-module _ {A : Type 0} (make : A → Deed) (For : A → Type 0) (deed : Deed) where
-  nothing_or : (nothing : Bool) (fences : ℕ) → IsNothingOr nothing (λ deed. (x : A) × (deed ≡ make x) × For x) deed → (nothing ≡ false → (x : A) → deed ≡ make x → For x → fences_of_plan (make x) ≡ fences)
-      → fences_of_plan deed ≡ cond nothing 0 fences
-  nothing_or true fences plan some = ap fences_of_plan plan
+-- nothing is to be done, which takes no fence, or the plan is made of some x
+module _ {A : Type 0} (make : A → Action) (For : A → Type 0) (nothing : Action) (idle : fences_of_plan nothing ≡ 0) (action : Action) where
+  nothing_or : (b : Bool) (fences : ℕ) → IsNothingOr b nothing (λ action. (x : A) × (action ≡ make x) × For x) action → (b ≡ false → (x : A) → action ≡ make x → For x → fences_of_plan (make x) ≡ fences)
+      → fences_of_plan action ≡ cond b 0 fences
+  nothing_or true fences plan some = ap fences_of_plan plan ∙ idle
   nothing_or false fences (x, is, for) some = ap fences_of_plan is ∙ some refl x is for
 
 same_some : (x y : ℕ) → ◌≡◌ {A = Option ℕ} (Some x) (Some y) → x ≡ y
@@ -153,7 +155,7 @@ module _ (P : ℕ) (I : List ℕ) (state : State) (tidy : IsTidied P I) (reads :
         none_counted (IsPageIn P I d) (subst (Count (IsPageIn P I d)) none room_words.pages) (page_of_slot slot)
         (record { in_range = page_of_slot_below P slot entry.slot.live.held.in_range; owner = entry.owner }))
 
-    -- what it gave back is what the deed gives back
+    -- what it gave back is what the action gives back
     gave_is : (c : Command) (later : State) (gives : Bool) (name : List ℕ) (slot : ℕ) → IsEntryOf P I d name slot → losing state.tree c ≡ Some d → is_directory (tree_after (least_free_id state.tree) state.tree c) d ≡ true
         → later.room ≡ room_after (least_free_id state.tree) state.tree state.room c gives → IsRoom (tree_after (least_free_id state.tree) state.tree c) later.room → gave state c later ≡ gives
     gave_is c later gives name slot entry loses stays room fits =
@@ -201,7 +203,7 @@ module _ (P : ℕ) (I : List ℕ) (state : State) (tidy : IsTidied P I) (reads :
 
   -- ---- an accepted command
 
-  module _ (later : State) (c : Command) (deed : Deed) (accepted : refusal_of P state.tree state.room c ≡ None) (left : IsLeftBy P state c deed later) where
+  module _ (later : State) (c : Command) (action : Action) (accepted : refusal_of P state.tree state.room c ≡ None) (left : IsLeftBy P state c action later) where
     tree_is : later.tree ≡ tree_after (least_free_id state.tree) state.tree c
     tree_is = left.tree ∙ ap (λ o. (outcome_of o (untaken P) (least_free_id state.tree) state.tree state.room c).tree) accepted
 
@@ -210,18 +212,18 @@ module _ (P : ℕ) (I : List ℕ) (state : State) (tidy : IsTidied P I) (reads :
 
   -- ---- a name is taken away
 
-  module _ (later : State) (c : Command) (path : Route) (removal : Removal) (for : IsRemovalFor P I state c path removal) (accepted : refusal_of P state.tree state.room c ≡ None) (left : IsLeftBy P state c (RemovesName removal) later)
+  module _ (later : State) (c : Command) (path : Route) (removal : Removal) (for : IsRemovalFor P I state c path removal) (accepted : refusal_of P state.tree state.room c ≡ None) (left : IsLeftBy P state c (Remove removal) later)
       (holder : HasHolder state.tree path) (loses : losing state.tree c ≡ Some (id_of state.tree (parent path)))
       (stays : is_directory (tree_after (least_free_id state.tree) state.tree c) removal.directory ≡ true)
       (empty : is_directory state.tree removal.loss.inode ≡ true → name_count state.tree removal.loss.inode ≡ 0) where
-    removal_steps : fences_of_plan (RemovesName removal) ≡ 2 + fences_of_lost state c path later
+    removal_steps : fences_of_plan (Remove removal) ≡ 2 + fences_of_lost state c path later
     removal_steps =
-        ap (λ n. 2 + n) (loss_steps c removal.loss path for.named.inode_is for.loss empty later removal.given_back (tree_is later c (RemovesName removal) accepted left)
+        ap (λ n. 2 + n) (loss_steps c removal.loss path for.named.inode_is for.loss empty later removal.given_back (tree_is later c (Remove removal) accepted left)
         (gave_is path holder removal.directory for.named.directory_is c later (is_some removal.given_back) removal.name removal.slot for.named.slot_is
-        (loses ∙ ap Some (id_is (parent path) removal.directory for.named.directory_is)) stays left.room (fits_after later c (RemovesName removal) accepted left)))
+        (loses ∙ ap Some (id_is (parent path) removal.directory for.named.directory_is)) stays left.room (fits_after later c (Remove removal) accepted left)))
 
   unlink_steps : (later : State) (path : Route) (removal : Removal) → IsRemovalFor P I state (Unlink path) path removal → refusal_of P state.tree state.room (Unlink path) ≡ None
-      → IsLeftBy P state (Unlink path) (RemovesName removal) later → fences_of_plan (RemovesName removal) ≡ 2 + fences_of_lost state (Unlink path) path later
+      → IsLeftBy P state (Unlink path) (Remove removal) later → fences_of_plan (Remove removal) ≡ 2 + fences_of_lost state (Unlink path) path later
   unlink_steps later path removal for accepted left =
       let found = Accepted-from_row (untaken P) state.tree state.room (Unlink path) tree accepted in
       let file = ap is_directory_node found.source.file in
@@ -239,7 +241,7 @@ module _ (P : ℕ) (I : List ℕ) (state : State) (tidy : IsTidied P I) (reads :
       by_given false = refl
 
   rmdir_steps : (later : State) (path : Route) (removal : Removal) → IsRemovalFor P I state (Rmdir path) path removal → refusal_of P state.tree state.room (Rmdir path) ≡ None
-      → IsLeftBy P state (Rmdir path) (RemovesName removal) later → fences_of_plan (RemovesName removal) ≡ 3 + one_where (gave state (Rmdir path) later)
+      → IsLeftBy P state (Rmdir path) (Remove removal) later → fences_of_plan (Remove removal) ≡ 3 + one_where (gave state (Rmdir path) later)
   rmdir_steps later path removal for accepted left =
       let found = Accepted-from_row (untaken P) state.tree state.room (Rmdir path) tree accepted in
       let same = same_some removal.loss.inode found.source.id (sym for.named.inode_is ∙ found.source.named) in
@@ -248,7 +250,7 @@ module _ (P : ℕ) (I : List ℕ) (state : State) (tidy : IsTidied P I) (reads :
       (holds path found.holder removal.directory for.named.directory_is))
       (λ directory. ap (name_count state.tree) same ∙ found.empty)
       ∙ rmdir_sum (gave state (Rmdir path) later) (gone state path later) (nat_lt 0 (pages_before state path))
-      (ap (λ o. is_gone o later) found.source.named ∙ ap (λ (T : Tree). is_none (node_at T found.source.id)) (tree_is later (Rmdir path) (RemovesName removal) accepted left) ∙ ap is_none (found.goes (least_free_id state.tree)))
+      (ap (λ o. is_gone o later) found.source.named ∙ ap (λ (T : Tree). is_none (node_at T found.source.id)) (tree_is later (Rmdir path) (Remove removal) accepted left) ∙ ap is_none (found.goes (least_free_id state.tree)))
       (ap (λ id. nat_lt 0 (file_pages (bytes_of state.tree id))) found.source.is ∙ ap (λ o. nat_lt 0 (file_pages (bytes_of_node o))) found.source.directory)
 
   -- ---- a name moves
@@ -257,7 +259,7 @@ module _ (P : ℕ) (I : List ℕ) (state : State) (tidy : IsTidied P I) (reads :
   move_sum page steps pages lost same two is = omega (arith, two, is)
 
   module _ (later : State) (from to : Route) (moving : Moving) (for : IsMovingFor P I state from to moving) (accepted : refusal_of P state.tree state.room (Rename from to) ≡ None)
-      (left : IsLeftBy P state (Rename from to) (MovesName moving) later) (old_holder : HasHolder state.tree from) (new_holder : HasHolder state.tree to) (move : MayMove (untaken P) state.tree state.room from to moving.inode) where
+      (left : IsLeftBy P state (Rename from to) (Move moving) later) (old_holder : HasHolder state.tree from) (new_holder : HasHolder state.tree to) (move : MayMove (untaken P) state.tree state.room from to moving.inode) where
     nothing_below : HasNoNames state.tree to
     nothing_below = elim move.target [
       | inl name ↦ HasNoNames-absent state.tree tree to name.absent
@@ -274,7 +276,7 @@ module _ (P : ℕ) (I : List ℕ) (state : State) (tidy : IsTidied P I) (reads :
     source_gave =
         gave_is from old_holder moving.from_directory for.source.directory_is (Rename from to) later (is_some moving.given_back) moving.from_name moving.from_slot for.source.slot_is
         (ap (λ b. cond b None (Some (id_of state.tree (parent from)))) move.differ ∙ ap Some (id_is (parent from) moving.from_directory for.source.directory_is))
-        source_stays left.room (fits_after later (Rename from to) (MovesName moving) accepted left)
+        source_stays left.room (fits_after later (Rename from to) (Move moving) accepted left)
 
     target_empty : (loss : Loss) → id_at state.tree to ≡ Some loss.inode → name_count state.tree loss.inode ≡ 0
     target_empty loss named = elim move.target [
@@ -283,48 +285,46 @@ module _ (P : ℕ) (I : List ℕ) (state : State) (tidy : IsTidied P I) (reads :
     ]
 
     by_target : (replaced : Option Loss) → IsTargetOf P I state from to moving replaced
-        → fences_for_page moving.new_page + cond (is_some replaced) 5 6 + fences_for_loss (pages_of_loss replaced + count_of moving.given_back) (goes_of replaced)
-        ≡ cond (is_there state.tree to) 5 6 + 2 * need state.tree state.room (Rename from to) + fences_of_lost state (Rename from to) to later
+        → fences_for_page moving.new_page + 4 + fences_for_loss (pages_of_loss replaced + count_of moving.given_back) (goes_of replaced)
+        ≡ 4 + 2 * need state.tree state.room (Rename from to) + fences_of_lost state (Rename from to) to later
     by_target None (absent, new) =
         let pages = page_steps to new_holder moving.to_directory new.directory_is moving.to_slot moving.new_page new.place
         ∙ ap (λ o. 2 * page_for_name state.tree state.room (cond (is_some o) None (Some (id_of state.tree (parent to))))) (sym absent) in
         let owned = nat_lt 0 (pages_before state to) in
         let lost = lost_steps (nat_lt 0 (0 + count_of moving.given_back)) (is_some moving.given_back) false owned (some_lost 0 (pages_before state to) moving.given_back false (λ is. absurd (true≢false (sym is))) (λ is. refl))
         ∙ (λ i. one_where (sym source_gave i || (is_gone (sym absent i) later && owned)) + one_where (sym source_gave i || is_gone (sym absent i) later)) in
-        move_sum (fences_for_page moving.new_page) 6 (need state.tree state.room (Rename from to)) _ (fences_of_lost state (Rename from to) to later) pages lost
-        ∙ ap (λ o. cond (is_some o) 5 6 + 2 * need state.tree state.room (Rename from to) + fences_of_lost state (Rename from to) to later) (sym absent)
+        move_sum (fences_for_page moving.new_page) 4 (need state.tree state.room (Rename from to)) _ (fences_of_lost state (Rename from to) to later) pages lost
     by_target (Some loss) (named, is_loss, no_page) =
         let pages = ap fences_for_page no_page ∙ ap (λ o. 2 * page_for_name state.tree state.room (cond (is_some o) None (Some (id_of state.tree (parent to))))) (sym named.inode_is) in
-        let lost = loss_steps (Rename from to) loss to named.inode_is is_loss (λ directory. target_empty loss named.inode_is) later moving.given_back (tree_is later (Rename from to) (MovesName moving) accepted left) source_gave in
-        move_sum (fences_for_page moving.new_page) 5 (need state.tree state.room (Rename from to)) _ (fences_of_lost state (Rename from to) to later) pages lost
-        ∙ ap (λ o. cond (is_some o) 5 6 + 2 * need state.tree state.room (Rename from to) + fences_of_lost state (Rename from to) to later) (sym named.inode_is)
+        let lost = loss_steps (Rename from to) loss to named.inode_is is_loss (λ directory. target_empty loss named.inode_is) later moving.given_back (tree_is later (Rename from to) (Move moving) accepted left) source_gave in
+        move_sum (fences_for_page moving.new_page) 4 (need state.tree state.room (Rename from to)) _ (fences_of_lost state (Rename from to) to later) pages lost
 
-  rename_steps : (later : State) (from to : Route) (deed : Deed) → refusal_of P state.tree state.room (Rename from to) ≡ None → IsPlanOf P I state (Rename from to) deed → IsLeftBy P state (Rename from to) deed later
-      → fences_of_plan deed ≡ fences_of state (Ok (Rename from to)) (answer_of (untaken P) state.tree state.room (Rename from to)) later
-  rename_steps later from to deed accepted plan left =
-      nothing_or MovesName (IsMovingFor P I state from to) deed (is_same_node state.tree from to) _ plan (λ differ moving is for.
+  rename_steps : (later : State) (from to : Route) (action : Action) → refusal_of P state.tree state.room (Rename from to) ≡ None → IsPlanOf P I state (Rename from to) action → IsLeftBy P state (Rename from to) action later
+      → fences_of_plan action ≡ fences_of state (Ok (Rename from to)) (answer_of (untaken P) state.tree state.room (Rename from to)) later
+  rename_steps later from to action accepted plan left =
+      nothing_or Move (IsMovingFor P I state from to) KeepNames refl action (is_same_node state.tree from to) _ plan (λ differ moving is for.
       let found = Accepted-from_row (untaken P) state.tree state.room (Rename from to) tree accepted in
       let same = same_some found.source.id moving.inode (sym found.source.named ∙ for.source.inode_is) in
       elim found.moves [
         | inl one ↦ absurd (true≢false (sym one ∙ differ))
-        | inr move ↦ by_target later from to moving for accepted (subst (λ (d : Deed). IsLeftBy P state (Rename from to) d later) is left) found.old_holder found.new_holder
+        | inr move ↦ by_target later from to moving for accepted (subst (λ (d : Action). IsLeftBy P state (Rename from to) d later) is left) found.old_holder found.new_holder
             (subst (λ (id : ℕ). MayMove (untaken P) state.tree state.room from to id) same move) moving.replaced for.target
       ])
 
   -- ---- a file's bytes
 
-  write_steps : (later : State) (path : Route) (offset : ℕ) (bytes : List ℕ) (deed : Deed) → IsPlanOf P I state (Write path offset bytes) deed
-      → fences_of_plan deed ≡ fences_of state (Ok (Write path offset bytes)) (answer_of (untaken P) state.tree state.room (Write path offset bytes)) later
-  write_steps later path offset bytes deed plan =
-      nothing_or WritesBytes (IsWritingFor P I state path offset bytes) deed (length bytes == 0) _ plan (λ some writing is for.
+  write_steps : (later : State) (path : Route) (offset : ℕ) (bytes : List ℕ) (action : Action) → IsPlanOf P I state (Write path offset bytes) action
+      → fences_of_plan action ≡ fences_of state (Ok (Write path offset bytes)) (answer_of (untaken P) state.tree state.room (Write path offset bytes)) later
+  write_steps later path offset bytes action plan =
+      nothing_or WriteBytes (IsWritingFor P I state path offset bytes) WriteNothing refl action (length bytes == 0) _ plan (λ some writing is for.
       let size = for.size_is ∙ ap (λ id. length (bytes_of state.tree id)) (sym (id_is path writing.inode for.inode_is)) in
       let growth = growth_steps writing.new_pages (need state.tree state.room (Write path offset bytes)) for.new_pages.count_is in
       λ i. cond (nat_le (for.offset_is i + for.count_is i) (size i)) 1 (growth i))
 
-  truncate_steps : (later : State) (path : Route) (size : ℕ) (deed : Deed) → IsPlanOf P I state (Truncate path size) deed
-      → fences_of_plan deed ≡ fences_of state (Ok (Truncate path size)) (answer_of (untaken P) state.tree state.room (Truncate path size)) later
-  truncate_steps later path size deed plan =
-      nothing_or SetsSize (IsResizingFor P I state path size) deed (size == size_before state path) _ plan (λ some resizing is for.
+  truncate_steps : (later : State) (path : Route) (size : ℕ) (action : Action) → IsPlanOf P I state (Truncate path size) action
+      → fences_of_plan action ≡ fences_of state (Ok (Truncate path size)) (answer_of (untaken P) state.tree state.room (Truncate path size)) later
+  truncate_steps later path size action plan =
+      nothing_or Resize (IsResizingFor P I state path size) KeepSize refl action (size == size_before state path) _ plan (λ some resizing is for.
       let old = for.old_is ∙ ap (λ id. length (bytes_of state.tree id)) (sym (id_is path resizing.inode for.inode_is)) in
       let growth = growth_steps resizing.new_pages (need state.tree state.room (Truncate path size)) for.new_pages.count_is in
       let cut = cut_steps (pages_before state path) (pieces size page_bytes) resizing.cut (for.cut_is ∙ ap (λ n. pieces n page_bytes - pieces size page_bytes) old) in
@@ -332,30 +332,30 @@ module _ (P : ℕ) (I : List ℕ) (state : State) (tidy : IsTidied P I) (reads :
 
   -- ---- every command
 
-  by_command : (later : State) (c : Command) (deed : Deed) → refusal_of P state.tree state.room c ≡ None → IsPlanOf P I state c deed → IsLeftBy P state c deed later
-      → fences_of_plan deed ≡ fences_of state (Ok c) (answer_of (untaken P) state.tree state.room c) later
-  by_command later (Create path) deed accepted (entry, is, for) left =
+  by_command : (later : State) (c : Command) (action : Action) → refusal_of P state.tree state.room c ≡ None → IsPlanOf P I state c action → IsLeftBy P state c action later
+      → fences_of_plan action ≡ fences_of state (Ok c) (answer_of (untaken P) state.tree state.room c) later
+  by_command later (Create path) action accepted (entry, is, for) left =
       let found = Accepted-from_row (untaken P) state.tree state.room (Create path) tree accepted in
       ap fences_of_plan is ∙ ap (λ n. 2 + n) (page_steps path found.place.holder entry.directory for.directory_is entry.slot entry.new_page for.place)
-  by_command later (Mkdir path) deed accepted (entry, is, for) left =
+  by_command later (Mkdir path) action accepted (entry, is, for) left =
       let found = Accepted-from_row (untaken P) state.tree state.room (Mkdir path) tree accepted in
       ap fences_of_plan is ∙ ap (λ n. 2 + n) (page_steps path found.place.holder entry.directory for.directory_is entry.slot entry.new_page for.place)
-  by_command later (Link from to) deed accepted (link, is, for) left =
+  by_command later (Link from to) action accepted (link, is, for) left =
       let found = Accepted-from_row (untaken P) state.tree state.room (Link from to) tree accepted in
       ap fences_of_plan is ∙ ap (λ n. 2 + n) (page_steps to found.place.holder link.directory for.new_name.directory_is link.slot link.new_page for.new_name.place)
-  by_command later (Unlink path) deed accepted (removal, is, for) left =
-      ap fences_of_plan is ∙ unlink_steps later path removal for accepted (subst (λ (d : Deed). IsLeftBy P state (Unlink path) d later) is left)
-  by_command later (Rmdir path) deed accepted (removal, is, for) left =
-      ap fences_of_plan is ∙ rmdir_steps later path removal for accepted (subst (λ (d : Deed). IsLeftBy P state (Rmdir path) d later) is left)
-  by_command later (Rename from to) deed accepted plan left = rename_steps later from to deed accepted plan left
-  by_command later (Write path offset bytes) deed accepted plan left = write_steps later path offset bytes deed plan
-  by_command later (Truncate path size) deed accepted plan left = truncate_steps later path size deed plan
-  by_command later (Read path offset count) deed accepted (reading, is, for) left = ap fences_of_plan is
-  by_command later (Tell path) deed accepted is left = ap fences_of_plan is
-  by_command later (Show path) deed accepted is left = ap fences_of_plan is
-  by_command later Df deed accepted is left = ap fences_of_plan is
+  by_command later (Unlink path) action accepted (removal, is, for) left =
+      ap fences_of_plan is ∙ unlink_steps later path removal for accepted (subst (λ (d : Action). IsLeftBy P state (Unlink path) d later) is left)
+  by_command later (Rmdir path) action accepted (removal, is, for) left =
+      ap fences_of_plan is ∙ rmdir_steps later path removal for accepted (subst (λ (d : Action). IsLeftBy P state (Rmdir path) d later) is left)
+  by_command later (Rename from to) action accepted plan left = rename_steps later from to action accepted plan left
+  by_command later (Write path offset bytes) action accepted plan left = write_steps later path offset bytes action plan
+  by_command later (Truncate path size) action accepted plan left = truncate_steps later path size action plan
+  by_command later (Read path offset count) action accepted (reading, is, for) left = ap fences_of_plan is
+  by_command later (Tell path) action accepted is left = ap fences_of_plan is
+  by_command later (Show path) action accepted is left = ap fences_of_plan is
+  by_command later Df action accepted is left = ap fences_of_plan is
 
 pub plan_fences_law : PlanFencesLaw
-plan_fences_law P I state later c deed tidy reads planned left =
-    by_command P I state tidy reads later c deed planned.accepted planned.plan_is left
+plan_fences_law P I state later c action tidy reads planned left =
+    by_command P I state tidy reads later c action planned.accepted planned.plan_is left
     ∙ ap (λ a. fences_of state (Ok c) a later) (sym (ap (λ o. (outcome_of o (untaken P) (least_free_id state.tree) state.tree state.room c).answer) planned.accepted))

@@ -7,24 +7,27 @@ use Rattle.layout.specs.Fields.{slot_inode}
 use Rattle.layout.specs.declared.kinds.NodeKind.{NodeKind}
 use Rattle.layout.specs.declared.kinds.NodeKind.TheVariants.{File, Directory}
 use Rattle.volume.specs.Lowest.{AreLowestOf}
-use Rattle.volume.specs.Deed.{Deed, Moving, MakesNode, AddsName, RemovesName, MovesName, WritesBytes, SetsSize, ChangesNothing, TellsSpace, rising_of, falling_of}
+use Rattle.volume.specs.Moves.{rising_of, falling_of}
+use Rattle.volume.specs.declared.plan.Moving.{Moving}
+use Rattle.volume.specs.declared.plan.Action.{Action}
+use Rattle.volume.specs.declared.plan.Action.TheVariants.{Make, Name, Remove, Move, Write as WriteBytes, WriteNothing, Resize, KeepSize, KeepNames, Space}
 use Rattle.volume.specs.declared.plan.Loss.{Loss}
 use Rattle.volume.specs.Planned.{IsAlone, IsGivenBack}
 use Rattle.volume.specs.Costs.{events_of, reserved_events, fences_of_plan}
 
--- ---- deeds
+-- ---- actions
 
-abbrev new_node : NodeKind → Option ℕ → Deed
-new_node kind page = MakesNode (record { kind = kind; directory = 1; name = 97 ∷ []; inode = 2; slot = 0; new_page = page })
+abbrev new_node : NodeKind → Option ℕ → Action
+new_node kind page = Make (record { kind = kind; directory = 1; name = 97 ∷ []; inode = 2; slot = 0; new_page = page })
 
-abbrev new_name : Option ℕ → Deed
-new_name page = AddsName (record { directory = 1; name = 97 ∷ []; inode = 2; slot = 0; new_page = page })
+abbrev new_name : Option ℕ → Action
+new_name page = Name (record { directory = 1; name = 97 ∷ []; inode = 2; slot = 0; new_page = page })
 
 abbrev lost : NodeKind → Bool → ℕ → Loss
 lost kind goes pages = record { inode = 5; kind = kind; goes = goes; pages = pages }
 
-abbrev removed : NodeKind → Bool → ℕ → Option ℕ → Deed
-removed kind goes pages given = RemovesName (record { directory = 1; name = 97 ∷ []; slot = 0; loss = lost kind goes pages; given_back = given })
+abbrev removed : NodeKind → Bool → ℕ → Option ℕ → Action
+removed kind goes pages given = Remove (record { directory = 1; name = 97 ∷ []; slot = 0; loss = lost kind goes pages; given_back = given })
 
 abbrev moved : NodeKind → ℕ → Option ℕ → Option Loss → Option ℕ → Moving
 moved kind to page replaced given = record {
@@ -41,15 +44,15 @@ moved kind to page replaced given = record {
   given_back = given;
 }
 
-abbrev written : ℕ → ℕ → ℕ → List ℕ → Deed
-written old offset count pages = WritesBytes (record { inode = 2; offset = offset; count = count; old_size = old; new_pages = pages })
+abbrev written : ℕ → ℕ → ℕ → List ℕ → Action
+written old offset count pages = WriteBytes (record { inode = 2; offset = offset; count = count; old_size = old; new_pages = pages })
 
-abbrev resized : ℕ → ℕ → List ℕ → ℕ → Deed
-resized old size pages cut = SetsSize (record { inode = 2; old_size = old; new_size = size; new_pages = pages; cut = cut })
+abbrev resized : ℕ → ℕ → List ℕ → ℕ → Action
+resized old size pages cut = Resize (record { inode = 2; old_size = old; new_size = size; new_pages = pages; cut = cut })
 
 -- the events of a plan, and its fences
-abbrev Costs : Deed → ℕ → ℕ → Type 0
-Costs deed events fences = (events_of deed ≡ events) × (fences_of_plan deed ≡ fences)
+abbrev Costs : Action → ℕ → ℕ → Type 0
+Costs action events fences = (events_of action ≡ events) × (fences_of_plan action ≡ fences)
 
 -- ---- names
 
@@ -70,17 +73,17 @@ rmdirs = ((refl, refl), (refl, refl))
 
 -- ---- moves
 
-files_move : Costs (MovesName (moved File 1 None None None)) 47 6
+files_move : Costs (Move (moved File 1 None None None)) 44 4
 files_move = (refl, refl)
 
-directories_move : Costs (MovesName (moved Directory 3 None None None)) 51 6 × Costs (MovesName (moved Directory 3 (Some 7) None (Some 0))) 641 10
+directories_move : Costs (Move (moved Directory 3 None None None)) 48 4 × Costs (Move (moved Directory 3 (Some 7) None (Some 0))) 623 8
 directories_move = ((refl, refl), (refl, refl))
 
-files_replaced : Costs (MovesName (moved File 1 None (Some (lost File false 0)) None)) 32 5 × Costs (MovesName (moved File 1 None (Some (lost File true 0)) None)) 38 6
-    × Costs (MovesName (moved File 1 None (Some (lost File true 2)) (Some 0))) 54 7
+files_replaced : Costs (Move (moved File 1 None (Some (lost File false 0)) None)) 31 4 × Costs (Move (moved File 1 None (Some (lost File true 0)) None)) 37 5
+    × Costs (Move (moved File 1 None (Some (lost File true 2)) (Some 0))) 53 6
 files_replaced = ((refl, refl), (refl, refl), (refl, refl))
 
-directories_replaced : Costs (MovesName (moved Directory 1 None (Some (lost Directory true 0)) None)) 38 6 × Costs (MovesName (moved Directory 3 None (Some (lost Directory true 0)) None)) 38 6
+directories_replaced : Costs (Move (moved Directory 1 None (Some (lost Directory true 0)) None)) 37 5 × Costs (Move (moved Directory 3 None (Some (lost Directory true 0)) None)) 37 5
 directories_replaced = ((refl, refl), (refl, refl))
 
 -- which links rise, and which fall
@@ -111,12 +114,12 @@ grown = ((refl, refl), (refl, refl), (refl, refl))
 cut : Costs (resized 9001 8193 [] 0) 3 1 × Costs (resized 9001 8192 [] 1) 10 3 × Costs (resized 9001 0 [] 3) 20 3
 cut = ((refl, refl), (refl, refl), (refl, refl))
 
-nothing : Costs ChangesNothing 0 0
-nothing = (refl, refl)
+nothing : Costs WriteNothing 0 0 × Costs KeepSize 0 0 × Costs KeepNames 0 0
+nothing = ((refl, refl), (refl, refl), (refl, refl))
 
 -- ---- what is reserved
 
-reserved : (reserved_events TellsSpace ≡ 0) × (reserved_events ChangesNothing ≡ 0) × (reserved_events (new_node File None) ≡ 25)
+reserved : (reserved_events Space ≡ 0) × (reserved_events KeepNames ≡ 0) × (reserved_events (new_node File None) ≡ 25)
 reserved = (refl, refl, refl)
 
 -- ---- the lowest of 3, 5 and 7

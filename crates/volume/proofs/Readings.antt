@@ -12,7 +12,7 @@ use Rattle.tree_model.specs.declared.reply.Refusal.TheVariants.{NotDir}
 use Rattle.volume.specs.Volume.{VolumeView}
 use Rattle.volume.specs.Stands.{StandsFor}
 use Rattle.volume.specs.Planned.{IsPlanned}
-use Rattle.volume.specs.Deed.{TellsNode, ListsNames}
+use Rattle.volume.specs.declared.plan.Action.TheVariants.{Status, Names}
 use Rattle.volume.proofs.Walked.{stands_tree}
 
 pub no_file : (o : Option Node) → is_directory_node o ≡ true → is_file_node o ≡ false
@@ -33,13 +33,13 @@ module _ (volume : VolumeView) (device : DeviceView) (state : State) (stands : S
   pub its_id : id_of state.tree path ≡ inode
   its_id = ap (λ o. unwrap_or o root_id) named
 
-  pub told_planned : IsPlanned volume.size device.words state (Tell path) (TellsNode inode)
-  told_planned = record { accepted = ap (λ w. first (fault_of w ∷ [])) walked; plan_is = ap TellsNode (sym its_id) }
+  pub told_planned : IsPlanned volume.size device.words state (Tell path) (Status inode)
+  told_planned = record { accepted = ap (λ w. first (fault_of w ∷ [])) walked; plan_is = ap Status (sym its_id) }
 
-  pub listed_planned : is_directory state.tree inode ≡ true → IsPlanned volume.size device.words state (Show path) (ListsNames inode)
+  pub listed_planned : is_directory state.tree inode ≡ true → IsPlanned volume.size device.words state (Show path) (Names inode)
   listed_planned directory =
       let test = ap (is_file state.tree) its_id ∙ no_file (node_at state.tree inode) directory in
-      record { accepted = λ i. first (fault_of (walked i) ∷ at NotDir (test i) ∷ []); plan_is = ap ListsNames (sym its_id) }
+      record { accepted = λ i. first (fault_of (walked i) ∷ at NotDir (test i) ∷ []); plan_is = ap Names (sym its_id) }
 
   pub listed_file : is_directory state.tree inode ≡ false → refusal_of volume.size state.tree state.room (Show path) ≡ Some NotDir
   listed_file other =

@@ -29,7 +29,7 @@ use Rattle.volume.specs.Carried.{IsPlanFor}
 use Rattle.volume.specs.Entered.{IsTaken, MayGiveBack, MayGo, LeavesPageOf}
 use Rattle.volume.specs.declared.plan.Removal.{Removal}
 use Rattle.volume.specs.declared.plan.Action.TheVariants.{Remove}
-use Rattle.volume.proofs.PlanDeeds.{IsOfRemoval, planned_removing}
+use Rattle.volume.proofs.PlanActions.{IsOfRemoval, planned_removing}
 use Rattle.volume.proofs.Staying.{other_path}
 use Rattle.volume.proofs.Places.{owner_is}
 use Rattle.volume.proofs.Walked.{stands_tree, reached_at, in_table, in_index}

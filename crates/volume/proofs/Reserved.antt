@@ -14,7 +14,6 @@ use Rattle.volatile_index.specs.Index.{NodeView}
 use Rattle.volatile_index.specs.declared.entry.Entry.{Entry}
 use Rattle.volume.specs.Volume.{VolumeView}
 use Rattle.volume.specs.Stands.{KnowsNodes, Knows, StandsFor}
-use Rattle.volume.specs.Deed.{deed_of}
 use Rattle.volume.specs.Planned.{IsPlanned}
 use Rattle.volume.specs.Carried.{IsPlanFor}
 use Rattle.volume.specs.Prepared.{HasSameContents, IsSameButPlaces, IsSameButRoom}
@@ -62,8 +61,8 @@ module _ (old new : VolumeView) (before after : DeviceView) (state : State) (sam
       })
 
   -- and a plan is one of it
-  pub plan_still : (command : Command) (action : Action) → IsPlanned old.size before.words state command (deed_of action) → IsPlanFor new after state command action
+  pub plan_still : (command : Command) (action : Action) → IsPlanned old.size before.words state command action → IsPlanFor new after state command action
   plan_still command action planned = record {
     stands = stands_still;
-    planned = subst (λ (P : ℕ). IsPlanned P after.words state command (deed_of action)) (sym same.same_size) (subst (λ (now : List ℕ). IsPlanned old.size now state command (deed_of action)) (sym room.words) planned);
+    planned = subst (λ (P : ℕ). IsPlanned P after.words state command action) (sym same.same_size) (subst (λ (now : List ℕ). IsPlanned old.size now state command action) (sym room.words) planned);
   }

@@ -22,9 +22,10 @@ use Rattle.volume.specs.Prepared.{making}
 use Rattle.layout.specs.declared.kinds.NodeKind.{NodeKind}
 use Rattle.layout.specs.declared.kinds.NodeKind.TheVariants.{File, Directory}
 use Rattle.volume.specs.declared.plan.NewEntry.{NewEntry}
-use Rattle.volume.specs.Deed.{MakesNode}
+use Rattle.volume.specs.declared.plan.Action.TheVariants.{Make}
 use Rattle.volume.proofs.Frees.{free_inodes_are, least_inode}
-use Rattle.volume.proofs.Holders.{WouldHold, no_free, held, present, absent, lacks_page, has_page}
+use Rattle.volume.specs.Walks.{WouldHold}
+use Rattle.volume.proofs.Holders.{no_free, held, present, absent, lacks_page, has_page}
 
 -- the row of a new node
 abbrev row : Option Refusal → Bool → Bool → Bool → Bool → Option Refusal
@@ -92,7 +93,7 @@ module _ (volume : VolumeView) (device : DeviceView) (state : State) (stands : S
         refusal_is kind ∙ (λ i. row (fault_of (walked i)) (below i) (missing i) (inode i) (page i))
 
     pub new_planned : (k slot : ℕ) (new_page : Option ℕ) → IsAbsent (entries_of volume.index d) name → IsLowest volume.inodes k → IsPlace volume.size device.words d slot new_page
-        → IsPlanned volume.size device.words state (making kind path) (MakesNode (record { kind = kind; directory = d; name = name; inode = k + 1; slot = slot; new_page = new_page }))
+        → IsPlanned volume.size device.words state (making kind path) (Make (record { kind = kind; directory = d; name = name; inode = k + 1; slot = slot; new_page = new_page }))
     new_planned k slot new_page none lowest place =
         planned kind refl (new_accepted k slot new_page none lowest.free place)
       where
@@ -104,6 +105,6 @@ module _ (volume : VolumeView) (device : DeviceView) (state : State) (stands : S
             let least = least_inode volume device state stands k lowest in
             record { kind_is = refl; new_name = record { directory_is = (held volume device state stands path d name holder).0; name_is = named; place = place }; inode_is = least.0; inode_within = least.1 }
 
-        planned : (node : NodeKind) → kind ≡ node → refusal_of volume.size state.tree state.room (making node path) ≡ None → IsPlanned volume.size device.words state (making node path) (MakesNode (entry node))
+        planned : (node : NodeKind) → kind ≡ node → refusal_of volume.size state.tree state.room (making node path) ≡ None → IsPlanned volume.size device.words state (making node path) (Make (entry node))
         planned File is accepted = record { accepted = accepted; plan_is = (entry File, refl, entry_is File) }
         planned Directory is accepted = record { accepted = accepted; plan_is = (entry Directory, refl, entry_is Directory) }

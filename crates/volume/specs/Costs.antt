@@ -1,10 +1,13 @@
 -- What a plan costs on the device: its events, which are reserved before, and its fences.
-use Rattle.std.specs.Prelude.{ℕ, ◌+◌, ◌-◌, ◌*◌, ◌/◌, Bool, false, not, ◌||◌, nat_lt, nat_le, if◌then◌else◌, min, List, [], ◌∷◌, length, Option, Some, None, is_some}
+use Rattle.std.specs.Prelude.{ℕ, ◌+◌, ◌-◌, ◌*◌, ◌/◌, Bool, false, ◌||◌, nat_lt, nat_le, if◌then◌else◌, min, List, [], ◌∷◌, length, Option, Some, None, is_some}
 use Rattle.layout.specs.Geometry.{pieces}
 use Rattle.layout.specs.declared.kinds.NodeKind.{NodeKind}
 use Rattle.layout.specs.declared.kinds.NodeKind.TheVariants.{File, Directory}
 use Rattle.tree_model.specs.Tree.{page_bytes}
-use Rattle.volume.specs.Deed.{rising_of, falling_of, Deed, Moving, MakesNode, AddsName, RemovesName, MovesName, WritesBytes, SetsSize, ChangesNothing, ReadsBytes, TellsNode, ListsNames, TellsSpace}
+use Rattle.volume.specs.Moves.{rising_of, falling_of}
+use Rattle.volume.specs.declared.plan.Moving.{Moving}
+use Rattle.volume.specs.declared.plan.Action.{Action}
+use Rattle.volume.specs.declared.plan.Action.TheVariants.{Make, Name, Remove, Move, Write as WriteBytes, WriteNothing, Resize, KeepSize, KeepNames, Read as ReadBytes, Status, Names, Space}
 use Rattle.volume.specs.declared.plan.Loss.{Loss}
 use Rattle.volume.specs.declared.plan.Removal.{Removal}
 use Rattle.volume.specs.declared.plan.Writing.{Writing}
@@ -111,36 +114,43 @@ events_of_resize resizing =
     then growth_events resizing.old_size resizing.old_size (length resizing.new_pages)
     else commit_events + loss_events resizing.cut false
 
--- the name in a new place; the pointer, the two numbers and the pointer again; the old slot; what the replaced node leaves
+-- the pointer of the new slot, with the words of its name where it has none yet
+abbrev pub pointing_events : Moving → ℕ
+pointing_events moving = if is_some moving.replaced || is_some moving.new_page then word_events else slot_rest_events
+
+-- the pointer, with a link count that rises; the number of the new slot, and that of the old one; the pointer again, with the rest of
+-- the old slot and a link count that falls; what the replaced node and the old slot's page leave
 abbrev pub events_of_move : Moving → ℕ
 events_of_move moving =
     new_page_events moving.new_page
-    + where_true (not (is_some moving.replaced)) (name_events + count_of (rising_of moving) * word_events + fence_events)
-    + 4 * commit_events
-    + clearing_events (count_of (falling_of moving))
+    + (pointing_events moving + count_of (rising_of moving) * word_events + fence_events)
+    + 2 * commit_events
+    + (word_events + clearing_events (count_of (falling_of moving)))
     + loss_events (pages_replaced moving) (goes_of moving.replaced)
 
 -- the stores, flushes and fences of a plan
-abbrev pub events_of : Deed → ℕ
-events_of (MakesNode entry) = new_page_events entry.new_page + (inode_events + name_events + links_events entry.kind + fence_events) + commit_events
-events_of (AddsName link) = new_page_events link.new_page + (word_events + name_events + fence_events) + commit_events
-events_of (RemovesName removal) = commit_events + clearing_events 1 + loss_events (pages_removed removal) removal.loss.goes
-events_of (MovesName moving) = events_of_move moving
-events_of (WritesBytes writing) = events_of_write writing
-events_of (SetsSize resizing) = events_of_resize resizing
-events_of ChangesNothing = 0
-events_of (ReadsBytes reading) = 0
-events_of (TellsNode inode) = 0
-events_of (ListsNames inode) = 0
-events_of TellsSpace = 0
+abbrev pub events_of : Action → ℕ
+events_of (Make entry) = new_page_events entry.new_page + (inode_events + name_events + links_events entry.kind + fence_events) + commit_events
+events_of (Name link) = new_page_events link.new_page + (word_events + name_events + fence_events) + commit_events
+events_of (Remove removal) = commit_events + clearing_events 1 + loss_events (pages_removed removal) removal.loss.goes
+events_of (Move moving) = events_of_move moving
+events_of (WriteBytes writing) = events_of_write writing
+events_of (Resize resizing) = events_of_resize resizing
+events_of WriteNothing = 0
+events_of KeepSize = 0
+events_of KeepNames = 0
+events_of (ReadBytes reading) = 0
+events_of (Status inode) = 0
+events_of (Names inode) = 0
+events_of Space = 0
 
 -- the events for which a volume keeps room beside those of its plans
 abbrev pub kept_events : ℕ
 kept_events = 0
 
 -- what a plan has reserved: one that stores nothing needs no room
-abbrev pub reserved_events : Deed → ℕ
-reserved_events deed = where_true (nat_lt 0 (events_of deed)) (events_of deed + kept_events)
+abbrev pub reserved_events : Action → ℕ
+reserved_events action = where_true (nat_lt 0 (events_of action)) (events_of action + kept_events)
 
 -- ---- fences
 
@@ -165,19 +175,20 @@ fences_of_resize resizing =
 
 abbrev pub fences_of_move : Moving → ℕ
 fences_of_move moving =
-    fences_for_page moving.new_page + (if is_some moving.replaced then 5 else 6)
-    + fences_for_loss (pages_replaced moving) (goes_of moving.replaced)
+    fences_for_page moving.new_page + 4 + fences_for_loss (pages_replaced moving) (goes_of moving.replaced)
 
 -- how many fences the call of a plan makes
-abbrev pub fences_of_plan : Deed → ℕ
-fences_of_plan (MakesNode entry) = 2 + fences_for_page entry.new_page
-fences_of_plan (AddsName link) = 2 + fences_for_page link.new_page
-fences_of_plan (RemovesName removal) = 2 + fences_for_loss (pages_removed removal) removal.loss.goes
-fences_of_plan (MovesName moving) = fences_of_move moving
-fences_of_plan (WritesBytes writing) = fences_of_write writing
-fences_of_plan (SetsSize resizing) = fences_of_resize resizing
-fences_of_plan ChangesNothing = 0
-fences_of_plan (ReadsBytes reading) = 0
-fences_of_plan (TellsNode inode) = 0
-fences_of_plan (ListsNames inode) = 0
-fences_of_plan TellsSpace = 0
+abbrev pub fences_of_plan : Action → ℕ
+fences_of_plan (Make entry) = 2 + fences_for_page entry.new_page
+fences_of_plan (Name link) = 2 + fences_for_page link.new_page
+fences_of_plan (Remove removal) = 2 + fences_for_loss (pages_removed removal) removal.loss.goes
+fences_of_plan (Move moving) = fences_of_move moving
+fences_of_plan (WriteBytes writing) = fences_of_write writing
+fences_of_plan (Resize resizing) = fences_of_resize resizing
+fences_of_plan WriteNothing = 0
+fences_of_plan KeepSize = 0
+fences_of_plan KeepNames = 0
+fences_of_plan (ReadBytes reading) = 0
+fences_of_plan (Status inode) = 0
+fences_of_plan (Names inode) = 0
+fences_of_plan Space = 0

@@ -1,11 +1,13 @@
--- What a volume knows once a deed is done: what its index and its sets of free numbers gained and lost.
+-- What a volume knows once an action is done: what its index and its sets of free numbers gained and lost.
 use Rattle.std.specs.Prelude.{◌≡◌, ℕ, ◌+◌, ◌-◌, ◌<◌, ◌≤◌, Bool, true, false, List, [], ◌∷◌, ◌++◌, length, Contains, Option, Some, None, slice_set}
 use Rattle.image_reading.specs.Counts.{IsDistinct}
 use Rattle.allocators.specs.Numbers.{IsFree}
 use Rattle.volatile_index.specs.Entries.{IsAbsent}
 use Rattle.volatile_index.specs.Index.{inodes_of_index, entries_of, places_of, pages_of, page_places_of, IsWithPages, DropsPage, PutsEntry, RemovesEntry, ChangesNode}
 use Rattle.volume.specs.Volume.{VolumeView}
-use Rattle.volume.specs.Deed.{Deed, Moving, MakesNode, AddsName, RemovesName, MovesName, WritesBytes, SetsSize, ChangesNothing, ReadsBytes, TellsNode, ListsNames, TellsSpace}
+use Rattle.volume.specs.declared.plan.Moving.{Moving}
+use Rattle.volume.specs.declared.plan.Action.{Action}
+use Rattle.volume.specs.declared.plan.Action.TheVariants.{Make, Name, Remove, Move, Write as WriteBytes, WriteNothing, Resize, KeepSize, KeepNames, Read as ReadBytes, Status, Names, Space}
 use Rattle.volume.specs.declared.plan.Loss.{Loss}
 use Rattle.volume.specs.declared.plan.Removal.{Removal}
 use Rattle.volume.specs.declared.plan.Resizing.{Resizing}
@@ -46,19 +48,21 @@ abbrev pub HasMovePlace : VolumeView → Moving → Option Loss → Type 0
 HasMovePlace volume moving None = HasNamePlace volume moving.to_directory moving.new_page
 HasMovePlace volume moving (Some loss) = Unit {0}
 
--- the index has room for what the deed adds
-abbrev pub IsReserved : VolumeView → Deed → Type 0
-IsReserved volume (MakesNode entry) = HasNamePlace volume entry.directory entry.new_page
-IsReserved volume (AddsName link) = HasNamePlace volume link.directory link.new_page
-IsReserved volume (RemovesName removal) = Unit {0}
-IsReserved volume (MovesName moving) = HasMovePlace volume moving moving.replaced
-IsReserved volume (WritesBytes writing) = HasPagePlaces volume writing.inode writing.new_pages
-IsReserved volume (SetsSize resizing) = HasPagePlaces volume resizing.inode resizing.new_pages
-IsReserved volume ChangesNothing = Unit {0}
-IsReserved volume (ReadsBytes reading) = Unit {0}
-IsReserved volume (TellsNode inode) = Unit {0}
-IsReserved volume (ListsNames inode) = Unit {0}
-IsReserved volume TellsSpace = Unit {0}
+-- the index has room for what the action adds
+abbrev pub IsReserved : VolumeView → Action → Type 0
+IsReserved volume (Make entry) = HasNamePlace volume entry.directory entry.new_page
+IsReserved volume (Name link) = HasNamePlace volume link.directory link.new_page
+IsReserved volume (Remove removal) = Unit {0}
+IsReserved volume (Move moving) = HasMovePlace volume moving moving.replaced
+IsReserved volume (WriteBytes writing) = HasPagePlaces volume writing.inode writing.new_pages
+IsReserved volume (Resize resizing) = HasPagePlaces volume resizing.inode resizing.new_pages
+IsReserved volume WriteNothing = Unit {0}
+IsReserved volume KeepSize = Unit {0}
+IsReserved volume KeepNames = Unit {0}
+IsReserved volume (ReadBytes reading) = Unit {0}
+IsReserved volume (Status inode) = Unit {0}
+IsReserved volume (Names inode) = Unit {0}
+IsReserved volume Space = Unit {0}
 
 -- ---- what may be entered
 
@@ -161,7 +165,7 @@ abbrev pub LeavesInodeIf : Bool → VolumeView → VolumeView → ℕ → Type 0
 LeavesInodeIf true old new inode = LeavesInode old new inode
 LeavesInodeIf false old new inode = new ≡ old
 
--- ---- what the deeds do
+-- ---- what actions do
 
 pub record HasRemoved (old new : VolumeView) (removal : Removal) : Type 0 where
   pub unnamed : VolumeView
@@ -187,17 +191,19 @@ pub record HasResized (old new : VolumeView) (resizing : Resizing) : Type 0 wher
   pub pages : EntersPages old grown resizing.inode resizing.new_pages
   pub cut : LeavesLastPages grown new resizing.inode resizing.cut
 
--- What the volume knows once the deed is done. Where all is said, nothing else has changed.
-abbrev pub HasDone : VolumeView → VolumeView → Deed → Type 0
-HasDone old new (MakesNode entry) =
+-- What the volume knows once the action is done. Where all is said, nothing else has changed.
+abbrev pub HasDone : VolumeView → VolumeView → Action → Type 0
+HasDone old new (Make entry) =
     (named : VolumeView) × EntersName old named entry.directory entry.name entry.slot entry.new_page × EntersInode named new entry.inode
-HasDone old new (AddsName link) = EntersName old new link.directory link.name link.slot link.new_page
-HasDone old new (RemovesName removal) = HasRemoved old new removal
-HasDone old new (MovesName moving) = HasMoved old new moving
-HasDone old new (WritesBytes writing) = EntersPages old new writing.inode writing.new_pages
-HasDone old new (SetsSize resizing) = HasResized old new resizing
-HasDone old new ChangesNothing = new ≡ old
-HasDone old new (ReadsBytes reading) = new ≡ old
-HasDone old new (TellsNode inode) = new ≡ old
-HasDone old new (ListsNames inode) = new ≡ old
-HasDone old new TellsSpace = new ≡ old
+HasDone old new (Name link) = EntersName old new link.directory link.name link.slot link.new_page
+HasDone old new (Remove removal) = HasRemoved old new removal
+HasDone old new (Move moving) = HasMoved old new moving
+HasDone old new (WriteBytes writing) = EntersPages old new writing.inode writing.new_pages
+HasDone old new (Resize resizing) = HasResized old new resizing
+HasDone old new WriteNothing = new ≡ old
+HasDone old new KeepSize = new ≡ old
+HasDone old new KeepNames = new ≡ old
+HasDone old new (ReadBytes reading) = new ≡ old
+HasDone old new (Status inode) = new ≡ old
+HasDone old new (Names inode) = new ≡ old
+HasDone old new Space = new ≡ old

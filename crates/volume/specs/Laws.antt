@@ -7,31 +7,34 @@ use Rattle.tree_model.specs.Fences.{fences_of}
 use Rattle.tree_model.specs.declared.command.Command.{Command}
 use Rattle.image_reading.specs.Reading.{ReadsAs}
 use Rattle.image_reading.specs.Tidy.{IsTidied}
-use Rattle.volume.specs.Deed.{Deed, MakesNode, AddsName, RemovesName, MovesName, WritesBytes, SetsSize, ChangesNothing, ReadsBytes, TellsNode, ListsNames, TellsSpace}
+use Rattle.volume.specs.declared.plan.Action.{Action}
+use Rattle.volume.specs.declared.plan.Action.TheVariants.{Make, Name, Remove, Move, Write as WriteBytes, WriteNothing, Resize, KeepSize, KeepNames, Read as ReadBytes, Status, Names, Space}
 use Rattle.volume.specs.Planned.{IsPlanned}
 use Rattle.volume.specs.Costs.{fences_of_plan}
 
 -- a directory gives a page back
-abbrev pub gives_back : Deed → Bool
-gives_back (MakesNode entry) = false
-gives_back (AddsName link) = false
-gives_back (RemovesName removal) = is_some removal.given_back
-gives_back (MovesName moving) = is_some moving.given_back
-gives_back (WritesBytes writing) = false
-gives_back (SetsSize resizing) = false
-gives_back ChangesNothing = false
-gives_back (ReadsBytes reading) = false
-gives_back (TellsNode inode) = false
-gives_back (ListsNames inode) = false
-gives_back TellsSpace = false
+abbrev pub gives_back : Action → Bool
+gives_back (Make entry) = false
+gives_back (Name link) = false
+gives_back (Remove removal) = is_some removal.given_back
+gives_back (Move moving) = is_some moving.given_back
+gives_back (WriteBytes writing) = false
+gives_back (Resize resizing) = false
+gives_back WriteNothing = false
+gives_back KeepSize = false
+gives_back KeepNames = false
+gives_back (ReadBytes reading) = false
+gives_back (Status inode) = false
+gives_back (Names inode) = false
+gives_back Space = false
 
--- The tree is the one that the command leaves, and the room the one where a page is given back exactly as the deed does.
-pub record IsLeftBy (P : ℕ) (state : State) (command : Command) (deed : Deed) (later : State) : Type 0 where
+-- The tree is the one that the command leaves, and the room the one where a page is given back exactly as the action does.
+pub record IsLeftBy (P : ℕ) (state : State) (command : Command) (action : Action) (later : State) : Type 0 where
   pub tree : later.tree ≡ (step P state.tree state.room command).tree
-  pub room : later.room ≡ room_after (least_free_id state.tree) state.tree state.room (resolved state.tree command) (gives_back deed)
+  pub room : later.room ≡ room_after (least_free_id state.tree) state.tree state.room (resolved state.tree command) (gives_back action)
   pub fits : IsRoom later.tree later.room
 
 -- The fences of a plan are those that its command takes between the two states.
 abbrev pub PlanFencesLaw : Type 0
-PlanFencesLaw = (P : ℕ) (I : List ℕ) (state later : State) (command : Command) (deed : Deed) → IsTidied P I → ReadsAs P I state → IsPlanned P I state command deed → IsLeftBy P state command deed later
-    → fences_of_plan deed ≡ fences_of state (Ok command) (step P state.tree state.room command).answer later
+PlanFencesLaw = (P : ℕ) (I : List ℕ) (state later : State) (command : Command) (action : Action) → IsTidied P I → ReadsAs P I state → IsPlanned P I state command action → IsLeftBy P state command action later
+    → fences_of_plan action ≡ fences_of state (Ok command) (step P state.tree state.room command).answer later

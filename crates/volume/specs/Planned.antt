@@ -13,7 +13,10 @@ use Rattle.tree_model.specs.declared.command.Command.TheVariants.{Create, Mkdir,
 use Rattle.image_reading.specs.Counts.{Count}
 use Rattle.image_counts.specs.Entries.{IsEntryOf, IsSlotIn, IsPageIn, IsFreePage}
 use Rattle.volume.specs.Lowest.{AreLowestOf}
-use Rattle.volume.specs.Deed.{Deed, is_directory_kind, Moving, MakesNode, AddsName, RemovesName, MovesName, WritesBytes, SetsSize, ChangesNothing, ReadsBytes, TellsNode, ListsNames, TellsSpace}
+use Rattle.volume.specs.Moves.{is_directory_kind}
+use Rattle.volume.specs.declared.plan.Moving.{Moving}
+use Rattle.volume.specs.declared.plan.Action.{Action}
+use Rattle.volume.specs.declared.plan.Action.TheVariants.{Make, Name, Remove, Move, Write as WriteBytes, WriteNothing, Resize, KeepSize, KeepNames, Read as ReadBytes, Status, Names, Space}
 use Rattle.volume.specs.declared.plan.NewName.{NewName}
 use Rattle.volume.specs.declared.plan.Loss.{Loss}
 use Rattle.volume.specs.declared.plan.Removal.{Removal}
@@ -139,33 +142,33 @@ pub record IsReadingFor (state : State) (path : Route) (offset count : ℕ) (rea
   pub offset_is : reading.offset ≡ offset
   pub count_is : reading.count ≡ count
 
--- nothing is to be done, or a deed that has Q is
-abbrev pub IsNothingOr : Bool → (Deed → Type 0) → Deed → Type 0
-IsNothingOr true Q deed = deed ≡ ChangesNothing
-IsNothingOr false Q deed = Q deed
+-- this is done in place of nothing, or an action that has Q
+abbrev pub IsNothingOr : Bool → Action → (Action → Type 0) → Action → Type 0
+IsNothingOr true nothing Q action = action ≡ nothing
+IsNothingOr false nothing Q action = Q action
 
 abbrev pub is_size_of : State → Route → ℕ → Bool
 is_size_of state path size = size == length (bytes_of state.tree (id_of state.tree path))
 
 -- What the plan of an accepted command does, at the paths that its walks reach.
-abbrev pub IsPlanOf : ℕ → List ℕ → State → Command → Deed → Type 0
-IsPlanOf P I state (Create path) deed = (entry : NewEntry) × (deed ≡ MakesNode entry) × IsEntryFor P I state path File entry
-IsPlanOf P I state (Mkdir path) deed = (entry : NewEntry) × (deed ≡ MakesNode entry) × IsEntryFor P I state path Directory entry
-IsPlanOf P I state (Link from to) deed = (link : NewName) × (deed ≡ AddsName link) × IsLinkFor P I state from to link
-IsPlanOf P I state (Unlink path) deed = (removal : Removal) × (deed ≡ RemovesName removal) × IsRemovalFor P I state (Unlink path) path removal
-IsPlanOf P I state (Rmdir path) deed = (removal : Removal) × (deed ≡ RemovesName removal) × IsRemovalFor P I state (Rmdir path) path removal
-IsPlanOf P I state (Rename from to) deed =
-    IsNothingOr (is_same_node state.tree from to) (λ deed. (moving : Moving) × (deed ≡ MovesName moving) × IsMovingFor P I state from to moving) deed
-IsPlanOf P I state (Write path offset bytes) deed =
-    IsNothingOr (length bytes == 0) (λ deed. (writing : Writing) × (deed ≡ WritesBytes writing) × IsWritingFor P I state path offset bytes writing) deed
-IsPlanOf P I state (Truncate path size) deed =
-    IsNothingOr (is_size_of state path size) (λ deed. (resizing : Resizing) × (deed ≡ SetsSize resizing) × IsResizingFor P I state path size resizing) deed
-IsPlanOf P I state (Read path offset count) deed = (reading : Reading) × (deed ≡ ReadsBytes reading) × IsReadingFor state path offset count reading
-IsPlanOf P I state (Tell path) deed = deed ≡ TellsNode (id_of state.tree path)
-IsPlanOf P I state (Show path) deed = deed ≡ ListsNames (id_of state.tree path)
-IsPlanOf P I state Df deed = deed ≡ TellsSpace
+abbrev pub IsPlanOf : ℕ → List ℕ → State → Command → Action → Type 0
+IsPlanOf P I state (Create path) action = (entry : NewEntry) × (action ≡ Make entry) × IsEntryFor P I state path File entry
+IsPlanOf P I state (Mkdir path) action = (entry : NewEntry) × (action ≡ Make entry) × IsEntryFor P I state path Directory entry
+IsPlanOf P I state (Link from to) action = (link : NewName) × (action ≡ Name link) × IsLinkFor P I state from to link
+IsPlanOf P I state (Unlink path) action = (removal : Removal) × (action ≡ Remove removal) × IsRemovalFor P I state (Unlink path) path removal
+IsPlanOf P I state (Rmdir path) action = (removal : Removal) × (action ≡ Remove removal) × IsRemovalFor P I state (Rmdir path) path removal
+IsPlanOf P I state (Rename from to) action =
+    IsNothingOr (is_same_node state.tree from to) KeepNames (λ action. (moving : Moving) × (action ≡ Move moving) × IsMovingFor P I state from to moving) action
+IsPlanOf P I state (Write path offset bytes) action =
+    IsNothingOr (length bytes == 0) WriteNothing (λ action. (writing : Writing) × (action ≡ WriteBytes writing) × IsWritingFor P I state path offset bytes writing) action
+IsPlanOf P I state (Truncate path size) action =
+    IsNothingOr (is_size_of state path size) KeepSize (λ action. (resizing : Resizing) × (action ≡ Resize resizing) × IsResizingFor P I state path size resizing) action
+IsPlanOf P I state (Read path offset count) action = (reading : Reading) × (action ≡ ReadBytes reading) × IsReadingFor state path offset count reading
+IsPlanOf P I state (Tell path) action = action ≡ Status (id_of state.tree path)
+IsPlanOf P I state (Show path) action = action ≡ Names (id_of state.tree path)
+IsPlanOf P I state Df action = action ≡ Space
 
 -- the command is accepted, and this is what its plan does
-pub record IsPlanned (P : ℕ) (I : List ℕ) (state : State) (command : Command) (deed : Deed) : Type 0 where
+pub record IsPlanned (P : ℕ) (I : List ℕ) (state : State) (command : Command) (action : Action) : Type 0 where
   pub accepted : refusal_of P state.tree state.room command ≡ None
-  pub plan_is : IsPlanOf P I state (resolved state.tree command) deed
+  pub plan_is : IsPlanOf P I state (resolved state.tree command) action

@@ -1,5 +1,5 @@
 -- What preparing a command answers and leaves.
-use Rattle.std.specs.Prelude.{◌≡◌, ◌≢◌, ◌⊎◌, ℕ, ◌+◌, ◌^◌, ◌<◌, ◌≤◌, Bool, false, List, length, IsTrue, Some, Result, Ok, Err, OnOk, IfOk, IfErr}
+use Rattle.std.specs.Prelude.{◌≡◌, ◌≢◌, ◌⊎◌, ℕ, ◌+◌, ◌^◌, ◌<◌, ◌≤◌, Bool, true, false, List, length, ◌||◌, ◌==◌, IsTrue, None, Some, Result, Ok, Err, OnOk, IfOk, IfErr}
 use Rattle.pm_trait.specs.Device.{HasRisen}
 use Rattle.pm_trait.specs.DeviceView.{DeviceView}
 use Rattle.tree_model.specs.PathText.{Route}
@@ -8,39 +8,32 @@ use Rattle.tree_model.specs.Capacity.{file_limit}
 use Rattle.tree_model.specs.Run.{State, is_changing, may_fail}
 use Rattle.tree_model.specs.Places.{needs_places}
 use Rattle.tree_model.specs.declared.command.Command.{Command}
-use Rattle.tree_model.specs.declared.command.Command.TheVariants.{Create, Mkdir, Link, Unlink, Rmdir, Rename, Write, Truncate, Read, Stat as Tell, List as Show, Df}
+use Rattle.tree_model.specs.declared.command.Command.TheVariants.{Create, Mkdir}
 use Rattle.tree_model.specs.declared.reply.Refusal.{Refusal}
 use Rattle.tree_model.specs.declared.reply.Refusal.TheVariants.{NoPages, NoMemory}
 use Rattle.volatile_index.specs.Index.{NodeView, inodes_of_index, entries_of, places_of, pages_of, page_places_of}
 use Rattle.volume.specs.Volume.{VolumeView}
-use Rattle.volume.specs.Costs.{events_of}
-use Rattle.volume.specs.Deed.{deed_of}
+use Rattle.volume.specs.Costs.{events_of, pages_of_loss}
 use Rattle.allocators.specs.Numbers.{IsFree, free_in}
 use Rattle.volume.specs.Lowest.{AreLowestOf}
 use Rattle.volume.specs.Stands.{StandsFor}
+use Rattle.volume.specs.Moves.{is_directory_kind}
 use Rattle.volume.specs.Planned.{IsPlanned}
+use Rattle.image_reading.specs.Counts.{Count}
+use Rattle.image_counts.specs.Entries.{IsPageIn}
 use Rattle.volume.specs.Carried.{HasReserved}
+use Rattle.layout.specs.Fields.{inode_links}
 use Rattle.layout.specs.declared.kinds.NodeKind.{NodeKind}
 use Rattle.layout.specs.declared.kinds.NodeKind.TheVariants.{File, Directory}
+use Rattle.volume.specs.declared.plan.NewEntry.{NewEntry}
+use Rattle.volume.specs.declared.plan.NewName.{NewName}
+use Rattle.volume.specs.declared.plan.Loss.{Loss}
+use Rattle.volume.specs.declared.plan.Removal.{Removal}
+use Rattle.volume.specs.declared.plan.Moving.{Moving}
 use Rattle.volume.specs.declared.plan.Writing.{Writing}
 use Rattle.volume.specs.declared.plan.Resizing.{Resizing}
 use Rattle.volume.specs.declared.plan.Action.{Action}
-use Rattle.volume.specs.declared.plan.Action.TheVariants.{Make, Name, Remove, Write as WriteBytes, Resize, Nothing, Read as ReadBytes, Status, Names, Space}
-
--- the commands that `prepare` plans
-abbrev pub HasPlan : Command → Type 0
-HasPlan (Create path) = Unit {0}
-HasPlan (Mkdir path) = Unit {0}
-HasPlan (Link from to) = Unit {0}
-HasPlan (Unlink path) = Unit {0}
-HasPlan (Rmdir path) = Unit {0}
-HasPlan (Rename from to) = ⊥
-HasPlan (Write path offset bytes) = Unit {0}
-HasPlan (Truncate path size) = Unit {0}
-HasPlan (Read path offset count) = Unit {0}
-HasPlan (Tell path) = Unit {0}
-HasPlan (Show path) = Unit {0}
-HasPlan Df = Unit {0}
+use Rattle.volume.specs.declared.plan.Action.TheVariants.{Make, Name, Remove, Move, Write as WriteBytes, WriteNothing, Resize, KeepSize, KeepNames, Read as ReadBytes, Status, Names, Space}
 
 -- the command that makes a node of this kind
 abbrev pub making : NodeKind → Route → Command
@@ -61,12 +54,12 @@ IsRefusal P state command refusal before after =
 
 -- The command's plan, or the first refusal of its row.
 abbrev pub IsPlanOrRefusal : VolumeView → DeviceView → Command → Result Action Refusal → Type 0
-IsPlanOrRefusal volume device command (Ok action) = (state : State) → StandsFor volume device state → IsPlanned volume.size device.words state command (deed_of action)
+IsPlanOrRefusal volume device command (Ok action) = (state : State) → StandsFor volume device state → IsPlanned volume.size device.words state command action
 IsPlanOrRefusal volume device command (Err refusal) = (state : State) → StandsFor volume device state → refusal_of volume.size state.tree state.room command ≡ Some refusal
 
 -- The command's plan; or the first refusal of its row, or memory is short for the list of its new pages.
 abbrev pub IsPlanOrShort : VolumeView → DeviceView → Command → Result Action Refusal → Type 0
-IsPlanOrShort volume device command (Ok action) = (state : State) → StandsFor volume device state → IsPlanned volume.size device.words state command (deed_of action)
+IsPlanOrShort volume device command (Ok action) = (state : State) → StandsFor volume device state → IsPlanned volume.size device.words state command action
 IsPlanOrShort volume device command (Err refusal) = (state : State) → StandsFor volume device state → IsRefusal volume.size state command refusal device device
 
 -- why so many new pages can't be listed: too few are free, or memory is short for a list that isn't empty
@@ -78,68 +71,62 @@ abbrev pub AreNewPagesOr : List Bool → ℕ → Result (List ℕ) Refusal → T
 AreNewPagesOr free need (Ok pages) = AreLowestOf (IsFree free) need pages × (need ≤ free_in free)
 AreNewPagesOr free need (Err refusal) = LacksPages (free_in free) need refusal
 
+-- what a node loses that is replaced: the last name of a directory, and one of a file's names, with which all pages go where it was the last
+pub record IsLeftWith (P : ℕ) (I : List ℕ) (inode : ℕ) (kind : NodeKind) (loss : Loss) : Type 0 where
+  pub inode_is : loss.inode ≡ inode
+  pub kind_is : loss.kind ≡ kind
+  pub goes_is : loss.goes ≡ (is_directory_kind kind || (inode_links I inode == 1))
+  pub pages : loss.goes ≡ true → Count (IsPageIn P I inode) loss.pages
+  pub no_pages : loss.goes ≡ false → loss.pages ≡ 0
+
 -- ---- what a plan does
 
 -- it makes an entry and its node
 abbrev pub IsMaking : Action → Type 0
-IsMaking (Make entry) = Unit {0}
-IsMaking (Name link) = ⊥
-IsMaking (Remove removal) = ⊥
-IsMaking (WriteBytes writing) = ⊥
-IsMaking (Resize resizing) = ⊥
-IsMaking Nothing = ⊥
-IsMaking (ReadBytes reading) = ⊥
-IsMaking (Status inode) = ⊥
-IsMaking (Names inode) = ⊥
-IsMaking Space = ⊥
+IsMaking action = (entry : NewEntry) × (action ≡ Make entry)
 
 -- it gives a file one more name
 abbrev pub IsNaming : Action → Type 0
-IsNaming (Make entry) = ⊥
-IsNaming (Name link) = Unit {0}
-IsNaming (Remove removal) = ⊥
-IsNaming (WriteBytes writing) = ⊥
-IsNaming (Resize resizing) = ⊥
-IsNaming Nothing = ⊥
-IsNaming (ReadBytes reading) = ⊥
-IsNaming (Status inode) = ⊥
-IsNaming (Names inode) = ⊥
-IsNaming Space = ⊥
+IsNaming action = (link : NewName) × (action ≡ Name link)
 
 -- it takes a name away
 abbrev pub IsRemoving : Action → Type 0
-IsRemoving (Make entry) = ⊥
-IsRemoving (Name link) = ⊥
-IsRemoving (Remove removal) = Unit {0}
-IsRemoving (WriteBytes writing) = ⊥
-IsRemoving (Resize resizing) = ⊥
-IsRemoving Nothing = ⊥
-IsRemoving (ReadBytes reading) = ⊥
-IsRemoving (Status inode) = ⊥
-IsRemoving (Names inode) = ⊥
-IsRemoving Space = ⊥
+IsRemoving action = (removal : Removal) × (action ≡ Remove removal)
 
--- it changes something
+-- it moves a name
+abbrev pub IsMoving : Action → Type 0
+IsMoving action = (moving : Moving) × (action ≡ Move moving)
+
+-- it is what a command does that may change the tree
+abbrev pub is_change : Action → Bool
+is_change (Make entry) = true
+is_change (Name link) = true
+is_change (Remove removal) = true
+is_change (Move moving) = true
+is_change (WriteBytes writing) = true
+is_change WriteNothing = true
+is_change (Resize resizing) = true
+is_change KeepSize = true
+is_change KeepNames = true
+is_change (ReadBytes reading) = false
+is_change (Status inode) = false
+is_change (Names inode) = false
+is_change Space = false
+
 abbrev pub IsChange : Action → Type 0
-IsChange (Make entry) = Unit {0}
-IsChange (Name link) = Unit {0}
-IsChange (Remove removal) = Unit {0}
-IsChange (WriteBytes writing) = Unit {0}
-IsChange (Resize resizing) = Unit {0}
-IsChange Nothing = Unit {0}
-IsChange (ReadBytes reading) = ⊥
-IsChange (Status inode) = ⊥
-IsChange (Names inode) = ⊥
-IsChange Space = ⊥
+IsChange action = IsTrue (is_change action)
 
 -- it takes a place in the index
 abbrev pub TakesPlace : Action → Type 0
 TakesPlace (Make entry) = Unit {0}
 TakesPlace (Name link) = Unit {0}
 TakesPlace (Remove removal) = ⊥
+TakesPlace (Move moving) = moving.replaced ≡ None
 TakesPlace (WriteBytes writing) = 0 < length writing.new_pages
+TakesPlace WriteNothing = ⊥
 TakesPlace (Resize resizing) = 0 < length resizing.new_pages
-TakesPlace Nothing = ⊥
+TakesPlace KeepSize = ⊥
+TakesPlace KeepNames = ⊥
 TakesPlace (ReadBytes reading) = ⊥
 TakesPlace (Status inode) = ⊥
 TakesPlace (Names inode) = ⊥
@@ -152,9 +139,12 @@ abbrev pub IsNamedIn : ℕ → Action → Type 0
 IsNamedIn inodes (Make entry) = (1 ≤ entry.directory) × (entry.directory ≤ inodes)
 IsNamedIn inodes (Name link) = (1 ≤ link.directory) × (link.directory ≤ inodes)
 IsNamedIn inodes (Remove removal) = (1 ≤ removal.directory) × (removal.directory ≤ inodes)
+IsNamedIn inodes (Move moving) = (1 ≤ moving.to_directory) × (moving.to_directory ≤ inodes)
 IsNamedIn inodes (WriteBytes writing) = (1 ≤ writing.inode) × (writing.inode ≤ inodes)
+IsNamedIn inodes WriteNothing = Unit {0}
 IsNamedIn inodes (Resize resizing) = (1 ≤ resizing.inode) × (resizing.inode ≤ inodes)
-IsNamedIn inodes Nothing = Unit {0}
+IsNamedIn inodes KeepSize = Unit {0}
+IsNamedIn inodes KeepNames = Unit {0}
 IsNamedIn inodes (ReadBytes reading) = Unit {0}
 IsNamedIn inodes (Status inode) = Unit {0}
 IsNamedIn inodes (Names inode) = Unit {0}
@@ -176,9 +166,12 @@ abbrev pub IsBounded : Action → Type 0
 IsBounded (Make entry) = Unit {0}
 IsBounded (Name link) = Unit {0}
 IsBounded (Remove removal) = removal.loss.pages < 2 ^ 16
+IsBounded (Move moving) = pages_of_loss moving.replaced < 2 ^ 16
 IsBounded (WriteBytes writing) = IsBoundedWriting writing
+IsBounded WriteNothing = Unit {0}
 IsBounded (Resize resizing) = IsBoundedResizing resizing
-IsBounded Nothing = Unit {0}
+IsBounded KeepSize = Unit {0}
+IsBounded KeepNames = Unit {0}
 IsBounded (ReadBytes reading) = Unit {0}
 IsBounded (Status inode) = Unit {0}
 IsBounded (Names inode) = Unit {0}
@@ -222,7 +215,7 @@ pub record TakesRoom {E : Type 0} (old new : VolumeView) (before after : DeviceV
   pub device : IsSameButRoom before after
   pub accepted : OnOk result (HasReserved new after action × (after.refused ≡ before.refused))
   pub no_place : ¬ TakesPlace action → new ≡ old
-  pub idle : events_of (deed_of action) ≡ 0 → (new ≡ old) × (after ≡ before)
+  pub idle : events_of action ≡ 0 → (new ≡ old) × (after ≡ before)
 
 -- A plan has its room. A command that needs no place leaves the volume, whatever the answer. A refusal takes no memory unless memory
 -- is what was short, nor does a plan without an event, nor a command that reads.
@@ -232,5 +225,5 @@ pub record Prepares (old new : VolumeView) (before after : DeviceView) (command 
   pub accepted : IfOk result (λ plan. HasReserved new after plan × (after.refused ≡ before.refused))
   pub no_place : (state : State) → StandsFor old before state → needs_places state command ≡ false → new ≡ old
   pub refused : IfErr result (λ refusal. refusal ≢ NoMemory → (new ≡ old) × (after ≡ before))
-  pub idle : IfOk result (λ plan. events_of (deed_of plan) ≡ 0 → (new ≡ old) × (after ≡ before))
+  pub idle : IfOk result (λ plan. events_of plan ≡ 0 → (new ≡ old) × (after ≡ before))
   pub reading : is_changing command ≡ false → (new ≡ old) × (after ≡ before)

@@ -27,7 +27,7 @@ impl Volume {
     }
 
     // Gives back a page of a directory, where there is one.
-    fn give_page(&mut self, directory: u64, given_back: Option<u64>)
+    pub(crate) fn give_page(&mut self, directory: u64, given_back: Option<u64>)
         requires least { 1 ≤ directory }
         requires most { directory ≤ inodes_of_index self.old.index }
         requires may_give { MayGiveBack self.old directory given_back }
@@ -40,7 +40,7 @@ impl Volume {
     }
 
     // Gives back the inode of a node that goes, and all its pages.
-    fn give_inode(&mut self, loss: &Loss)
+    pub(crate) fn give_inode(&mut self, loss: &Loss)
         requires may_go { loss.now.goes ≡ true → MayGo self.old loss.now.inode }
         ensures { LeavesInodeIf loss.now.goes self.old self.new loss.now.inode }
     {

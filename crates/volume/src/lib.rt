@@ -5,6 +5,7 @@ mod contents;
 mod costs;
 mod laws;
 mod leaving;
+mod moved;
 mod names;
 mod place;
 mod plan;
@@ -19,7 +20,7 @@ pub use costs::{
 };
 pub use laws::plan_fences_law;
 pub use plan::{
-    Action, Loss, NewEntry, NewName, NewPages, Plan, Reading, Removal, Resizing, Writing,
+    Action, Loss, Moving, NewEntry, NewName, NewPages, Plan, Reading, Removal, Resizing, Writing,
 };
 pub use prepare::{LONGEST_FILE, LONGEST_READ};
 pub use resolve::Walk;

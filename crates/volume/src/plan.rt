@@ -1,5 +1,5 @@
 // Plans of accepted commands. A plan can't be copied, and none is made but by `prepare`.
-ghost use Rattle.std.specs.Prelude.{◌≡◌, ◌+◌, ◌^◌, ◌<◌, ◌≤◌, length};
+ghost use Rattle.std.specs.Prelude.{◌≡◌, ◌+◌, ◌^◌, ◌<◌, ◌≤◌, length, is_some};
 ghost use Rattle.layout.specs.Geometry.{pieces as pieces_in};
 ghost use Rattle.tree_model.specs.Capacity.{file_limit};
 ghost use Rattle.volume.specs.Costs.{events_of, new_page_events as events_of_new_page, loss_events as events_of_loss, span_events as events_of_span, growth_events as events_of_growth};
@@ -29,11 +29,9 @@ pub struct NewEntry {
 }
 
 impl NewEntry {
-    ghost use Rattle.volume.specs.Deed.{MakesNode};
-
     /// How many stores, flushes and fences the making takes.
     pub fn events(&self) -> u64
-        ensures { result ≡ events_of (MakesNode self.now) }
+        ensures { result ≡ events_of (Action.Make self.now) }
     {
         let links = match self.kind {
             NodeKind::File => 0,
@@ -61,11 +59,9 @@ pub struct NewName {
 }
 
 impl NewName {
-    ghost use Rattle.volume.specs.Deed.{AddsName};
-
     /// How many stores, flushes and fences the naming takes.
     pub fn events(&self) -> u64
-        ensures { result ≡ events_of (AddsName self.now) }
+        ensures { result ≡ events_of (Action.Name self.now) }
     {
         new_page_events(self.new_page) + (WORD_EVENTS + NAME_EVENTS + FENCE_EVENTS) + COMMIT_EVENTS
     }
@@ -100,12 +96,10 @@ pub struct Removal {
 }
 
 impl Removal {
-    ghost use Rattle.volume.specs.Deed.{RemovesName};
-
     /// How many stores, flushes and fences the removal takes.
     pub fn events(&self) -> u64
         requires { self.now.loss.pages < 2 ^ 16 }
-        ensures { result ≡ events_of (RemovesName self.now) }
+        ensures { result ≡ events_of (Action.Remove self.now) }
     {
         let pages = match self.given_back {
             None => self.loss.pages,
@@ -114,6 +108,92 @@ impl Removal {
         COMMIT_EVENTS
             + (SLOT_REST_EVENTS + WORD_EVENTS + FENCE_EVENTS)
             + loss_events(pages, self.loss.goes)
+    }
+}
+
+/// A name that moves, in place of another node's name or to a new place.
+#[derive(Drop)]
+pub struct Moving {
+    /// The inode of the node whose name moves. Inodes are numbered from 1.
+    pub inode: u64,
+    /// What the node is.
+    pub kind: NodeKind,
+    /// The inode of the directory that loses the old name.
+    pub from_directory: u64,
+    /// The old name.
+    pub from_name: Name,
+    /// The slot in which it stands. Slots are numbered from 0, 32 for each data page.
+    pub from_slot: u64,
+    /// The inode of the directory that gets the new name, or has it.
+    pub to_directory: u64,
+    /// The new name.
+    pub to_name: Name,
+    /// The slot for it: that of the node that is replaced, where there is one.
+    pub to_slot: u64,
+    /// The data page that the directory takes for the slot, where its pages are full. They are numbered from 0.
+    pub new_page: Option<u64>,
+    /// What the node loses that had the new name, where there is one.
+    pub replaced: Option<Loss>,
+    /// The old slot's data page, where no name is left in it, the new one neither.
+    pub given_back: Option<u64>,
+}
+
+impl Moving {
+    ghost use Rattle.volume.specs.Costs.{pages_of_loss, pages_replaced, pointing_events as events_of_pointing};
+    ghost use Rattle.volume.specs.Moves.{rising_of, falling_of};
+
+    /// How many stores, flushes and fences the move takes.
+    pub fn events(&self) -> u64
+        requires { pages_of_loss self.now.replaced < 2 ^ 16 }
+        ensures { result ≡ events_of (Action.Move self.now) }
+    {
+        let (lost, goes) = match self.replaced {
+            None => (0, false),
+            Some(loss) => (loss.pages, loss.goes),
+        };
+        let pages = match self.given_back {
+            None => lost,
+            Some(_) => lost + 1,
+        };
+        let rising = if self.raises() { WORD_EVENTS } else { 0 };
+        let falling = if self.lowers() { WORD_EVENTS } else { 0 };
+        new_page_events(self.new_page)
+            + (self.pointing_events() + rising + FENCE_EVENTS)
+            + (COMMIT_EVENTS + COMMIT_EVENTS)
+            + (WORD_EVENTS + (SLOT_REST_EVENTS + falling + FENCE_EVENTS))
+            + loss_events(pages, goes)
+    }
+
+    // The events by which the new slot gets its pointer, and its name where it has none yet.
+    fn pointing_events(&self) -> u64
+        ensures { result ≡ events_of_pointing self.now }
+    {
+        if self.replaced.is_some() || self.new_page.is_some() {
+            WORD_EVENTS
+        } else {
+            SLOT_REST_EVENTS
+        }
+    }
+
+    // Whether the link count of the new name's directory rises.
+    fn raises(&self) -> bool
+        ensures { result ≡ is_some (rising_of self.now) }
+    {
+        self.kind == NodeKind::Directory
+            && self.from_directory != self.to_directory
+            && self.replaced.is_none()
+    }
+
+    // Whether a link count falls: of the old name's directory, or of a file that is replaced.
+    fn lowers(&self) -> bool
+        ensures { result ≡ is_some (falling_of self.now) }
+    {
+        match self.kind {
+            NodeKind::File => self.replaced.is_some(),
+            NodeKind::Directory => {
+                self.from_directory != self.to_directory || self.replaced.is_some()
+            }
+        }
     }
 }
 
@@ -170,13 +250,12 @@ pub struct Writing {
 }
 
 impl Writing {
-    ghost use Rattle.volume.specs.Deed.{WritesBytes};
     ghost use Rattle.volume.specs.Prepared.{IsBoundedWriting};
 
     /// How many stores, flushes and fences the writing takes.
     pub fn events(&self) -> u64
         requires { IsBoundedWriting self.now }
-        ensures { result ≡ events_of (WritesBytes self.now) }
+        ensures { result ≡ events_of (Action.Write self.now) }
     {
         let end = self.offset + self.count;
         if end <= self.old_size {
@@ -203,13 +282,12 @@ pub struct Resizing {
 }
 
 impl Resizing {
-    ghost use Rattle.volume.specs.Deed.{SetsSize};
     ghost use Rattle.volume.specs.Prepared.{IsBoundedResizing};
 
     /// How many stores, flushes and fences the change takes.
     pub fn events(&self) -> u64
         requires { IsBoundedResizing self.now }
-        ensures { result ≡ events_of (SetsSize self.now) }
+        ensures { result ≡ events_of (Action.Resize self.now) }
     {
         if self.old_size < self.new_size {
             growth_events(self.old_size, self.old_size, self.new_pages.count())
@@ -305,12 +383,18 @@ pub enum Action {
     Name(NewName),
     /// Takes a name away, and its node where that was the last one.
     Remove(Removal),
+    /// Moves a name.
+    Move(Moving),
     /// Writes bytes into a file.
     Write(Writing),
+    /// Writes no bytes into a file.
+    WriteNothing,
     /// Gives a file another size.
     Resize(Resizing),
-    /// Changes nothing: no bytes are written, or a file keeps its size.
-    Nothing,
+    /// Leaves a file the size that it has.
+    KeepSize,
+    /// Leaves two names of one node as they are, or one name.
+    KeepNames,
     /// Reads bytes of a file.
     Read(Reading),
     /// Tells what the node of an inode is.
@@ -337,7 +421,7 @@ impl Model for Plan {
 }
 
 impl Plan {
-    ghost use Rattle.volume.specs.Prepared.{IsMaking, IsNaming, IsRemoving};
+    ghost use Rattle.volume.specs.Prepared.{IsMaking, IsNaming, IsRemoving, IsMoving};
 
     // The plan of an action.
     pub(crate) fn of(action: Action) -> Plan
@@ -360,15 +444,7 @@ impl Plan {
     {
         match self.action {
             Action::Make(entry) => entry,
-            Action::Name(_)
-            | Action::Remove(_)
-            | Action::Nothing
-            | Action::Read(_)
-            | Action::Status(_)
-            | Action::Names(_)
-            | Action::Space => unreachable!(),
-            Action::Write(_writing) => unreachable!(),
-            Action::Resize(_resizing) => unreachable!(),
+            _other => unreachable!(),
         }
     }
 
@@ -379,15 +455,7 @@ impl Plan {
     {
         match self.action {
             Action::Name(link) => link,
-            Action::Make(_)
-            | Action::Remove(_)
-            | Action::Nothing
-            | Action::Read(_)
-            | Action::Status(_)
-            | Action::Names(_)
-            | Action::Space => unreachable!(),
-            Action::Write(_writing) => unreachable!(),
-            Action::Resize(_resizing) => unreachable!(),
+            _other => unreachable!(),
         }
     }
 
@@ -398,15 +466,18 @@ impl Plan {
     {
         match self.action {
             Action::Remove(removal) => removal,
-            Action::Make(_)
-            | Action::Name(_)
-            | Action::Nothing
-            | Action::Read(_)
-            | Action::Status(_)
-            | Action::Names(_)
-            | Action::Space => unreachable!(),
-            Action::Write(_writing) => unreachable!(),
-            Action::Resize(_resizing) => unreachable!(),
+            _other => unreachable!(),
+        }
+    }
+
+    /// The name that the command moves. The plan is spent.
+    pub fn into_moving(self) -> Moving
+        requires { IsMoving self }
+        ensures { self ≡ Action.Move result }
+    {
+        match self.action {
+            Action::Move(moving) => moving,
+            _other => unreachable!(),
         }
     }
 

@@ -77,7 +77,7 @@ impl Volume {
             return Err(Refusal::TooBig);
         }
         if count == 0 {
-            return Ok(Action::Nothing);
+            return Ok(Action::WriteNothing);
         }
         let new_pages = self.new_pages(file.size, offset + count)?;
         Ok(Action::Write(Writing {
@@ -100,7 +100,7 @@ impl Volume {
             return Err(Refusal::TooBig);
         }
         if size == file.size {
-            return Ok(Action::Nothing);
+            return Ok(Action::KeepSize);
         }
         let new_pages = self.new_pages(file.size, size)?;
         let cut = pages_for(file.size).saturating_sub(pages_for(size));

@@ -8,16 +8,16 @@ use Rattle.volatile_index.specs.Index.{pages_of}
 use Rattle.volume.specs.Carried.{IsPlanFor, MayCarry, Carries}
 use Rattle.volume.specs.declared.plan.Resizing.{Resizing}
 use Rattle.volume.specs.declared.plan.Action.{Action}
-use Rattle.volume.specs.declared.plan.Action.TheVariants.{Resize, Nothing}
+use Rattle.volume.specs.declared.plan.Action.TheVariants.{Resize, KeepSize}
 use Rattle.data_ops.specs.Cutting.{IsTruncation, HasStoredSize}
 use Rattle.data_ops.proofs.Truncations.{resizing_at}
-use Rattle.data_ops.proofs.Unchanged.{carried_nothing}
+use Rattle.data_ops.proofs.Unchanged.{carried_nothing, resizing_or_nothing}
 use Rattle.data_ops.proofs.truncate.apply_truncate.Goals as goal
 
 same_resizing : (one two : Resizing) → ◌≡◌ {A = Action} (Resize one) (Resize two) → one ≡ two
 same_resizing one two e = cc
 
-not_resizing : (resizing : Resizing) → ◌≢◌ {A = Action} Nothing (Resize resizing)
+not_resizing : (resizing : Resizing) → ◌≢◌ {A = Action} KeepSize (Resize resizing)
 not_resizing resizing e = cc
 
 pub carry_resize-requires-clause-planned : goal.carry_resize-requires-clause-planned
@@ -47,12 +47,12 @@ returns-in-Resize-clause-stored g c = λ other is.
     let same = same_resizing c.in-Resize.resizing other (sym (sym c.into_action.ensures ∙ c.in-Resize.is) ∙ is) in
     subst (λ (resizing : Resizing). HasStoredSize c.args.volume.now.size old new resizing (pages_of c.args.volume.now.index resizing.inode) c.carry_resize.result) same c.carry_resize.ensures.stored
 
-pub returns-in-Nothing-clause-carries : goal.returns-in-Nothing-clause-carries
-returns-in-Nothing-clause-carries g c =
+pub returns-in-KeepSize-clause-carries : goal.returns-in-KeepSize-clause-carries
+returns-in-KeepSize-clause-carries g c =
     let (state, path, size, plan) = c.requires.planned in
     let volume = c.args.volume.now in
     let old = g.P.Pm.view c.args.pm.now in
-    subst (λ (action : Action). Carries {E = PmFault} volume volume old old action Done IsTruncation (Ok Told)) (sym (sym c.into_action.ensures ∙ c.in-Nothing.is)) (carried_nothing volume old plan.stands.settled c.requires.ready.going)
+    subst (λ (action : Action). Carries {E = PmFault} volume volume old old action Done IsTruncation (Ok Told)) (sym (sym c.into_action.ensures ∙ c.in-KeepSize.is)) (carried_nothing volume old plan.stands.settled c.requires.ready.going)
 
-pub returns-in-Nothing-clause-stored : goal.returns-in-Nothing-clause-stored
-returns-in-Nothing-clause-stored g c = λ resizing is. absurd (not_resizing resizing (sym (sym c.into_action.ensures ∙ c.in-Nothing.is) ∙ is))
+pub returns-in-KeepSize-clause-stored : goal.returns-in-KeepSize-clause-stored
+returns-in-KeepSize-clause-stored g c = λ resizing is. absurd (not_resizing resizing (sym (sym c.into_action.ensures ∙ c.in-KeepSize.is) ∙ is))

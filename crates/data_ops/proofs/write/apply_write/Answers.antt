@@ -7,16 +7,16 @@ use Rattle.tree_model.specs.declared.reply.Reply.TheVariants.{Count as Told}
 use Rattle.volume.specs.Carried.{IsPlanFor, MayCarry, Carries}
 use Rattle.volume.specs.declared.plan.Writing.{Writing}
 use Rattle.volume.specs.declared.plan.Action.{Action}
-use Rattle.volume.specs.declared.plan.Action.TheVariants.{Write as Writes, Nothing, Resize}
+use Rattle.volume.specs.declared.plan.Action.TheVariants.{Write as Writes, WriteNothing}
 use Rattle.data_ops.specs.Writing.{IsWriteOf, HasStoredBytes}
 use Rattle.data_ops.proofs.Writings.{writing_at}
-use Rattle.data_ops.proofs.NothingWritten.{none, carried_nothing, no_other, other_writes_none}
+use Rattle.data_ops.proofs.NothingWritten.{none, carried_nothing, writing_or_nothing}
 use Rattle.data_ops.proofs.write.apply_write.Goals as goal
 
 same_writing : (one two : Writing) → ◌≡◌ {A = Action} (Writes one) (Writes two) → one ≡ two
 same_writing one two e = cc
 
-not_writing : (writing : Writing) → ◌≢◌ {A = Action} Nothing (Writes writing)
+not_writing : (writing : Writing) → ◌≢◌ {A = Action} WriteNothing (Writes writing)
 not_writing writing e = cc
 
 pub carry_write-requires-clause-planned : goal.carry_write-requires-clause-planned
@@ -48,26 +48,16 @@ returns-in-Write-clause-stored g c = λ other is.
     let same = same_writing c.in-Write.writing other (sym (sym c.into_action.ensures ∙ c.in-Write.is) ∙ is) in
     subst (λ (writing : Writing). HasStoredBytes c.args.volume.now.size old new writing c.args.bytes.now c.carry_write.result) same c.carry_write.ensures.stored
 
-pub returns-in-Nothing-clause-carries : goal.returns-in-Nothing-clause-carries
-returns-in-Nothing-clause-carries g c =
+pub returns-in-WriteNothing-clause-carries : goal.returns-in-WriteNothing-clause-carries
+returns-in-WriteNothing-clause-carries g c =
     let (state, path, offset, plan) = c.requires.planned in
     let volume = c.args.volume.now in
     let old = g.P.Pm.view c.args.pm.now in
     let bytes = c.args.bytes.now in
-    let is = sym c.into_action.ensures ∙ c.in-Nothing.is in
-    let here : IsPlanFor volume old state (Write path offset bytes) Nothing = subst (λ (action : Action). IsPlanFor volume old state (Write path offset bytes) action) is plan in
+    let is = sym c.into_action.ensures ∙ c.in-WriteNothing.is in
+    let here : IsPlanFor volume old state (Write path offset bytes) WriteNothing = subst (λ (action : Action). IsPlanFor volume old state (Write path offset bytes) action) is plan in
     subst (λ (action : Action). Carries {E = PmFault} volume volume old old action (Count (length bytes)) (IsWriteOf bytes) (Ok (Told 0))) (sym is)
     (carried_nothing volume old bytes (none volume old state path offset bytes here) plan.stands.settled c.requires.ready.going)
 
-pub returns-in-Nothing-clause-stored : goal.returns-in-Nothing-clause-stored
-returns-in-Nothing-clause-stored g c = λ writing is. absurd (not_writing writing (sym (sym c.into_action.ensures ∙ c.in-Nothing.is) ∙ is))
-
-pub unreachable-requires : goal.unreachable-requires
-unreachable-requires g c =
-    let (state, path, offset, plan) = c.requires.planned in
-    no_other c.args.volume.now (g.P.Pm.view c.args.pm.now) state path offset c.args.bytes.now c.args.plan (Resize c.in-Resize._resizing) (sym c.into_action.ensures ∙ c.in-Resize.is) refl plan
-
-pub unreachable-requires-in-Make : goal.unreachable-requires-in-Make
-unreachable-requires-in-Make g c =
-    let (state, path, offset, plan) = c.requires.planned in
-    no_other c.args.volume.now (g.P.Pm.view c.args.pm.now) state path offset c.args.bytes.now c.args.plan c.into_action.result (sym c.into_action.ensures) (other_writes_none c.into_action.result c.in-Make.is) plan
+pub returns-in-WriteNothing-clause-stored : goal.returns-in-WriteNothing-clause-stored
+returns-in-WriteNothing-clause-stored g c = λ writing is. absurd (not_writing writing (sym (sym c.into_action.ensures ∙ c.in-WriteNothing.is) ∙ is))

@@ -1,6 +1,6 @@
 use Rattle.std.proofs.Common.{sym, subst}
 use Rattle.tree_model.specs.declared.command.Command.TheVariants.{Rmdir}
-use Rattle.volume.specs.Deed.{RemovesName}
+use Rattle.volume.specs.declared.plan.Action.TheVariants.{Remove}
 use Rattle.volume.specs.Planned.{IsPlanned}
 use Rattle.volume.specs.declared.plan.Removal.{Removal}
 use Rattle.volume.proofs.Walked.{reached_at, in_table, in_index}
@@ -52,7 +52,7 @@ pub returns : goal.returns
 returns g c = λ state stands.
     let device = g.P.Pm.view c.args.pm.now in
     let is = sym (c.if-not-is_directory.ensures state stands) in
-    subst (λ (removal : Removal). IsPlanned c.args.self.now.size device.words state (Rmdir c.args.path.now) (RemovesName removal)) (sym c.removal_of-removal.ensures.is)
+    subst (λ (removal : Removal). IsPlanned c.args.self.now.size device.words state (Rmdir c.args.path.now) (Remove removal)) (sym c.removal_of-removal.ensures.is)
     (rmdir_planned c.args.self.now device state stands c.args.path.now (c.in_ok-named.ensures.row state stands) _ _ _ _ (c.in_ok-named.ensures.named state stands)
     c.count.result is (c.count.ensures.names device state stands is) c.removal_of-removal.result.loss.pages c.removal_of-removal.result.given_back c.if-count-gt0.false
     (c.removal_of-removal.ensures.pages, c.removal_of-removal.ensures.no_pages, c.removal_of-removal.ensures.given_back))

@@ -3,7 +3,7 @@ use Rattle.layout.specs.Geometry.{inodes_of}
 use Rattle.layout.specs.Fields.{inode_links}
 use Rattle.tree_model.specs.declared.command.Command.TheVariants.{Unlink}
 use Rattle.volume.specs.Volume.{VolumeView}
-use Rattle.volume.specs.Deed.{RemovesName}
+use Rattle.volume.specs.declared.plan.Action.TheVariants.{Remove}
 use Rattle.volume.specs.Planned.{IsPlanned}
 use Rattle.volume.specs.declared.plan.Removal.{Removal}
 use Rattle.volume.proofs.Walked.{reached_at, in_table}
@@ -50,7 +50,7 @@ pub returns : goal.returns
 returns g c = λ state stands.
     let device = g.P.Pm.view c.args.pm.now in
     let links = c.inode_at-links.ensures.links ∙ ap (λ (words : List ℕ). inode_links words c.in_ok-named.named.inode) c.image.ensures in
-    subst (λ (removal : Removal). IsPlanned c.args.self.now.size device.words state (Unlink c.args.path.now) (RemovesName removal)) (sym c.removal_of-removal.ensures.is)
+    subst (λ (removal : Removal). IsPlanned c.args.self.now.size device.words state (Unlink c.args.path.now) (Remove removal)) (sym c.removal_of-removal.ensures.is)
     (unlink_planned c.args.self.now device state stands c.args.path.now (c.in_ok-named.ensures.row state stands) _ _ _ _ (c.in_ok-named.ensures.named state stands)
     c.inode_at-links.result.links c.removal_of-removal.result.loss.pages c.removal_of-removal.result.given_back (sym (c.if-is_directory.ensures state stands)) links
     (c.removal_of-removal.ensures.pages, c.removal_of-removal.ensures.no_pages, c.removal_of-removal.ensures.given_back))

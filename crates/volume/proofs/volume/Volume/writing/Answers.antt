@@ -2,7 +2,7 @@ use Rattle.std.proofs.Common.{ℕ, ◌+◌, ◌≤◌, List, length, subst, arit
 use Rattle.std.proofs.lemmas.Result.{err_from_is_err_and}
 use Rattle.tree_model.specs.Capacity.{file_limit}
 use Rattle.tree_model.specs.declared.command.Command.TheVariants.{Write}
-use Rattle.volume.specs.Deed.{WritesBytes}
+use Rattle.volume.specs.declared.plan.Action.TheVariants.{Write as WriteBytes}
 use Rattle.volume.specs.Planned.{IsPlanned}
 use Rattle.volume.specs.Prepared.{IsRefusal}
 use Rattle.volume.proofs.ContentPlans.{few_pages}
@@ -36,6 +36,6 @@ returns g c = λ state stands.
     let bytes = c.as_slice.result.now in
     let fits : c.args.offset + length bytes ≤ file_limit = omega (arith, c.if-offset-gt-LONGEST_FILE.false, c.if-count-offset.false) in
     subst (λ (written : List ℕ). IsPlanned c.args.self.now.size device.words state (Write c.args.path.now c.args.offset written)
-    (WritesBytes (record { inode = c.in_ok-file.file.inode; offset = c.args.offset; count = length bytes; old_size = c.in_ok-file.file.size; new_pages = c.in_ok-new_pages.new_pages }))) c.as_slice.ensures
+    (WriteBytes (record { inode = c.in_ok-file.file.inode; offset = c.args.offset; count = length bytes; old_size = c.in_ok-file.file.size; new_pages = c.in_ok-new_pages.new_pages }))) c.as_slice.ensures
     (write_planned c.args.self.now device state stands c.args.path.now c.in_ok-file.file.inode c.in_ok-file.file.size (c.in_ok-file.ensures state stands)
     c.args.offset bytes fits (differ_test (length bytes) 0 c.if-count-eq0.false) c.in_ok-new_pages.new_pages c.in_ok-new_pages.ensures.0 c.in_ok-new_pages.ensures.1)
