@@ -21,9 +21,9 @@ use Rattle.dentry_state.specs.States.{IsNamed}
 use Rattle.dentry_state.specs.Dentry.{slot_fields_at}
 use Rattle.dentry_state.proofs.DentryLaws.{same_fields_at, next_fields}
 use Rattle.page_state.specs.Page.{EachPage, OfSome, IsOwnWord, IsFilledWord, IsSlotPage, named_slot}
-use Rattle.image_laws.specs.Create.{owned}
+use Rattle.image_laws.specs.Create.{owned, MakesNamedPage}
 use Rattle.volume.specs.Costs.{page_events}
-use Rattle.entry_steps.specs.Steps.{MakesNamedPage, first_slot, filling_named}
+use Rattle.entry_steps.specs.Steps.{first_slot, filling_named}
 use Rattle.entry_steps.proofs.Pages.{of_one, filled_word}
 
 long_name : (name : List ℕ) → length (words_of_name name) ≡ 14
@@ -87,7 +87,7 @@ pub of_page : (P page word : ℕ) → OfSome (page ∷ []) (IsOwnWord P) word �
 of_page P page word some = of_one (page ∷ []) (IsOwnWord P) word refl some
 
 made_named : {W A : List ℕ} {tw ta : Option Trail} (P : ℕ) (pages name : List ℕ) → length pages ≡ 1 → EachPage pages (IsSlotPage P A (named_slot name)) → IsInterval (OfSome pages (IsFilledWord P)) W tw A ta
-    → MakesNamedPage P W A (slice_index pages 0) (words_of_name name)
+    → MakesNamedPage P W A (slice_index pages 0) (first_slot (slice_index pages 0)) (words_of_name name)
 unfolding word slot_inode slot_pointer
 made_named {W} {A} P pages name one filled run =
     let j = slice_index pages 0 in
@@ -107,11 +107,11 @@ made_named {W} {A} P pages name one filled run =
 
 module _ (P V : ℕ) (pages ps : List ℕ) (volume : V ≡ P) (list : ps ≡ pages) (one : length pages ≡ 1) where
   pub page_named : {W A B : List ℕ} {tw ta : Option Trail} (name : List ℕ) → B ≡ A → EachPage ps (IsSlotPage V A (named_slot name)) → IsInterval (OfSome ps (IsFilledWord V)) W tw A ta
-      → MakesNamedPage P W B (slice_index pages 0) (words_of_name name)
+      → MakesNamedPage P W B (slice_index pages 0) (first_slot (slice_index pages 0)) (words_of_name name)
   page_named {W} {A} {B} name same filled run =
-      let made : MakesNamedPage V W A (slice_index ps 0) (words_of_name name) = made_named V ps name (ap length list ∙ one) filled run in
-      subst (λ (words : List ℕ). MakesNamedPage P W words (slice_index pages 0) (words_of_name name)) (sym same)
-      (subst (λ (v : ℕ). MakesNamedPage v W A (slice_index pages 0) (words_of_name name)) volume (subst (λ (l : List ℕ). MakesNamedPage V W A (slice_index l 0) (words_of_name name)) list made))
+      let made : MakesNamedPage V W A (slice_index ps 0) (first_slot (slice_index ps 0)) (words_of_name name) = made_named V ps name (ap length list ∙ one) filled run in
+      subst (λ (words : List ℕ). MakesNamedPage P W words (slice_index pages 0) (first_slot (slice_index pages 0)) (words_of_name name)) (sym same)
+      (subst (λ (v : ℕ). MakesNamedPage v W A (slice_index pages 0) (first_slot (slice_index pages 0)) (words_of_name name)) volume (subst (λ (l : List ℕ). MakesNamedPage V W A (slice_index l 0) (first_slot (slice_index l 0)) (words_of_name name)) list made))
 
   -- its words are those of the page
   pub page_stored : {a b : DeviceView} {events : ℕ} → Stores (OfSome ps (IsFilledWord V)) a b events → Stores (IsFilledWord P (slice_index pages 0)) a b events
@@ -121,17 +121,17 @@ module _ (P V : ℕ) (pages ps : List ℕ) (volume : V ≡ P) (list : ps ≡ pag
       (omega arith) stores
 
 -- and with its fence it is a step
-pub named_filled : {T E : Type 0} {a b c : DeviceView} (P page : ℕ) (name : List ℕ) (result : Result T E) → IsSettledView a → MakesNamedPage P a.words b.words page name → Stores (IsFilledWord P page) a b page_events
+pub named_filled : {T E : Type 0} {a b c : DeviceView} (P page : ℕ) (name : List ℕ) (result : Result T E) → IsSettledView a → MakesNamedPage P a.words b.words page (first_slot page) name → Stores (IsFilledWord P page) a b page_events
     → ((word : ℕ) → IsFilledWord P page word → IsFlushed b.trail word) → Fences b c result → Takes (filling_named P page name) a c result
 named_filled {a = a} P page name result settled made stores flushed fence = record {
-  makes = subst (λ (words : List ℕ). MakesNamedPage P a.words words page name) (sym fence.words) made;
+  makes = subst (λ (words : List ℕ). MakesNamedPage P a.words words page (first_slot page) name) (sym fence.words) made;
   fenced = interval_ends result settled stores flushed fence;
 }
 
 -- ---- its first slot
 
 -- it has the name, and names nothing
-pub first_is_named : (P : ℕ) (W A : List ℕ) (j : ℕ) (name : List ℕ) → IsNameWords name → MakesNamedPage P W A j name → IsNamed (slot_fields_at P A (first_slot j))
+pub first_is_named : (P : ℕ) (W A : List ℕ) (j : ℕ) (name : List ℕ) → IsNameWords name → MakesNamedPage P W A j (first_slot j) name → IsNamed (slot_fields_at P A (first_slot j))
 first_is_named P W A j name valid made =
     let same : 32 * j + 0 ≡ 32 * j = omega arith in
     let here : page_of_slot (first_slot j) ≡ j = ap page_of_slot (sym same) ∙ page_of_entry j 0 (omega arith) in

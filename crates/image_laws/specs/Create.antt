@@ -7,6 +7,7 @@ use Rattle.layout.specs.Name.{IsNameWords, name_in_words}
 use Rattle.tree_model.specs.PathText.{Route}
 use Rattle.tree_model.specs.Tree.{Node, Directory, File}
 use Rattle.tree_model.specs.Step.{with_new}
+use Rattle.image_reading.specs.Litter.{IsZeroSlot}
 use Rattle.image_reading.specs.Reading.{IsDirectory, slot_owner, IsHeld, Names, Reached, IsReachedSlot}
 use Rattle.image_reading.specs.Soundness.{IsCoherent}
 use Rattle.image_reading.specs.Tidy.{IsTidied}
@@ -100,7 +101,14 @@ pub record MakesEmptyPage (P : ℕ) (I J : List ℕ) (j : ℕ) : Type 0 where
   pub offset : page_offset P J j ≡ 0
   pub others : (a : ℕ) → (IsPageMadeWord P j a → ⊥) → word J a ≡ word I a
 
--- and each of its words is zero, as a tidy image has it
+-- and its slot d has the name, its other slots are zero
+pub record MakesNamedPage (P : ℕ) (I J : List ℕ) (j d : ℕ) (name : List ℕ) : Type 0 where
+  pub empty : MakesEmptyPage P I J j
+  pub open empty use *
+  pub name_is : slot_words P J d ≡ name
+  pub zeros : (t : ℕ) → page_of_slot t ≡ j → t ≢ d → IsZeroSlot P J t
+
+-- or each of its words is zero, as a tidy image has it
 pub record MakesPage (P : ℕ) (I J : List ℕ) (j : ℕ) : Type 0 where
   pub empty : MakesEmptyPage P I J j
   pub open empty use *

@@ -13,8 +13,9 @@ use Rattle.image_laws.specs.Stages.{MayGive, MayFree}
 use Rattle.image_laws.proofs.Meaning.{same_chained}
 use Rattle.image_laws.proofs.Paths.{reached_pos, reached-le}
 use Rattle.image_laws.proofs.Stages as stages
-use Rattle.rename_laws.specs.Intervals.{left, Falls, IsGone, IsGivenUp, IsCleared, IsGiven, CommitLaw, LeavingLaw, ClearingLaw, GivingLaw, FreeingLaw}
-use Rattle.rename_laws.specs.Ready.{IsLinkWord, IsMoveReady}
+use Rattle.rename_laws.specs.Intervals.{left, IsGone, IsGivenUp, IsCleared, IsGiven, CommitLaw, LeavingLaw, MoveClearingLaw, MoveGivingLaw, MoveFreeingLaw}
+use Rattle.image_laws.specs.Links.{Falls, IsLinkWord}
+use Rattle.rename_laws.specs.Ready.{IsMoveReady}
 use Rattle.rename_laws.specs.Target.{Target, Vacant, Opened, Taken, Holds, CanTake, IsFalling, old_number}
 use Rattle.rename_laws.proofs.MovedCounts.{IsLowered, IsFallen, IsAlmostTidy}
 use Rattle.rename_laws.proofs.MovedNames as here
@@ -254,13 +255,13 @@ commit_law P W I M pa pb s x d target rising ready mix = commit P W I pa pb s x 
 pub leaving_law : LeavingLaw
 leaving_law P W I M pa pb s x d target rising ready mix = leaving P W I pa pb s x d target rising ready M mix
 
-pub clearing_law : ClearingLaw
+pub clearing_law : MoveClearingLaw
 clearing_law P W I J M pa pb s x d target rising falling ready cleared mix =
     clearing P W I pa pb s x d target rising ready J falling cleared M mix
 
-pub giving_law : GivingLaw
+pub giving_law : MoveGivingLaw
 giving_law P W I J G M pa pb s x d target rising falling ready given mix = giving P W I pa pb s x d target rising ready J G falling given M mix
 
-pub freeing_law : FreeingLaw
+pub freeing_law : MoveFreeingLaw
 freeing_law P W I J G K M pa pb s x d target rising falling ready ends mix =
     freeing P W I pa pb s x d target rising ready J G falling ends.given K ends.frees M mix

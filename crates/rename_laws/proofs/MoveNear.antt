@@ -23,7 +23,8 @@ use Rattle.image_laws.proofs.Rooms.{room_law}
 use Rattle.image_laws.proofs.Trees.{tree_law}
 use Rattle.image_laws.proofs.Words.{slot_words-same}
 use Rattle.rename_laws.specs.Target.{Target, Vacant, Opened, Taken, CanTake, Holds, IsRising, IsFalling, old_number}
-use Rattle.rename_laws.specs.Ready.{Rises, IsLinkWord, IsTargetWord, HasNewPage, IsMoveReady}
+use Rattle.rename_laws.specs.Ready.{IsTargetWord, HasNewPage, IsMoveReady}
+use Rattle.image_laws.specs.Links.{IsLinkWord, Rises}
 use Rattle.rename_laws.proofs.MovedCounts.{IsRaised, IsLowered, IsAlmostTidy}
 use Rattle.rename_laws.proofs.MovedNames as here
 

@@ -8,7 +8,7 @@ use Rattle.layout.proofs.GeometryLaws.{page_of_slot_below}
 use Rattle.tree_model.specs.PathText.{Route}
 use Rattle.image_reading.specs.Reading.{slot_owner, IsHeld, IsReachedSlot}
 use Rattle.image_counts.specs.Entries.{IsFreePage}
-use Rattle.image_laws.specs.Create.{CanName, owned}
+use Rattle.image_laws.specs.Create.{CanName, owned, MakesNamedPage}
 use Rattle.image_laws.specs.Frame.{SameMeaning}
 use Rattle.image_laws.specs.Stages.{IsReadySlot}
 use Rattle.image_laws.proofs.Addresses.{descriptor-ne_slot, descriptor_word-one}
@@ -18,7 +18,7 @@ use Rattle.image_laws.proofs.PageReady.{HasTaken, page_ready, entry_same, slot_s
 use Rattle.image_laws.proofs.Ready.{no_pointer, tidy_but}
 use Rattle.image_laws.proofs.Words.{slot_words-same}
 use Rattle.rename_laws.specs.Target.{Target, Vacant, Opened, Taken, CanRename, old_number}
-use Rattle.rename_laws.specs.Ready.{MakesNamedPage, IsOpened, HasNewPage, IsNewPage, IsTargetWord}
+use Rattle.rename_laws.specs.Ready.{IsOpened, HasNewPage, IsNewPage, IsTargetWord}
 
 -- the name words that slot d gets, or has
 abbrev pub words_for : ℕ → List ℕ → ℕ → Target → List ℕ

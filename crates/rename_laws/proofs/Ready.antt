@@ -28,7 +28,8 @@ use Rattle.image_laws.proofs.Ready.{dec_among}
 use Rattle.image_laws.proofs.Words.{slot_words-same}
 use Rattle.rename_laws.specs.Pointing.{StoresPointing}
 use Rattle.rename_laws.specs.Target.{Target, Vacant, Opened, Taken, CanTake, CanRename, Holds, IsRising, IsDirectoryMoved, old_number, name_of}
-use Rattle.rename_laws.specs.Ready.{IsLinkWord, Rises, IsNewNameWord, HasNewName, PointsAt, HasNewPage, IsNewPage, IsTargetWord, IsMoveReady, OpeningLaw, ReadyLaw}
+use Rattle.rename_laws.specs.Ready.{IsNewNameWord, HasNewName, PointsAt, HasNewPage, IsNewPage, IsTargetWord, IsMoveReady, OpeningLaw, ReadyLaw}
+use Rattle.image_laws.specs.Links.{IsLinkWord, Rises}
 use Rattle.rename_laws.proofs.Opened.{words_for, HasWords, IsOpen, opened}
 use Rattle.rename_laws.proofs.Pointing.{pointing_law}
 

@@ -1,7 +1,7 @@
 -- The intervals of a rename from its commit on, each by what stands before it. I are the words from which slot d may take its number,
 -- J, G and K those after the last three intervals.
 use Rattle.std.specs.Prelude.{◌≡◌, ◌≢◌, ◌⊎◌, ℕ, ◌+◌, ◌<◌, ◌≤◌, List, length, Option, Some, None}
-use Rattle.layout.specs.Fields.{word, inode_links, page_owner, slot_pointer}
+use Rattle.layout.specs.Fields.{word, page_owner, slot_pointer}
 use Rattle.layout.specs.Geometry.{data_pages_of, page_of_slot, slot_word_of}
 use Rattle.tree_model.specs.PathText.{Route}
 use Rattle.image_reading.specs.Reading.{slot_owner, Reached, IsRoomOf}
@@ -10,18 +10,14 @@ use Rattle.image_laws.specs.Frame.{SameMeaning}
 use Rattle.image_laws.specs.Move.{moved}
 use Rattle.image_laws.specs.Quiet.{IsMix}
 use Rattle.rename_laws.specs.Target.{Target, Vacant, Opened, Taken, Holds, IsFalling, old_number}
-use Rattle.rename_laws.specs.Ready.{IsMoveReady, IsLinkWord}
+use Rattle.rename_laws.specs.Ready.{IsMoveReady}
+use Rattle.image_laws.specs.Links.{IsLinkWord, Falls}
 
 -- ---- the words
 
 -- the words after the commit, when slot s has given up its number
 abbrev pub left : ℕ → List ℕ → ℕ → ℕ → List ℕ
 left P I s d = dropped P (moved P I s d) s
-
--- the inode has a link less, where there is one
-abbrev pub Falls : List ℕ → List ℕ → Option ℕ → Type 0
-Falls I J None = Unit {0}
-Falls I J (Some y) = inode_links J y + 1 ≡ inode_links I y
 
 -- From D to J slot d points nowhere, words 1 to 15 of slot s are zero, and the falling inode has a link less. No other word changes.
 pub record ClearsSource (P : ℕ) (D J : List ℕ) (s d : ℕ) (falling : Option ℕ) : Type 0 where
@@ -70,16 +66,16 @@ LeavingLaw = (P : ℕ) (W I M : List ℕ) (pa pb : Route) (s x d : ℕ) (target 
     → IsMix (moved P I s d) (left P I s d) M → SameMeaning P (moved P I s d) M
 
 -- while the pointer and the rest of slot s are cleared,
-abbrev pub ClearingLaw : Type 0
-ClearingLaw = (P : ℕ) (W I J M : List ℕ) (pa pb : Route) (s x d : ℕ) (target : Target) (rising falling : Option ℕ) → IsMoveReady P W I pa pb s x d target rising
+abbrev pub MoveClearingLaw : Type 0
+MoveClearingLaw = (P : ℕ) (W I J M : List ℕ) (pa pb : Route) (s x d : ℕ) (target : Target) (rising falling : Option ℕ) → IsMoveReady P W I pa pb s x d target rising
     → IsCleared P W I J s x d target falling → IsMix (left P I s d) J M → SameMeaning P (moved P I s d) M
 
 -- while the pages that go lose their owner,
-abbrev pub GivingLaw : Type 0
-GivingLaw = (P : ℕ) (W I J G M : List ℕ) (pa pb : Route) (s x d : ℕ) (target : Target) (rising falling : Option ℕ) → IsMoveReady P W I pa pb s x d target rising
+abbrev pub MoveGivingLaw : Type 0
+MoveGivingLaw = (P : ℕ) (W I J G M : List ℕ) (pa pb : Route) (s x d : ℕ) (target : Target) (rising falling : Option ℕ) → IsMoveReady P W I pa pb s x d target rising
     → IsGiven P W I J G s x d target falling → IsMix J G M → SameMeaning P (moved P I s d) M
 
 -- and while the rest of them and of a replaced inode is cleared.
-abbrev pub FreeingLaw : Type 0
-FreeingLaw = (P : ℕ) (W I J G K M : List ℕ) (pa pb : Route) (s x d : ℕ) (target : Target) (rising falling : Option ℕ) → IsMoveReady P W I pa pb s x d target rising
+abbrev pub MoveFreeingLaw : Type 0
+MoveFreeingLaw = (P : ℕ) (W I J G K M : List ℕ) (pa pb : Route) (s x d : ℕ) (target : Target) (rising falling : Option ℕ) → IsMoveReady P W I pa pb s x d target rising
     → Finishes P W I J G K s x d target falling → IsMix G K M → SameMeaning P (moved P I s d) M

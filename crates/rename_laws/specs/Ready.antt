@@ -1,27 +1,22 @@
 -- The intervals of a rename before its commit: a new page of the directory where it needs one, and then the pointer, with the name and a
 -- link. W are the words before, B those with the new page, I those from which slot d may take its number.
 use Rattle.std.specs.Prelude.{◌≡◌, ◌≢◌, ◌⊎◌, ℕ, ◌+◌, List, length, Option, Some, None}
-use Rattle.layout.specs.Fields.{word, inode_links, page_owner, page_kind, page_offset, slot_inode, slot_pointer, slot_name, slot_words}
-use Rattle.layout.specs.Geometry.{page_of_slot, inode_word_of, descriptor_word_of, slot_word_of, page_word_of}
+use Rattle.layout.specs.Fields.{word, page_owner, page_kind, page_offset, slot_inode, slot_pointer, slot_name, slot_words}
+use Rattle.layout.specs.Geometry.{page_of_slot, descriptor_word_of, slot_word_of, page_word_of}
 use Rattle.layout.specs.Kinds.{page_code}
 use Rattle.layout.specs.declared.kinds.PageKind.TheVariants.{Slots}
 use Rattle.tree_model.specs.PathText.{Route}
 use Rattle.image_reading.specs.Litter.{IsZeroSlot}
 use Rattle.image_reading.specs.Reading.{slot_owner}
 use Rattle.image_reading.specs.Repairs.{descriptor_words}
-use Rattle.image_laws.specs.Create.{IsAmong, MakesEmptyPage, IsPageQuiet, owned}
+use Rattle.image_laws.specs.Create.{IsAmong, MakesNamedPage, IsPageQuiet, owned}
 use Rattle.image_laws.specs.Frame.{SameMeaning}
+use Rattle.image_laws.specs.Links.{IsLinkWord, Rises}
 use Rattle.image_laws.specs.Move.{CanMove}
 use Rattle.image_laws.specs.Quiet.{IsMix}
 use Rattle.rename_laws.specs.Target.{Target, Vacant, Opened, Taken, CanRename, Holds, IsRising, old_number, name_of}
 
 -- ---- a new page
-
--- From W to A page j becomes a directory page without an owner, with the name in slot d and zeros beside it.
-pub record MakesNamedPage (P : ℕ) (W A : List ℕ) (j d : ℕ) (name : List ℕ) : Type 0 where
-  pub empty : MakesEmptyPage P W A j
-  pub name_is : slot_words P A d ≡ name
-  pub zeros : (t : ℕ) → page_of_slot t ≡ j → t ≢ d → IsZeroSlot P A t
 
 -- From W to B directory x has taken its new page, where there is one.
 abbrev pub IsOpened : ℕ → List ℕ → List ℕ → ℕ → ℕ → Target → Type 0
@@ -30,16 +25,6 @@ IsOpened P W B x d (Opened j name) = (A : List ℕ) × MakesNamedPage P W A j d 
 IsOpened P W B x d (Taken r) = B ≡ W
 
 -- ---- the pointer
-
--- the link word of an inode, where there is one
-abbrev pub IsLinkWord : Option ℕ → ℕ → Type 0
-IsLinkWord None a = ⊥
-IsLinkWord (Some y) a = a ≡ inode_word_of y 1
-
--- it has a link more
-abbrev pub Rises : List ℕ → List ℕ → Option ℕ → Type 0
-Rises I J None = Unit {0}
-Rises I J (Some y) = inode_links J y ≡ inode_links I y + 1
 
 -- a name word of a slot that was vacant
 abbrev pub IsNewNameWord : ℕ → ℕ → Target → ℕ → Type 0

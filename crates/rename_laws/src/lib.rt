@@ -3,7 +3,7 @@
 
 ghost use Rattle.rename_laws.specs.Pointing.{PointingLaw};
 ghost use Rattle.rename_laws.specs.Ready.{OpeningLaw, ReadyLaw};
-ghost use Rattle.rename_laws.specs.Intervals.{CommitLaw, LeavingLaw, ClearingLaw, GivingLaw, FreeingLaw};
+ghost use Rattle.rename_laws.specs.Intervals.{CommitLaw, LeavingLaw, MoveClearingLaw, MoveGivingLaw, MoveFreeingLaw};
 ghost use Rattle.rename_laws.specs.End.{CommittedLaw, MovedTidyLaw, MovedReadsLaw, MovedRoomLaw, MoveStepLaw, MoveGivesLaw, FullSourceLaw, DifferenceLaw};
 ghost use Rattle.rename_laws.specs.Index.{MovedEntryLaw, MovedIndexLaw};
 
@@ -25,9 +25,9 @@ pub fn interval_law()
     ensures commit { CommitLaw }
     ensures reads { CommittedLaw }
     ensures leaving { LeavingLaw }
-    ensures clearing { ClearingLaw }
-    ensures giving { GivingLaw }
-    ensures freeing { FreeingLaw }
+    ensures clearing { MoveClearingLaw }
+    ensures giving { MoveGivingLaw }
+    ensures freeing { MoveFreeingLaw }
 {}
 
 /// The last words of a rename are tidy, and read as the tree with the path in its new place.
