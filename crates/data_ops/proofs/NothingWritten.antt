@@ -1,5 +1,5 @@
 -- A write of no bytes: nothing is to be done.
-use Rattle.std.proofs.Common.{◌≡◌, ◌≢◌, ◌⊎◌, ℕ, Bool, true, false, ◌==◌, cond, List, length, inl, inr, refl, sym, ap, subst, ◌∙◌, arith, true≢false}
+use Rattle.std.proofs.Common.{◌≡◌, ◌≢◌, ℕ, Bool, true, false, ◌==◌, cond, List, length, inl, refl, sym, ap, subst, ◌∙◌, arith}
 use Rattle.std.specs.Prelude.{Option, Some, Ok}
 use Rattle.std.proofs.lemmas.Bool.Decides.{nat_tests}
 use Rattle.pm_trait.specs.Trail.{Trail}
@@ -30,7 +30,6 @@ use Rattle.volume.specs.Planned.{IsWritingFor, IsNothingOr}
 use Rattle.volume.specs.Stands.{StandsFor}
 use Rattle.volume.specs.Volume.{VolumeView}
 use Rattle.volume.specs.declared.plan.Writing.{Writing}
-use Rattle.volume.specs.declared.plan.Action.{Action}
 use Rattle.entry_steps.proofs.Answered.{follows_as}
 use Rattle.pm_trait.specs.Unfolds.{Quietly}
 use Rattle.data_ops.specs.Writing.{IsWriteOf}
@@ -113,15 +112,3 @@ carried_nothing {E} volume device bytes none settled going = record {
   device = intervals_none device (Told 0) settled;
   idle = λ none. (refl, refl);
 }
-
--- ---- the actions of a write
-
--- it writes its bytes, or nothing
-writes_or_nothing : (none : Bool) (For : Writing → Type 0) (action : Action) → IsNothingOr none WriteNothing (λ action. (x : Writing) × (action ≡ WriteBytes x) × For x) action
-    → ((writing : Writing) × (action ≡ WriteBytes writing)) ⊎ (action ≡ WriteNothing)
-writes_or_nothing true For action plan = inr plan
-writes_or_nothing false For action (x, is, for) = inl (x, is)
-
-pub writing_or_nothing : (volume : VolumeView) (device : DeviceView) (state : State) (path : Route) (offset : ℕ) (bytes : List ℕ) (action : Action) → IsPlanFor volume device state (Write path offset bytes) action
-    → ((writing : Writing) × (action ≡ WriteBytes writing)) ⊎ (action ≡ WriteNothing)
-writing_or_nothing volume device state path offset bytes action plan = writes_or_nothing (length bytes == 0) (IsWritingFor volume.size device.words state path offset bytes) action plan.planned.plan_is

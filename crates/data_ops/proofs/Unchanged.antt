@@ -1,5 +1,5 @@
 -- A truncation to the size that the file has: nothing is to be done.
-use Rattle.std.proofs.Common.{◌≡◌, ◌≢◌, ◌⊎◌, ℕ, Bool, true, false, ◌==◌, List, length, Some, unwrap_or, inl, inr, refl, sym, ap, subst, ◌∙◌, arith}
+use Rattle.std.proofs.Common.{◌≡◌, ◌≢◌, ℕ, Bool, true, false, ◌==◌, List, length, Some, unwrap_or, inl, inr, refl, sym, ap, subst, ◌∙◌, arith}
 use Rattle.std.specs.Prelude.{Option, Ok}
 use Rattle.std.proofs.lemmas.Bool.{cases_eq}
 use Rattle.std.proofs.lemmas.Bool.Decides.{nat_tests}
@@ -29,7 +29,6 @@ use Rattle.content_laws.proofs.Bytes.{length-resized, resized_at}
 use Rattle.content_laws.proofs.Steps.{stepped, resized_tree}
 use Rattle.volume.specs.Carried.{IsPlanFor, IsAtomic, LeavesState, Follows, Carries}
 use Rattle.volume.specs.Crashes.{MayReadAs}
-use Rattle.volume.specs.declared.plan.Action.{Action}
 use Rattle.volume.specs.declared.plan.Action.TheVariants.{Resize, KeepSize}
 use Rattle.volume.specs.Planned.{IsResizingFor, IsNothingOr, is_size_of}
 use Rattle.volume.specs.Stands.{StandsFor}
@@ -139,15 +138,3 @@ carried_nothing {E} volume device settled going = record {
   device = intervals_none device Told settled;
   idle = λ none. (refl, refl);
 }
-
--- ---- the actions of a truncation
-
--- it gives the file another size, or nothing
-sets_or_keeps : (same : Bool) (For : Resizing → Type 0) (action : Action) → IsNothingOr same KeepSize (λ action. (x : Resizing) × (action ≡ Resize x) × For x) action
-    → ((resizing : Resizing) × (action ≡ Resize resizing)) ⊎ (action ≡ KeepSize)
-sets_or_keeps true For action plan = inr plan
-sets_or_keeps false For action (x, is, for) = inl (x, is)
-
-pub resizing_or_nothing : (volume : VolumeView) (device : DeviceView) (state : State) (path : Route) (size : ℕ) (action : Action) → IsPlanFor volume device state (Truncate path size) action
-    → ((resizing : Resizing) × (action ≡ Resize resizing)) ⊎ (action ≡ KeepSize)
-resizing_or_nothing volume device state path size action plan = sets_or_keeps (is_size_of state path size) (IsResizingFor volume.size device.words state path size) action plan.planned.plan_is

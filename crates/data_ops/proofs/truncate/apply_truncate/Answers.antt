@@ -11,7 +11,7 @@ use Rattle.volume.specs.declared.plan.Action.{Action}
 use Rattle.volume.specs.declared.plan.Action.TheVariants.{Resize, KeepSize}
 use Rattle.data_ops.specs.Cutting.{IsTruncation, HasStoredSize}
 use Rattle.data_ops.proofs.Truncations.{resizing_at}
-use Rattle.data_ops.proofs.Unchanged.{carried_nothing, resizing_or_nothing}
+use Rattle.data_ops.proofs.Unchanged.{carried_nothing}
 use Rattle.data_ops.proofs.truncate.apply_truncate.Goals as goal
 
 same_resizing : (one two : Resizing) → ◌≡◌ {A = Action} (Resize one) (Resize two) → one ≡ two

@@ -1,4 +1,4 @@
-use Rattle.std.proofs.Common.{◌≡◌, ℕ, ◌≢◌, length, refl, sym, subst, ◌∙◌}
+use Rattle.std.proofs.Common.{◌≡◌, ℕ, ◌≢◌, length, sym, subst, ◌∙◌}
 use Rattle.std.specs.Prelude.{Ok}
 use Rattle.pm_trait.specs.declared.event.PmFault.{PmFault}
 use Rattle.tree_model.specs.Step.{Count}
@@ -10,7 +10,7 @@ use Rattle.volume.specs.declared.plan.Action.{Action}
 use Rattle.volume.specs.declared.plan.Action.TheVariants.{Write as Writes, WriteNothing}
 use Rattle.data_ops.specs.Writing.{IsWriteOf, HasStoredBytes}
 use Rattle.data_ops.proofs.Writings.{writing_at}
-use Rattle.data_ops.proofs.NothingWritten.{none, carried_nothing, writing_or_nothing}
+use Rattle.data_ops.proofs.NothingWritten.{none, carried_nothing}
 use Rattle.data_ops.proofs.write.apply_write.Goals as goal
 
 same_writing : (one two : Writing) → ◌≡◌ {A = Action} (Writes one) (Writes two) → one ≡ two
