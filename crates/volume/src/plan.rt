@@ -155,8 +155,16 @@ impl Moving {
             None => lost,
             Some(_) => lost + 1,
         };
-        let rising = if self.raises() { WORD_EVENTS } else { 0 };
-        let falling = if self.lowers() { WORD_EVENTS } else { 0 };
+        let rising = if self.rising().is_some() {
+            WORD_EVENTS
+        } else {
+            0
+        };
+        let falling = if self.falling().is_some() {
+            WORD_EVENTS
+        } else {
+            0
+        };
         new_page_events(self.new_page)
             + (self.pointing_events() + rising + FENCE_EVENTS)
             + (COMMIT_EVENTS + COMMIT_EVENTS)
@@ -175,23 +183,30 @@ impl Moving {
         }
     }
 
-    // Whether the link count of the new name's directory rises.
-    fn raises(&self) -> bool
-        ensures { result ≡ is_some (rising_of self.now) }
+    /// The inode that gets a link more: the new parent's, where a directory gets another parent and replaces none.
+    pub fn rising(&self) -> Option<u64>
+        ensures { result ≡ rising_of self.now }
     {
-        self.kind == NodeKind::Directory
+        let gains = self.kind == NodeKind::Directory
             && self.from_directory != self.to_directory
-            && self.replaced.is_none()
+            && self.replaced.is_none();
+        if gains { Some(self.to_directory) } else { None }
     }
 
-    // Whether a link count falls: of the old name's directory, or of a file that is replaced.
-    fn lowers(&self) -> bool
-        ensures { result ≡ is_some (falling_of self.now) }
+    /// The inode that gets a link less: the old parent's, where a directory gets another parent or replaces a directory, or that of a
+    /// file that is replaced.
+    pub fn falling(&self) -> Option<u64>
+        ensures { result ≡ falling_of self.now }
     {
         match self.kind {
-            NodeKind::File => self.replaced.is_some(),
+            NodeKind::File => self.replaced.map(|loss| loss.inode),
             NodeKind::Directory => {
-                self.from_directory != self.to_directory || self.replaced.is_some()
+                let leaves = self.from_directory != self.to_directory || self.replaced.is_some();
+                if leaves {
+                    Some(self.from_directory)
+                } else {
+                    None
+                }
             }
         }
     }
