@@ -95,7 +95,20 @@ def truncate(tree, path, size):
     return tree.with_file(names, names, tree.files[names][:int(size)].ljust(int(size), b"\0"))
 
 
-STEPS = {step.__name__: step for step in (create, mkdir, link, unlink, rmdir, write, truncate)}
+def rename(tree, path, new_path):
+    """A file or a directory with all below it; what the new path named has that name no longer."""
+    if path == new_path or any({path, new_path} <= names for names in tree.files):
+        return tree
+
+    def moved(old):
+        return new_path + old[len(path):] if old == path or old.startswith(path + "/") else old
+
+    left = {names - {new_path}: content for names, content in tree.files.items()}
+    return Tree(frozenset(moved(old) for old in tree.directories - {new_path}),
+                {frozenset(moved(old) for old in names): content for names, content in left.items() if names})
+
+
+STEPS = {step.__name__: step for step in (create, mkdir, link, unlink, rmdir, rename, write, truncate)}
 
 
 def written_bytes(digits):
@@ -206,8 +219,22 @@ def draw_truncate(tree, _limits, rng):
     return f"truncate {path} {rng.choice([0, rng.randint(0, size), rng.randint(0, LONGEST)])}"
 
 
+def draw_rename(tree, limits, rng):
+    """A file to a new path or to a file's, a directory to a new path or to an empty directory's, which isn't below it."""
+    paths = sorted(tree.paths() - {"/"})
+    if not paths:
+        return None
+    path = rng.choice(paths)
+    parents = {parent_of(other) for other in tree.paths()}
+    alike = sorted(tree.directories - parents) if path in tree.directories else sorted(tree.paths() - tree.directories)
+    target = rng.choice([new_path(tree, limits, rng), rng.choice(alike) if alike else None])
+    into_itself = target and path in tree.directories and target.startswith(path + "/")
+    return target and not into_itself and target != "/" and f"rename {path} {target}"
+
+
 KINDS = {
-    draw_create: 5, draw_mkdir: 2, draw_link: 3, draw_unlink: 4, draw_rmdir: 1, draw_write: 7, draw_truncate: 3,
+    draw_create: 5, draw_mkdir: 2, draw_link: 3, draw_unlink: 4, draw_rmdir: 1, draw_rename: 5, draw_write: 7,
+    draw_truncate: 3,
 }
 
 

@@ -37,8 +37,9 @@ pub fn take_buffer(alloc: Global) -> Result<Vec<u8>, AllocError>
 impl<F> FileMedium<F> {
     /// A file that is to have so many bytes, with its buffer.
     pub fn new(file: Locked<F>, file_bytes: u64, buffer: Vec<u8>) -> FileMedium<F>
-        requires { length buffer.items ≡ 1048576 }
-        ensures { result.file ≡ file }
+        requires buffer { length buffer.items ≡ 1048576 }
+        ensures file { result.file ≡ file }
+        ensures bytes { result.file_bytes ≡ file_bytes }
     {
         FileMedium {
             file,

@@ -18,7 +18,7 @@ pub enum Call<'a> {
 }
 
 impl<'a> Call<'a> {
-    /// What a line asks for. A line that is too long, of a command that is not supported, or of another number of words
+    /// What a line asks for. A line that is too long, of no command, or of another number of words
     /// than its command takes, and one in which a number or the bytes can't be read is refused before any path is read.
     /// Of two paths a fault of form in either comes before a name that is too long. `scratch`, of at least 32,768 bytes,
     /// is where the bytes of a line are decoded.
@@ -112,6 +112,9 @@ fn command_on_two<'a>(
     if verb == b"link".as_slice() {
         let (from, to) = both_paths(first, second)?;
         Ok(Command::Link { from, to })
+    } else if verb == b"rename".as_slice() {
+        let (from, to) = both_paths(first, second)?;
+        Ok(Command::Rename { from, to })
     } else if verb == b"truncate".as_slice() {
         truncate_of_words(first, second)
     } else {

@@ -9,23 +9,27 @@ use std::alloc::Global;
 use std::process::Abort;
 use std::test::Fail;
 
-// What is found of a volume: the names of its root, and how many inodes and data pages are free.
+// The script that lists the root.
+const LIST: &str = "list /\n";
+
+// What is found of a volume: what a script is told, and how many inodes and data pages are free.
 #[derive(Clone, Copy)]
-struct Found<'a> {
-    names: &'a str,
-    free: (u64, u64),
+pub(crate) struct Found<'a> {
+    pub(crate) told: &'a str,
+    pub(crate) free: (u64, u64),
 }
 
 // A line, and for each of its fences how many a mount takes of the words as they were settled, and of all that was stored
 // since. The tree before it is found up to the settled words of the fence `commit`, and from its stored ones on the tree
-// after it.
+// after it. Both are found by the same script.
 #[derive(Clone, Copy)]
-struct Crashes<'a> {
-    line: &'a str,
-    mounts: &'a [(u64, u64)],
-    commit: u64,
-    before: Found<'a>,
-    after: Found<'a>,
+pub(crate) struct Crashes<'a> {
+    pub(crate) line: &'a str,
+    pub(crate) mounts: &'a [(u64, u64)],
+    pub(crate) commit: u64,
+    pub(crate) asked: &'a str,
+    pub(crate) before: Found<'a>,
+    pub(crate) after: Found<'a>,
 }
 
 // How many fences a mount takes of the words that a crash left, which are found as they should be.
@@ -33,15 +37,21 @@ fn mount_fences(
     rt: &impl Abort,
     alloc: Global,
     image: &[u64],
+    asked: &str,
     found: Found<'_>,
 ) -> Result<u64, Fail> {
-    finds(rt, alloc, image, found.names, found.free)?;
+    finds(rt, alloc, image, asked, found.told, found.free)?;
     let mounted = job_on(alloc, "squirrel run v", image, b"")?;
     Ok(mounted.fences)
 }
 
 // Lets each fence of the line fail in turn. The line has no more of them.
-fn compare(rt: &impl Abort, alloc: Global, volume: &[u64], row: Crashes<'_>) -> Result<(), Fail> {
+pub(crate) fn compare(
+    rt: &impl Abort,
+    alloc: Global,
+    volume: &[u64],
+    row: Crashes<'_>,
+) -> Result<(), Fail> {
     let whole = job_on(alloc, "squirrel run v", volume, row.line.as_bytes())?;
     assert_eq!(rt; whole.told.as_slice(), b"ok\n".as_slice());
     assert_eq!(rt; whole.fences, row.mounts.len() as u64, "for {}", row.line);
@@ -71,7 +81,7 @@ fn compare(rt: &impl Abort, alloc: Global, volume: &[u64], row: Crashes<'_>) -> 
         } else {
             row.after
         };
-        let fences = mount_fences(rt, alloc, image.as_slice(), found)?;
+        let fences = mount_fences(rt, alloc, image.as_slice(), row.asked, found)?;
         assert_eq!(rt; fences, *settled, "settled, at {fence} of {}", row.line);
         let image = crash_at(alloc, &pm, end, &[1, 1])?;
         let found = if fence < row.commit {
@@ -79,7 +89,7 @@ fn compare(rt: &impl Abort, alloc: Global, volume: &[u64], row: Crashes<'_>) -> 
         } else {
             row.after
         };
-        let fences = mount_fences(rt, alloc, image.as_slice(), found)?;
+        let fences = mount_fences(rt, alloc, image.as_slice(), row.asked, found)?;
         assert_eq!(rt; fences, *stored, "stored, at {fence} of {}", row.line);
     }
     Ok(())
@@ -94,12 +104,13 @@ fn what_is_made_is_there_or_not(rt: HostRuntime) -> Result<(), Fail> {
             line,
             mounts: &[(0, 1), (1, 2), (2, 2), (2, 0)],
             commit: 4,
+            asked: LIST,
             before: Found {
-                names: "ok 0\n",
+                told: "ok 0\n",
                 free: (3, 13),
             },
             after: Found {
-                names,
+                told: names,
                 free: (2, 12),
             },
         };
@@ -110,12 +121,13 @@ fn what_is_made_is_there_or_not(rt: HostRuntime) -> Result<(), Fail> {
         line: "link /a /b\n",
         mounts: &[(0, 1), (1, 0)],
         commit: 2,
+        asked: LIST,
         before: Found {
-            names: "ok 1 a\n",
+            told: "ok 1 a\n",
             free: (2, 12),
         },
         after: Found {
-            names: "ok 2 a b\n",
+            told: "ok 2 a b\n",
             free: (2, 12),
         },
     };
@@ -131,12 +143,13 @@ fn what_goes_is_there_or_not(rt: HostRuntime) -> Result<(), Fail> {
         line: "unlink /a\n",
         mounts: &[(0, 2), (2, 2), (2, 1), (1, 0)],
         commit: 1,
+        asked: LIST,
         before: Found {
-            names: "ok 1 a\n",
+            told: "ok 1 a\n",
             free: (2, 11),
         },
         after: Found {
-            names: "ok 0\n",
+            told: "ok 0\n",
             free: (3, 13),
         },
     };
@@ -152,12 +165,13 @@ fn what_goes_is_there_or_not(rt: HostRuntime) -> Result<(), Fail> {
         line: "unlink /a\n",
         mounts: &[(0, 1), (1, 0)],
         commit: 1,
+        asked: LIST,
         before: Found {
-            names: "ok 2 a b\n",
+            told: "ok 2 a b\n",
             free: (2, 12),
         },
         after: Found {
-            names: "ok 1 b\n",
+            told: "ok 1 b\n",
             free: (2, 12),
         },
     };
@@ -172,12 +186,13 @@ fn what_goes_is_there_or_not(rt: HostRuntime) -> Result<(), Fail> {
         line: "rmdir /d\n",
         mounts: &[(0, 2), (2, 1), (1, 0)],
         commit: 1,
+        asked: LIST,
         before: Found {
-            names: "ok 2 a d\n",
+            told: "ok 2 a d\n",
             free: (1, 12),
         },
         after: Found {
-            names: "ok 1 a\n",
+            told: "ok 1 a\n",
             free: (2, 12),
         },
     };

@@ -4,6 +4,8 @@
 #[cfg(test)]
 mod contents;
 #[cfg(test)]
+mod costs;
+#[cfg(test)]
 mod crashes;
 #[cfg(test)]
 mod faults;
@@ -19,6 +21,8 @@ mod links;
 mod recoveries;
 #[cfg(test)]
 mod removals;
+#[cfg(test)]
+mod renames;
 #[cfg(test)]
 mod scarce;
 #[cfg(test)]

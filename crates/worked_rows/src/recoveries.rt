@@ -236,15 +236,16 @@ fn what_nothing_leads_to_goes(rt: HostRuntime) -> Result<(), Fail> {
     Ok(())
 }
 
-// What a run finds on the words that a crash left: the tree and what is free.
+// What a run finds on the words that a crash left: what a script is told, and what is free.
 pub(crate) fn finds(
     rt: &impl Abort,
     alloc: Global,
     image: &[u64],
+    script: &str,
     told: &str,
     free: (u64, u64),
 ) -> Result<(), Fail> {
-    let left = job_on(alloc, "squirrel run v", image, b"list /\n")?;
+    let left = job_on(alloc, "squirrel run v", image, script.as_bytes())?;
     assert_eq!(rt; left.told.as_slice(), told.as_bytes());
     assert_eq!(rt; left.status, Status::Done);
     assert_eq!(rt; free_of(alloc, left.image.as_slice())?, free);
@@ -261,7 +262,7 @@ fn finds_the_file_everywhere(
     for moment in 0..events_of(pm)?.saturating_add(1) {
         for keep in mixes {
             let image = crash_at(alloc, pm, moment, keep)?;
-            finds(rt, alloc, image.as_slice(), "ok 1 b\n", (2, 12))?;
+            finds(rt, alloc, image.as_slice(), "list /\n", "ok 1 b\n", (2, 12))?;
         }
     }
     Ok(())
