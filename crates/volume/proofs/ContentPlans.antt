@@ -21,7 +21,7 @@ use Rattle.volume.specs.Volume.{VolumeView}
 use Rattle.volume.specs.Stands.{StandsFor}
 use Rattle.volume.specs.declared.plan.Action.{Action}
 use Rattle.volume.specs.declared.plan.Action.TheVariants.{Make, Name, Remove, Move, Write as WriteBytes, WriteNothing, Resize, KeepSize, KeepNames, Read as ReadBytes, Status, Names, Space}
-use Rattle.volume.specs.Planned.{IsMovingFor, IsWritingFor, IsResizingFor, IsNothingOr, IsPlanOf, IsPlanned}
+use Rattle.volume.specs.Planned.{IsMovingFor, IsWritingFor, IsResizingFor, IsPlanOf, IsPlanned}
 use Rattle.volume.specs.Prepared.{IsBoundedWriting, IsBoundedResizing}
 use Rattle.volume.specs.declared.plan.Writing.{Writing}
 use Rattle.volume.specs.declared.plan.Resizing.{Resizing}

@@ -6,7 +6,7 @@ use Rattle.pm_trait.specs.DeviceView.{DeviceView}
 use Rattle.layout.specs.Geometry.{inodes_of}
 use Rattle.layout.specs.Fields.{slot_inode}
 use Rattle.tree_model.specs.PathText.{Route}
-use Rattle.tree_model.specs.Tree.{Tree, root_id, is_root, parent, last_name, id_at, is_directory, name_count, pages_in}
+use Rattle.tree_model.specs.Tree.{Tree, root_id, parent, id_at, is_directory, name_count, pages_in}
 use Rattle.tree_model.specs.Walk.{walk_to_parent}
 use Rattle.tree_model.proofs.WalkLaws.{holder-from_walk}
 use Rattle.tree_model.specs.Capacity.{free_pages, untaken}

@@ -24,3 +24,4 @@ pub mod Listed
 pub mod PlanRows
 pub mod Staying
 pub mod PlanFences
+pub mod NameMoves

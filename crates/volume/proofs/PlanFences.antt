@@ -255,8 +255,8 @@ module _ (P : ℕ) (I : List ℕ) (state : State) (tidy : IsTidied P I) (reads :
 
   -- ---- a name moves
 
-  move_sum : (page steps pages lost same : ℕ) → page ≡ 2 * pages → lost ≡ same → page + steps + lost ≡ steps + 2 * pages + same
-  move_sum page steps pages lost same two is = omega (arith, two, is)
+  move_sum : (page pages lost same : ℕ) → page ≡ 2 * pages → lost ≡ same → page + 4 + lost ≡ 4 + 2 * pages + same
+  move_sum page pages lost same two is = omega (arith, two, is)
 
   module _ (later : State) (from to : Route) (moving : Moving) (for : IsMovingFor P I state from to moving) (accepted : refusal_of P state.tree state.room (Rename from to) ≡ None)
       (left : IsLeftBy P state (Rename from to) (Move moving) later) (old_holder : HasHolder state.tree from) (new_holder : HasHolder state.tree to) (move : MayMove (untaken P) state.tree state.room from to moving.inode) where
@@ -293,11 +293,11 @@ module _ (P : ℕ) (I : List ℕ) (state : State) (tidy : IsTidied P I) (reads :
         let owned = nat_lt 0 (pages_before state to) in
         let lost = lost_steps (nat_lt 0 (0 + count_of moving.given_back)) (is_some moving.given_back) false owned (some_lost 0 (pages_before state to) moving.given_back false (λ is. absurd (true≢false (sym is))) (λ is. refl))
         ∙ (λ i. one_where (sym source_gave i || (is_gone (sym absent i) later && owned)) + one_where (sym source_gave i || is_gone (sym absent i) later)) in
-        move_sum (fences_for_page moving.new_page) 4 (need state.tree state.room (Rename from to)) _ (fences_of_lost state (Rename from to) to later) pages lost
+        move_sum (fences_for_page moving.new_page) (need state.tree state.room (Rename from to)) _ (fences_of_lost state (Rename from to) to later) pages lost
     by_target (Some loss) (named, is_loss, no_page) =
         let pages = ap fences_for_page no_page ∙ ap (λ o. 2 * page_for_name state.tree state.room (cond (is_some o) None (Some (id_of state.tree (parent to))))) (sym named.inode_is) in
         let lost = loss_steps (Rename from to) loss to named.inode_is is_loss (λ directory. target_empty loss named.inode_is) later moving.given_back (tree_is later (Rename from to) (Move moving) accepted left) source_gave in
-        move_sum (fences_for_page moving.new_page) 4 (need state.tree state.room (Rename from to)) _ (fences_of_lost state (Rename from to) to later) pages lost
+        move_sum (fences_for_page moving.new_page) (need state.tree state.room (Rename from to)) _ (fences_of_lost state (Rename from to) to later) pages lost
 
   rename_steps : (later : State) (from to : Route) (action : Action) → refusal_of P state.tree state.room (Rename from to) ≡ None → IsPlanOf P I state (Rename from to) action → IsLeftBy P state (Rename from to) action later
       → fences_of_plan action ≡ fences_of state (Ok (Rename from to)) (answer_of (untaken P) state.tree state.room (Rename from to)) later

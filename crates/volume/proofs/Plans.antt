@@ -14,22 +14,11 @@ use Rattle.layout.specs.declared.kinds.NodeKind.{NodeKind}
 use Rattle.volume.specs.declared.plan.NewEntry.{NewEntry}
 use Rattle.volume.specs.declared.plan.Action.{Action}
 
--- ---- by the action
+-- ---- by what it does
 
 abbrev pub makes_node : Action → Bool
 makes_node (Make entry) = true
-makes_node (Name link) = false
-makes_node (Remove removal) = false
-makes_node (Move moving) = false
-makes_node (WriteBytes writing) = false
-makes_node (Resize resizing) = false
-makes_node WriteNothing = false
-makes_node KeepSize = false
-makes_node KeepNames = false
-makes_node (ReadBytes reading) = false
-makes_node (Status inode) = false
-makes_node (Names inode) = false
-makes_node Space = false
+makes_node _ = false
 
 -- where nothing is to be done, or what is made of some x, for which it is
 module _ (R : Type 0) {A : Type 0} (make : A → Action) (For : A → Type 0) (nothing action : Action) where

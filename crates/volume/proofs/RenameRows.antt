@@ -1,5 +1,5 @@
 -- The row of a rename, by what the volume knows.
-use Rattle.std.proofs.Common.{◌≡◌, ◌≢◌, ℕ, ◌+◌, ◌<◌, ◌≤◌, inl, inr, Bool, true, false, cond, not, ◌&&◌, ◌||◌, ◌==◌, nat_lt, List, [], ◌∷◌, length, Contains, Option, Some, None, is_some, is_none, unwrap_or, Ok, Err, refl, sym, ap, subst, ◌∙◌, arith, true≢false}
+use Rattle.std.proofs.Common.{◌≡◌, ◌≢◌, ℕ, ◌+◌, ◌≤◌, inl, inr, Bool, true, false, cond, not, ◌&&◌, ◌||◌, ◌==◌, nat_lt, List, [], ◌∷◌, length, Contains, Option, Some, None, is_some, is_none, unwrap_or, refl, sym, ap, subst, ◌∙◌, arith, true≢false}
 use Rattle.std.proofs.lemmas.List.{length-map}
 use Rattle.std.proofs.lemmas.Bool.Decides.{nat_tests}
 use Rattle.pm_trait.specs.DeviceView.{DeviceView}
@@ -9,7 +9,7 @@ use Rattle.layout.specs.declared.kinds.NodeKind.{NodeKind}
 use Rattle.layout.specs.declared.kinds.NodeKind.TheVariants.{File, Directory}
 use Rattle.tree_model.specs.PathText.{Route}
 use Rattle.tree_model.specs.Tree.{Tree, Node, IsTree, root_id, is_root, parent, is_above, is_number, id_at, node_at, is_directory, is_file, is_directory_node, is_file_node, last_name, entries_in, name_count, path_count}
-use Rattle.tree_model.specs.Walk.{root_place, walk, walk_to_parent}
+use Rattle.tree_model.specs.Walk.{walk}
 use Rattle.tree_model.specs.Capacity.{free_pages, untaken}
 use Rattle.tree_model.specs.Accepted.{MayReplace}
 use Rattle.tree_model.specs.Step.{first, at, fault_of, id_of, is_same_node, names_in, page_for_name, faults_of_rename, refusal_of, least_free_id, tree_after, without_path}
@@ -33,22 +33,17 @@ use Rattle.volume.specs.Walks.{name_row, replace_row, WouldHold}
 use Rattle.volume.specs.Prepared.{IsLeftWith}
 use Rattle.volume.specs.declared.plan.Loss.{Loss}
 use Rattle.volume.specs.declared.plan.Moving.{Moving}
-use Rattle.volume.specs.declared.plan.Action.{Action}
 use Rattle.volume.specs.declared.plan.Action.TheVariants.{Move, KeepNames}
 use Rattle.volume.proofs.Walked.{stands_tree, reached_at}
 use Rattle.volume.proofs.Readings.{a_file, no_file}
 use Rattle.volume.proofs.Statuses.{same_state}
 use Rattle.volume.proofs.Holders.{held, named_there, named_absent, lacks_page, has_page}
-use Rattle.volume.proofs.RemovalRows.{is_some_test, is_none_test, otherwise, name_found, name_is, rmdir_row}
+use Rattle.volume.proofs.RemovalRows.{is_none_test, otherwise, name_found, name_is, rmdir_row}
 
 -- ---- how the row begins
 
 abbrev row : Option Refusal → Option Refusal → Bool → Bool → List (Option Refusal) → Option Refusal
 row walked held is_the_root same faults = first (walked ∷ held ∷ at Root is_the_root ∷ cond same [] faults)
-
-or_true : (b : Bool) → b || true ≡ true
-or_true true = refl
-or_true false = refl
 
 or_false : (a b : Bool) → a ≡ false → b ≡ false → a || b ≡ false
 or_false a b one other = λ i. one i || other i
@@ -62,10 +57,6 @@ passes : (walked : Option Refusal) (b : Bool) → first (walked ∷ at Root b �
 passes (Some fault) b e = cc
 passes None true e = cc
 passes None false e = (refl, refl)
-
-root_fails : (b : Bool) (fault : Refusal) → first (None ∷ at Root b ∷ []) ≡ Some fault → (b ≡ true) × (◌≡◌ {A = Option Refusal} (Some Root) (Some fault))
-root_fails true fault e = (refl, e)
-root_fails false fault e = cc
 
 -- ---- what is tested of two nodes
 
@@ -110,9 +101,6 @@ is_file_by o false there is = a_file o there is
 pub no_names_counted : (T : Tree) (inode names : ℕ) → names ≡ length (names_in T inode) → names ≤ 0 → nat_lt 0 (name_count T inode) ≡ false
 no_names_counted T inode names is none = ap (nat_lt 0) (sym (is ∙ length-map (entries_in T inode) (λ e. last_name e.0))) ∙ is_none_test names none
 
-pub names_counted : (T : Tree) (inode names : ℕ) → names ≡ length (names_in T inode) → 0 < names → nat_lt 0 (name_count T inode) ≡ true
-names_counted T inode names is some = ap (nat_lt 0) (sym (is ∙ length-map (entries_in T inode) (λ e. last_name e.0))) ∙ is_some_test names some
-
 -- a page is given back where another condition holds too
 pub given_too : (Alone Other : Type 0) (slot : ℕ) (given : Option ℕ) → Other → IsGivenBack Alone slot given → IsGivenBack (Alone × Other) slot given
 given_too Alone Other slot None other kept = λ both. kept both.0
@@ -131,12 +119,6 @@ module _ (T : Tree) (kind : NodeKind) (inode : ℕ) (there : is_some (node_at T 
 
   pub no_file_by_directory : kind ≡ Directory → is_directory T inode ≡ false → replace_row T kind inode ≡ Some NotDir
   no_file_by_directory is onto = replaced_by true (ap is_directory_kind is) false _ onto refl
-
-  pub no_directory_by_file : kind ≡ File → is_directory T inode ≡ true → replace_row T kind inode ≡ Some IsDir
-  no_directory_by_file is onto = replaced_by false (ap is_directory_kind is) true _ onto refl
-
-  pub no_names : kind ≡ Directory → is_directory T inode ≡ true → nat_lt 0 (name_count T inode) ≡ true → replace_row T kind inode ≡ Some NotEmpty
-  no_names is onto some = replaced_by true (ap is_directory_kind is) true true onto some
 
   pub empty_directory : kind ≡ Directory → is_directory T inode ≡ true → nat_lt 0 (name_count T inode) ≡ false → replace_row T kind inode ≡ None
   empty_directory is onto none = replaced_by true (ap is_directory_kind is) true false onto none
@@ -165,24 +147,7 @@ module _ (volume : VolumeView) (device : DeviceView) (state : State) (stands : S
   abbrev tests : List (Option Refusal)
   tests = faults_of_rename (untaken volume.size) state.tree state.room from to
 
-  pub rename_source_fails : (fault : Refusal) → walk state.tree from ≡ Err fault → refusal_of volume.size state.tree state.room (Rename from to) ≡ Some fault
-  rename_source_fails fault e = ap (λ w. row (fault_of w) (fault_of (walk_to_parent state.tree to)) (is_root from || is_root to) (is_same_node state.tree from to) tests) e
-
-  module _ (walked : fault_of (walk state.tree from) ≡ None) where
-    pub rename_walk_fails : (fault : Refusal) → walk_to_parent state.tree to ≡ Err fault → refusal_of volume.size state.tree state.room (Rename from to) ≡ Some fault
-    rename_walk_fails fault e = λ i. row (walked i) (fault_of (e i)) (is_root from || is_root to) (is_same_node state.tree from to) tests
-
-    pub rename_root : to ≡ [] → walk_to_parent state.tree to ≡ Ok root_place → refusal_of volume.size state.tree state.room (Rename from to) ≡ Some Root
-    rename_root is e =
-        (λ i. row (walked i) (fault_of (e i)) (is_root from || is_root (is i)) (is_same_node state.tree from to) tests)
-        ∙ ap (λ b. row None None b (is_same_node state.tree from to) tests) (or_true (is_root from))
-
   module _ (d : ℕ) (name : List ℕ) (holder : WouldHold state.tree to d name) where
-    pub rename_name_fails : fault_of (walk state.tree from) ≡ None → (fault : Refusal) → name_row state.tree from ≡ Some fault → refusal_of volume.size state.tree state.room (Rename from to) ≡ Some fault
-    rename_name_fails walked fault e =
-        let (is, told) = root_fails (is_root from) fault (ap (λ w. first (w ∷ at Root (is_root from) ∷ [])) (sym walked) ∙ e) in
-        (λ i. row (walked i) (fault_of (holder.walked i)) (is i || is_root to) (is_same_node state.tree from to) tests) ∙ told
-
     module _ (begins : name_row state.tree from ≡ None) where
       walked : fault_of (walk state.tree from) ≡ None
       walked = (passes (fault_of (walk state.tree from)) (is_root from) begins).0

@@ -71,7 +71,7 @@ abbrev pub AreNewPagesOr : List Bool → ℕ → Result (List ℕ) Refusal → T
 AreNewPagesOr free need (Ok pages) = AreLowestOf (IsFree free) need pages × (need ≤ free_in free)
 AreNewPagesOr free need (Err refusal) = LacksPages (free_in free) need refusal
 
--- what a node loses that is replaced: the last name of a directory, and one of a file's names, with which all pages go where it was the last
+-- What a node of this kind loses that loses a name: a directory goes, and a file where it has no other. Then all its pages go with it.
 pub record IsLeftWith (P : ℕ) (I : List ℕ) (inode : ℕ) (kind : NodeKind) (loss : Loss) : Type 0 where
   pub inode_is : loss.inode ≡ inode
   pub kind_is : loss.kind ≡ kind
@@ -120,17 +120,10 @@ IsChange action = IsTrue (is_change action)
 abbrev pub TakesPlace : Action → Type 0
 TakesPlace (Make entry) = Unit {0}
 TakesPlace (Name link) = Unit {0}
-TakesPlace (Remove removal) = ⊥
 TakesPlace (Move moving) = moving.replaced ≡ None
 TakesPlace (WriteBytes writing) = 0 < length writing.new_pages
-TakesPlace WriteNothing = ⊥
 TakesPlace (Resize resizing) = 0 < length resizing.new_pages
-TakesPlace KeepSize = ⊥
-TakesPlace KeepNames = ⊥
-TakesPlace (ReadBytes reading) = ⊥
-TakesPlace (Status inode) = ⊥
-TakesPlace (Names inode) = ⊥
-TakesPlace Space = ⊥
+TakesPlace _ = ⊥
 
 -- ---- what is reserved
 

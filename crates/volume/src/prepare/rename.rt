@@ -49,7 +49,7 @@ impl Volume {
         let Some(target) = self.resolve_parent(to, pm)? else {
             return Err(Refusal::Root);
         };
-        // Both walks come before this one, which refuses the root.
+        // This one refuses the root, which comes after both walks.
         let source = self.name_at(from, pm)?;
         match self.index.find(target.directory, &target.name) {
             None => self.move_to_new_name(from, to, source, target, pm),

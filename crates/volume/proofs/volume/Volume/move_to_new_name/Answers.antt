@@ -1,4 +1,4 @@
-use Rattle.std.proofs.Common.{ℕ, sym, subst, ◌∙◌}
+use Rattle.std.proofs.Common.{sym, subst}
 use Rattle.tree_model.specs.declared.command.Command.TheVariants.{Rename}
 use Rattle.volume.specs.declared.plan.Moving.{Moving}
 use Rattle.volume.specs.declared.plan.Action.TheVariants.{Move}

@@ -1,4 +1,4 @@
-use Rattle.std.proofs.Common.{ℕ, List, true, ◌||◌, ◌==◌, refl, sym, ap, subst, ◌∙◌, arith, true≢false}
+use Rattle.std.proofs.Common.{ℕ, List, ◌||◌, ◌==◌, refl, sym, ap, subst, ◌∙◌, arith, true≢false}
 use Rattle.layout.specs.Geometry.{inodes_of}
 use Rattle.layout.specs.Fields.{inode_links}
 use Rattle.layout.specs.declared.kinds.NodeKind.{NodeKind}
