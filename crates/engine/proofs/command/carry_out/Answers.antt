@@ -1,13 +1,10 @@
-use Rattle.std.proofs.Common.{◌≡◌, ℕ, List, refl, sym, ap, subst, ◌∙◌, true, false, true≢false}
-use Rattle.std.specs.Prelude.{Result, Ok, Err}
+use Rattle.std.proofs.Common.{◌≡◌, refl, sym, ap, subst, ◌∙◌, true, false, true≢false}
 use Rattle.pm_trait.specs.DeviceView.{DeviceView}
-use Rattle.pm_trait.specs.declared.event.PmFault.{PmFault}
 use Rattle.layout.specs.declared.kinds.NodeKind.{NodeKind}
 use Rattle.tree_model.specs.Run.{State, is_changing}
 use Rattle.tree_model.specs.Step.{Done, Count}
 use Rattle.tree_model.specs.declared.command.Command.{Command}
 use Rattle.tree_model.specs.declared.command.Command.TheVariants.{Write}
-use Rattle.tree_model.specs.declared.reply.Reply.{Reply}
 use Rattle.tree_model.specs.declared.reply.Reply.TheVariants as reply
 use Rattle.data_ops.specs.Cutting.{IsTruncation}
 use Rattle.data_ops.specs.Writing.{IsWriteOf}
@@ -18,18 +15,13 @@ use Rattle.volume.specs.Volume.{VolumeView}
 use Rattle.volume.specs.declared.plan.Action.{Action}
 use Rattle.volume.proofs.Plans.{change_is, planned_making, telling_reads}
 use Rattle.volume.proofs.PlanActions.{planned_linking}
-use Rattle.engine.specs.Exec.{KeepsBytes}
 use Rattle.engine.specs.Session.{session_of}
-use Rattle.engine.proofs.Asked.{IsRename, renamed, written, truncated}
-use Rattle.engine.proofs.Carried.{does_carried, leaves_carried, reads_carried}
-use Rattle.engine.proofs.Commands.{does_told, leaves_still}
+use Rattle.engine.proofs.Asked.{renamed, written, truncated}
+use Rattle.engine.proofs.Carried.{does_carried}
+use Rattle.engine.proofs.Commands.{does_told}
 use Rattle.engine.proofs.Removals.{removing, planned_removal}
 use Rattle.engine.proofs.Told.{node_told, directory_listed, directory_within, file_read, status_replied, names_replied, space_replied, read_replied, state_is}
 use Rattle.engine.proofs.command.carry_out.Goals as goal
-
-kept : (bytes : List ℕ) (result : Result Reply PmFault) → KeepsBytes bytes bytes result
-kept bytes (Ok reply) = λ not. refl
-kept bytes (Err fault) = refl
 
 -- an action that changes nothing is of a command that reads
 reads_as : (volume : VolumeView) (device : DeviceView) (state : State) (command : Command) (action other : Action) → IsPlanFor volume device state command action → action ≡ other → ¬ IsChange other → is_changing command ≡ false
@@ -57,17 +49,6 @@ returns-in-File-clause-does g c = λ state plan_for.
     does_carried (session_of volume c.args.last.now) (session_of c.apply_create.new.volume c.args.last.now) before (g.P.Pm.view c.apply_create.new.pm) c.args.plan Done state c.args.command.now c.apply_create.result tt tt
     change plan_for c.apply_create.ensures.carries
 
-pub returns-in-File-clause-leaves : goal.returns-in-File-clause-leaves
-returns-in-File-clause-leaves g c =
-    leaves_carried c.args.volume.now c.apply_create.new.volume (g.P.Pm.view c.args.pm.now) (g.P.Pm.view c.apply_create.new.pm) c.args.plan Done tt c.apply_create.result c.apply_create.ensures.carries
-
-pub returns-in-File-clause-reads : goal.returns-in-File-clause-reads
-returns-in-File-clause-reads g c =
-    reads_carried c.args.volume.now c.apply_create.new.volume (g.P.Pm.view c.args.pm.now) (g.P.Pm.view c.apply_create.new.pm) c.args.plan Done tt (¬ IsChange c.args.plan) c.apply_create.result c.apply_create.ensures.carries
-
-pub returns-in-File-clause-bytes : goal.returns-in-File-clause-bytes
-returns-in-File-clause-bytes g c = kept c.args.last.now c.apply_create.result
-
 pub apply_mkdir-requires-clause-planned : goal.apply_mkdir-requires-clause-planned
 apply_mkdir-requires-clause-planned g c =
     let volume = c.args.volume.now in
@@ -83,17 +64,6 @@ returns-in-Directory-clause-does g c = λ state plan_for.
     let change = subst IsChange (sym (sym c.action.ensures ∙ c.in-Make.is)) refl in
     does_carried (session_of volume c.args.last.now) (session_of c.apply_mkdir.new.volume c.args.last.now) before (g.P.Pm.view c.apply_mkdir.new.pm) c.args.plan Done state c.args.command.now c.apply_mkdir.result tt tt
     change plan_for c.apply_mkdir.ensures.carries
-
-pub returns-in-Directory-clause-leaves : goal.returns-in-Directory-clause-leaves
-returns-in-Directory-clause-leaves g c =
-    leaves_carried c.args.volume.now c.apply_mkdir.new.volume (g.P.Pm.view c.args.pm.now) (g.P.Pm.view c.apply_mkdir.new.pm) c.args.plan Done tt c.apply_mkdir.result c.apply_mkdir.ensures.carries
-
-pub returns-in-Directory-clause-reads : goal.returns-in-Directory-clause-reads
-returns-in-Directory-clause-reads g c =
-    reads_carried c.args.volume.now c.apply_mkdir.new.volume (g.P.Pm.view c.args.pm.now) (g.P.Pm.view c.apply_mkdir.new.pm) c.args.plan Done tt (¬ IsChange c.args.plan) c.apply_mkdir.result c.apply_mkdir.ensures.carries
-
-pub returns-in-Directory-clause-bytes : goal.returns-in-Directory-clause-bytes
-returns-in-Directory-clause-bytes g c = kept c.args.last.now c.apply_mkdir.result
 
 -- ---- a name is added
 
@@ -113,17 +83,6 @@ returns-in-Name-clause-does g c = λ state plan_for.
     does_carried (session_of volume c.args.last.now) (session_of c.apply_link.new.volume c.args.last.now) before (g.P.Pm.view c.apply_link.new.pm) c.args.plan Done state c.args.command.now c.apply_link.result tt tt
     change plan_for c.apply_link.ensures.carries
 
-pub returns-in-Name-clause-leaves : goal.returns-in-Name-clause-leaves
-returns-in-Name-clause-leaves g c =
-    leaves_carried c.args.volume.now c.apply_link.new.volume (g.P.Pm.view c.args.pm.now) (g.P.Pm.view c.apply_link.new.pm) c.args.plan Done tt c.apply_link.result c.apply_link.ensures.carries
-
-pub returns-in-Name-clause-reads : goal.returns-in-Name-clause-reads
-returns-in-Name-clause-reads g c =
-    reads_carried c.args.volume.now c.apply_link.new.volume (g.P.Pm.view c.args.pm.now) (g.P.Pm.view c.apply_link.new.pm) c.args.plan Done tt (¬ IsChange c.args.plan) c.apply_link.result c.apply_link.ensures.carries
-
-pub returns-in-Name-clause-bytes : goal.returns-in-Name-clause-bytes
-returns-in-Name-clause-bytes g c = kept c.args.last.now c.apply_link.result
-
 -- ---- a name is taken away
 
 pub apply_unlink-requires-clause-planned : goal.apply_unlink-requires-clause-planned
@@ -142,17 +101,6 @@ returns-in-File-kind-clause-does g c = λ state plan_for.
     does_carried (session_of volume c.args.last.now) (session_of c.apply_unlink.new.volume c.args.last.now) before (g.P.Pm.view c.apply_unlink.new.pm) c.args.plan Done state c.args.command.now c.apply_unlink.result tt tt
     change plan_for c.apply_unlink.ensures.carries
 
-pub returns-in-File-kind-clause-leaves : goal.returns-in-File-kind-clause-leaves
-returns-in-File-kind-clause-leaves g c =
-    leaves_carried c.args.volume.now c.apply_unlink.new.volume (g.P.Pm.view c.args.pm.now) (g.P.Pm.view c.apply_unlink.new.pm) c.args.plan Done tt c.apply_unlink.result c.apply_unlink.ensures.carries
-
-pub returns-in-File-kind-clause-reads : goal.returns-in-File-kind-clause-reads
-returns-in-File-kind-clause-reads g c =
-    reads_carried c.args.volume.now c.apply_unlink.new.volume (g.P.Pm.view c.args.pm.now) (g.P.Pm.view c.apply_unlink.new.pm) c.args.plan Done tt (¬ IsChange c.args.plan) c.apply_unlink.result c.apply_unlink.ensures.carries
-
-pub returns-in-File-kind-clause-bytes : goal.returns-in-File-kind-clause-bytes
-returns-in-File-kind-clause-bytes g c = kept c.args.last.now c.apply_unlink.result
-
 pub apply_rmdir-requires-clause-planned : goal.apply_rmdir-requires-clause-planned
 apply_rmdir-requires-clause-planned g c =
     let volume = c.args.volume.now in
@@ -168,17 +116,6 @@ returns-in-Directory-kind-clause-does g c = λ state plan_for.
     let change = subst IsChange (sym (sym c.action.ensures ∙ c.in-Remove.is)) refl in
     does_carried (session_of volume c.args.last.now) (session_of c.apply_rmdir.new.volume c.args.last.now) before (g.P.Pm.view c.apply_rmdir.new.pm) c.args.plan Done state c.args.command.now c.apply_rmdir.result tt tt
     change plan_for c.apply_rmdir.ensures.carries
-
-pub returns-in-Directory-kind-clause-leaves : goal.returns-in-Directory-kind-clause-leaves
-returns-in-Directory-kind-clause-leaves g c =
-    leaves_carried c.args.volume.now c.apply_rmdir.new.volume (g.P.Pm.view c.args.pm.now) (g.P.Pm.view c.apply_rmdir.new.pm) c.args.plan Done tt c.apply_rmdir.result c.apply_rmdir.ensures.carries
-
-pub returns-in-Directory-kind-clause-reads : goal.returns-in-Directory-kind-clause-reads
-returns-in-Directory-kind-clause-reads g c =
-    reads_carried c.args.volume.now c.apply_rmdir.new.volume (g.P.Pm.view c.args.pm.now) (g.P.Pm.view c.apply_rmdir.new.pm) c.args.plan Done tt (¬ IsChange c.args.plan) c.apply_rmdir.result c.apply_rmdir.ensures.carries
-
-pub returns-in-Directory-kind-clause-bytes : goal.returns-in-Directory-kind-clause-bytes
-returns-in-Directory-kind-clause-bytes g c = kept c.args.last.now c.apply_rmdir.result
 
 -- ---- a name moves
 
@@ -198,17 +135,6 @@ returns-in-Move-clause-does g c = λ state plan_for.
     let change = changes_as volume before state c.args.command.now c.args.plan plan_for (ap is_changing is) in
     does_carried (session_of volume c.args.last.now) (session_of c.apply_rename.new.volume c.args.last.now) before (g.P.Pm.view c.apply_rename.new.pm) c.args.plan Done state c.args.command.now c.apply_rename.result tt tt
     change plan_for c.apply_rename.ensures.carries
-
-pub returns-in-Move-clause-leaves : goal.returns-in-Move-clause-leaves
-returns-in-Move-clause-leaves g c =
-    leaves_carried c.args.volume.now c.apply_rename.new.volume (g.P.Pm.view c.args.pm.now) (g.P.Pm.view c.apply_rename.new.pm) c.args.plan Done tt c.apply_rename.result c.apply_rename.ensures.carries
-
-pub returns-in-Move-clause-reads : goal.returns-in-Move-clause-reads
-returns-in-Move-clause-reads g c =
-    reads_carried c.args.volume.now c.apply_rename.new.volume (g.P.Pm.view c.args.pm.now) (g.P.Pm.view c.apply_rename.new.pm) c.args.plan Done tt (¬ IsChange c.args.plan) c.apply_rename.result c.apply_rename.ensures.carries
-
-pub returns-in-Move-clause-bytes : goal.returns-in-Move-clause-bytes
-returns-in-Move-clause-bytes g c = kept c.args.last.now c.apply_rename.result
 
 -- ---- contents
 
@@ -231,17 +157,6 @@ returns-in-Write-clause-does g c = λ state plan_for.
     does_carried (session_of volume c.args.last.now) (session_of c.apply_write.new.volume c.args.last.now) before (g.P.Pm.view c.apply_write.new.pm) c.args.plan (Count _) {IsOurs = IsWriteOf c.written.result.now} state c.args.command.now c.apply_write.result (path, offset, same) tt
     change plan_for c.apply_write.ensures.carries
 
-pub returns-in-Write-clause-leaves : goal.returns-in-Write-clause-leaves
-returns-in-Write-clause-leaves g c =
-    leaves_carried c.args.volume.now c.apply_write.new.volume (g.P.Pm.view c.args.pm.now) (g.P.Pm.view c.apply_write.new.pm) c.args.plan (Count _) tt c.apply_write.result c.apply_write.ensures.carries
-
-pub returns-in-Write-clause-reads : goal.returns-in-Write-clause-reads
-returns-in-Write-clause-reads g c =
-    reads_carried c.args.volume.now c.apply_write.new.volume (g.P.Pm.view c.args.pm.now) (g.P.Pm.view c.apply_write.new.pm) c.args.plan (Count _) tt (¬ IsChange c.args.plan) c.apply_write.result c.apply_write.ensures.carries
-
-pub returns-in-Write-clause-bytes : goal.returns-in-Write-clause-bytes
-returns-in-Write-clause-bytes g c = kept c.args.last.now c.apply_write.result
-
 pub apply_truncate-requires-clause-planned : goal.apply_truncate-requires-clause-planned
 apply_truncate-requires-clause-planned g c =
     let volume = c.args.volume.now in
@@ -258,17 +173,6 @@ returns-in-Resize-clause-does g c = λ state plan_for.
     let change = changes_as volume before state c.args.command.now c.args.plan plan_for (ap is_changing is) in
     does_carried (session_of volume c.args.last.now) (session_of c.apply_truncate.new.volume c.args.last.now) before (g.P.Pm.view c.apply_truncate.new.pm) c.args.plan Done {IsOurs = IsTruncation} state c.args.command.now c.apply_truncate.result (path, size, is) tt
     change plan_for c.apply_truncate.ensures.carries
-
-pub returns-in-Resize-clause-leaves : goal.returns-in-Resize-clause-leaves
-returns-in-Resize-clause-leaves g c =
-    leaves_carried c.args.volume.now c.apply_truncate.new.volume (g.P.Pm.view c.args.pm.now) (g.P.Pm.view c.apply_truncate.new.pm) c.args.plan Done tt c.apply_truncate.result c.apply_truncate.ensures.carries
-
-pub returns-in-Resize-clause-reads : goal.returns-in-Resize-clause-reads
-returns-in-Resize-clause-reads g c =
-    reads_carried c.args.volume.now c.apply_truncate.new.volume (g.P.Pm.view c.args.pm.now) (g.P.Pm.view c.apply_truncate.new.pm) c.args.plan Done tt (¬ IsChange c.args.plan) c.apply_truncate.result c.apply_truncate.ensures.carries
-
-pub returns-in-Resize-clause-bytes : goal.returns-in-Resize-clause-bytes
-returns-in-Resize-clause-bytes g c = kept c.args.last.now c.apply_truncate.result
 
 -- ---- bytes are read
 
@@ -296,12 +200,6 @@ returns-in-Read-clause-does g c = λ state plan_for.
     does_told (session_of volume c.args.last.now) (session_of volume read) device device refl refl refl refl state c.args.command.now (reply.Bytes c.fill.result) plan_for.stands reads plan_for.planned.accepted
     (read_replied volume device state c.args.command.now c.args.plan reads plan_for read c.in-Read.reading c.fill.result is (c.fill.ensures.bytes state plan_for.stands) c.fill.ensures.count)
 
-pub returns-in-Read-clause-leaves : goal.returns-in-Read-clause-leaves
-returns-in-Read-clause-leaves g c = leaves_still c.args.volume.now (g.P.Pm.view c.args.pm.now) (reply.Bytes c.fill.result) c.requires.ready.going
-
-pub returns-in-Read-clause-reads : goal.returns-in-Read-clause-reads
-returns-in-Read-clause-reads g c not change = true≢false (sym (subst IsChange (sym c.action.ensures ∙ c.in-Read.is) change))
-
 pub returns-in-Read-clause-bytes : goal.returns-in-Read-clause-bytes
 returns-in-Read-clause-bytes g c not = absurd (not _ refl)
 
@@ -324,15 +222,6 @@ returns-in-Status-clause-does g c = λ state plan_for.
     let reads = reads_as c.args.volume.now (g.P.Pm.view c.args.pm.now) state c.args.command.now c.args.plan _ plan_for is (λ change. true≢false (sym change)) in
     does_told (session_of volume bytes) (session_of volume bytes) device device refl refl refl refl state command (reply.Status c.stat.result) plan_for.stands reads plan_for.planned.accepted
     (status_replied volume device state command c.args.plan reads plan_for bytes c.in-Status.inode c.stat.result is (c.stat.ensures state plan_for.stands))
-
-pub returns-in-Status-clause-leaves : goal.returns-in-Status-clause-leaves
-returns-in-Status-clause-leaves g c = leaves_still c.args.volume.now (g.P.Pm.view c.args.pm.now) (reply.Status c.stat.result) c.requires.ready.going
-
-pub returns-in-Status-clause-reads : goal.returns-in-Status-clause-reads
-returns-in-Status-clause-reads g c not change = true≢false (sym (subst IsChange (sym c.action.ensures ∙ c.in-Status.is) change))
-
-pub returns-in-Status-clause-bytes : goal.returns-in-Status-clause-bytes
-returns-in-Status-clause-bytes g c not = refl
 
 pub count-requires-clause-from_one : goal.count-requires-clause-from_one
 count-requires-clause-from_one g c =
@@ -364,15 +253,6 @@ returns-in-Names-clause-does g c = λ state plan_for.
     (names_replied volume device state command c.args.plan reads plan_for bytes c.in-Names.inode c.count.result is c.requires.ready.going c.count.ensures.entries
     (c.count.ensures.names device state plan_for.stands (directory_listed volume device state command c.args.plan reads plan_for c.in-Names.inode is)))
 
-pub returns-in-Names-clause-leaves : goal.returns-in-Names-clause-leaves
-returns-in-Names-clause-leaves g c = leaves_still c.args.volume.now (g.P.Pm.view c.args.pm.now) (reply.Names c.in-Names.inode c.count.result) c.requires.ready.going
-
-pub returns-in-Names-clause-reads : goal.returns-in-Names-clause-reads
-returns-in-Names-clause-reads g c not change = true≢false (sym (subst IsChange (sym c.action.ensures ∙ c.in-Names.is) change))
-
-pub returns-in-Names-clause-bytes : goal.returns-in-Names-clause-bytes
-returns-in-Names-clause-bytes g c not = refl
-
 pub returns-in-Space-clause-does : goal.returns-in-Space-clause-does
 returns-in-Space-clause-does g c = λ state plan_for.
     let volume = c.args.volume.now in
@@ -383,12 +263,3 @@ returns-in-Space-clause-does g c = λ state plan_for.
     let reads = reads_as c.args.volume.now (g.P.Pm.view c.args.pm.now) state c.args.command.now c.args.plan _ plan_for is (λ change. true≢false (sym change)) in
     does_told (session_of volume bytes) (session_of volume bytes) device device refl refl refl refl state command (reply.Space c.free.result) plan_for.stands reads plan_for.planned.accepted
     (space_replied volume device state command c.args.plan reads plan_for bytes c.free.result is (c.free.ensures state plan_for.stands))
-
-pub returns-in-Space-clause-leaves : goal.returns-in-Space-clause-leaves
-returns-in-Space-clause-leaves g c = leaves_still c.args.volume.now (g.P.Pm.view c.args.pm.now) (reply.Space c.free.result) c.requires.ready.going
-
-pub returns-in-Space-clause-reads : goal.returns-in-Space-clause-reads
-returns-in-Space-clause-reads g c not change = true≢false (sym (subst IsChange (sym c.action.ensures ∙ c.in-Space.is) change))
-
-pub returns-in-Space-clause-bytes : goal.returns-in-Space-clause-bytes
-returns-in-Space-clause-bytes g c not = refl
