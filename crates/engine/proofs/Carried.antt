@@ -14,10 +14,9 @@ use Rattle.volume.specs.Carried.{IsPlanFor, LeavesState, Follows, Carries}
 use Rattle.volume.specs.Prepared.{IsChange}
 use Rattle.volume.specs.Costs.{events_of, fences_for_loss, fences_for_growth, fences_of_plan}
 use Rattle.volume.specs.declared.plan.Action.TheVariants.{Make, Name, Remove, Move, Write as WriteBytes, WriteNothing, Resize, KeepSize, KeepNames, Read as ReadBytes, Status, Names, Space}
-use Rattle.volume.specs.Planned.{IsPlanOf}
 use Rattle.volume.specs.declared.plan.Action.{Action}
 use Rattle.volume.proofs.Plans.{change_is, fences_of_plan-le}
-use Rattle.engine.specs.Exec.{Executed, HasFailed, Does, LeavesVolume}
+use Rattle.engine.specs.Exec.{Executed, HasFailed, Does, LeavesVolume, KeepsBytes}
 use Rattle.engine.specs.Replies.{IsTold, IsChangeReply}
 use Rattle.engine.specs.Session.{SessionView}
 
@@ -46,6 +45,11 @@ change_fences (ReadBytes reading) is = absurd (true≢false (sym is))
 change_fences (Status inode) is = absurd (true≢false (sym is))
 change_fences (Names inode) is = absurd (true≢false (sym is))
 change_fences Space is = absurd (true≢false (sym is))
+
+-- no byte of the last read changes
+pub kept : (bytes : List ℕ) (result : Result Reply PmFault) → KeepsBytes bytes bytes result
+kept bytes (Ok reply) = λ not. refl
+kept bytes (Err fault) = refl
 
 -- ---- the answer of a change
 

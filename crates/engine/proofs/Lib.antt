@@ -14,7 +14,7 @@ pub mod Causes
 pub mod Commands
 pub mod Carried
 pub mod Removals
-pub mod Lines
+pub mod Asked
 pub mod Sessions
 pub mod TurnLaws
 pub mod RunStarts

@@ -8,4 +8,3 @@ pub mod Listing
 pub mod Script
 pub mod Turns
 pub mod Laws
-pub mod Deeds

@@ -1,10 +1,9 @@
 use Rattle.std.proofs.Common.{◌≡◌, false, subst, sym, ap, ◌∙◌}
-use Rattle.std.specs.Prelude.{Err, IfOk}
+use Rattle.std.specs.Prelude.{Err}
 use Rattle.tree_model.specs.Run.{Line}
 use Rattle.tree_model.specs.declared.reply.LineFault.TheVariants.{BadLine}
 use Rattle.script.specs.Lines.{call_of}
-use Rattle.script.specs.Calls.{HasLine, line_of_call}
-use Rattle.script.proofs.CallLaws.{call_has_line}
+use Rattle.script.specs.Calls.{line_of_call}
 use Rattle.script.specs.Reader.{pending, current, read_count, has_ended}
 use Rattle.script.specs.Reading.{rest_of}
 use Rattle.script.specs.declared.run_end.RunEnd.{RunEnd}
@@ -20,9 +19,6 @@ use Rattle.engine.proofs.Turned.{line_goes, GoesOrEnds}
 use Rattle.engine.proofs.RunEnds.{run_ends}
 use Rattle.engine.proofs.InputEnds.{counted_on, input_ends, takes_line, takes_long_line}
 use Rattle.engine.proofs.turns.turn.Goals as goal
-
-pub answer-requires-in-Ok-Line-clause-has_line : goal.answer-requires-in-Ok-Line-clause-has_line
-answer-requires-in-Ok-Line-clause-has_line g c = subst (λ (line : Line). IfOk line HasLine) (sym c.parse-call.ensures.call) (call_has_line c.line.result.now)
 
 pub returns-in-Err-clause-goes : goal.returns-in-Err-clause-goes
 returns-in-Err-clause-goes g c pages start first script began so_far =
