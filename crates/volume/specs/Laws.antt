@@ -8,15 +8,25 @@ use Rattle.tree_model.specs.declared.command.Command.{Command}
 use Rattle.image_reading.specs.Reading.{ReadsAs}
 use Rattle.image_reading.specs.Tidy.{IsTidied}
 use Rattle.volume.specs.declared.plan.Action.{Action}
-use Rattle.volume.specs.declared.plan.Action.TheVariants.{Remove, Move}
+use Rattle.volume.specs.declared.plan.Action.TheVariants.{Make, Name, Remove, Move, Write as WriteBytes, WriteNothing, Resize, KeepSize, KeepNames, Read as ReadBytes, Status, Names, Space}
 use Rattle.volume.specs.Planned.{IsPlanned}
 use Rattle.volume.specs.Costs.{fences_of_plan}
 
 -- a directory gives a page back
 abbrev pub gives_back : Action → Bool
+gives_back (Make entry) = false
+gives_back (Name link) = false
 gives_back (Remove removal) = is_some removal.given_back
 gives_back (Move moving) = is_some moving.given_back
-gives_back _ = false
+gives_back (WriteBytes writing) = false
+gives_back WriteNothing = false
+gives_back (Resize resizing) = false
+gives_back KeepSize = false
+gives_back KeepNames = false
+gives_back (ReadBytes reading) = false
+gives_back (Status inode) = false
+gives_back (Names inode) = false
+gives_back Space = false
 
 -- The tree is the one that the command leaves, and the room the one where a page is given back exactly as the action does.
 pub record IsLeftBy (P : ℕ) (state : State) (command : Command) (action : Action) (later : State) : Type 0 where

@@ -120,10 +120,17 @@ IsChange action = IsTrue (is_change action)
 abbrev pub TakesPlace : Action → Type 0
 TakesPlace (Make entry) = Unit {0}
 TakesPlace (Name link) = Unit {0}
+TakesPlace (Remove removal) = ⊥
 TakesPlace (Move moving) = moving.replaced ≡ None
 TakesPlace (WriteBytes writing) = 0 < length writing.new_pages
+TakesPlace WriteNothing = ⊥
 TakesPlace (Resize resizing) = 0 < length resizing.new_pages
-TakesPlace _ = ⊥
+TakesPlace KeepSize = ⊥
+TakesPlace KeepNames = ⊥
+TakesPlace (ReadBytes reading) = ⊥
+TakesPlace (Status inode) = ⊥
+TakesPlace (Names inode) = ⊥
+TakesPlace Space = ⊥
 
 -- ---- what is reserved
 

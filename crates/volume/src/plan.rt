@@ -1,5 +1,5 @@
 // Plans of accepted commands. A plan can't be copied, and none is made but by `prepare`.
-ghost use Rattle.std.specs.Prelude.{◌≡◌, ◌+◌, ◌^◌, ◌<◌, ◌≤◌, length, is_some};
+ghost use Rattle.std.specs.Prelude.{◌≡◌, ◌+◌, ◌^◌, ◌<◌, ◌≤◌, length};
 ghost use Rattle.layout.specs.Geometry.{pieces as pieces_in};
 ghost use Rattle.tree_model.specs.Capacity.{file_limit};
 ghost use Rattle.volume.specs.Costs.{events_of, new_page_events as events_of_new_page, loss_events as events_of_loss, span_events as events_of_span, growth_events as events_of_growth};
