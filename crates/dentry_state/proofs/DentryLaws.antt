@@ -11,9 +11,10 @@ use Rattle.layout.proofs.GeometryLaws.{same_slot_word, inode_word_not_slot_word,
 use Rattle.layout.specs.Fields.{word, slot_inode, slot_pointer, slot_words}
 use Rattle.layout.proofs.FieldLaws.{same_words_from}
 use Rattle.fence_token.specs.Objects.{IsLocal, StoreNoneOf}
-use Rattle.fence_token.proofs.ObjectLaws.{stands_stays, goes_on_as, clean_as_events}
+use Rattle.fence_token.proofs.ObjectLaws.{stands_stays, goes_on_as, goes_on_stays, clean_as_events}
 use Rattle.inode_state.specs.Inode.{IsInodeWord}
 use Rattle.dentry_state.specs.Dentry.{DentryView, IsSlotWord, IsNameWord, slot_fields_at, stores_from, DentryIsDirty}
+use Rattle.dentry_state.specs.Laws.{DentryGoesOn}
 
 pub same_fields : (one two : SlotFields) → one.inode ≡ two.inode → one.pointer ≡ two.pointer → one.name ≡ two.name → one ≡ two
 same_fields one two inode pointer name = rw (inode, pointer, name) refl
@@ -55,7 +56,13 @@ dirty_stays dentry run apart dirty = record {
   untouched = λ field past few. clean_stays (slot_word_of dentry.pages dentry.slot field) run (apart (slot_word_of dentry.pages dentry.slot field) (slot_word_is dentry.pages dentry.slot field few)) (dirty.untouched field past few);
 }
 
--- and over all events that store none of its words
+-- and a slot goes on as it was
+pub dentry_goes_on : {W : ℕ → Type 0} {a b : DeviceView} (dentry : DentryView) → StoresOnly W a b → ((word : ℕ) → IsSlotWord dentry.pages dentry.slot word → ¬ W word) → DentryGoesOn dentry a b
+dentry_goes_on dentry run apart =
+    let goes = goes_on_stays (dentry_is_local dentry) run apart in
+    record { dirty = dirty_stays dentry run apart; clean = goes.clean; in_flight = goes.in_flight dentry.ticket }
+
+-- a slot that was stored to stays so over all events that store none of its words
 pub dirty_events : {a b : DeviceView} (dentry : DentryView) (events : List Event) → StoreNoneOf (IsSlotWord dentry.pages dentry.slot) events → b.words ≡ after_stores a.words events → b.trail ≡ with_events a.trail events → DentryIsDirty dentry a → DentryIsDirty dentry b
 dirty_events {a} {b} dentry events none words trail dirty = record {
   stands = (goes_on_as events (dentry_is_local dentry) none words trail).stands dirty.stands;

@@ -3,3 +3,4 @@ pub mod Events
 pub mod Stored
 pub mod Lines
 pub mod Zeros
+pub mod Lent

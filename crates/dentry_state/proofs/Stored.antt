@@ -20,8 +20,10 @@ use Rattle.fence_token.proofs.ObjectLaws.{stands_clean_stays}
 use Rattle.inode_state.specs.States.{IsInit, IsLive}
 use Rattle.inode_state.specs.Inode.{InodeView, IsInodeWord, InodeIsClean, fields_at}
 use Rattle.inode_state.proofs.InodeLaws.{inode_is_local}
-use Rattle.dentry_state.specs.States.{committed_fields}
-use Rattle.dentry_state.specs.Dentry.{DentryView, IsSlotWord, IsNameWord, IsRestWord, DentryStands, slot_fields_at, stores_from}
+use Rattle.dentry_state.specs.States.{committed_fields, pointed_fields}
+use Rattle.dentry_state.specs.declared.dentry.Touched.{Touched}
+use Rattle.dentry_state.specs.declared.dentry.Touched.TheVariants.{FirstLine, BothLines}
+use Rattle.dentry_state.specs.Dentry.{DentryView, IsSlotWord, IsNameWord, IsRestWord, DentryStands, slot_fields_at, stores_from, last_touched}
 use Rattle.dentry_state.proofs.DentryLaws.{same_fields, next_fields}
 
 -- a word of a slot is one of the slot of the same place
@@ -180,6 +182,29 @@ number_stored p s fields a b w number at is stands =
           (same_words_from b a (slot_word_of p s 2) 14 (λ k below. let next = next_fields p s 2 k in
           ap (λ (x : ℕ). slice_index b x) next ∙ same (2 + k) (λ none. omega (arith, none)) ∙ ap (λ (x : ℕ). slice_index a x) (sym next)) ∙ ap (λ (f : SlotFields). f.name) stands.reads);
     }
+
+-- ---- the pointer stored alone
+
+pub pointer_stored : (p s : ℕ) (fields : SlotFields) (a b : List ℕ) (w pointer : ℕ) → w ≡ slot_word_of p s 1 → b ≡ slice_set a w pointer
+    → Stands (IsSlotWord p s) (λ words. slot_fields_at p words s ≡ fields) a → Stands (IsSlotWord p s) (λ words. slot_fields_at p words s ≡ pointed_fields fields pointer) b
+unfolding slot_inode slot_pointer slot_words word
+pointer_stored p s fields a b w pointer at is stands =
+    let long : length b ≡ length a = ap length is ∙ length-set a w pointer in
+    let inside = word_inside p s 1 w a at (omega arith) stands.inside in
+    let same : (f : ℕ) → f ≢ 1 → slice_index b (slot_word_of p s f) ≡ slice_index a (slot_word_of p s f) = λ f other. kept a b w pointer (slot_word_of p s f) is (differs p s f 1 w at other) in
+    record {
+      inside = λ x own. let before = stands.inside x own in omega (arith, before, long);
+      reads = same_fields (slot_fields_at p b s) (pointed_fields fields pointer)
+          (same 0 (λ none. omega (arith, none)) ∙ ap (λ (f : SlotFields). f.inode) stands.reads)
+          (put a b w pointer (slot_word_of p s 1) is at inside)
+          (same_words_from b a (slot_word_of p s 2) 14 (λ k below. let next = next_fields p s 2 k in
+          ap (λ (x : ℕ). slice_index b x) next ∙ same (2 + k) (λ none. omega (arith, none)) ∙ ap (λ (x : ℕ). slice_index a x) (sym next)) ∙ ap (λ (f : SlotFields). f.name) stands.reads);
+    }
+
+-- a field past the lines that were stored to is past the first
+pub past_first : (touched : Touched) (field : ℕ) → last_touched touched < field → 7 < field
+past_first FirstLine field past = past
+past_first BothLines field past = omega (arith, past)
 
 -- ---- the inode of a commit
 

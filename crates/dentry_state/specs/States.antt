@@ -15,6 +15,10 @@ named_fields name = record { inode = 0; pointer = 0; name = words_of_name name }
 abbrev pub committed_fields : SlotFields → ℕ → SlotFields
 committed_fields fields inode = record { inode = inode; pointer = fields.pointer; name = fields.name }
 
+-- the fields with this rename pointer
+abbrev pub pointed_fields : SlotFields → ℕ → SlotFields
+pointed_fields fields pointer = record { inode = fields.inode; pointer = pointer; name = fields.name }
+
 abbrev pub IsFree : SlotFields → Type 0
 IsFree fields = fields ≡ free_fields
 
@@ -23,3 +27,10 @@ IsNamed fields = (fields.inode ≡ 0) × (fields.pointer ≡ 0) × IsNameWords f
 
 abbrev pub IsLive : SlotFields → Type 0
 IsLive fields = (fields.inode ≢ 0) × (fields.pointer ≡ 0) × IsNameWords fields.name
+
+-- a name and a rename pointer, whatever the number
+abbrev pub IsPointing : SlotFields → Type 0
+IsPointing fields = (fields.pointer ≢ 0) × IsNameWords fields.name
+
+abbrev pub IsMoved : SlotFields → Type 0
+IsMoved fields = (fields.inode ≢ 0) × IsPointing fields

@@ -1,6 +1,6 @@
 // What the words of a slot mean.
 ghost use Rattle.layout.specs.declared.fields.SlotFields.{SlotFields};
-ghost use Rattle.dentry_state.specs.States.{IsFree, IsNamed, IsLive};
+ghost use Rattle.dentry_state.specs.States.{IsFree, IsNamed, IsLive, IsPointing, IsMoved};
 
 /// A meaning that the words of a slot may have.
 pub trait DentryState {
@@ -24,6 +24,18 @@ pub struct Live;
 #[derive(Drop)]
 pub struct Cleared;
 
+/// Its rename pointer names the slot that a rename is to take the number from. It has a name, and names that slot's inode not yet.
+#[derive(Drop)]
+pub struct Pointing;
+
+/// It has taken over the number of the slot that its rename pointer names.
+#[derive(Drop)]
+pub struct Moved;
+
+/// A rename took its number from it: it names no inode, and has still its name.
+#[derive(Drop)]
+pub struct Left;
+
 impl DentryState for Free {
     ghost Reads = { IsFree };
 }
@@ -37,5 +49,17 @@ impl DentryState for Live {
 }
 
 impl DentryState for Cleared {
+    ghost Reads = { IsNamed };
+}
+
+impl DentryState for Pointing {
+    ghost Reads = { IsPointing };
+}
+
+impl DentryState for Moved {
+    ghost Reads = { IsMoved };
+}
+
+impl DentryState for Left {
     ghost Reads = { IsNamed };
 }

@@ -2,7 +2,7 @@ use Rattle.std.proofs.Common.{ℕ, subst}
 use Rattle.fence_token.proofs.ObjectLaws.{goes_on_as, goes_on_stays}
 use Rattle.inode_state.proofs.InodeLaws.{inode_is_local}
 use Rattle.dentry_state.specs.Dentry.{IsSlotWord}
-use Rattle.dentry_state.proofs.DentryLaws.{dentry_is_local, dirty_stays, dirty_events, slot_words_apart, slot_word_is_no_inode_word}
+use Rattle.dentry_state.proofs.DentryLaws.{dentry_is_local, dentry_goes_on, dirty_events, slot_words_apart, slot_word_is_no_inode_word}
 use Rattle.dentry_state.proofs.laws.dentry_law.Goals as goal
 
 pub returns-clause-events : goal.returns-clause-events
@@ -12,14 +12,11 @@ returns-clause-events c = λ dentry old new events none words trail.
 
 pub returns-clause-others : goal.returns-clause-others
 returns-clause-others c = λ dentry other old new volume differ run.
-    let apart = λ (word : ℕ) (own : IsSlotWord dentry.pages dentry.slot word) (is : IsSlotWord other.pages other.slot word). slot_words_apart dentry.pages dentry.slot other.slot word differ own (subst (λ (p : ℕ). IsSlotWord p other.slot word) volume is) in
-    let goes = goes_on_stays (dentry_is_local dentry) run apart in
-    record { dirty = dirty_stays dentry run apart; clean = goes.clean; in_flight = goes.in_flight dentry.ticket }
+    dentry_goes_on dentry run (λ word own is. slot_words_apart dentry.pages dentry.slot other.slot word differ own (subst (λ (p : ℕ). IsSlotWord p other.slot word) volume is))
 
 pub returns-clause-inodes : goal.returns-clause-inodes
 returns-clause-inodes c = λ dentry inode old new of run.
-    let goes = goes_on_stays (dentry_is_local dentry) run (λ word. slot_word_is_no_inode_word dentry.pages dentry.slot inode.number word of.0 of.1) in
-    record { dirty = dirty_stays dentry run (λ word. slot_word_is_no_inode_word dentry.pages dentry.slot inode.number word of.0 of.1); clean = goes.clean; in_flight = goes.in_flight dentry.ticket }
+    dentry_goes_on dentry run (λ word. slot_word_is_no_inode_word dentry.pages dentry.slot inode.number word of.0 of.1)
 
 pub returns-clause-slots : goal.returns-clause-slots
 returns-clause-slots c = λ inode dentry old new of run.

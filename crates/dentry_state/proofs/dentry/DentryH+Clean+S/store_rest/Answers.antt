@@ -4,7 +4,7 @@ use Rattle.fence_token.specs.Stored.{StoresExactly}
 use Rattle.layout.specs.Geometry.{slot_word_of}
 use Rattle.dentry_state.specs.Dentry.{DentryView, IsRestWord, stores_from, DentryIsDirty, DentryIsClean}
 use Rattle.dentry_state.proofs.Stored.{word_inside, rest_stored, rest_performed}
-use Rattle.dentry_state.proofs.dentry.DentryH+Clean+Cleared.free.Goals as goal
+use Rattle.dentry_state.proofs.dentry.DentryH+Clean+S.store_rest.Goals as goal
 
 pub store-requires-clause-in_range : goal.store-requires-clause-in_range
 store-requires-clause-in_range g c =
