@@ -1,0 +1,17 @@
+pub mod Pointing
+pub mod Opened
+pub mod Ready
+pub mod MovedWords
+pub mod MovedNames
+pub mod MovedCounts
+pub mod MoveSpare
+pub mod MoveNear
+pub mod MovedEntries
+pub mod MoveIntervals
+pub mod MoveTidy
+pub mod MoveReads
+pub mod MovedRoom
+pub mod MovedStep
+pub mod FullSource
+pub mod MovedIndex
+pub mod Differs

@@ -1,0 +1,344 @@
+-- What the last words of a rename mean is what the commit left, and nothing is to be repaired then.
+use Rattle.std.proofs.Common.{◌≡◌, ◌≢◌, ◌↔◌, ◌⊎◌, inl, inr, ℕ, ◌<◌, ◌≤◌, List, sym, ap, subst, ◌∙◌, arith}
+use Rattle.std.proofs.lemmas.Bool.{cases_eq}
+use Rattle.layout.specs.Fields.{word, inode_kind, inode_links, inode_size, page_owner, page_kind, page_offset, slot_inode, slot_pointer}
+use Rattle.layout.specs.Geometry.{inodes_of, data_pages_of, page_of_slot, inode_word_of, descriptor_word_of, slot_word_of}
+use Rattle.layout.proofs.GeometryLaws.{page_of_slot_below}
+use Rattle.tree_model.specs.PathText.{Route}
+use Rattle.image_reading.specs.Reading.{slot_owner, IsHeld, IsLive, Reached, IsReachedSlot, IsNameOf, IsChildOf, IsRoomOf, pages_of_size}
+use Rattle.image_reading.specs.Repairs.{IsKeptFilePage, IsKept, IsPointer, IsLitterSlot, IsLitterPage, IsLitterInode, IsLitterCount}
+use Rattle.image_reading.specs.Soundness.{Rule, IsCoherent}
+use Rattle.image_reading.specs.Tidy.{IsTidied}
+use Rattle.image_reading.proofs.Credits.{count_same}
+use Rattle.image_counts.proofs.Decided.{room_below, room_owner}
+use Rattle.image_laws.specs.Frame.{SameMeaning}
+use Rattle.image_laws.specs.Move.{CanMove, moved}
+use Rattle.image_laws.proofs.Contents.{dec_reached}
+use Rattle.image_laws.proofs.Paths.{reached_pos, reached-le, reach}
+use Rattle.image_laws.proofs.Ready.{tidy_from}
+use Rattle.rename_laws.proofs.MovedCounts as counts
+use Rattle.rename_laws.proofs.MovedCounts.{IsLowered, IsFallen, IsAlmostTidy}
+use Rattle.rename_laws.proofs.MovedNames as here
+use Rattle.rename_laws.proofs.MoveSpare as spares
+use Rattle.rename_laws.proofs.MoveSpare.{IsOut, IsSpare}
+
+-- K means what the commit leaves, and its words are those of I but for the two slots, the pages that are given back, the inode that is gone and
+-- the count that falls.
+pub record HasEnded (P : ℕ) (I K : List ℕ) (s d : ℕ) : Type 0 where
+  pub means : SameMeaning P (moved P I s d) K
+  pub descriptors : (j f : ℕ) → j < data_pages_of P → f < 3 → (IsSpare P I (moved P I s d) s d j → ⊥)
+      → word K (descriptor_word_of P j f) ≡ word I (descriptor_word_of P j f)
+  pub spare : (j f : ℕ) → IsSpare P I (moved P I s d) s d j → f < 3 → word K (descriptor_word_of P j f) ≡ 0
+  pub inodes : (x f : ℕ) → 1 ≤ x → x ≤ inodes_of P → f < 4 → f ≢ 1 → (IsOut P I (moved P I s d) d → x ≢ slot_inode P I d)
+      → word K (inode_word_of x f) ≡ word I (inode_word_of x f)
+  pub links : (x : ℕ) → 1 ≤ x → x ≤ inodes_of P → (IsOut P I (moved P I s d) d → x ≢ slot_inode P I d) → IsFallen P I s d x (inode_links K x)
+  pub out : IsOut P I (moved P I s d) d → (f : ℕ) → f < 4 → word K (inode_word_of (slot_inode P I d) f) ≡ 0
+  pub slots : (t f : ℕ) → t ≢ s → t ≢ d → f < 16 → word K (slot_word_of P t f) ≡ word I (slot_word_of P t f)
+  pub source : (f : ℕ) → f < 16 → word K (slot_word_of P s f) ≡ 0
+  pub number : slot_inode P K d ≡ slot_inode P I s
+  pub name : (f : ℕ) → 2 ≤ f → f < 16 → word K (slot_word_of P d f) ≡ word I (slot_word_of P d f)
+  pub pointer : slot_pointer P K d ≡ 0
+
+module _ (P : ℕ) (I K : List ℕ) (pa pb : Route) (s d : ℕ) (c : CanMove P I pa pb s d) (near : IsAlmostTidy P I s d) (ended : HasEnded P I K s d) where
+  coherent : IsCoherent P (moved P I s d)
+  coherent = (here.after P I pa pb s d c).coherent
+
+  pub forth : (x : ℕ) → Reached P (moved P I s d) x → Reached P K x
+  forth x (q, b) = (q, (ended.means.names q x).0 b)
+
+  pub back : (x : ℕ) → Reached P K x → Reached P (moved P I s d) x
+  back x (q, b) = (q, (ended.means.names q x).1 b)
+
+  pub before : (x : ℕ) → Reached P K x → Reached P I x
+  before x r = here.reached_back P I pa pb s d c x (back x r)
+
+  -- ---- fields
+
+  pos : (x : ℕ) → Reached P I x → 1 ≤ x
+  pos x r = let some = reached_pos P I x r in omega (arith, some)
+
+  range : (x : ℕ) → Reached P I x → x ≤ inodes_of P
+  range x r = reached-le P I c.coherent x r
+
+  not_out : (x : ℕ) → Reached P (moved P I s d) x → IsOut P I (moved P I s d) d → x ≢ slot_inode P I d
+  not_out x r out e = out.1 (subst (Reached P (moved P I s d)) e r)
+
+  inode_kind_same : (x : ℕ) → Reached P (moved P I s d) x → inode_kind K x ≡ inode_kind I x
+  unfolding inode_kind
+  inode_kind_same x r =
+      let was = here.reached_back P I pa pb s d c x r in ended.inodes x 0 (pos x was) (range x was) (omega arith) (λ e. omega (arith, e)) (not_out x r)
+
+  -- as the commit leaves it
+  pub kind_after : (x : ℕ) → Reached P (moved P I s d) x → inode_kind K x ≡ inode_kind (moved P I s d) x
+  kind_after x r = inode_kind_same x r ∙ sym (here.kind_same P I pa pb s d c x (here.reached_back P I pa pb s d c x r))
+
+  inode_size_same : (x : ℕ) → Reached P (moved P I s d) x → inode_size K x ≡ inode_size I x
+  unfolding inode_size
+  inode_size_same x r =
+      let was = here.reached_back P I pa pb s d c x r in ended.inodes x 2 (pos x was) (range x was) (omega arith) (λ e. omega (arith, e)) (not_out x r)
+
+  pub owner_same : (j : ℕ) → j < data_pages_of P → (IsSpare P I (moved P I s d) s d j → ⊥) → page_owner P K j ≡ page_owner P I j
+  unfolding page_owner
+  owner_same j lt none = ended.descriptors j 0 lt (omega arith) none
+
+  pub kind_same : (j : ℕ) → j < data_pages_of P → (IsSpare P I (moved P I s d) s d j → ⊥) → page_kind P K j ≡ page_kind P I j
+  unfolding page_kind
+  kind_same j lt none = ended.descriptors j 1 lt (omega arith) none
+
+  pub offset_same : (j : ℕ) → j < data_pages_of P → (IsSpare P I (moved P I s d) s d j → ⊥) → page_offset P K j ≡ page_offset P I j
+  unfolding page_offset
+  offset_same j lt none = ended.descriptors j 2 lt (omega arith) none
+
+  pub not_spare : (j : ℕ) → page_owner P K j ≢ 0 → IsSpare P I (moved P I s d) s d j → ⊥
+  unfolding page_owner
+  not_spare j owned spare = owned (ended.spare j 0 spare (omega arith))
+
+  held_before : (t : ℕ) → IsHeld P K t → IsHeld P I t
+  unfolding slot_owner
+  held_before t held =
+      let lt = page_of_slot_below P t held.in_range in
+      let none = not_spare (page_of_slot t) held.owned in
+      record { in_range = held.in_range; kind = sym (kind_same (page_of_slot t) lt none) ∙ held.kind; owned = λ z. held.owned (owner_same (page_of_slot t) lt none ∙ z) }
+
+  held_after : (t : ℕ) → (IsSpare P I (moved P I s d) s d (page_of_slot t) → ⊥) → IsHeld P I t → IsHeld P K t
+  unfolding slot_owner
+  held_after t none held =
+      let lt = page_of_slot_below P t held.in_range in
+      record { in_range = held.in_range; kind = kind_same (page_of_slot t) lt none ∙ held.kind; owned = λ z. held.owned (sym (owner_same (page_of_slot t) lt none) ∙ z) }
+
+  pub slot_owner_same : (t : ℕ) → IsHeld P K t → slot_owner P K t ≡ slot_owner P I t
+  unfolding slot_owner
+  slot_owner_same t held = owner_same (page_of_slot t) (page_of_slot_below P t held.in_range) (not_spare (page_of_slot t) held.owned)
+
+  pub owner_after : (t : ℕ) → IsHeld P K t → slot_owner P K t ≡ slot_owner P (moved P I s d) t
+  owner_after t held = slot_owner_same t held ∙ sym (here.owner_same P I pa pb s d c t held.in_range)
+
+  pub number_after : (t : ℕ) → t ≢ s → slot_inode P K t ≡ slot_inode P (moved P I s d) t
+  unfolding slot_inode
+  number_after t ns = elim (cases_eq t d) [
+    | inl e ↦ ap (λ u. slot_inode P K u) e ∙ ended.number ∙ sym (here.number_new P I pa pb s d c) ∙ ap (λ u. slot_inode P (moved P I s d) u) (sym e)
+    | inr nd ↦ ended.slots t 0 ns nd (omega arith) ∙ sym ((here.only P I pa pb s d c).inode t nd)
+  ]
+
+  pointer_zero : (t : ℕ) → IsHeld P K t → slot_pointer P K t ≡ 0
+  unfolding slot_pointer
+  pointer_zero t held = elim (cases_eq t d) [
+    | inl e ↦ ap (λ u. slot_pointer P K u) e ∙ ended.pointer
+    | inr nd ↦ elim (cases_eq t s) [
+      | inl e ↦ ap (λ u. slot_pointer P K u) e ∙ ended.source 1 (omega arith)
+      | inr ns ↦ ended.slots t 1 ns nd (omega arith) ∙ c.alone t (held_before t held) nd
+    ]
+  ]
+
+  -- ---- reached slots
+
+  -- the page of a reached slot is kept
+  slot_kept : (t : ℕ) → IsReachedSlot P (moved P I s d) t → IsSpare P I (moved P I s d) s d (page_of_slot t) → ⊥
+  unfolding slot_owner
+  slot_kept t r spare =
+      let owner = here.owner_same P I pa pb s d c t r.live.held.in_range in
+      elim spare.why [
+        | inl (out, e) ↦ out.1 (subst (Reached P (moved P I s d)) (owner ∙ e) r.owner)
+        | inr (at, none) ↦ none (subst (λ j. IsRoomOf P (moved P I s d) (slot_owner P I s) j) (sym at)
+            (here.room_from P I pa pb s d c (moved P I s d) (slot_owner P I s) (page_of_slot s) t r at (owner ∙ ap (page_owner P I) at)))
+      ]
+
+  pub slot_forth : (t : ℕ) → IsReachedSlot P (moved P I s d) t → IsReachedSlot P K t
+  slot_forth t r =
+      let held = held_after t (slot_kept t r) (here.held_back P I pa pb s d c t r.live.held) in
+      let owner = owner_after t held in
+      record {
+        owner = subst (Reached P K) (sym owner) (forth (slot_owner P (moved P I s d) t) r.owner);
+        directory = ap (inode_kind K) owner ∙ kind_after (slot_owner P (moved P I s d) t) r.owner ∙ r.directory;
+        live = record {
+          held = held;
+          names = λ z. r.live.names (sym (number_after t (here.not_source P I pa pb s d c t r)) ∙ z);
+          stays = λ q other points. (let zero = pointer_zero q other in omega (arith, zero, points));
+        };
+      }
+
+  pub named_slot : (t : ℕ) → slot_inode P K t ≢ 0 → t ≢ s
+  unfolding slot_inode
+  named_slot t some e = some (ap (λ u. slot_inode P K u) e ∙ ended.source 0 (omega arith))
+
+  pub slot_back : (t : ℕ) → IsReachedSlot P K t → IsReachedSlot P (moved P I s d) t
+  slot_back t r =
+      let ns = named_slot t r.live.names in
+      let owner = owner_after t r.live.held in
+      let reached : Reached P (moved P I s d) (slot_owner P (moved P I s d) t) = subst (Reached P (moved P I s d)) owner (back (slot_owner P K t) r.owner) in
+      record {
+        owner = reached;
+        directory = sym (kind_after (slot_owner P (moved P I s d) t) reached) ∙ ap (inode_kind K) (sym owner) ∙ r.directory;
+        live = record {
+          held = here.held_forward P I pa pb s d c t (held_before t r.live.held);
+          names = λ z. r.live.names (number_after t ns ∙ z);
+          stays = λ q other points. absurd (elim (cases_eq q d) [
+            | inl e ↦
+                let mine = sym (ap (λ u. slot_pointer P (moved P I s d) u) e ∙ (here.only P I pa pb s d c).pointer d ∙ c.pointer) ∙ points in
+                ns (omega (arith, mine))
+            | inr nd ↦ (let zero = (here.only P I pa pb s d c).pointer q ∙ c.alone q (here.held_back P I pa pb s d c q other) nd in omega (arith, zero, points))
+          ]);
+        };
+      }
+
+  pub rooms : (x j : ℕ) → IsRoomOf P (moved P I s d) x j ↔ IsRoomOf P K x j
+  rooms x j = (
+    (λ room.
+        let (t, at, o, live) = room.slot in
+        let r = slot_forth t (record {
+          owner = subst (Reached P (moved P I s d)) (sym o) room.reached;
+          directory = ap (inode_kind (moved P I s d)) o ∙ room.directory;
+          live = live;
+        }) in
+        here.room_from P I pa pb s d c K x j t r at (owner_after t r.live.held ∙ o)),
+    (λ room.
+        let (t, at, o, live) = room.slot in
+        let r = slot_back t (record { owner = subst (Reached P K) (sym o) room.reached; directory = ap (inode_kind K) o ∙ room.directory; live = live }) in
+        here.room_from P I pa pb s d c (moved P I s d) x j t r at (sym (owner_after t live.held) ∙ o)),
+  )
+
+  -- ---- nothing to be repaired
+
+  no_pointers : (t : ℕ) → IsPointer P K t → ⊥
+  no_pointers t l = l.nonzero (pointer_zero t l.held)
+
+  no_slot : (t : ℕ) → IsLitterSlot P K t → ⊥
+  unfolding slot_owner
+  no_slot t l =
+      let (f, lt, nonzero) = l.nonzero in
+      elim (cases_eq t s) [
+        | inl e ↦ nonzero (ap (λ u. word K (slot_word_of P u f)) e ∙ ended.source f lt)
+        | inr ns ↦ elim (cases_eq t d) [
+          | inl e ↦ l.dead (subst (IsLive P K) (sym e) (slot_forth d (here.slot_new P I pa pb s d c)).live)
+          | inr nd ↦
+              let (u, at, o, live) = l.page.slot in
+              let none = not_spare (page_of_slot t) (λ z. live.held.owned (ap (page_owner P K) at ∙ z)) in
+              let same = owner_same (page_of_slot t) (room_below P K (page_owner P K (page_of_slot t)) (page_of_slot t) l.page) none in
+              let was = (rooms (page_owner P K (page_of_slot t)) (page_of_slot t)).1 l.page in
+              let dead : IsLive P I t → ⊥ = λ lives. l.dead (slot_forth t (here.slot_forward P I pa pb s d c t ns nd (record {
+                owner = subst (Reached P I) same (before (page_owner P K (page_of_slot t)) l.page.reached);
+                directory = ap (inode_kind I) (sym same) ∙ sym (inode_kind_same (page_owner P K (page_of_slot t)) was.reached) ∙ l.page.directory;
+                live = lives;
+              }))).live in
+              let page : IsRoomOf P I (page_owner P I (page_of_slot t)) (page_of_slot t) ⊎ (page_of_slot t ≡ page_of_slot d) =
+              elim (here.room_back P I pa pb s d c (page_owner P K (page_of_slot t)) (page_of_slot t) was) [
+                | inl new ↦ inr new.1
+                | inr old ↦ inl (subst (λ x. IsRoomOf P I x (page_of_slot t)) same old)
+              ] in
+              nonzero (ended.slots t f ns nd lt ∙ near.slots t f nd page dead lt)
+        ]
+      ]
+
+  reached_kept : (j : ℕ) → j < data_pages_of P → (IsSpare P I (moved P I s d) s d j → ⊥) → Reached P I (page_owner P I j)
+      → Reached P (moved P I s d) (page_owner P I j)
+  reached_kept j lt none r = elim (cases_eq (page_owner P I j) (slot_inode P I d)) [
+    | inr ne ↦ here.reached_forward P I pa pb s d c (page_owner P I j) ne r
+    | inl e ↦ elim (dec_reached P (moved P I s d) coherent (slot_inode P I d)) [
+      | yes there ↦ subst (Reached P (moved P I s d)) (sym e) there
+      | no gone ↦ absurd (none (record { in_range = lt; why = inl (((λ z. reached_pos P I (page_owner P I j) r (e ∙ z)), gone), e) }))
+    ]
+  ]
+
+  kept_file : (j : ℕ) → (IsSpare P I (moved P I s d) s d j → ⊥) → IsKeptFilePage P I j → IsKeptFilePage P K j
+  kept_file j none k =
+      let o = owner_same j k.in_range none in
+      let r = reached_kept j k.in_range none k.owner in
+      record {
+        in_range = k.in_range;
+        owner = subst (Reached P K) (sym o) (forth (page_owner P I j) r);
+        file = ap (inode_kind K) o ∙ inode_kind_same (page_owner P I j) r ∙ k.file;
+        below = let size = ap (inode_size K) o ∙ inode_size_same (page_owner P I j) r in
+            subst (λ z. z < pages_of_size (inode_size K (page_owner P K j))) (sym (offset_same j k.in_range none))
+            (subst (λ z. page_offset P I j < pages_of_size z) (sym size) k.below);
+      }
+
+  kept_room : (j : ℕ) → j < data_pages_of P → (IsSpare P I (moved P I s d) s d j → ⊥) → IsRoomOf P I (page_owner P I j) j
+      → IsRoomOf P K (page_owner P K j) j
+  kept_room j lt none room =
+      subst (λ x. IsRoomOf P K x j) (sym (owner_same j lt none)) ((rooms (page_owner P I j) j).0 (elim (here.room_cases P I pa pb s d c (page_owner P I j) j room) [
+        | inr after ↦ after
+        | inl (owner, at) ↦ subst (λ x. IsRoomOf P (moved P I s d) x j) (sym owner) (elim (spares.room_left P I pa pb s d c j) [
+          | inl there ↦ there
+          | inr empty ↦ absurd (none (record { in_range = lt; why = inr (at, empty) }))
+        ])
+      ]))
+
+  -- the page of the new name is kept
+  target_kept : (j : ℕ) → j ≡ page_of_slot d → IsKept P K j
+  target_kept j at =
+      let room = (rooms (slot_owner P I d) (page_of_slot d)).0 (here.room_new P I pa pb s d c) in
+      let owner = sym (room_owner P K (slot_owner P I d) (page_of_slot d) room) in
+      inr (subst (λ z. IsRoomOf P K (page_owner P K z) z) (sym at) (subst (λ x. IsRoomOf P K x (page_of_slot d)) owner room))
+
+  no_page : (j : ℕ) → IsLitterPage P K j → ⊥
+  no_page j l =
+      let (f, lt, nonzero) = l.nonzero in
+      elim (spares.spare_or_not P I pa pb s d c j) [
+        | inl spare ↦ nonzero (ended.spare j f spare lt)
+        | inr none ↦ l.free (target_kept j (near.pages j (record {
+          in_range = l.in_range;
+          free = λ kept. l.free (elim kept [ inl file ↦ inl (kept_file j none file) | inr room ↦ inr (kept_room j l.in_range none room) ]);
+          nonzero = (f, lt, (λ z. nonzero (ended.descriptors j f l.in_range lt none ∙ z)));
+        })))
+      ]
+
+  no_inode : (x : ℕ) → IsLitterInode P K x → ⊥
+  unfolding inode_links
+  no_inode x l =
+      let (f, lt, nonzero) = l.nonzero in
+      let least = l.least in
+      let replaced : x ≡ slot_inode P I d → ⊥ = λ e.
+      let out : IsOut P I (moved P I s d) d = ((λ z. omega (arith, e, z, least)), (λ r. l.unreached (forth x (subst (Reached P (moved P I s d)) (sym e) r)))) in
+      nonzero (ap (λ y. word K (inode_word_of y f)) e ∙ ended.out out f lt) in
+      let never : IsLowered P I s d x → ⊥ = λ falls. elim falls [
+        | inl file ↦ replaced file.2
+        | inr parent ↦ l.unreached (forth x (subst (Reached P (moved P I s d)) (sym parent.2) (here.source_owner_reached P I pa pb s d c)))
+      ] in
+      let same : word K (inode_word_of x f) ≡ word I (inode_word_of x f) = elim (cases_eq f 1) [
+        | inl one ↦ ap (λ g. word K (inode_word_of x g)) one ∙ (ended.links x l.least l.most (λ _. replaced)).stays never
+            ∙ ap (λ g. word I (inode_word_of x g)) (sym one)
+        | inr other ↦ ended.inodes x f l.least l.most lt other (λ _. replaced)
+      ] in
+      near.inodes x (record {
+        least = l.least;
+        most = l.most;
+        unreached = λ r. l.unreached (forth x (here.reached_forward P I pa pb s d c x replaced r));
+        nonzero = (f, lt, (λ z. nonzero (same ∙ z)));
+      })
+
+  -- ---- links
+
+  names_same : (x t : ℕ) → IsNameOf P (moved P I s d) x t ↔ IsNameOf P K x t
+  names_same x t = (
+    (λ n. record { slot = slot_forth t n.slot; inode = number_after t (here.not_source P I pa pb s d c t n.slot) ∙ n.inode }),
+    (λ n. record { slot = slot_back t n.slot; inode = sym (number_after t (named_slot t n.slot.live.names)) ∙ n.inode }),
+  )
+
+  named_kind : (t : ℕ) → IsReachedSlot P (moved P I s d) t
+      → inode_kind K (slot_inode P K t) ≡ inode_kind (moved P I s d) (slot_inode P (moved P I s d) t)
+  named_kind t r =
+      ap (inode_kind K) (number_after t (here.not_source P I pa pb s d c t r))
+      ∙ kind_after (slot_inode P (moved P I s d) t) (reach P (moved P I s d) t r ((coherent Rule.inodes t).most r))
+
+  children_same : (x t : ℕ) → IsChildOf P (moved P I s d) x t ↔ IsChildOf P K x t
+  children_same x t = (
+    (λ n. let r = slot_forth t n.slot in record { slot = r; owner = owner_after t r.live.held ∙ n.owner; directory = named_kind t n.slot ∙ n.directory }),
+    (λ n. let r = slot_back t n.slot in record { slot = r; owner = sym (owner_after t n.slot.live.held) ∙ n.owner; directory = sym (named_kind t r) ∙ n.directory }),
+  )
+
+  no_count : (x : ℕ) → IsLitterCount P K x → ⊥
+  no_count x l =
+      let r = back x l.reached in
+      let was = here.reached_back P I pa pb s d c x r in
+      let count = counts.counted P I pa pb s d c near x (inode_links K x) was (ended.links x (pos x was) (range x was) (not_out x r)) in
+      l.other (record {
+        file = λ one. count_same (IsNameOf P (moved P I s d) x) (IsNameOf P K x) (inode_links K x) (names_same x) (count.file (sym (kind_after x r) ∙ one));
+        directory = λ two.
+            let (m, children, e) = count.directory (sym (kind_after x r) ∙ two) in
+            (m, count_same (IsChildOf P (moved P I s d) x) (IsChildOf P K x) m (children_same x) children, e);
+      })
+
+  pub tidy : IsTidied P K
+  tidy =
+      tidy_from P K 0 ended.means.coherent
+      (record { pointers = no_pointers; slots = no_slot; pages = λ x l. absurd (no_page x l); inodes = no_inode; counts = no_count }) (no_page 0)

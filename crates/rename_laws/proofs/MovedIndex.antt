@@ -1,0 +1,172 @@
+-- What an index of the image holds after a rename.
+use Rattle.std.proofs.Common.{◌≡◌, ◌≢◌, ◌↔◌, inl, inr, ℕ, ◌+◌, ◌<◌, ◌≤◌, List, Option, sym, ap, subst, ◌∙◌, arith}
+use Rattle.layout.specs.Fields.{inode_kind, page_owner, page_kind, slot_name}
+use Rattle.layout.specs.Geometry.{inodes_of, data_pages_of, page_of_slot}
+use Rattle.layout.specs.Name.{name_in_words}
+use Rattle.tree_model.specs.PathText.{Route}
+use Rattle.image_reading.specs.Reading.{Reached, IsReachedSlot, IsPageOf}
+use Rattle.image_counts.specs.Entries.{IsSlotOf}
+use Rattle.image_laws.specs.Move.{CanMove, moved}
+use Rattle.image_laws.proofs.Paths.{reached_pos}
+use Rattle.image_laws.proofs.Words.{slot_words-same}
+use Rattle.rename_laws.specs.Target.{Target, Vacant, Opened, Taken, old_number}
+use Rattle.rename_laws.specs.Ready.{HasNewPage, IsMoveReady}
+use Rattle.rename_laws.specs.Intervals.{IsGone, IsGivenUp, Finishes}
+use Rattle.rename_laws.specs.Index.{HasEntryMoved, HasIndexMoved, MovedIndexLaw}
+use Rattle.rename_laws.proofs.MoveIntervals as intervals
+use Rattle.rename_laws.proofs.MoveNear as near
+use Rattle.rename_laws.proofs.MoveNear.{IsOpenedPage}
+use Rattle.rename_laws.proofs.MoveReads as reads
+use Rattle.rename_laws.proofs.MoveSpare.{IsOut, IsSpare}
+use Rattle.rename_laws.proofs.MoveTidy as ends
+use Rattle.rename_laws.proofs.MoveTidy.{HasEnded}
+use Rattle.rename_laws.proofs.MovedCounts.{IsAlmostTidy}
+use Rattle.rename_laws.proofs.MovedEntries as entries
+use Rattle.rename_laws.proofs.MovedNames as here
+
+-- a new page is a directory's
+opened_kind : (P : ℕ) (I : List ℕ) (x d : ℕ) (target : Target) (j : ℕ) → HasNewPage P I x d target → IsOpenedPage target j → page_kind P I j ≡ 2
+opened_kind P I x d (Vacant name) j page new = absurd new
+opened_kind P I x d (Opened opened name) j page new = ap (page_kind P I) new ∙ page.kind
+opened_kind P I x d (Taken r) j page new = absurd new
+
+module _ (P : ℕ) (W I J G K : List ℕ) (pa pb : Route) (s x d : ℕ) (target : Target) (rising falling : Option ℕ) (ready : IsMoveReady P W I pa pb s x d target rising)
+    (finishes : Finishes P W I J G K s x d target falling) where
+  c : CanMove P I pa pb s d
+  c = ready.can_move
+
+  almost : IsAlmostTidy P I s d
+  almost = near.near P W I pa pb s x d target rising ready
+
+  ended : HasEnded P I K s d
+  ended = reads.ended P W I J G K pa pb s x d target rising falling ready finishes
+
+  entry : HasEntryMoved P W (moved P I s d) s x d target
+  entry = entries.entry_moved P W I pa pb s x d target rising ready
+
+  slot_forth : (t : ℕ) → IsReachedSlot P (moved P I s d) t → IsReachedSlot P K t
+  slot_forth = ends.slot_forth P I K pa pb s d c almost ended
+
+  slot_back : (t : ℕ) → IsReachedSlot P K t → IsReachedSlot P (moved P I s d) t
+  slot_back = ends.slot_back P I K pa pb s d c almost ended
+
+  -- ---- entries
+
+  entries_same : (y t : ℕ) → IsSlotOf P K y t ↔ IsSlotOf P (moved P I s d) y t
+  entries_same y t = (
+    (λ (r, owner). (slot_back t r, sym (ends.owner_after P I K pa pb s d c almost ended t r.live.held) ∙ owner)),
+    (λ (r, owner). let there = slot_forth t r in (there, ends.owner_after P I K pa pb s d c almost ended t there.live.held ∙ owner)),
+  )
+
+  new_name : slot_name P K d ≡ slot_name P I d
+  unfolding slot_name
+  new_name = ap name_in_words (slot_words-same P I K d (λ f lt. ended.name (2 + f) (omega arith) (omega (arith, lt))))
+
+  name_same : (t : ℕ) → t ≢ s → t ≢ d → slot_name P K t ≡ slot_name P I t
+  unfolding slot_name
+  name_same t ns nd = ap name_in_words (slot_words-same P I K t (λ f lt. ended.slots t (2 + f) ns nd (omega (arith, lt))))
+
+  commit_name : (t : ℕ) → slot_name P (moved P I s d) t ≡ slot_name P I t
+  unfolding slot_name
+  commit_name t = ap name_in_words ((here.only P I pa pb s d c).words t)
+
+  entry_end : HasEntryMoved P W K s x d target
+  entry_end = record {
+    entries = λ y t. ((λ e. (entry.entries y t).0 ((entries_same y t).0 e)), (λ h. (entries_same y t).1 ((entry.entries y t).1 h)));
+    new_name = new_name ∙ ready.name_is;
+    new_inode = ended.number ∙ near.source_number P W I pa pb s x d target rising ready;
+    names = λ t r ns nd. name_same t ns nd ∙ sym (commit_name t) ∙ entry.names t r ns nd;
+    inodes = λ t r ns nd. ends.number_after P I K pa pb s d c almost ended t ns ∙ entry.inodes t r ns nd;
+    reached = λ y. (
+      (λ r. (entry.reached y).0 (ends.back P I K pa pb s d c almost ended y r)),
+      (λ h. ends.forth P I K pa pb s d c almost ended y ((entry.reached y).1 h)),
+    );
+  }
+
+  -- ---- pages
+
+  given_spare : (j : ℕ) → IsGivenUp P (moved P I s d) s target j ↔ IsSpare P I (moved P I s d) s d j
+  given_spare = intervals.given_spare P W I pa pb s x d target rising ready
+
+  out_gone : IsGone P (moved P I s d) target ↔ IsOut P I (moved P I s d) d
+  out_gone = intervals.out_gone P W I pa pb s x d target rising ready
+
+  no_owner : (j : ℕ) → IsGivenUp P (moved P I s d) s target j → page_owner P K j ≡ 0
+  unfolding page_owner
+  no_owner j given = ended.spare j 0 ((given_spare j).0 given) (omega arith)
+
+  old_owner : (j : ℕ) → j < data_pages_of P → j ≢ page_of_slot d → (IsGivenUp P (moved P I s d) s target j → ⊥)
+      → page_owner P K j ≡ page_owner P W j
+  old_owner j lt other none =
+      ends.owner_same P I K pa pb s d c almost ended j lt (λ spare. none ((given_spare j).1 spare))
+      ∙ near.owner_same P W I pa pb s x d target rising ready j lt (λ new. other (near.opened_here P W pb s x d target j ready.can.target_slot new))
+
+  -- a file's page is no new page, and isn't given up where the file is reached
+  file_old : (j : ℕ) → page_kind P I j ≡ 1 → IsOpenedPage target j → ⊥
+  file_old j one new = let two = opened_kind P I x d target j ready.page new in omega (arith, one, two)
+
+  file_kept : (y j : ℕ) → Reached P K y → page_owner P I j ≡ y → page_kind P I j ≡ 1 → IsSpare P I (moved P I s d) s d j → ⊥
+  file_kept y j r owner one spare = elim spare.why [
+    | inl (out, is) ↦ out.1 (subst (Reached P (moved P I s d)) (sym owner ∙ is) (ends.back P I K pa pb s d c almost ended y r))
+    | inr (at, none) ↦ (let two = ap (page_kind P I) at ∙ c.source.held.kind in omega (arith, one, two))
+  ]
+
+  page_before : (y k j : ℕ) → Reached P K y → IsPageOf P K y k j → IsPageOf P W y k j
+  page_before y k j r page =
+      let none = ends.not_spare P I K pa pb s d c almost ended j (λ z. reached_pos P K y r (sym page.owner ∙ z)) in
+      let kind = sym (ends.kind_same P I K pa pb s d c almost ended j page.in_range none) ∙ page.kind in
+      let old = file_old j kind in
+      record {
+        in_range = page.in_range;
+        owner = sym (near.owner_same P W I pa pb s x d target rising ready j page.in_range old)
+            ∙ sym (ends.owner_same P I K pa pb s d c almost ended j page.in_range none) ∙ page.owner;
+        kind = sym (near.page_kind_same P W I pa pb s x d target rising ready j page.in_range old) ∙ kind;
+        offset = sym (near.offset_same P W I pa pb s x d target rising ready j page.in_range old)
+            ∙ sym (ends.offset_same P I K pa pb s d c almost ended j page.in_range none) ∙ page.offset;
+      }
+
+  page_after : (y k j : ℕ) → Reached P K y → IsPageOf P W y k j → IsPageOf P K y k j
+  page_after y k j r page =
+      let old : IsOpenedPage target j → ⊥ = λ new. reached_pos P K y r (sym page.owner ∙ near.unowned P W pb s x d target j ready.can.target_slot new) in
+      let owner = near.owner_same P W I pa pb s x d target rising ready j page.in_range old ∙ page.owner in
+      let kind = near.page_kind_same P W I pa pb s x d target rising ready j page.in_range old ∙ page.kind in
+      let none = file_kept y j r owner kind in
+      record {
+        in_range = page.in_range;
+        owner = ends.owner_same P I K pa pb s d c almost ended j page.in_range none ∙ owner;
+        kind = ends.kind_same P I K pa pb s d c almost ended j page.in_range none ∙ kind;
+        offset = ends.offset_same P I K pa pb s d c almost ended j page.in_range none
+            ∙ near.offset_same P W I pa pb s x d target rising ready j page.in_range old ∙ page.offset;
+      }
+
+  -- ---- kinds
+
+  gone_kind : IsGone P (moved P I s d) target → inode_kind K (old_number target) ≡ 0
+  unfolding inode_kind
+  gone_kind gone = ap (inode_kind K) (sym ready.number) ∙ ended.out (out_gone.0 gone) 0 (omega arith)
+
+  kind_kept : (y : ℕ) → 1 ≤ y → y ≤ inodes_of P → (IsGone P (moved P I s d) target → y ≢ old_number target) → inode_kind K y ≡ inode_kind W y
+  unfolding inode_kind
+  kind_kept y some most other =
+      ended.inodes y 0 some most (omega arith) (λ e. omega (arith, e)) (λ out e. other (out_gone.1 out) (e ∙ ready.number))
+      ∙ near.inode_same P W I pa pb s x d target rising ready y 0 some most (omega arith) (inr (λ e. omega (arith, e)))
+
+  -- ---- the index
+
+  new_slot : IsReachedSlot P K d
+  new_slot = slot_forth d (here.slot_new P I pa pb s d c)
+
+  pub index_moved : HasIndexMoved P W (moved P I s d) K s x d target
+  index_moved = record {
+    entry = entry_end;
+    owner = ends.slot_owner_same P I K pa pb s d c almost ended d new_slot.live.held ∙ ready.owner;
+    given = no_owner;
+    owners = old_owner;
+    gone = gone_kind;
+    kinds = kind_kept;
+    files = λ y k j r. (page_before y k j r, page_after y k j r);
+  }
+
+pub moved_index_law : MovedIndexLaw
+moved_index_law P W I J G K pa pb s x d target rising falling ready finishes =
+    index_moved P W I J G K pa pb s x d target rising falling ready finishes
