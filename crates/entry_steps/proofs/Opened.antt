@@ -5,7 +5,7 @@ use Rattle.layout.specs.Geometry.{IsVolumeSize, inodes_of, data_pages_of, page_o
 use Rattle.layout.proofs.GeometryLaws.{same_descriptor_word, same_page_word, slot_word_in_page, descriptor_word_within, inode_word_not_descriptor_word, inode_word_not_page_word, descriptor_word_not_slot_word, descriptor_word_not_page_word}
 use Rattle.layout.specs.declared.fields.DescriptorFields.{DescriptorFields}
 use Rattle.layout.specs.Fields.{word, page_owner}
-use Rattle.image_laws.specs.Create.{IsPageMadeWord, MakesPage, owned}
+use Rattle.image_laws.specs.Create.{IsPageMadeWord, MakesEmptyPage, MakesPage, owned}
 use Rattle.entry_steps.specs.Steps.{MayTake, CanClaim, IsOpened}
 
 some_page : (x y : ℕ) → ◌≡◌ {A = Option ℕ} (Some x) (Some y) → x ≡ y
@@ -36,7 +36,7 @@ not_page_made P j a content field (inr (inl e)) = field 1 (omega arith) (omega a
 not_page_made P j a content field (inr (inr e)) = field 2 (omega arith) (omega arith) e
 
 -- a page that was filled has no owner, and may get one
-module _ (P : ℕ) (W A : List ℕ) (page d : ℕ) (some : 1 ≤ d) (may : MayTake P W (Some page)) (made : MakesPage P W A page) where
+module _ (P : ℕ) (W A : List ℕ) (page d : ℕ) (some : 1 ≤ d) (may : MayTake P W (Some page)) (made : MakesEmptyPage P W A page) where
   no_owner : page_owner P A page ≡ 0
   unfolding page_owner
   no_owner =

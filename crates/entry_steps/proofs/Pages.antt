@@ -1,5 +1,5 @@
 -- One page of a list of one: what its fill and its claim leave.
-use Rattle.std.proofs.Common.{◌≡◌, inl, inr, ℕ, ◌*◌, ◌<◌, List, length, slice_index, set, sym, ap, subst, ◌∙◌, arith, get_or-set_same, get_or-set_other, length-set}
+use Rattle.std.proofs.Common.{◌≡◌, inl, inr, ℕ, ◌*◌, ◌<◌, List, [], length, slice_index, set, sym, ap, subst, ◌∙◌, arith, get_or-set_same, get_or-set_other, length-set}
 use Rattle.std.specs.Prelude.{Option}
 use Rattle.std.proofs.lemmas.Bool.{cases_eq}
 use Rattle.std.proofs.lemmas.Grind.{same_number_lists}
@@ -19,13 +19,13 @@ use Rattle.image_laws.specs.Create.{IsPageMadeWord, MakesPage, owned}
 use Rattle.image_laws.proofs.NewPage.{makes_page}
 
 -- a word of one of the pages is one of the page
-of_one : (pages : List ℕ) (Q : ℕ → ℕ → Type 0) (word : ℕ) → length pages ≡ 1 → OfSome pages Q word → Q (slice_index pages 0) word
+pub of_one : (pages : List ℕ) (Q : ℕ → ℕ → Type 0) (word : ℕ) → length pages ≡ 1 → OfSome pages Q word → Q (slice_index pages 0) word
 of_one pages Q word one some =
     let before = some.before in
     let first : some.index ≡ 0 = omega (arith, before, one) in
     subst (λ (k : ℕ). Q (slice_index pages k) word) first some.is
 
-is_one : (pages : List ℕ) (Q : ℕ → ℕ → Type 0) (word : ℕ) → length pages ≡ 1 → Q (slice_index pages 0) word → OfSome pages Q word
+pub is_one : (pages : List ℕ) (Q : ℕ → ℕ → Type 0) (word : ℕ) → length pages ≡ 1 → Q (slice_index pages 0) word → OfSome pages Q word
 is_one pages Q word one is = record { index = 0; before = omega (arith, one); is = is }
 
 -- on a settled device its words are clean
@@ -37,20 +37,20 @@ page_settled P pages now trail size one in_range whole settled word some =
 
 -- ---- the fill
 
-filled_word : (P j a : ℕ) → IsFilledWord P j a → IsPageMadeWord P j a
+pub filled_word : (P j a : ℕ) → IsFilledWord P j a → IsPageMadeWord P j a
 filled_word P j a (inl content) = inl (content.place, content.in_page, content.at)
 filled_word P j a (inr (inl kind)) = inr (inl kind)
 filled_word P j a (inr (inr offset)) = inr (inr offset)
 
-made_of : {W A : List ℕ} {tw ta : Option Trail} (P : ℕ) (pages : List ℕ) → length pages ≡ 1 → EachPage pages (IsSlotPage P A) → IsInterval (OfSome pages (IsFilledWord P)) W tw A ta → MakesPage P W A (slice_index pages 0)
+made_of : {W A : List ℕ} {tw ta : Option Trail} (P : ℕ) (pages : List ℕ) → length pages ≡ 1 → EachPage pages (IsSlotPage P A []) → IsInterval (OfSome pages (IsFilledWord P)) W tw A ta → MakesPage P W A (slice_index pages 0)
 unfolding word
 made_of {W} {A} P pages one filled run =
     let page = filled.each 0 (omega (arith, one)) in
-    makes_page P W A (slice_index pages 0) (interval_length run) page.zero.each page.kind page.offset
+    makes_page P W A (slice_index pages 0) (interval_length run) page.contents.each page.kind page.offset
     (λ a out. interval_keeps a run (λ some. out (filled_word P (slice_index pages 0) a (of_one pages (IsFilledWord P) a one some))))
 
 module _ (P V : ℕ) (pages ps : List ℕ) (volume : V ≡ P) (list : ps ≡ pages) (one : length pages ≡ 1) where
-  pub page_made : {W A B : List ℕ} {tw ta : Option Trail} → B ≡ A → EachPage ps (IsSlotPage V A) → IsInterval (OfSome ps (IsFilledWord V)) W tw A ta → MakesPage P W B (slice_index pages 0)
+  pub page_made : {W A B : List ℕ} {tw ta : Option Trail} → B ≡ A → EachPage ps (IsSlotPage V A []) → IsInterval (OfSome ps (IsFilledWord V)) W tw A ta → MakesPage P W B (slice_index pages 0)
   page_made {W} {A} {B} same filled run =
       let made : MakesPage V W A (slice_index ps 0) = made_of V ps (ap length list ∙ one) filled run in
       subst (λ (words : List ℕ). MakesPage P W words (slice_index pages 0)) (sym same)
@@ -91,8 +91,8 @@ page_owned {a} {b} {c} P pages d same one inside owner run =
 
 -- ---- the events of one page
 
-pub fill_stores : {a b : DeviceView} (V : ℕ) (pages : List ℕ) → length pages ≡ 1 → FillsPages V pages a b → Stores (OfSome pages (IsFilledWord V)) a b 514
-fill_stores V pages one filled = stores_weaker 514 (λ word is. is) (omega (arith, one)) (exactly_stores filled)
+pub fill_stores : {a b : DeviceView} (V : ℕ) (pages first : List ℕ) → length pages ≡ 1 → FillsPages V pages first a b → Stores (OfSome pages (IsFilledWord V)) a b 514
+fill_stores V pages first one filled = stores_weaker 514 (λ word is. is) (omega (arith, one)) (exactly_stores filled)
 
 pub claim_stores : {a b : DeviceView} (V : ℕ) (pages : List ℕ) (d : ℕ) → length pages ≡ 1 → ClaimsPages V pages d a b → Stores (OfSome pages (IsOwnerWord V)) a b 1
 claim_stores V pages d one claimed = stores_weaker 1 (λ word is. is) (omega (arith, one)) (exactly_stores claimed)

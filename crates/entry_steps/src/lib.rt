@@ -7,4 +7,4 @@ mod page;
 
 pub use links::raise_links;
 pub use name::name_slot;
-pub use page::take_page;
+pub use page::{claim_page, fill_named, take_page};

@@ -68,23 +68,23 @@ owned_means owner some fields filled = (some, filled_kind fields filled.1)
 -- ---- the objects
 
 -- free pages have no owner once they are filled
-filled_owners : {a b : DeviceView} (volume_pages : ℕ) (pages : List ℕ) (fields : DescriptorFields) (touched : Touched) (ticket : Option ℕ) → AreDataPages (data_pages_of volume_pages) pages → HaveMeaning IsFree pages fields
-    → PageIsClean (record { volume_pages = volume_pages; pages = pages; fields = fields; touched = touched; ticket = ticket }) a → FillsPages volume_pages pages a b → EachPage pages (λ page. page_owner volume_pages b.words page ≡ 0)
-filled_owners volume_pages pages fields touched ticket valid free clean run = record {
+filled_owners : {a b : DeviceView} (volume_pages : ℕ) (pages first : List ℕ) (fields : DescriptorFields) (touched : Touched) (ticket : Option ℕ) → AreDataPages (data_pages_of volume_pages) pages → HaveMeaning IsFree pages fields
+    → PageIsClean (record { volume_pages = volume_pages; pages = pages; fields = fields; touched = touched; ticket = ticket }) a → FillsPages volume_pages pages first a b → EachPage pages (λ page. page_owner volume_pages b.words page ≡ 0)
+filled_owners volume_pages pages first fields touched ticket valid free clean run = record {
   each = λ index inside. fill_keeps_owners volume_pages pages valid run.interval index inside ∙ ap (λ (said : DescriptorFields). said.owner) (clean.stands.reads.each index inside ∙ free.each index inside);
 }
 
 -- free pages that were filled
-pub filled_dirty : {a b : DeviceView} (volume_pages : ℕ) (pages : List ℕ) (fields : DescriptorFields) (touched : Touched) (ticket later : Option ℕ) → AreDataPages (data_pages_of volume_pages) pages → HaveMeaning IsFree pages fields
-    → PageIsClean (record { volume_pages = volume_pages; pages = pages; fields = fields; touched = touched; ticket = ticket }) a → FillsPages volume_pages pages a b → EachPage pages (IsSlotPage volume_pages b.words)
+pub filled_dirty : {a b : DeviceView} (volume_pages : ℕ) (pages first : List ℕ) (fields : DescriptorFields) (touched : Touched) (ticket later : Option ℕ) → AreDataPages (data_pages_of volume_pages) pages → HaveMeaning IsFree pages fields
+    → PageIsClean (record { volume_pages = volume_pages; pages = pages; fields = fields; touched = touched; ticket = ticket }) a → FillsPages volume_pages pages first a b → EachPage pages (IsSlotPage volume_pages b.words first)
     → PageIsDirty (record { volume_pages = volume_pages; pages = pages; fields = slots_fields; touched = Whole; ticket = later }) b
-filled_dirty {b = b} volume_pages pages fields touched ticket later valid free clean run filled = record {
+filled_dirty {b = b} volume_pages pages first fields touched ticket later valid free clean run filled = record {
   stands = record {
     inside = λ word own. let before = clean.stands.inside word own in omega (arith, before, interval_length run.interval);
     reads = record {
       each = λ index inside.
           same_descriptor_fields (descriptor_of volume_pages b.words (slice_index pages index)) (fields_of_page slots_fields index)
-          ((filled_owners volume_pages pages fields touched ticket valid free clean run).each index inside) (filled.each index inside).kind (filled.each index inside).offset;
+          ((filled_owners volume_pages pages first fields touched ticket valid free clean run).each index inside) (filled.each index inside).kind (filled.each index inside).offset;
     };
   };
   touched = tt;

@@ -16,38 +16,42 @@ use Rattle.fence_token.specs.Flushes.{Flushes, FlushesLines}
 use Rattle.fence_token.specs.Stored.{StoresExactly}
 use Rattle.fence_token.proofs.StoredLaws.{exactly_nothing, exactly_store, exactly_then, exactly_as, flushes_nothing, flushes_then, flushes_as}
 use Rattle.page_state.specs.Page.{AreDataPages, OfFirst, OfSome, IsContentWord, IsDescriptorWord, IsOwnWord, IsFilledWord, IsOwnerWord}
-use Rattle.page_state.specs.Events.{page_zeros, fill_of_page, claim_of_page, content_flushes, FlushesWords}
+use Rattle.page_state.specs.Events.{slot_stores, fill_of_page, claim_of_page, content_flushes, FlushesWords}
 use Rattle.page_state.proofs.Contents.{IsEarlierWord, not_earlier}
 use Rattle.page_state.proofs.Lines.{descriptor_line, content_lines}
 use Rattle.page_state.proofs.Pages.{earlier_apart}
 
 -- ---- one page's words
 
--- a store of 0 to each of so many of a page's words
-abbrev pub first_zeros : ℕ → ℕ → ℕ → List Event
-first_zeros volume_pages page count = map (λ place. Store (page_word_of volume_pages page place) 0) (range_with_len 0 count)
+-- a store to each of so many of a page's words
+abbrev pub some_stores : ℕ → List ℕ → ℕ → ℕ → List Event
+some_stores volume_pages first page count = map (λ place. Store (page_word_of volume_pages page place) (slice_index first place)) (range_with_len 0 count)
 
-pub no_zeros : (volume_pages page : ℕ) (device : DeviceView) → StoresExactly (IsEarlierWord volume_pages page 0) device device (first_zeros volume_pages page 0) 0
-no_zeros volume_pages page device = exactly_as (first_zeros volume_pages page 0) 0 (λ word none. absurd none) refl (omega arith) (exactly_nothing device)
+pub no_word_stored : (volume_pages : ℕ) (first : List ℕ) (page : ℕ) (device : DeviceView) → StoresExactly (IsEarlierWord volume_pages page 0) device device (some_stores volume_pages first page 0) 0
+no_word_stored volume_pages first page device = exactly_as (some_stores volume_pages first page 0) 0 (λ word none. absurd none) refl (omega arith) (exactly_nothing device)
 
-pub one_more_zero : {a b c : DeviceView} (volume_pages page place w : ℕ) → place < 512 → w ≡ page_word_of volume_pages page place → StoresExactly (IsEarlierWord volume_pages page place) a b (first_zeros volume_pages page place) place → Performs b c (Store w 0 ∷ [])
-    → StoresExactly (IsEarlierWord volume_pages page (place + 1)) a c (first_zeros volume_pages page (place + 1)) (place + 1)
-one_more_zero volume_pages page place w inside at so_far last =
-    exactly_as (first_zeros volume_pages page (place + 1)) (place + 1)
+pub one_more_stored : {a b c : DeviceView} (volume_pages : ℕ) (first : List ℕ) (page place w value : ℕ) → place < 512 → w ≡ page_word_of volume_pages page place → value ≡ slice_index first place
+    → StoresExactly (IsEarlierWord volume_pages page place) a b (some_stores volume_pages first page place) place → Performs b c (Store w value ∷ [])
+    → StoresExactly (IsEarlierWord volume_pages page (place + 1)) a c (some_stores volume_pages first page (place + 1)) (place + 1)
+one_more_stored volume_pages first page place w value inside at said so_far last =
+    exactly_as (some_stores volume_pages first page (place + 1)) (place + 1)
     (λ word either. elim either [
       | inl earlier ↦ let before = earlier.before in record { place = earlier.place; before = omega (arith, before); at = earlier.at }
       | inr here ↦ record { place = place; before = omega arith; at = here ∙ at }
     ])
-    (ap (λ (word : ℕ). first_zeros volume_pages page place ++ Store word 0 ∷ []) at ∙ sym (map-range_with_len_more (λ p. Store (page_word_of volume_pages page p) 0) 0 place place (omega arith)))
+    (ap (λ (word : ℕ). some_stores volume_pages first page place ++ Store word value ∷ []) at
+    ∙ ap (λ (v : ℕ). some_stores volume_pages first page place ++ Store (page_word_of volume_pages page place) v ∷ []) said
+    ∙ sym (map-range_with_len_more (λ p. Store (page_word_of volume_pages page p) (slice_index first p)) 0 place place (omega arith)))
     (omega arith)
     (exactly_then so_far (exactly_store last) (λ word earlier here. not_earlier volume_pages page place word inside (here ∙ at) earlier))
 
-pub all_zeros : {a b : DeviceView} (volume_pages page count : ℕ) → count ≡ 512 → StoresExactly (IsEarlierWord volume_pages page count) a b (first_zeros volume_pages page count) count → StoresExactly (IsContentWord volume_pages page) a b (page_zeros volume_pages page) 512
-unfolding page_zeros
-all_zeros volume_pages page count is so_far =
-    exactly_as (first_zeros volume_pages page 512) 512
+pub all_stored : {a b : DeviceView} (volume_pages : ℕ) (first : List ℕ) (page count : ℕ) → count ≡ 512 → StoresExactly (IsEarlierWord volume_pages page count) a b (some_stores volume_pages first page count) count
+    → StoresExactly (IsContentWord volume_pages page) a b (slot_stores volume_pages first page) 512
+unfolding slot_stores
+all_stored volume_pages first page count is so_far =
+    exactly_as (some_stores volume_pages first page 512) 512
     (λ word earlier. let before = earlier.before in record { place = earlier.place; in_page = omega (arith, before, is); at = earlier.at })
-    (ap (λ (n : ℕ). first_zeros volume_pages page n) is) (omega (arith, is)) so_far
+    (ap (λ (n : ℕ). some_stores volume_pages first page n) is) (omega (arith, is)) so_far
 
 -- then its kind and its offset
 pub described_told : {a b c d : DeviceView} {events : List Event} (volume_pages page w1 w2 kind offset : ℕ) → page < data_pages_of volume_pages → w1 ≡ descriptor_word_of volume_pages page 1 → w2 ≡ descriptor_word_of volume_pages page 2
@@ -71,9 +75,9 @@ described_told {events = events} volume_pages page w1 w2 kind offset in_range at
     (exactly_then (exactly_then contents (exactly_store kind_stored) (λ word content is1. apart 1 word (omega arith) (is1 ∙ at1) content)) (exactly_store offset_stored)
     (λ word either is2. ⊎_elim (λ content. apart 2 word (omega arith) (is2 ∙ at2) content) (λ is1. differ (sym is1 ∙ is2)) either))
 
-pub fill_told : {a b c d : DeviceView} (volume_pages page w1 w2 : ℕ) → page < data_pages_of volume_pages → w1 ≡ descriptor_word_of volume_pages page 1 → w2 ≡ descriptor_word_of volume_pages page 2
-    → StoresExactly (IsContentWord volume_pages page) a b (page_zeros volume_pages page) 512 → Performs b c (Store w1 2 ∷ []) → Performs c d (Store w2 0 ∷ []) → StoresExactly (IsFilledWord volume_pages page) a d (fill_of_page volume_pages page) 514
-fill_told volume_pages page w1 w2 in_range at1 at2 contents kind offset = described_told volume_pages page w1 w2 2 0 in_range at1 at2 contents kind offset
+pub fill_told : {a b c d : DeviceView} (volume_pages : ℕ) (first : List ℕ) (page w1 w2 : ℕ) → page < data_pages_of volume_pages → w1 ≡ descriptor_word_of volume_pages page 1 → w2 ≡ descriptor_word_of volume_pages page 2
+    → StoresExactly (IsContentWord volume_pages page) a b (slot_stores volume_pages first page) 512 → Performs b c (Store w1 2 ∷ []) → Performs c d (Store w2 0 ∷ []) → StoresExactly (IsFilledWord volume_pages page) a d (fill_of_page volume_pages first page) 514
+fill_told volume_pages first page w1 w2 in_range at1 at2 contents kind offset = described_told volume_pages page w1 w2 2 0 in_range at1 at2 contents kind offset
 
 -- the store of an owner
 pub claim_told : {a b : DeviceView} (volume_pages page owner w : ℕ) → w ≡ descriptor_word_of volume_pages page 0 → Performs a b (Store w owner ∷ []) → StoresExactly (IsOwnerWord volume_pages page) a b (claim_of_page volume_pages owner page) 1

@@ -16,13 +16,13 @@ use Rattle.page_state.specs.declared.span.FileSpan.{FileSpan}
 use Rattle.page_state.specs.Spans.{has_new, new_words, byte_after, word_after, word_now}
 use Rattle.page_state.specs.Page.{OfSome, IsFilledWord, IsOwnerWord, IsReleasedWord, IsNewWordOf, touched_lines}
 
--- a store of 0 to each of a page's 512 words
-unfoldable pub page_zeros : ℕ → ℕ → List Event
-page_zeros volume_pages page = map (λ place. Store (page_word_of volume_pages page place) 0) (range_with_len 0 512)
+-- a store to each of a page's 512 words: of these, and of 0 behind them
+unfoldable pub slot_stores : ℕ → List ℕ → ℕ → List Event
+slot_stores volume_pages first page = map (λ place. Store (page_word_of volume_pages page place) (slice_index first place)) (range_with_len 0 512)
 
 -- and of the kind 2 and the offset 0 to its descriptor
-abbrev pub fill_of_page : ℕ → ℕ → List Event
-fill_of_page volume_pages page = page_zeros volume_pages page ++ Store (descriptor_word_of volume_pages page 1) 2 ∷ Store (descriptor_word_of volume_pages page 2) 0 ∷ []
+abbrev pub fill_of_page : ℕ → List ℕ → ℕ → List Event
+fill_of_page volume_pages first page = slot_stores volume_pages first page ++ Store (descriptor_word_of volume_pages page 1) 2 ∷ Store (descriptor_word_of volume_pages page 2) 0 ∷ []
 
 -- a store of the owner to its descriptor
 abbrev pub claim_of_page : ℕ → ℕ → ℕ → List Event
@@ -85,9 +85,9 @@ flushes_of_pages (Words span) volume_pages pages = page_by_page (new_flushes spa
 
 -- ---- page by page
 
--- Each page is made one of free slots: 514 stores a page.
-abbrev pub FillsPages : ℕ → List ℕ → DeviceView → DeviceView → Type 0
-FillsPages volume_pages pages old new = StoresExactly (OfSome pages (IsFilledWord volume_pages)) old new (flat_map (fill_of_page volume_pages) pages) (514 * length pages)
+-- Each page is made one of slots that begins with these words: 514 stores a page.
+abbrev pub FillsPages : ℕ → List ℕ → List ℕ → DeviceView → DeviceView → Type 0
+FillsPages volume_pages pages first old new = StoresExactly (OfSome pages (IsFilledWord volume_pages)) old new (flat_map (fill_of_page volume_pages first) pages) (514 * length pages)
 
 -- Each page gets the owner: one store a page.
 abbrev pub ClaimsPages : ℕ → List ℕ → ℕ → DeviceView → DeviceView → Type 0

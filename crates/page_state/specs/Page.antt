@@ -1,10 +1,11 @@
 -- One or more data pages as a value that stands for their words and for those of their descriptors.
-use Rattle.std.specs.Prelude.{◌≡◌, ◌⊎◌, ℕ, ◌+◌, ◌*◌, ◌==◌, ◌<◌, true, if◌then◌else◌, List, length, slice_index, Option, None}
+use Rattle.std.specs.Prelude.{◌≡◌, ◌⊎◌, ℕ, ◌+◌, ◌*◌, ◌==◌, ◌<◌, true, if◌then◌else◌, List, ◌∷◌, length, slice_index, Option, None}
 use Rattle.pm_trait.specs.Device.{IsClean}
 use Rattle.pm_trait.specs.DeviceView.{DeviceView}
 use Rattle.layout.specs.declared.fields.DescriptorFields.{DescriptorFields}
 use Rattle.layout.specs.Geometry.{descriptor_word_of, page_word_of, page_of_slot, slot_word_of}
 use Rattle.layout.specs.Fields.{page_owner, page_kind, page_offset, slot_inode}
+use Rattle.layout.specs.Name.{words_of_name}
 use Rattle.fence_token.specs.Objects.{Stands, StandsClean, StandsInFlight}
 use Rattle.page_state.specs.declared.page.Touched.{Touched}
 use Rattle.page_state.specs.declared.page.Touched.TheVariants.{Descriptors, Whole, Words}
@@ -111,13 +112,17 @@ IsTouchable Descriptors pages = Unit {0}
 IsTouchable Whole pages = Unit {0}
 IsTouchable (Words span) pages = IsWithinLimits span pages × (0 < new_lines span pages)
 
--- each of the page's 512 words is 0
-pub record IsZeroPage (volume_pages : ℕ) (words : List ℕ) (page : ℕ) : Type 0 where
-  pub each : (place : ℕ) → place < 512 → slice_index words (page_word_of volume_pages page place) ≡ 0
+-- the page's 512 words are these, and 0 behind them
+pub record BeginsWith (volume_pages : ℕ) (words first : List ℕ) (page : ℕ) : Type 0 where
+  pub each : (place : ℕ) → place < 512 → slice_index words (page_word_of volume_pages page place) ≡ slice_index first place
 
--- a page of free slots, whoever its owner is
-pub record IsSlotPage (volume_pages : ℕ) (words : List ℕ) (page : ℕ) : Type 0 where
-  pub zero : IsZeroPage volume_pages words page
+-- the words of a slot that has this name, and neither a number nor a pointer
+abbrev pub named_slot : List ℕ → List ℕ
+named_slot name = 0 ∷ 0 ∷ words_of_name name
+
+-- a page of slots that begins with these words, whoever its owner is; with none of them all its slots are free
+pub record IsSlotPage (volume_pages : ℕ) (words first : List ℕ) (page : ℕ) : Type 0 where
+  pub contents : BeginsWith volume_pages words first page
   pub kind : page_kind volume_pages words page ≡ 2
   pub offset : page_offset volume_pages words page ≡ 0
 

@@ -2,13 +2,13 @@
 use crate::{Free, Live, PageH};
 use fence_token::{Clean, fence};
 use inode_state::{Cut, InodeH, Unlinked};
-use layout::Geometry;
+use layout::{Geometry, Name};
 use pm_memory::RamPm;
 use pm_trait::Pm;
 use std::test::Fail;
 
 #[test]
-fn two_pages_of_slots(rt: HostRuntime) -> Result<(), Fail> {
+fn two_pages_with_a_name(rt: HostRuntime) -> Result<(), Fail> {
     let alloc = rt.alloc();
     let mut old = vec![in alloc; 0; 1_536]?;
     let data_pages = vec![in alloc; 7; 6_656]?;
@@ -19,7 +19,8 @@ fn two_pages_of_slots(rt: HostRuntime) -> Result<(), Fail> {
     assert_eq!(rt; geometry.data_pages, 13);
     let numbers = [4, 2];
     let free: PageH<Clean, Free> = PageH::at(&pm, &geometry, &numbers);
-    let filled = free.fill_dir(&mut pm).flush(&mut pm);
+    let name = Name::new(b"ab").ok().ok_or("no name")?;
+    let filled = free.fill_dir_named(&mut pm, &name).flush(&mut pm);
     let token = fence(&mut pm)?;
     let filled = filled.settle(&pm, &token);
     assert_eq!(rt; filled.pages(), [4, 2].as_slice());
@@ -30,16 +31,22 @@ fn two_pages_of_slots(rt: HostRuntime) -> Result<(), Fail> {
         (1_057, 2),
         (2_559, 7),
         (2_560, 0),
+        (2_561, 0),
+        (2_562, 0x6261_0002),
+        (2_563, 0),
+        (2_578, 0),
         (3_071, 0),
         (3_072, 7),
         (3_583, 7),
         (3_584, 0),
+        (3_586, 0x6261_0002),
         (4_095, 0),
         (4_096, 7),
     ];
     for (word, value) in table {
         assert_eq!(rt; pm.image().get(word).copied(), Some(value), "at {word}");
     }
+    assert_eq!(rt; pm.events(), 1_159);
     Ok(())
 }
 

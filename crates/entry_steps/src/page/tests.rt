@@ -14,7 +14,7 @@ fn a_page_of_slots(rt: HostRuntime) -> Result<(), Fail> {
     let geometry = Geometry::of(16).ok_or("no volume")?;
     assert_eq!(rt; geometry.data_pages, 13);
     fill_page(&mut pm, &geometry, 2)?;
-    claim_page(&mut pm, &geometry, 2, 3)?;
+    own_page(&mut pm, &geometry, 2, 3)?;
     let table = [
         (1_039, 0),
         (1_040, 3),

@@ -21,7 +21,7 @@ returns g c =
     let pages = ap (λ (view : PageView). view.pages) dirty.ensures.object in
     let one = ap length free_pages in
     let lines = ap (λ (view : PageView). touched_lines view.touched 1) dirty.ensures.object in
-    let stores = fill_stores free.result.volume_pages free.result.pages one dirty.ensures.device in
+    let stores = fill_stores free.result.volume_pages free.result.pages [] one dirty.ensures.device in
     let flushes = page_flushes dirty.result.volume_pages dirty.result.pages dirty.result.touched 65 lines (ap length pages ∙ one) c.flush-filled.ensures.device in
     record {
       takes = record {

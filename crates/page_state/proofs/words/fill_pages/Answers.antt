@@ -9,7 +9,7 @@ use Rattle.page_state.proofs.words.fill_pages.Goals as goal
 
 pub loop-page-init : goal.loop-page-init
 loop-page-init g c = record {
-  device = no_pages (IsFilledWord c.args.geometry.now.pages) (fill_of_page c.args.geometry.now.pages) c.args.pages.now (g.P.Pm.view c.args.pm.now);
+  device = no_pages (IsFilledWord c.args.geometry.now.pages) (fill_of_page c.args.geometry.now.pages c.args.first.now) c.args.pages.now (g.P.Pm.view c.args.pm.now);
   filled = λ index below. absurd (omega (arith, below));
 }
 
@@ -31,13 +31,13 @@ loop-page-preserved g c =
     let inside : index < length pages = omega arith in
     let step = c.fill_page.ensures.device in
     record {
-      device = pages_more (IsFilledWord volume_pages) (fill_of_page volume_pages) volume_pages index (514 * (index + 1)) pages (filled_is_own volume_pages) valid inside (omega arith) so_far.device step;
-      filled = each_more (IsSlotPage volume_pages old) (IsSlotPage volume_pages new) pages index
-          (λ earlier before. slot_page_stays volume_pages (slice_index pages earlier) old new (λ word. earlier_kept (IsFilledWord volume_pages) volume_pages index pages (filled_is_own volume_pages) valid inside step.interval earlier word before))
+      device = pages_more (IsFilledWord volume_pages) (fill_of_page volume_pages c.args.first.now) volume_pages index (514 * (index + 1)) pages (filled_is_own volume_pages) valid inside (omega arith) so_far.device step;
+      filled = each_more (λ page. IsSlotPage volume_pages old c.args.first.now page) (λ page. IsSlotPage volume_pages new c.args.first.now page) pages index
+          (λ earlier before. slot_page_stays volume_pages (slice_index pages earlier) old new c.args.first.now (λ word. earlier_kept (IsFilledWord volume_pages) volume_pages index pages (filled_is_own volume_pages) valid inside step.interval earlier word before))
           c.fill_page.ensures.filled so_far.filled;
     }
 
 pub returns-clause-device : goal.returns-clause-device
 returns-clause-device g c =
     let pages = c.args.pages.now in
-    pages_done (IsFilledWord c.args.geometry.now.pages) (fill_of_page c.args.geometry.now.pages) pages c.loop-page.page-index (514 * length pages) (omega arith) (omega arith) c.loop-page.invariant.device
+    pages_done (IsFilledWord c.args.geometry.now.pages) (fill_of_page c.args.geometry.now.pages c.args.first.now) pages c.loop-page.page-index (514 * length pages) (omega arith) (omega arith) c.loop-page.invariant.device

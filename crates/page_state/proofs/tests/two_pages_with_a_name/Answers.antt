@@ -4,7 +4,7 @@ use Rattle.page_state.specs.Page.{EachPage}
 use Rattle.fence_token.proofs.ObjectLaws.{stands_in_flight_fence}
 use Rattle.page_state.proofs.PageLaws.{free_pages_alike}
 use Rattle.page_state.proofs.Zeros.{free_pages, sixteen_pages}
-use Rattle.page_state.proofs.tests.two_pages_of_slots.Goals as goal
+use Rattle.page_state.proofs.tests.two_pages_with_a_name.Goals as goal
 
 below : (index : ℕ) → index < 2 → slice_index (4 ∷ 2 ∷ []) index < 13
 below zero inside = omega arith
