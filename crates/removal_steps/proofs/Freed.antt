@@ -52,7 +52,6 @@ module _ (zeros : List ℕ) (are : zeros ≡ replicate 8192 0) where
 
   file_page : AreFilePages 16 (few zeros writes) 3 (4 ∷ [])
   file_page = record {
-    some_inode = λ none. omega (arith, none);
     in_range = record { each = λ k inside. (let here : k ≡ 0 = omega (arith, inside) in subst (λ (n : ℕ). slice_index (4 ∷ []) n < data_pages_of 16) (sym here) (omega (arith, thirteen))) };
     distinct = record { each = λ one two low high same. omega (arith, low, high) };
     each = λ k inside.

@@ -6,6 +6,7 @@ mod Given
 mod Unused
 mod Resting
 pub mod Stages
+pub mod NodePages
 mod Few
 mod Named
 mod Freed

@@ -1,5 +1,5 @@
 -- An inode to which nothing leads, on a settled device.
-use Rattle.std.proofs.Common.{◌≡◌, ℕ, ◌*◌, Bool, true, List, [], ◌∷◌, length, sym, subst, arith}
+use Rattle.std.proofs.Common.{◌≡◌, ℕ, ◌*◌, Bool, true, false, not, List, [], ◌∷◌, length, refl, sym, subst, arith}
 use Rattle.pm_trait.specs.declared.event.Event.TheVariants.{Flush}
 use Rattle.pm_trait.specs.DeviceView.{DeviceView, IsSettledView, Performs, Stores}
 use Rattle.pm_trait.proofs.DeviceViewLaws.{stores_flushed, flush_stores}
@@ -13,6 +13,11 @@ use Rattle.inode_state.specs.Unused.{IsUnused}
 use Rattle.dentry_state.proofs.DentryLaws.{slot_word_is, slot_word_in_volume}
 use Rattle.volume.specs.Costs.{where_true, inode_events}
 use Rattle.removal_steps.specs.Steps.{MayClear, IsGoneWord}
+
+-- it goes, where it was tested that it stays
+pub goes_on : (goes : Bool) → not goes ≡ false → goes ≡ true
+goes_on true test = refl
+goes_on false test = let none : ⊥ = cc in absurd none
 
 pub unused : {device : DeviceView} (P i Q n : ℕ) (kind : NodeKind) → IsVolumeSize P → Q ≡ P → n ≡ i → length device.words ≡ 512 * P → IsSettledView device → MayClear P device.words kind i → IsUnused Q n device
 unused {device} P i Q n kind size volume number whole settled may =

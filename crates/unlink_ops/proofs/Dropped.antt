@@ -33,7 +33,8 @@ use Rattle.volume.specs.Volume.{VolumeView}
 use Rattle.volume.specs.declared.plan.Removal.{Removal}
 use Rattle.volume.proofs.PlanFences.{plan_fences_law}
 use Rattle.unlink_ops.specs.Removing.{IsRemovalAt}
-use Rattle.unlink_ops.specs.Taking.{AreGonePages, IsTakenAway}
+use Rattle.removal_steps.specs.Steps.{AreGonePages}
+use Rattle.unlink_ops.specs.Taking.{IsTakenAway}
 use Rattle.unlink_ops.proofs.Left.{has_left}
 use Rattle.unlink_ops.proofs.Lost.{HasLost, has_lost}
 use Rattle.unlink_ops.proofs.Removals
@@ -47,7 +48,7 @@ tree_after_is steps.file n tree path = refl
 tree_after_is steps.directory n tree path = refl
 
 module _ {P : ℕ} {W : List ℕ} {state : State} (kind : steps.Removal) (path : Route) {removal : Removal} (at : IsRemovalAt P W state (removing kind path) removal)
-    (pages : List ℕ) (gone : AreGonePages P W removal pages) (K : List ℕ) (taken : IsTakenAway P W K removal) where
+    (pages : List ℕ) (gone : AreGonePages P W (Some removal.loss) pages) (K : List ℕ) (taken : IsTakenAway P W K removal) where
   drops : Drops P W taken.cleared taken.given K removal.slot (falling_of kind removal)
   drops = subst (λ (y : ℕ). Drops P W taken.cleared taken.given K removal.slot y) (Removals.falling_is kind path at) taken.drops
 
