@@ -1,5 +1,5 @@
 -- What a line leaves whose plan was carried out, or in which a fence failed.
-use Rattle.std.proofs.Common.{◌≡◌, ◌≢◌, ◌⊎◌, inl, inr, ℕ, ◌+◌, ◌<◌, Bool, true, false, cond, nat_lt, nat_le, List, [], ◌∷◌, is_none, ◌&&◌, refl, sym, ap, subst, ◌∙◌, arith}
+use Rattle.std.proofs.Common.{◌≡◌, ◌≢◌, ◌⊎◌, inl, inr, ℕ, ◌+◌, ◌<◌, Bool, true, false, cond, nat_lt, nat_le, List, [], ◌∷◌, is_none, ◌&&◌, refl, sym, ap, subst, ◌∙◌, arith, true≢false}
 use Rattle.std.specs.Prelude.{IsTrue, None, Result, Ok, Err, OnOk, OnErr, IfOk}
 use Rattle.pm_trait.specs.DeviceView.{DeviceView}
 use Rattle.pm_trait.specs.Device.{EndsInFault}
@@ -13,10 +13,10 @@ use Rattle.volume.specs.Volume.{VolumeView}
 use Rattle.volume.specs.Carried.{IsPlanFor, LeavesState, Follows, Carries}
 use Rattle.volume.specs.Prepared.{IsChange}
 use Rattle.volume.specs.Costs.{events_of, fences_for_loss, fences_for_growth, fences_of_plan}
-use Rattle.volume.specs.declared.plan.Action.TheVariants.{Make, Name, Remove, Write as WriteBytes, WriteNothing, Resize, KeepSize, KeepNames, Read as ReadBytes, Status, Names, Space}
+use Rattle.volume.specs.declared.plan.Action.TheVariants.{Make, Name, Remove, Move, Write as WriteBytes, WriteNothing, Resize, KeepSize, KeepNames, Read as ReadBytes, Status, Names, Space}
 use Rattle.volume.specs.Planned.{IsPlanOf}
 use Rattle.volume.specs.declared.plan.Action.{Action}
-use Rattle.volume.proofs.Plans.{is_change, change_is, fences_of_plan-le}
+use Rattle.volume.proofs.Plans.{change_is, fences_of_plan-le}
 use Rattle.engine.specs.Exec.{Executed, HasFailed, Does, LeavesVolume}
 use Rattle.engine.specs.Replies.{IsTold, IsChangeReply}
 use Rattle.engine.specs.Session.{SessionView}
@@ -34,28 +34,18 @@ change_fences : (action : Action) → IsChange action → (fences_of_plan action
 change_fences (Make entry) is = inl (λ none. omega (arith, none))
 change_fences (Name link) is = inl (λ none. omega (arith, none))
 change_fences (Remove removal) is = inl (λ none. omega (arith, none))
+change_fences (Move moving) is = inl (λ none. omega (arith, none))
 change_fences (WriteBytes writing) is =
     inl (either_some (nat_le (writing.offset + writing.count) writing.old_size) 1 (fences_for_growth writing.new_pages) (λ none. omega (arith, none)) (growth_fences writing.new_pages))
 change_fences (Resize resizing) is =
     inl (either_some (nat_lt resizing.old_size resizing.new_size) (fences_for_growth resizing.new_pages) (1 + fences_for_loss resizing.cut false) (growth_fences resizing.new_pages) (λ none. omega (arith, none)))
-change_fences Nothing is = inr refl
-change_fences (ReadBytes reading) is = absurd is
-change_fences (Status inode) is = absurd is
-change_fences (Names inode) is = absurd is
-change_fences Space is = absurd is
-
--- a plan changes something where its action does
-pub changing : (action : Action) → is_change action ≡ true → IsChange action
-changing (Make entry) is = tt
-changing (Name link) is = tt
-changing (Remove removal) is = tt
-changing (WriteBytes writing) is = tt
-changing (Resize resizing) is = tt
-changing Nothing is = tt
-changing (ReadBytes reading) is = absurd (cc is)
-changing (Status inode) is = absurd (cc is)
-changing (Names inode) is = absurd (cc is)
-changing Space is = absurd (cc is)
+change_fences WriteNothing is = inr refl
+change_fences KeepSize is = inr refl
+change_fences KeepNames is = inr refl
+change_fences (ReadBytes reading) is = absurd (true≢false (sym is))
+change_fences (Status inode) is = absurd (true≢false (sym is))
+change_fences (Names inode) is = absurd (true≢false (sym is))
+change_fences Space is = absurd (true≢false (sym is))
 
 -- ---- the answer of a change
 
@@ -70,19 +60,6 @@ change_told session device (Refused refusal) is = absurd is
 change_told session device (Unread fault) is = absurd is
 change_told session device Fault is = absurd is
 change_told session device Stopped is = absurd is
-
--- its command may change the tree
-change_may : (P : ℕ) (I : List ℕ) (state : State) (c : Command) (action : Action) → IsChange action → IsPlanOf P I state c action → is_changing c ≡ true
-change_may P I state c (Make entry) is plan = change_is P I state c (Make entry) plan
-change_may P I state c (Name link) is plan = change_is P I state c (Name link) plan
-change_may P I state c (Remove removal) is plan = change_is P I state c (Remove removal) plan
-change_may P I state c (WriteBytes writing) is plan = change_is P I state c (WriteBytes writing) plan
-change_may P I state c (Resize resizing) is plan = change_is P I state c (Resize resizing) plan
-change_may P I state c Nothing is plan = change_is P I state c ChangesNothing plan
-change_may P I state c (ReadBytes reading) is plan = absurd is
-change_may P I state c (Status inode) is plan = absurd is
-change_may P I state c (Names inode) is plan = absurd is
-change_may P I state c Space is plan = absurd is
 
 accepted_change : (P : ℕ) (state : State) (c : Command) → is_changing c ≡ true → refusal_of P state.tree state.room c ≡ None → IsTrue (may_fail P state c)
 accepted_change P state c changes accepted = let none = ap is_none accepted in ap (λ b. b && is_none (refusal_of P state.tree state.room c)) changes ∙ none
@@ -100,7 +77,7 @@ module _ (old new : SessionView) (before after : DeviceView) (action : Action) (
       follows = carries.meaning state c ours plan_for
 
       changes : is_changing c ≡ true
-      changes = change_may old.volume.size before.words state c action change plan_for.planned.plan_is
+      changes = change_is old.volume.size before.words state c action plan_for.planned.plan_is ∙ change
 
       executed : (result : Result Reply PmFault) → OnOk result (LeavesState old.volume new.volume before after state c answer) → IfOk result (λ replied. replied ≡ reply_of answer)
           → OnOk result (after.fences ≡ before.fences + fences_of_plan action) → IfOk result (λ replied. Executed old.volume.size state (Ok c) new replied before after)
@@ -129,7 +106,7 @@ module _ (old new : SessionView) (before after : DeviceView) (action : Action) (
         any_moment = follows.any_moment;
         no_ack = carries.device.no_ack;
         last = last;
-        action = deed_of action;
+        action = action;
         planned = plan_for.planned;
         fewer = fewer;
       }

@@ -137,10 +137,10 @@ module _ (old mid new : SessionView) (before between after : DeviceView) where
         any_moment = moments fails.any_moment;
         no_ack = none_acked fails.no_ack;
         last = fails.last;
-        deed = fails.deed;
+        action = fails.action;
         planned =
-            subst (λ (words : List ℕ). IsPlannedFor old.volume.size words state line fails.deed) device.words
-            (subst (λ (p : ℕ). IsPlannedFor p between.words state line fails.deed) view.same_size fails.planned);
+            subst (λ (words : List ℕ). IsPlannedFor old.volume.size words state line fails.action) device.words
+            (subst (λ (p : ℕ). IsPlannedFor p between.words state line fails.action) view.same_size fails.planned);
         fewer = let few = fails.fewer in let same = device.fences in omega (arith, few, same);
       }
 

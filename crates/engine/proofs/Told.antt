@@ -23,7 +23,7 @@ use Rattle.image_counts.proofs.States.{state_law}
 use Rattle.volatile_index.specs.Index.{inodes_of_index, entries_of}
 use Rattle.volume.specs.Volume.{VolumeView}
 use Rattle.volume.specs.Stands.{StandsFor, HasNode}
-use Rattle.volume.specs.declared.plan.Action.TheVariants.{Read as ReadBytes, Status, Names, Space, Read as ReadAction}
+use Rattle.volume.specs.declared.plan.Action.TheVariants.{Read as ReadBytes, Status, Names, Space}
 use Rattle.volume.specs.Planned.{IsPlanOf}
 use Rattle.volume.specs.declared.plan.Reading.{Reading}
 use Rattle.volume.specs.declared.plan.Action.{Action}
@@ -220,13 +220,13 @@ module _ (volume : VolumeView) (device : DeviceView) where
         })
 
     -- the file that is read
-    pub file_read : (reading : Reading) → action ≡ ReadAction reading → IsTrue (is_file state.tree reading.inode) × (reading.count ≤ read_limit)
+    pub file_read : (reading : Reading) → action ≡ ReadBytes reading → IsTrue (is_file state.tree reading.inode) × (reading.count ≤ read_limit)
     file_read reading is =
         let (path, c_is, inode_is) = reading_of_plan volume.size device.words state c reading reads (subst (λ (a : Action). IsPlanOf volume.size device.words state c a) is planned.planned.plan_is) in
         let there = read_there volume.size state.tree state.room path (state_is planned.stands).tree reading.offset reading.count (ap (refusal_of volume.size state.tree state.room) (sym c_is) ∙ planned.planned.accepted) in
         (subst (λ (id : ℕ). IsTrue (is_file state.tree id)) (id_is volume.size state.tree state.room path (state_is planned.stands).tree reading.inode inode_is) there.0, there.1)
 
-    pub read_replied : (bytes : List ℕ) (reading : Reading) (count : ℕ) → action ≡ ReadAction reading → bytes ≡ take reading.count (drop reading.offset (bytes_of state.tree reading.inode)) → count ≡ length bytes
+    pub read_replied : (bytes : List ℕ) (reading : Reading) (count : ℕ) → action ≡ ReadBytes reading → bytes ≡ take reading.count (drop reading.offset (bytes_of state.tree reading.inode)) → count ≡ length bytes
         → IsReplyOf (session_of volume bytes) device (step volume.size state.tree state.room c).answer (reply.Bytes count)
     read_replied bytes reading count is read counted =
         let (path, c_is, inode_is) = reading_of_plan volume.size device.words state c reading reads (subst (λ (a : Action). IsPlanOf volume.size device.words state c a) is planned.planned.plan_is) in

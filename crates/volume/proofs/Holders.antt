@@ -25,18 +25,12 @@ use Rattle.volatile_index.specs.Index.{inodes_of_index, entries_of}
 use Rattle.volume.specs.Volume.{VolumeView}
 use Rattle.volume.specs.Stands.{StandsFor}
 use Rattle.volume.specs.Planned.{IsVacantSlot, IsPlace}
-use Rattle.volume.specs.Walks.{place_of_parent, IsLastName}
+use Rattle.volume.specs.Walks.{place_of_parent, IsLastName, WouldHold}
 use Rattle.volume.specs.declared.resolve.LastName.{LastName}
 use Rattle.volume.proofs.Ways.{whole_path}
 use Rattle.volume.proofs.Walked.{stands_tree, in_table, in_index, below_there, below_absent}
 use Rattle.volume.proofs.Places.{page_free, free_page}
 use Rattle.volume.proofs.Frees.{free_pages_are}
-
--- The walk to the path's directory ends at this one, and the path's last name is this.
-pub record WouldHold (T : Tree) (path : Route) (d : ℕ) (name : List ℕ) : Type 0 where
-  pub walked : walk_to_parent T path ≡ Ok (record { path = parent path; id = d })
-  pub below : is_root path ≡ false
-  pub named : name ≡ last_name path
 
 pub would_hold : (T : Tree) (path : Route) (found : Option LastName) (last : LastName) → walk_to_parent T path ≡ place_of_parent path (Ok found) → IsLastName path found → found ≡ Some last → WouldHold T path last.directory last.name
 would_hold T path found last walked named is =
@@ -85,8 +79,11 @@ module _ (volume : VolumeView) (device : DeviceView) (state : State) (stands : S
   pub present : IsPresent (entries_of volume.index d) name → is_there state.tree path ≡ true
   present (slot, there) = ap is_some (named_there slot there)
 
+  pub named_absent : IsAbsent (entries_of volume.index d) name → id_at state.tree path ≡ None
+  named_absent none = ap (id_at state.tree) path_is ∙ below_absent volume device state (parent path) d name stands held.0 none
+
   pub absent : IsAbsent (entries_of volume.index d) name → is_there state.tree path ≡ false
-  absent none = ap is_some (ap (id_at state.tree) path_is ∙ below_absent volume device state (parent path) d name stands held.0 none)
+  absent none = ap is_some (named_absent none)
 
   -- ---- its place
 

@@ -12,6 +12,7 @@ pub mod Given
 pub mod Removed
 pub mod FilePages
 pub mod RemovalRows
+pub mod RenameRows
 pub mod Readings
 pub mod LowestPages
 pub mod ContentRows

@@ -19,7 +19,8 @@ use Rattle.volume.specs.Stands.{StandsFor}
 use Rattle.volume.specs.Planned.{IsVacantSlot, IsPlace, IsPlanned}
 use Rattle.volume.specs.declared.plan.Action.TheVariants.{Name}
 use Rattle.volume.proofs.Walked.{stands_tree}
-use Rattle.volume.proofs.Holders.{WouldHold, held, present, absent, lacks_page, has_page}
+use Rattle.volume.specs.Walks.{WouldHold}
+use Rattle.volume.proofs.Holders.{held, present, absent, lacks_page, has_page}
 
 abbrev row : Option Refusal → Option Refusal → Bool → Bool → Bool → Bool → Option Refusal
 row walked held is_the_root there directory pages = first (walked ∷ held ∷ at Root is_the_root ∷ at Exists there ∷ at IsDir directory ∷ at NoPages pages ∷ [])

@@ -1,10 +1,10 @@
 -- The lowest slot of a directory that names nothing, and the lowest free page.
-use Rattle.std.proofs.Common.{◌≡◌, ◌⊎◌, inl, inr, ℕ, zero, suc, ◌+◌, ◌*◌, ◌<◌, ◌≤◌, true, false, cond, List, [], ◌∷◌, ◌++◌, Contains, Option, Some, None, nat_lt, refl, sym, ◌∙◌, arith}
+use Rattle.std.proofs.Common.{◌≡◌, ◌⊎◌, inl, inr, ℕ, zero, suc, ◌+◌, ◌*◌, ◌<◌, ◌≤◌, true, false, cond, List, [], ◌∷◌, ◌++◌, Contains, Option, Some, None, nat_lt, refl, sym, subst, ◌∙◌, arith}
 use Rattle.std.proofs.lemmas.Bool.Decides.{nat_tests}
 use Rattle.std.proofs.lemmas.List.Elements.{Contains-append_left, Contains-append_right, Contains-append_cases}
 use Rattle.std.proofs.lemmas.Option.{slice_get_within}
 use Rattle.pm_trait.specs.DeviceView.{DeviceView}
-use Rattle.layout.specs.Geometry.{inodes_of, data_pages_of, page_of_slot}
+use Rattle.layout.specs.Geometry.{inodes_of, data_pages_of, slots_of, page_of_slot}
 use Rattle.layout.proofs.GeometryLaws.{page_of_slot_below, slot_below}
 use Rattle.layout.specs.Fields.{page_owner}
 use Rattle.image_reading.specs.Reading.{slot_owner}
@@ -13,7 +13,7 @@ use Rattle.allocators.specs.Numbers.{IsFree, IsLowest}
 use Rattle.volatile_index.specs.Index.{pages_of}
 use Rattle.volume.specs.Volume.{VolumeView}
 use Rattle.volume.specs.Stands.{IsStanding}
-use Rattle.volume.specs.Planned.{IsVacantSlot, IsLowestPage}
+use Rattle.volume.specs.Planned.{IsVacantSlot, IsLowestPage, IsPlace}
 use Rattle.volume.specs.Lowest.{IsLowestOf, lower_of, IsVacantAmong}
 
 -- ---- a slot's page
@@ -21,6 +21,13 @@ use Rattle.volume.specs.Lowest.{IsLowestOf, lower_of, IsVacantAmong}
 pub page_is : (page slot : ℕ) → 32 * page ≤ slot → slot < 32 * page + 32 → page_of_slot slot ≡ page
 unfolding page_of_slot
 page_is page slot low high = omega arith
+
+pub place_within : (P : ℕ) (I : List ℕ) (d slot : ℕ) (new_page : Option ℕ) → IsPlace P I d slot new_page → slot < slots_of P
+unfolding page_of_slot
+place_within P I d slot None place = place.vacant.page.in_range
+place_within P I d slot (Some page) place =
+    let same : page_of_slot slot ≡ page = omega (arith, place.slot_is) in
+    slot_below P slot (subst (λ (j : ℕ). j < data_pages_of P) (sym same) place.page_is.free.0)
 
 pub slots_of_page : (page slot : ℕ) → page_of_slot slot ≡ page → (32 * page ≤ slot) × (slot < 32 * page + 32)
 unfolding page_of_slot

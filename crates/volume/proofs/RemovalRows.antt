@@ -24,14 +24,14 @@ use Rattle.volatile_index.specs.Entries.{IsAbsent}
 use Rattle.volatile_index.specs.Index.{entries_of}
 use Rattle.volume.specs.Volume.{VolumeView}
 use Rattle.volume.specs.Stands.{StandsFor}
-use Rattle.volume.specs.Walks.{name_row}
+use Rattle.volume.specs.Walks.{name_row, WouldHold}
 use Rattle.volume.specs.declared.plan.Action.TheVariants.{Remove}
 use Rattle.volume.specs.Planned.{IsNameAt, IsAlone, IsGivenBack, IsPlanned}
 use Rattle.volume.specs.declared.plan.Removal.{Removal}
 use Rattle.volume.proofs.Ways.{walk_last, parent_walked, walk_fails}
 use Rattle.volume.proofs.Walked.{stands_tree, reached_at, entry_there, step_there, step_absent}
 use Rattle.volume.proofs.Readings.{a_file, no_file}
-use Rattle.volume.proofs.Holders.{WouldHold, held, named_there}
+use Rattle.volume.proofs.Holders.{held, named_there}
 
 -- ---- how a row begins
 
@@ -48,13 +48,13 @@ passes_first (Some found) b rest e = cc
 passes_first None (Some found) rest e = cc
 passes_first None None rest e = refl
 
-otherwise : (b : Bool) (x y : ℕ) → b ≡ false → cond b x y ≡ y
+pub otherwise : (b : Bool) (x y : ℕ) → b ≡ false → cond b x y ≡ y
 otherwise b x y is = ap (λ t. cond t x y) is
 
-is_some_test : (n : ℕ) → 0 < n → nat_lt 0 n ≡ true
+pub is_some_test : (n : ℕ) → 0 < n → nat_lt 0 n ≡ true
 is_some_test n some = grind (arith, nat_tests)
 
-is_none_test : (n : ℕ) → n ≤ 0 → nat_lt 0 n ≡ false
+pub is_none_test : (n : ℕ) → n ≤ 0 → nat_lt 0 n ≡ false
 is_none_test n none = grind (arith, nat_tests)
 
 module _ (volume : VolumeView) (device : DeviceView) (state : State) (stands : StandsFor volume device state) (path : Route) where
@@ -153,7 +153,7 @@ module _ (volume : VolumeView) (device : DeviceView) (state : State) (stands : S
 
     -- ---- a directory
 
-    rmdir_row : (file some : Bool) → is_file state.tree inode ≡ file → nat_lt 0 (name_count state.tree inode) ≡ some
+    pub rmdir_row : (file some : Bool) → is_file state.tree inode ≡ file → nat_lt 0 (name_count state.tree inode) ≡ some
         → refusal_of volume.size state.tree state.room (Rmdir path) ≡ first (at NotDir file ∷ at NotEmpty some ∷ [])
     rmdir_row file some is names =
         passes_first (fault_of (walk state.tree path)) (at Root (is_root path)) (at NotDir (is_file state.tree (id_of state.tree path)) ∷ at NotEmpty (nat_lt 0 (name_count state.tree (id_of state.tree path))) ∷ []) passes

@@ -24,7 +24,8 @@ use Rattle.layout.specs.declared.kinds.NodeKind.TheVariants.{File, Directory}
 use Rattle.volume.specs.declared.plan.NewEntry.{NewEntry}
 use Rattle.volume.specs.declared.plan.Action.TheVariants.{Make}
 use Rattle.volume.proofs.Frees.{free_inodes_are, least_inode}
-use Rattle.volume.proofs.Holders.{WouldHold, no_free, held, present, absent, lacks_page, has_page}
+use Rattle.volume.specs.Walks.{WouldHold}
+use Rattle.volume.proofs.Holders.{no_free, held, present, absent, lacks_page, has_page}
 
 -- the row of a new node
 abbrev row : Option Refusal → Bool → Bool → Bool → Bool → Option Refusal

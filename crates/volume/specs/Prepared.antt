@@ -1,5 +1,5 @@
 -- What preparing a command answers and leaves.
-use Rattle.std.specs.Prelude.{◌≡◌, ◌≢◌, ◌⊎◌, ℕ, ◌+◌, ◌^◌, ◌<◌, ◌≤◌, Bool, true, false, List, length, IsTrue, None, Some, Result, Ok, Err, OnOk, IfOk, IfErr}
+use Rattle.std.specs.Prelude.{◌≡◌, ◌≢◌, ◌⊎◌, ℕ, ◌+◌, ◌^◌, ◌<◌, ◌≤◌, Bool, true, false, List, length, ◌||◌, ◌==◌, IsTrue, None, Some, Result, Ok, Err, OnOk, IfOk, IfErr}
 use Rattle.pm_trait.specs.Device.{HasRisen}
 use Rattle.pm_trait.specs.DeviceView.{DeviceView}
 use Rattle.tree_model.specs.PathText.{Route}
@@ -8,7 +8,7 @@ use Rattle.tree_model.specs.Capacity.{file_limit}
 use Rattle.tree_model.specs.Run.{State, is_changing, may_fail}
 use Rattle.tree_model.specs.Places.{needs_places}
 use Rattle.tree_model.specs.declared.command.Command.{Command}
-use Rattle.tree_model.specs.declared.command.Command.TheVariants.{Create, Mkdir, Link, Unlink, Rmdir, Rename, Write, Truncate, Read, Stat as Tell, List as Show, Df}
+use Rattle.tree_model.specs.declared.command.Command.TheVariants.{Create, Mkdir}
 use Rattle.tree_model.specs.declared.reply.Refusal.{Refusal}
 use Rattle.tree_model.specs.declared.reply.Refusal.TheVariants.{NoPages, NoMemory}
 use Rattle.volatile_index.specs.Index.{NodeView, inodes_of_index, entries_of, places_of, pages_of, page_places_of}
@@ -17,33 +17,23 @@ use Rattle.volume.specs.Costs.{events_of, pages_of_loss}
 use Rattle.allocators.specs.Numbers.{IsFree, free_in}
 use Rattle.volume.specs.Lowest.{AreLowestOf}
 use Rattle.volume.specs.Stands.{StandsFor}
+use Rattle.volume.specs.Moves.{is_directory_kind}
 use Rattle.volume.specs.Planned.{IsPlanned}
+use Rattle.image_reading.specs.Counts.{Count}
+use Rattle.image_counts.specs.Entries.{IsPageIn}
 use Rattle.volume.specs.Carried.{HasReserved}
+use Rattle.layout.specs.Fields.{inode_links}
 use Rattle.layout.specs.declared.kinds.NodeKind.{NodeKind}
 use Rattle.layout.specs.declared.kinds.NodeKind.TheVariants.{File, Directory}
 use Rattle.volume.specs.declared.plan.NewEntry.{NewEntry}
 use Rattle.volume.specs.declared.plan.NewName.{NewName}
+use Rattle.volume.specs.declared.plan.Loss.{Loss}
 use Rattle.volume.specs.declared.plan.Removal.{Removal}
 use Rattle.volume.specs.declared.plan.Moving.{Moving}
 use Rattle.volume.specs.declared.plan.Writing.{Writing}
 use Rattle.volume.specs.declared.plan.Resizing.{Resizing}
 use Rattle.volume.specs.declared.plan.Action.{Action}
 use Rattle.volume.specs.declared.plan.Action.TheVariants.{Make, Name, Remove, Move, Write as WriteBytes, WriteNothing, Resize, KeepSize, KeepNames, Read as ReadBytes, Status, Names, Space}
-
--- the commands that `prepare` plans
-abbrev pub HasPlan : Command → Type 0
-HasPlan (Create path) = Unit {0}
-HasPlan (Mkdir path) = Unit {0}
-HasPlan (Link from to) = Unit {0}
-HasPlan (Unlink path) = Unit {0}
-HasPlan (Rmdir path) = Unit {0}
-HasPlan (Rename from to) = ⊥
-HasPlan (Write path offset bytes) = Unit {0}
-HasPlan (Truncate path size) = Unit {0}
-HasPlan (Read path offset count) = Unit {0}
-HasPlan (Tell path) = Unit {0}
-HasPlan (Show path) = Unit {0}
-HasPlan Df = Unit {0}
 
 -- the command that makes a node of this kind
 abbrev pub making : NodeKind → Route → Command
@@ -80,6 +70,14 @@ LacksPages free need refusal = ((refusal ≡ NoPages) × (free < need)) ⊎ ((re
 abbrev pub AreNewPagesOr : List Bool → ℕ → Result (List ℕ) Refusal → Type 0
 AreNewPagesOr free need (Ok pages) = AreLowestOf (IsFree free) need pages × (need ≤ free_in free)
 AreNewPagesOr free need (Err refusal) = LacksPages (free_in free) need refusal
+
+-- what a node loses that is replaced: the last name of a directory, and one of a file's names, with which all pages go where it was the last
+pub record IsLeftWith (P : ℕ) (I : List ℕ) (inode : ℕ) (kind : NodeKind) (loss : Loss) : Type 0 where
+  pub inode_is : loss.inode ≡ inode
+  pub kind_is : loss.kind ≡ kind
+  pub goes_is : loss.goes ≡ (is_directory_kind kind || (inode_links I inode == 1))
+  pub pages : loss.goes ≡ true → Count (IsPageIn P I inode) loss.pages
+  pub no_pages : loss.goes ≡ false → loss.pages ≡ 0
 
 -- ---- what a plan does
 

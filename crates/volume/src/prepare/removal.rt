@@ -4,6 +4,7 @@ ghost use Rattle.layout.specs.Geometry.{inodes_of, slots_of};
 ghost use Rattle.tree_model.specs.Run.{State};
 ghost use Rattle.image_reading.specs.Counts.{Count};
 ghost use Rattle.image_counts.specs.Entries.{IsPageIn};
+ghost use Rattle.volatile_index.specs.Index.{inodes_of_index, pages_of};
 ghost use Rattle.volume.specs.Stands.{StandsFor, IsStanding};
 ghost use Rattle.volume.specs.Planned.{IsNameAt, IsAlone, IsGivenBack};
 ghost use Rattle.volume.specs.Walks.{name_row};
@@ -16,19 +17,19 @@ use pm_trait::Pm;
 use tree_model::{Command, Path, Refusal};
 
 // A file has as many links as names.
-const LAST_LINK: u64 = 1;
+pub(super) const LAST_LINK: u64 = 1;
 
 // A name that stands in a directory: its slot, and the inode that it names.
 #[derive(Drop)]
-struct Named {
-    directory: u64,
-    name: Name,
-    slot: u64,
-    inode: u64,
+pub(super) struct Named {
+    pub directory: u64,
+    pub name: Name,
+    pub slot: u64,
+    pub inode: u64,
 }
 
 // The page of a slot, where no other slot of it names anything.
-fn emptied_page(geometry: &Geometry, words: &[u64], slot: u64) -> Option<u64>
+pub(super) fn emptied_page(geometry: &Geometry, words: &[u64], slot: u64) -> Option<u64>
     requires whole { length words.now ≡ 512 * geometry.now.pages }
     requires slot { slot < slots_of geometry.now.pages }
     ensures { IsGivenBack (IsAlone geometry.now.pages words.now slot) slot result }
@@ -75,7 +76,7 @@ impl Volume {
     }
 
     // The name that a path ends in, which the root doesn't have.
-    fn name_at<P: Pm>(&self, path: &Path, pm: &P) -> Result<Named, Refusal>
+    pub(super) fn name_at<P: Pm>(&self, path: &Path, pm: &P) -> Result<Named, Refusal>
         requires stands { IsStanding self.now (P.view pm.now) }
         ensures row { (state : State) → StandsFor self.now (P.view pm.now) state → MatchResult result
             (λ named. name_row state.tree path.now ≡ None) (λ refusal. name_row state.tree path.now ≡ Some refusal) }
@@ -116,23 +117,35 @@ impl Volume {
         ensures given_back { IsGivenBack (IsAlone self.now.size (P.view pm.now).words named.slot) named.slot
             result.given_back }
     {
-        let pages = if goes {
-            self.index.pages(named.inode).len() as u64
-        } else {
-            0
-        };
+        let loss = self.loss_of(named.inode, kind, goes);
         let given_back = emptied_page(&self.geometry, pm.image(), named.slot);
         Removal {
             directory: named.directory,
             name: named.name,
             slot: named.slot,
-            loss: Loss {
-                inode: named.inode,
-                kind,
-                goes,
-                pages,
-            },
+            loss,
             given_back,
+        }
+    }
+
+    // What a node loses that loses a name, with which it goes or not.
+    pub(super) fn loss_of(&self, inode: u64, kind: NodeKind, goes: bool) -> Loss
+        requires least { 1 ≤ inode }
+        requires most { inode ≤ inodes_of_index self.now.index }
+        ensures is { result ≡ record { inode = inode; kind = kind; goes = goes; pages = result.pages } }
+        ensures pages { goes ≡ true → result.pages ≡ length (pages_of self.now.index inode) }
+        ensures no_pages { goes ≡ false → result.pages ≡ 0 }
+    {
+        let pages = if goes {
+            self.index.pages(inode).len() as u64
+        } else {
+            0
+        };
+        Loss {
+            inode,
+            kind,
+            goes,
+            pages,
         }
     }
 }
