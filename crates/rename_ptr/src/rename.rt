@@ -67,7 +67,7 @@ pub fn apply_rename<P: Pm>(volume: &mut Volume, plan: Plan, pm: &mut P) -> Resul
     let pages = gone_pages(volume, moving.replaced);
     match move_name(pm, &geometry, &moving, pages) {
         Ok(()) => {
-            volume.move_entry(moving);
+            drop(moving);
             Ok(Reply::Done)
         }
         Err(fault) => {
