@@ -3,6 +3,7 @@ use Rattle.std.specs.Prelude.{ℕ, List, Result, OnOk}
 use Rattle.pm_trait.specs.DeviceView.{DeviceView}
 use Rattle.pm_trait.specs.Unfolds.{Unfolds}
 use Rattle.layout.specs.Geometry.{slot_word_of}
+use Rattle.layout.specs.Name.{IsName, IsBytes}
 use Rattle.tree_model.specs.PathText.{Route}
 use Rattle.tree_model.specs.Run.{State}
 use Rattle.tree_model.specs.declared.command.Command.TheVariants.{Rename}
@@ -17,11 +18,13 @@ use Rattle.volume.specs.declared.plan.Action.TheVariants.{Move}
 use Rattle.volume.specs.declared.plan.Moving.{Moving}
 use Rattle.rename_ptr.specs.Steps.{target_of, steps_of}
 
--- The image is tidy and reads as the state, and this is the move of an accepted rename of these paths.
+-- The image is tidy and reads as the state, and this is the move of an accepted rename of these paths, with a name of bytes.
 pub record IsMovingAt (P : ℕ) (I : List ℕ) (state : State) (from to : Route) (moving : Moving) : Type 0 where
   pub tidy : Tidy P I
   pub reads : ReadsAs P I state
   pub planned : IsPlanned P I state (Rename from to) (Move moving)
+  pub is_name : IsName moving.to_name
+  pub of_bytes : IsBytes moving.to_name
 
 -- the image is that of some move
 abbrev pub IsMovable : ℕ → List ℕ → Moving → Type 0

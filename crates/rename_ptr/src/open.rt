@@ -1,5 +1,5 @@
 // The directory of the new name takes a page where it needs one, with the name in its first slot.
-ghost use Rattle.std.specs.Prelude.{◌≡◌, ◌*◌, length};
+ghost use Rattle.std.specs.Prelude.{◌≡◌, ◌≤◌, ◌*◌, length};
 ghost use Rattle.pm_trait.specs.Unfolds.{MayFence, Unfolds, Takes, events_in};
 ghost use Rattle.layout.specs.Name.{words_of_name};
 ghost use Rattle.entry_steps.specs.Steps.{MayTake, filling_named};
@@ -43,10 +43,13 @@ pub fn open_page<P: Pm>(
     ensures unfolds { Unfolds (opening geometry.now.pages moving.now moving.now.new_page) (P.view pm.old)
         (P.view pm.new) result }
 {
-    let Some(page) = moving.new_page else {
-        return Ok(());
-    };
-    fill_page(pm, geometry, page, &moving.to_name)?;
-    let _slot = claim_page(pm, geometry, page, moving.to_directory)?;
-    Ok(())
+    let _bytes = moving.to_name.as_slice();
+    match moving.new_page {
+        None => Ok(()),
+        Some(page) => {
+            fill_page(pm, geometry, page, &moving.to_name)?;
+            let _slot = claim_page(pm, geometry, page, moving.to_directory)?;
+            Ok(())
+        }
+    }
 }

@@ -63,11 +63,12 @@ pub fn apply_rename<P: Pm>(volume: &mut Volume, plan: Plan, pm: &mut P) -> Resul
     let Action::Move(moving) = plan.into_action() else {
         return Ok(Reply::Done);
     };
+    let _bytes = moving.to_name.as_slice();
     let geometry = *volume.geometry();
     let pages = gone_pages(volume, moving.replaced);
     match move_name(pm, &geometry, &moving, pages) {
         Ok(()) => {
-            drop(moving);
+            volume.move_entry(moving);
             Ok(Reply::Done)
         }
         Err(fault) => {
