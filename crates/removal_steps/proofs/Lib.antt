@@ -1,5 +1,5 @@
-mod Slots
-mod Clearing
+pub mod Slots
+pub mod Clearing
 mod Pages
 mod Emptied
 mod Given
