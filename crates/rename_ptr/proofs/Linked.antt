@@ -23,10 +23,11 @@ use Rattle.dentry_state.specs.Dentry.{IsSlotWord, IsRestWord, slot_fields_at}
 use Rattle.dentry_state.proofs.DentryLaws.{same_fields_at, slot_word_is_no_inode_word}
 use Rattle.image_laws.specs.Create.{IsAmong}
 use Rattle.rename_laws.specs.Target.{Target, Vacant, Opened, Taken}
-use Rattle.rename_laws.specs.Ready.{IsLinkWord, IsNewNameWord, HasNewName, Rises, PointsAt}
-use Rattle.rename_laws.specs.Intervals.{Falls, ClearsSource}
+use Rattle.rename_laws.specs.Ready.{IsNewNameWord, HasNewName, PointsAt}
+use Rattle.image_laws.specs.Links.{Falls, IsLinkWord, Rises}
+use Rattle.rename_laws.specs.Intervals.{ClearsSource}
 use Rattle.entry_steps.specs.Steps.{IsLinkable}
-use Rattle.removal_steps.specs.Steps.{HasLink, MayFall, HasFallen, IsFallenWord}
+use Rattle.removal_steps.specs.Steps.{HasLink, MayFall}
 use Rattle.removal_steps.proofs.Clearing.{zero_word}
 use Rattle.removal_steps.proofs.Slots.{inode_settled}
 use Rattle.rename_ptr.specs.Steps.{MayRise, IsPointedWord, target_by}
@@ -49,7 +50,7 @@ in_by_rise P I None may = tt
 in_by_rise P I (Some i) may = (may.least, may.most)
 
 -- the count's word, by either name
-pub fallen_is_link : (o : Option ℕ) (w : ℕ) → IsFallenWord o w → IsLinkWord o w
+pub fallen_is_link : (o : Option ℕ) (w : ℕ) → IsLinkWord o w → IsLinkWord o w
 fallen_is_link None w is = is
 fallen_is_link (Some i) w is = is
 
@@ -111,7 +112,7 @@ module _ (P : ℕ) (W : ℕ → Type 0) (of_slots : (w : ℕ) → W w → (s : �
   links_still : (i : ℕ) → 1 ≤ i → i ≤ inodes_of P → inode_links b i ≡ inode_links a i
   links_still i least most = ap (λ (f : InodeFields). f.links) (inode_still i least most)
 
-  pub falls_from : (o : Option ℕ) → IsIn P o → (c : List ℕ) → HasFallen b c o → Falls a c o
+  pub falls_from : (o : Option ℕ) → IsIn P o → (c : List ℕ) → Falls b c o → Falls a c o
   falls_from None within c fallen = tt
   falls_from (Some i) within c fallen = fallen ∙ links_still i within.0 within.1
 
@@ -128,8 +129,8 @@ pub cleared_slots : (P s d w : ℕ) → IsCleared P s d w → (t : ℕ) × IsSlo
 cleared_slots P s d w (inl is) = (d, pointer_word P d w is)
 cleared_slots P s d w (inr is) = (s, rest_word P s w is)
 
-pub source_cleared : (P s d : ℕ) (o : Option ℕ) → IsIn P o → {a b c : List ℕ} {ta tb tc : Option Trail} → IsInterval (IsCleared P s d) a ta b tb → IsInterval (IsFallenWord o) b tb c tc
-    → slot_pointer P b d ≡ 0 → slot_fields_at P b s ≡ free_fields → HasFallen b c o → ClearsSource P a c s d o
+pub source_cleared : (P s d : ℕ) (o : Option ℕ) → IsIn P o → {a b c : List ℕ} {ta tb tc : Option Trail} → IsInterval (IsCleared P s d) a ta b tb → IsInterval (IsLinkWord o) b tb c tc
+    → slot_pointer P b d ≡ 0 → slot_fields_at P b s ≡ free_fields → Falls b c o → ClearsSource P a c s d o
 source_cleared P s d o within {a} {b} {c} one two pointer free fallen =
     let slots = cleared_slots P s d in
     let links = fallen_is_link o in
