@@ -1,3 +1,5 @@
 pub mod Stored
 pub mod Linked
 pub mod Moves
+pub mod Asked
+pub mod Begun
