@@ -9,7 +9,7 @@ use Rattle.layout.specs.Name.{words_of_name}
 use Rattle.tree_model.specs.PathText.{Route}
 use Rattle.tree_model.specs.Run.{State}
 use Rattle.image_counts.proofs.Inodes.{inode_count_law}
-use Rattle.image_laws.specs.Create.{committed, owned}
+use Rattle.image_laws.specs.Create.{committed, owned, MakesNamedPage}
 use Rattle.image_laws.specs.Drop.{dropped}
 use Rattle.image_laws.specs.Move.{moved}
 use Rattle.rename_laws.specs.Target.{Target}
@@ -21,7 +21,7 @@ use Rattle.volume.specs.Moves.{rising_of}
 use Rattle.volume.specs.Planned.{IsPlace}
 use Rattle.volume.specs.declared.plan.Loss.{Loss}
 use Rattle.volume.specs.declared.plan.Moving.{Moving}
-use Rattle.entry_steps.specs.Steps.{MayTake, MakesNamedPage}
+use Rattle.entry_steps.specs.Steps.{MayTake}
 use Rattle.entry_steps.proofs.Places
 use Rattle.rename_ptr.specs.Steps.{target_by, target_of, opening, CanPoint, CanTakeOver, CanLeave, CanClearSource}
 use Rattle.rename_ptr.specs.Renaming.{IsMovingAt}

@@ -13,27 +13,10 @@ ghost use Rattle.rename_ptr.specs.Steps.{CanClearSource, IsClearedWord, clearing
 
 use dentry_state::{DentryH, Left, Moved};
 use fence_token::{Clean, end_interval};
-use layout::{Geometry, NodeKind};
+use layout::Geometry;
 use pm_trait::{Pm, PmFault};
 use removal_steps::lower_links;
 use volume::{Moving, SLOT_REST_EVENTS, WORD_EVENTS};
-
-// The node that loses a link with the move, where one does.
-fn falling(moving: &Moving) -> Option<u64>
-    ensures { result ≡ falling_of moving.now }
-{
-    match moving.kind {
-        NodeKind::File => moving.replaced.map(|loss| loss.inode),
-        NodeKind::Directory => {
-            let leaves = moving.from_directory != moving.to_directory || moving.replaced.is_some();
-            if leaves {
-                Some(moving.from_directory)
-            } else {
-                None
-            }
-        }
-    }
-}
 
 // Takes the pointer out of the new name's slot, frees the old one's, and flushes both.
 fn clear_slots<P: Pm>(pm: &mut P, geometry: &Geometry, moving: &Moving)
@@ -64,6 +47,6 @@ pub fn clear_source<P: Pm>(pm: &mut P, geometry: &Geometry, moving: &Moving) -> 
     ensures takes { Takes (clearing_source geometry.now.pages moving.now) (P.view pm.old) (P.view pm.new) result }
 {
     clear_slots(pm, geometry, moving);
-    lower_links(pm, geometry, falling(moving));
+    lower_links(pm, geometry, moving.falling());
     end_interval(pm)
 }

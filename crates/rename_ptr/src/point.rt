@@ -18,7 +18,7 @@ ghost use Rattle.rename_ptr.specs.Steps.{target_of, MayRise, CanPoint, IsPointed
 use dentry_state::{DentryH, Free, Live, Named};
 use entry_steps::raise_links;
 use fence_token::{Clean, end_interval};
-use layout::{Geometry, Name, NodeKind};
+use layout::{Geometry, Name};
 use pm_trait::{Pm, PmFault};
 use volume::{Moving, SLOT_REST_EVENTS, WORD_EVENTS};
 
@@ -112,20 +112,6 @@ fn point_slot<P: Pm>(pm: &mut P, geometry: &Geometry, moving: &Moving)
     }
 }
 
-// The directory that gets a child with the move, where one does.
-fn rising(moving: &Moving) -> Option<u64>
-    ensures { result ≡ rising_of moving.now }
-{
-    let gains = moving.kind == NodeKind::Directory
-        && moving.from_directory != moving.to_directory
-        && moving.replaced.is_none();
-    if gains {
-        Some(moving.to_directory)
-    } else {
-        None
-    }
-}
-
 // Counts one link more of a node, where there is one, and flushes the count.
 fn count_link<P: Pm>(pm: &mut P, geometry: &Geometry, inode: Option<u64>)
     requires whole { length (P.view pm.old).words ≡ 512 * geometry.now.pages }
@@ -150,6 +136,6 @@ pub fn point<P: Pm>(pm: &mut P, geometry: &Geometry, moving: &Moving) -> Result<
     ensures takes { Takes (pointing geometry.now.pages moving.now) (P.view pm.old) (P.view pm.new) result }
 {
     point_slot(pm, geometry, moving);
-    count_link(pm, geometry, rising(moving));
+    count_link(pm, geometry, moving.rising());
     end_interval(pm)
 }
