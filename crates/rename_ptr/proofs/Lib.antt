@@ -1,3 +1,4 @@
 pub mod Stored
 pub mod Linked
 pub mod Moves
+pub mod Asked

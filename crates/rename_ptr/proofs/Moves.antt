@@ -28,7 +28,7 @@ use Rattle.image_counts.proofs.Paths as paths
 use Rattle.image_counts.proofs.Slots.{absence_law}
 use Rattle.image_counts.proofs.States.{state_law}
 use Rattle.rename_laws.specs.Target.{Target, Vacant, Opened, Taken, CanReplace, CanTake, CanRename, Holds, IsDirectoryMoved, IsRising, IsFalling, name_of}
-use Rattle.rename_laws.specs.End.{ArePaths}
+use Rattle.rename_laws.specs.End.{ArePaths, FillsItsPages}
 use Rattle.volume.specs.Moves.{is_directory_kind, inode_of_loss, rising_of, falling_of}
 use Rattle.volume.specs.Planned.{IsMovingFor, IsTargetOf, IsNewNameAt, IsPlace, IsPlanOf, IsNothingOr}
 use Rattle.volume.specs.declared.plan.Action.{Action}
@@ -330,3 +330,13 @@ module _ {P : ℕ} {W : List ℕ} {state : State} (from to : Route) {moving : Mo
 
   pub falls : Holds (IsFalling P W moving.from_slot moving.to_directory (target_of moving)) (falling_of moving)
   falls = falls_by (is_directory_kind moving.kind) (moving.from_directory == moving.to_directory) moving.replaced moving.new_page refl refl refl
+
+  -- ---- the pages of the directory
+
+  fills_by : (replaced : Option Loss) (page : Option ℕ) → moving.replaced ≡ replaced → moving.new_page ≡ page → FillsItsPages state moving.to_directory (target_by moving replaced page)
+  fills_by None None none no_page = tt
+  fills_by None (Some page) none is = Places.full_by (naming none) (Some page) (place_at none (Some page) is)
+  fills_by (Some loss) page is same = tt
+
+  pub fills : FillsItsPages state moving.to_directory (target_of moving)
+  fills = fills_by moving.replaced moving.new_page refl refl
