@@ -2,3 +2,4 @@ pub mod Stored
 pub mod Linked
 pub mod Moves
 pub mod Asked
+pub mod Gone

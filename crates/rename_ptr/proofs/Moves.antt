@@ -177,13 +177,13 @@ module _ {P : ℕ} {W : List ℕ} {state : State} (from to : Route) {moving : Mo
       (slot_name P W moving.from_slot ∷ from_way, (moving.from_slot, source_path,
       subst (λ (i : ℕ). Leads P W moving.from_slot (slot_name P W moving.from_slot) i) source_inode (paths.slot_leads P W coherent moving.from_slot for_move.source.slot_is.slot)))
 
-  is_dir : (i : ℕ) → Reached P W i → IsDirectory W i → is_directory state.tree i ≡ true
+  pub is_dir : (i : ℕ) → Reached P W i → IsDirectory W i → is_directory state.tree i ≡ true
   is_dir i reached two = ((size_law P W state coherent at.reads).directories i).1 (reached, two)
 
-  dir_is : (i : ℕ) → is_directory state.tree i ≡ true → IsDirectory W i
+  pub dir_is : (i : ℕ) → is_directory state.tree i ≡ true → IsDirectory W i
   dir_is i is = (((size_law P W state coherent at.reads).directories i).0 is).1
 
-  file_is : (i : ℕ) → Reached P W i → is_directory state.tree i ≡ false → HasBytes W i
+  pub file_is : (i : ℕ) → Reached P W i → is_directory state.tree i ≡ false → HasBytes W i
   file_is i reached isnt = elim ((coherent Rule.kinds i).kind reached) [ inl bytes ↦ bytes | inr two ↦ absurd (false≢true (sym isnt ∙ is_dir i reached two)) ]
 
   source_dir : is_directory_kind moving.kind ≡ true → IsDirectory W (slot_inode P W moving.from_slot)
@@ -234,7 +234,7 @@ module _ {P : ℕ} {W : List ℕ} {state : State} (from to : Route) {moving : Mo
         by_kind true is = dir_is loss.inode (kinds_agree ∙ is) ∙ sym (dir_is moving.inode is)
         by_kind false is = file_is loss.inode replaced_reached (kinds_agree ∙ is) ∙ sym (file_is moving.inode source_reached is)
 
-    can_replace : CanReplace P W moving.from_slot moving.to_directory moving.to_slot loss.inode
+    pub can_replace : CanReplace P W moving.from_slot moving.to_directory moving.to_slot loss.inode
     can_replace = record {
       entry = (target.0.slot_is.slot, target_owner);
       number = target_inode;
@@ -250,7 +250,7 @@ module _ {P : ℕ} {W : List ℕ} {state : State} (from to : Route) {moving : Mo
     replaced_file : is_directory_kind moving.kind ≡ false → HasBytes W loss.inode
     replaced_file isnt = file_is loss.inode replaced_reached (kinds_agree ∙ for_move.kind_is ∙ isnt)
 
-  target_at : (loss : Loss) → moving.replaced ≡ Some loss → IsTargetOf P W state from to moving (Some loss)
+  pub target_at : (loss : Loss) → moving.replaced ≡ Some loss → IsTargetOf P W state from to moving (Some loss)
   target_at loss is = subst (IsTargetOf P W state from to moving) is for_move.target
 
   place_at : (none : moving.replaced ≡ None) (page : Option ℕ) → moving.new_page ≡ page → IsPlace P W moving.to_directory moving.to_slot page
