@@ -1,5 +1,4 @@
--- What goes with a move, told after the commit: a replaced node with its pages, and the source's page. And what the last two steps of a move
--- ask for: J are the words without the source's name, G those without the owners.
+-- What goes with a move, told after the commit: a replaced node with its pages, and the source's page.
 use Rattle.std.proofs.Common.{◌≡◌, ◌≢◌, ◌⊎◌, ◌↔◌, inl, inr, ℕ, ◌+◌, ◌<◌, ◌≤◌, Bool, true, false, if◌then◌else◌, List, [], ◌∷◌, length, slice_index, reverse, Option, Some, None, is_some, is_none, refl, sym, ap, subst, ◌∙◌, arith}
 use Rattle.std.specs.Prelude.{Contains}
 use Rattle.std.proofs.lemmas.Bool.{cases_eq, false≢true}
@@ -106,7 +105,7 @@ module _ {P : ℕ} {W : List ℕ} {state : State} (from to : Route) {moving : Mo
   reads_after = committed_law P W I (reverse (parent from)) (reverse (parent to)) from to moving.from_slot moving.to_directory moving.to_slot (target_of moving) (rising_of moving)
       state.tree ready (Moves.are_paths from to at) at.reads.tree
 
-  loss_gone : (loss : Loss) → IsTargetOf P W state from to moving (Some loss) → (loss.goes ≡ true) ↔ (Reached P after loss.inode → ⊥)
+  pub loss_gone : (loss : Loss) → IsTargetOf P W state from to moving (Some loss) → (loss.goes ≡ true) ↔ (Reached P after loss.inode → ⊥)
   loss_gone loss (named, lost, none) =
       let is : loss.goes ≡ is_none (node_at (renamed state.tree from to) loss.inode) = lost.goes_is ∙ ap (λ (tree : Tree). is_none (node_at tree loss.inode)) tree_is in (
         (λ goes reached. no_node (node_at (renamed state.tree from to) loss.inode) (sym is ∙ goes) (nodes.reached_node P after (renamed state.tree from to) coherent_after reads_after loss.inode reached)),

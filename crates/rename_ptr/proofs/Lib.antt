@@ -3,3 +3,4 @@ pub mod Linked
 pub mod Moves
 pub mod Asked
 pub mod Gone
+pub mod Given
