@@ -1,272 +1,231 @@
--- What each interval of a move asks for, by what the intervals before it made: W before all, B with a new page, I with the pointer, C with
--- the number in both slots, and D without it in the source's.
-use Rattle.std.proofs.Common.{◌≡◌, ◌≢◌, ◌⊎◌, inl, inr, ℕ, ◌+◌, ◌<◌, ◌≤◌, Bool, true, false, not, ◌&&◌, ◌==◌, if◌then◌else◌, List, [], ◌∷◌, slice_index, set, reverse, Option, Some, None, is_none, refl, sym, ap, subst, ◌∙◌, arith}
+-- What the steps of a move ask for, by what those before them made: B are the words with a new page, I those from which the slot may
+-- take the number.
+use Rattle.std.proofs.Common.{◌≡◌, ◌≢◌, ◌⊎◌, inl, inr, ℕ, ◌+◌, ◌<◌, ◌≤◌, List, [], ◌∷◌, slice_index, Some, None, refl, sym, ap, subst, ◌∙◌, arith}
+use Rattle.std.specs.Prelude.{Option}
 use Rattle.layout.specs.declared.fields.InodeFields.{InodeFields}
-use Rattle.layout.specs.Geometry.{inodes_of, inode_word_of, slot_word_of}
-use Rattle.layout.specs.Fields.{word, inode_links, slot_inode, slot_pointer, slot_words}
-use Rattle.layout.specs.Name.{IsNameWords}
+use Rattle.layout.specs.Geometry.{inodes_of, slots_of}
+use Rattle.layout.specs.Fields.{word, inode_kind, inode_links, slot_inode, slot_pointer, slot_words}
+use Rattle.layout.specs.Name.{words_of_name, IsNameWords}
+use Rattle.layout.proofs.NameLaws.{IsNameWords-words_of_name}
 use Rattle.tree_model.specs.PathText.{Route}
-use Rattle.tree_model.specs.Tree.{parent}
 use Rattle.tree_model.specs.Run.{State}
 use Rattle.inode_state.specs.States as inodes
 use Rattle.inode_state.specs.Inode.{fields_at}
 use Rattle.inode_state.proofs.InodeLaws.{same_fields_at}
-use Rattle.dentry_state.specs.States.{free_fields, IsNamed, IsLive, IsPointing, IsMoved}
+use Rattle.dentry_state.specs.States as slots
 use Rattle.dentry_state.specs.Dentry.{slot_fields_at}
-use Rattle.image_reading.specs.Reading.{HasBytes, IsDirectory, Reached, IsReachedSlot, IsNameOf}
+use Rattle.image_reading.specs.Reading.{HasBytes, IsDirectory, slot_owner, Reached, IsReachedSlot, IsNameOf}
 use Rattle.image_reading.specs.Soundness.{Rule, IsCoherent}
-use Rattle.image_reading.proofs.Tidied.{tidied}
-use Rattle.image_counts.proofs.Inodes.{inode_count_law}
-use Rattle.image_counts.proofs.Tidied.{room_law}
-use Rattle.image_laws.specs.Create.{IsVacant, committed}
+use Rattle.image_laws.specs.Drop.{dropped}
 use Rattle.image_laws.specs.Move.{CanMove, moved}
 use Rattle.image_laws.proofs.Adds.{only}
 use Rattle.image_laws.proofs.OnlySlot.{OnlySlot}
-use Rattle.rename_laws.specs.Target.{Target, Vacant, Opened, Taken, CanTake, CanRename, Holds, IsFalling, old_number}
-use Rattle.rename_laws.specs.Ready.{IsOpened, PointsAt, IsMoveReady}
-use Rattle.rename_laws.specs.Intervals.{left}
+use Rattle.rename_laws.specs.Target.{Target, Vacant, Opened, Taken, Holds, IsRising, IsFalling}
+use Rattle.rename_laws.specs.Ready.{IsOpened, IsMoveReady}
 use Rattle.rename_laws.proofs.MovedCounts.{IsLowered}
-use Rattle.rename_laws.proofs.MovedNames as here
-use Rattle.rename_laws.proofs.MovedWords as words
-use Rattle.rename_laws.proofs.MoveNear as near
-use Rattle.rename_laws.proofs.Opened as opens
+use Rattle.rename_laws.proofs.MovedNames
+use Rattle.rename_laws.proofs.MovedWords
+use Rattle.rename_laws.proofs.MoveNear
+use Rattle.rename_laws.proofs.Opened as opening
 use Rattle.rename_laws.proofs.Opened.{IsOpen}
-use Rattle.rename_laws.proofs.Ready.{ready_law}
-use Rattle.volume.specs.Moves.{is_directory_kind, rising_of, falling_of}
-use Rattle.volume.specs.Planned.{IsTargetOf}
+use Rattle.volume.specs.Moves.{rising_of, falling_of}
 use Rattle.volume.specs.declared.plan.Loss.{Loss}
 use Rattle.volume.specs.declared.plan.Moving.{Moving}
-use Rattle.entry_steps.specs.Steps.{IsLinkable, MayTake}
+use Rattle.entry_steps.specs.Steps.{IsLinkable}
+use Rattle.entry_steps.specs.Steps as steps
 use Rattle.entry_steps.proofs.Places
-use Rattle.entry_steps.proofs.Zeros.{zero_slot}
 use Rattle.removal_steps.specs.Steps.{HasLink, MayFall}
-use Rattle.rename_ptr.specs.Steps.{target_of, MayRise, MayPoint, CanPoint, CanTakeOver, CanLeave, CanClearSource}
+use Rattle.rename_ptr.specs.Steps.{target_by, target_of, MayRise, MayPoint, CanPoint, CanTakeOver, CanLeave, CanClearSource}
 use Rattle.rename_ptr.specs.Renaming.{IsMovingAt}
 use Rattle.rename_ptr.proofs.Moves
 
--- an inode whose words are the same may get a link as before
-linkable_same : (P : ℕ) (W B : List ℕ) (y : ℕ) → ((f : ℕ) → f < 16 → word B (inode_word_of y f) ≡ word W (inode_word_of y f)) → IsLinkable P W y → IsLinkable P B y
-unfolding word
-linkable_same P W B y each before =
-    let same = same_fields_at y W B (λ a is.
-        let lt = is.is_field in
-        ap (λ (k : ℕ). slice_index B k) is.at ∙ each is.field (omega (arith, lt)) ∙ ap (λ (k : ℕ). slice_index W k) (sym is.at)) in
-    let links = ap (λ (f : InodeFields). f.links) same in
-    let room = before.countable in
-    record {
-      least = before.least;
-      most = before.most;
-      live = subst (inodes.IsLive y) (sym same) before.live;
-      countable = omega (arith, links, room);
-    }
+-- ---- the pointer
 
-module _ {P : ℕ} {W : List ℕ} {state : State} (from to : Route) {moving : Moving} (at : IsMovingAt P W state from to moving) where
-  can : CanRename P W (reverse (parent from)) (reverse (parent to)) moving.from_slot moving.to_directory moving.to_slot (target_of moving)
-  can = Moves.can_rename from to at
+module _ {P : ℕ} {W : List ℕ} {state : State} (from to : Route) {moving : Moving} (at : IsMovingAt P W state from to moving) (B : List ℕ) where
+  abbrev s : ℕ
+  s = moving.from_slot
 
-  coherent : IsCoherent P W
-  coherent = Moves.coherent from to at
+  abbrev d : ℕ
+  d = moving.to_slot
 
-  -- ---- W
+  abbrev x : ℕ
+  x = moving.to_directory
 
-  take_by : (replaced : Option Loss) → moving.replaced ≡ replaced → MayTake P W moving.new_page
-  take_by None none = Places.takes (Moves.naming from to at none)
-  take_by (Some loss) is =
-      let (named, lost, none) = subst (IsTargetOf P W state from to moving) is (Moves.for_move from to at).target in
-      subst (MayTake P W) (sym none) tt
+  -- an entry that was there
+  entry : (target : Target) → IsOpen P W B x d target → (t : ℕ) → IsReachedSlot P W t → slots.IsLive (slot_fields_at P B t)
+  entry target stands t reached = let here = stands.kept t reached in (here.live.names, stands.no_pointer t here.live.held, stands.means.coherent Rule.names t here)
 
-  pub may_take : MayTake P W moving.new_page
-  may_take = take_by moving.replaced refl
+  node_same : (target : Target) → IsOpen P W B x d target → (i : ℕ) → 1 ≤ i → i ≤ inodes_of P → fields_at B i ≡ fields_at W i
+  unfolding word
+  node_same target stands i least most = same_fields_at i W B (λ a is.
+      let lt = is.is_field in
+      ap (λ (k : ℕ). slice_index B k) is.at ∙ stands.inodes i is.field least most (omega (arith, lt)) ∙ ap (λ (k : ℕ). slice_index W k) (sym is.at))
 
-  pub some_directory : 1 ≤ moving.to_directory
-  some_directory = (inode_count_law P W state coherent at.reads).least moving.to_directory (Moves.to_holds from to at).0
+  point_by : (replaced : Option Loss) (page : Option ℕ) → moving.replaced ≡ replaced → moving.new_page ≡ page → IsOpen P W B x d (target_by moving replaced page)
+      → IsOpened P W B x d (target_by moving replaced page) → MayPoint P B d (target_by moving replaced page)
+  point_by None None none no_page stands is =
+      Places.slot_free (Moves.naming from to at none) B (subst (λ (page : Option ℕ). steps.IsOpened P W B x page) (sym no_page) is)
+  point_by None (Some page) none here stands is =
+      (stands.number, stands.no_pointer d stands.held, subst IsNameWords (sym stands.name_words) (IsNameWords-words_of_name moving.to_name at.is_name at.of_bytes))
+  point_by (Some loss) page is same stands opened = entry (target_by moving (Some loss) page) stands d (Moves.target_at from to at loss is).0.slot_is.slot
 
-  vacant_free : IsVacant P W moving.to_directory moving.to_slot → slot_fields_at P W moving.to_slot ≡ free_fields
-  vacant_free vacant =
-      let (reached, directory) = Moves.to_holds from to at in
-      zero_slot P W moving.to_slot (λ f lt. (room_law P W state (tidied at.tidy) at.reads moving.to_directory reached directory).zeros moving.to_slot f
-      (record { in_range = vacant.held.in_range; owner = vacant.owner }) vacant.free lt)
+  other_by : (replaced : Option Loss) (page : Option ℕ) → moving.replaced ≡ replaced → IsOpen P W B x d (target_by moving replaced page) → slot_inode P B s ≢ slot_inode P B d
+  other_by None None none stands = λ same. (stands.kept s (Moves.for_move from to at).source.slot_is.slot).live.names (same ∙ stands.number)
+  other_by None (Some page) none stands = λ same. (stands.kept s (Moves.for_move from to at).source.slot_is.slot).live.names (same ∙ stands.number)
+  other_by (Some loss) page is stands = λ same.
+      Moves.other_inode from to at loss (Moves.target_at from to at loss is) (sym stands.number ∙ sym same ∙ stands.numbers s (Moves.for_move from to at).source.slot_is.slot)
 
-  -- ---- B
+  risen : (target : Target) (y : ℕ) → IsRising P W s x target y → y ≡ x
+  risen (Vacant name) y rising = rising.1
+  risen (Opened page name) y rising = rising.1
+  risen (Taken r) y rising = absurd rising
 
-  module _ (B : List ℕ) (opened : IsOpened P W B moving.to_directory moving.to_slot (target_of moving)) where
-    abbrev StandsOpen : Target → Type 0
-    StandsOpen target = IsOpen P W B moving.to_directory moving.to_slot target
+  linkable : (target : Target) → IsOpen P W B x d target → IsLinkable P B x
+  linkable target stands =
+      let before = Places.linkable at.tidy at.reads x (Moves.to_holds from to at).0 in
+      let same = node_same target stands x before.least before.most in
+      let links = ap (λ (f : InodeFields). f.links) same in
+      let few = before.countable in
+      record { least = before.least; most = before.most; live = subst (inodes.IsLive x) (sym same) before.live; countable = omega (arith, links, few) }
 
-    stands : StandsOpen (target_of moving)
-    stands = opens.opened P W B (reverse (parent from)) (reverse (parent to)) moving.from_slot moving.to_directory moving.to_slot (target_of moving) can opened
+  rise_by : (target : Target) → IsOpen P W B x d target → (o : Option ℕ) → Holds (IsRising P W s x target) o → MayRise P B o
+  rise_by target stands None none = tt
+  rise_by target stands (Some y) rising = subst (λ (i : ℕ). IsLinkable P B i) (sym (risen target y rising)) (linkable target stands)
 
-    entry : (target : Target) → StandsOpen target → (t : ℕ) → IsReachedSlot P W t → IsLive (slot_fields_at P B t)
-    entry target is t slot = let reached = is.kept t slot in (reached.live.names, is.no_pointer t reached.live.held, is.means.coherent Rule.names t reached)
+  pub can_point : IsOpened P W B x d (target_of moving) → CanPoint P B moving
+  can_point opened =
+      let stands = opening.opened P W B (Moves.from_way from to at) (Moves.to_way from to at) s x d (target_of moving) (Moves.can_rename from to at) opened in
+      let source = (Moves.for_move from to at).source.slot_is.slot in
+      record {
+        from_in_range = (stands.kept s source).live.held.in_range;
+        to_in_range = stands.held.in_range;
+        source = entry (target_of moving) stands s source;
+        target = point_by moving.replaced moving.new_page refl refl stands opened;
+        other_inode = other_by moving.replaced moving.new_page refl stands;
+        rising = rise_by (target_of moving) stands (rising_of moving) (Moves.rises from to at);
+      }
 
-    abbrev MayBe : Target → Type 0
-    MayBe target = CanTake P W (reverse (parent to)) moving.from_slot moving.to_directory moving.to_slot target
+-- ---- the number, and what is left of the source
 
-    point_by : (target : Target) → MayBe target → IsOpened P W B moving.to_directory moving.to_slot target → StandsOpen target → MayPoint P B moving.to_slot target
-    point_by (Vacant name) take same is = subst (λ (l : List ℕ). slot_fields_at P l moving.to_slot ≡ free_fields) (sym same) (vacant_free take.1)
-    point_by (Opened page name) take made is = (is.number, is.no_pointer moving.to_slot is.held, subst IsNameWords (sym is.name_words) take.0.is_name)
-    point_by (Taken replaced) take same is = entry (Taken replaced) is moving.to_slot take.entry.0
+module _ (P : ℕ) (W I : List ℕ) (pa pb : Route) (moving : Moving) (rising : Option ℕ) (ready : IsMoveReady P W I pa pb moving.from_slot moving.to_directory moving.to_slot (target_of moving) rising) where
+  abbrev from : ℕ
+  from = moving.from_slot
 
-    source : IsReachedSlot P B moving.from_slot
-    source = stands.kept moving.from_slot can.source
+  abbrev dest : ℕ
+  dest = moving.to_slot
 
-    other_by : (target : Target) → MayBe target → slot_inode P B moving.from_slot ≢ old_number target
-    other_by (Vacant name) take = source.live.names
-    other_by (Opened page name) take = source.live.names
-    other_by (Taken replaced) take = λ same. take.other (sym same ∙ stands.numbers moving.from_slot can.source)
+  c : CanMove P I pa pb from dest
+  c = ready.can_move
 
-    rise_by : (rises : Bool) → MayRise P B (if rises then Some moving.to_directory else None)
-    rise_by false = tt
-    rise_by true =
-        let before = Places.linkable at.tidy at.reads moving.to_directory (Moves.to_holds from to at).0 in
-        linkable_same P W B moving.to_directory (λ f lt. stands.inodes moving.to_directory f before.least before.most lt) before
+  apart : from ≢ dest
+  apart = MovedNames.apart P I pa pb from dest c
 
-    pub can_point : CanPoint P B moving
-    can_point = record {
-      from_in_range = source.live.held.in_range;
-      to_in_range = stands.held.in_range;
-      source = entry (target_of moving) stands moving.from_slot can.source;
-      target = point_by (target_of moving) can.target_slot opened stands;
-      other_inode = λ same. other_by (target_of moving) can.target_slot (same ∙ stands.number);
-      rising = rise_by (is_directory_kind moving.kind && not (moving.from_directory == moving.to_directory) && is_none moving.replaced);
-    }
+  source_slot : IsReachedSlot P I from
+  source_slot = MovedNames.source_slot P I pa pb from dest c
 
-    pub ready : (I : List ℕ) → PointsAt P B I moving.from_slot moving.to_slot (target_of moving) (rising_of moving)
-        → IsMoveReady P W I (reverse (parent from)) (reverse (parent to)) moving.from_slot moving.to_directory moving.to_slot (target_of moving) (rising_of moving)
-    ready I points =
-        (ready_law P W B I (reverse (parent from)) (reverse (parent to)) moving.from_slot moving.to_directory moving.to_slot (target_of moving) (rising_of moving)
-        can (Moves.rises from to at) opened points).ready
+  source_live : slots.IsLive (slot_fields_at P I from)
+  source_live = (c.source.names, c.alone from c.source.held apart, c.coherent Rule.names from source_slot)
 
-  -- ---- I
+  points : slot_pointer P I dest ≢ 0
+  points none = let is = c.pointer in omega (arith, is, none)
 
-  module _ (I : List ℕ) (ready : IsMoveReady P W I (reverse (parent from)) (reverse (parent to)) moving.from_slot moving.to_directory moving.to_slot (target_of moving) (rising_of moving)) where
-    c : CanMove P I (reverse (parent from)) (reverse (parent to)) moving.from_slot moving.to_slot
-    c = ready.can_move
+  number_same : slot_inode P I from ≡ slot_inode P W from
+  number_same = MoveNear.source_number P W I pa pb from moving.to_directory dest (target_of moving) rising ready
 
-    apart : moving.from_slot ≢ moving.to_slot
-    apart = here.apart P I (reverse (parent from)) (reverse (parent to)) moving.from_slot moving.to_slot c
+  pub can_take_over : slot_inode P W from ≡ moving.inode → CanTakeOver P I moving
+  can_take_over is = record {
+    from_in_range = c.source.held.in_range;
+    to_in_range = c.held.in_range;
+    source = source_live;
+    number = number_same ∙ is;
+    pointing = (points, c.name);
+    pointer = c.pointer;
+  }
 
-    source_pointer : slot_pointer P I moving.from_slot ≡ 0
-    source_pointer = c.alone moving.from_slot c.source.held apart
+  -- once the slot has the number
+  abbrev C : List ℕ
+  C = moved P I from dest
 
-    source_name : IsNameWords (slot_words P I moving.from_slot)
-    source_name = c.coherent Rule.names moving.from_slot (here.source_slot P I (reverse (parent from)) (reverse (parent to)) moving.from_slot moving.to_slot c)
+  committed_only : OnlySlot P I C dest
+  committed_only = MovedNames.only P I pa pb from dest c
 
-    points : slot_pointer P I moving.to_slot ≢ 0
-    points none = let at_source = c.pointer in omega (arith, none, at_source)
+  number_new : slot_inode P C dest ≡ slot_inode P I from
+  number_new = MovedNames.number_new P I pa pb from dest c
 
-    source_number : slot_inode P I moving.from_slot ≡ moving.inode
-    source_number =
-        near.source_number P W I (reverse (parent from)) (reverse (parent to)) moving.from_slot moving.to_directory moving.to_slot (target_of moving) (rising_of moving) ready
-        ∙ Moves.source_inode from to at
+  dest_moved : slots.IsMoved (slot_fields_at P C dest)
+  dest_moved = (
+    (λ none. c.source.names (sym number_new ∙ none)),
+    ((λ none. points (sym (committed_only.pointer dest) ∙ none)), subst IsNameWords (sym (committed_only.words dest)) c.name),
+  )
 
-    pub can_take_over : CanTakeOver P I moving
-    can_take_over = record {
-      from_in_range = c.source.held.in_range;
-      to_in_range = c.held.in_range;
-      source = (c.source.names, source_pointer, source_name);
-      number = source_number;
-      pointing = (points, c.name);
-      pointer = c.pointer;
-    }
+  pub can_leave : CanLeave P C moving
+  can_leave = record {
+    from_in_range = c.source.held.in_range;
+    to_in_range = c.held.in_range;
+    source = (
+      (λ none. c.source.names (sym (committed_only.inode from apart) ∙ none)),
+      committed_only.pointer from ∙ c.alone from c.source.held apart,
+      subst IsNameWords (sym (committed_only.words from)) (c.coherent Rule.names from source_slot),
+    );
+    moved = dest_moved;
+    pointer = committed_only.pointer dest ∙ c.pointer;
+    same_inode = number_new ∙ sym (committed_only.inode from apart);
+  }
 
-    -- the slot takes the number of the source's
-    pub commit_is : committed P I moving.to_slot moving.inode ≡ moved P I moving.from_slot moving.to_slot
-    commit_is = ap (λ (i : ℕ). set I (slot_word_of P moving.to_slot 0) i) (sym source_number)
+  -- and the source has none
+  abbrev D : List ℕ
+  D = dropped P C from
 
-    -- ---- C
+  left_only : OnlySlot P C D from
+  left_only = only P C from 0 (MovedNames.after P I pa pb from dest c).coherent
 
-    after : OnlySlot P I (moved P I moving.from_slot moving.to_slot) moving.to_slot
-    after = here.only P I (reverse (parent from)) (reverse (parent to)) moving.from_slot moving.to_slot c
+  -- the count that falls isn't 0
+  linked : (y : ℕ) → IsLowered P I from dest y → Reached P I y × (1 ≤ inode_links I y)
+  linked y lowered = elim lowered [
+    | inl file ↦
+        let reached = subst (Reached P I) (sym file.2) (MovedNames.replaced_reached P I pa pb from dest c file.1) in
+        let bytes : HasBytes I y = ap (λ (i : ℕ). inode_kind I i) file.2 ∙ (MoveNear.near P W I pa pb from moving.to_directory dest (target_of moving) rising ready).kinds file.1 ∙ file.0 in
+        let one = (c.coherent Rule.links y reached).file bytes (dest ∷ []) ((λ none. none), tt)
+        (λ t here. elim here [ inl same ↦ subst (λ (k : ℕ). IsNameOf P I y k) (sym same) (record { slot = MovedNames.replaced_slot P I pa pb from dest c file.1; inode = sym file.2 }) | inr none ↦ absurd none ]) in
+        (reached, omega (arith, one))
+    | inr parent ↦
+        let reached = subst (Reached P I) (sym parent.2) source_slot.owner in
+        let two = (c.coherent Rule.links y reached).directory (subst (λ (i : ℕ). IsDirectory I i) (sym parent.2) c.source_directory) [] tt (λ t none. absurd none) in
+        (reached, omega (arith, two))
+  ]
 
-    number_kept : slot_inode P (moved P I moving.from_slot moving.to_slot) moving.from_slot ≡ slot_inode P I moving.from_slot
-    number_kept = here.source_number P I (reverse (parent from)) (reverse (parent to)) moving.from_slot moving.to_slot c
+  link_left : (y : ℕ) → IsLowered P I from dest y → HasLink P D y
+  link_left y lowered =
+      let (reached, some) = linked y lowered in
+      let (least, most) = MovedWords.falls_range P I pa pb from dest c y lowered in
+      let kind = left_only.node_kind y most ∙ committed_only.node_kind y most in
+      let own = left_only.own y most ∙ committed_only.own y most in
+      let links = left_only.links y most ∙ committed_only.links y most in
+      record {
+        least = least;
+        most = most;
+        node = (elim ((c.coherent Rule.kinds y).kind reached) [ inl file ↦ inl (kind ∙ file) | inr directory ↦ inr (kind ∙ directory) ], own ∙ (c.coherent Rule.kinds y).own reached);
+        some_link = omega (arith, links, some);
+      }
 
-    number_new : slot_inode P (moved P I moving.from_slot moving.to_slot) moving.to_slot ≡ slot_inode P I moving.from_slot
-    number_new = here.number_new P I (reverse (parent from)) (reverse (parent to)) moving.from_slot moving.to_slot c
+  falls_left : (o : Option ℕ) → Holds (IsFalling P W from moving.to_directory (target_of moving)) o → MayFall P D o
+  falls_left None none = tt
+  falls_left (Some y) falls = link_left y ((MoveNear.lowered P W I pa pb from moving.to_directory dest (target_of moving) rising ready y).0 falls)
 
-    pub can_leave : CanLeave P (moved P I moving.from_slot moving.to_slot) moving
-    can_leave = record {
-      from_in_range = c.source.held.in_range;
-      to_in_range = c.held.in_range;
-      source = ((λ none. c.source.names (sym number_kept ∙ none)), after.pointer moving.from_slot ∙ source_pointer, subst IsNameWords (sym (after.words moving.from_slot)) source_name);
-      moved = ((λ none. c.source.names (sym number_new ∙ none)), ((λ none. points (sym (after.pointer moving.to_slot) ∙ none)), subst IsNameWords (sym (after.words moving.to_slot)) c.name));
-      pointer = after.pointer moving.to_slot ∙ c.pointer;
-      same_inode = number_new ∙ sym number_kept;
-    }
-
-    -- ---- D
-
-    coherent_after : IsCoherent P (moved P I moving.from_slot moving.to_slot)
-    coherent_after = (here.after P I (reverse (parent from)) (reverse (parent to)) moving.from_slot moving.to_slot c).coherent
-
-    later : OnlySlot P (moved P I moving.from_slot moving.to_slot) (left P I moving.from_slot moving.to_slot) moving.from_slot
-    later = only P (moved P I moving.from_slot moving.to_slot) moving.from_slot 0 coherent_after
-
-    number_stays : slot_inode P (left P I moving.from_slot moving.to_slot) moving.to_slot ≡ slot_inode P I moving.from_slot
-    number_stays = later.inode moving.to_slot (λ same. apart (sym same)) ∙ number_new
-
-    pointer_stays : (t : ℕ) → slot_pointer P (left P I moving.from_slot moving.to_slot) t ≡ slot_pointer P I t
-    pointer_stays t = later.pointer t ∙ after.pointer t
-
-    name_stays : (t : ℕ) → slot_words P (left P I moving.from_slot moving.to_slot) t ≡ slot_words P I t
-    name_stays t = later.words t ∙ after.words t
-
-    -- the inode that loses a link is reached, and has one
-    fallen_reached : (y : ℕ) → IsLowered P I moving.from_slot moving.to_slot y → Reached P I y
-    fallen_reached y (inl (file, some, is)) =
-        subst (Reached P I) (sym is) (here.replaced_reached P I (reverse (parent from)) (reverse (parent to)) moving.from_slot moving.to_slot c some)
-    fallen_reached y (inr (directory, why, is)) = subst (Reached P I) (sym is) (reverse (parent from), c.source_path)
-
-    linked_by : (y : ℕ) → IsLowered P I moving.from_slot moving.to_slot y → 1 ≤ inode_links I y
-    linked_by y (inl (file, some, is)) =
-        let low : IsLowered P I moving.from_slot moving.to_slot y = inl (file, some, is) in
-        let enough = c.coherent Rule.links y (fallen_reached y low) in
-        let tidy = near.near P W I (reverse (parent from)) (reverse (parent to)) moving.from_slot moving.to_directory moving.to_slot (target_of moving) (rising_of moving) ready in
-        let bytes : HasBytes I y = subst (λ (i : ℕ). HasBytes I i) (sym is) (tidy.kinds some ∙ file) in
-        let slot = here.replaced_slot P I (reverse (parent from)) (reverse (parent to)) moving.from_slot moving.to_slot c some in
-        let one = enough.file bytes (moving.to_slot ∷ []) ((λ none. none), tt)
-        (λ x has. elim has [ inl same ↦ subst (λ (t : ℕ). IsNameOf P I y t) (sym same) (record { slot = slot; inode = sym is }) | inr none ↦ absurd none ]) in
-        omega (arith, one)
-    linked_by y (inr (directory, why, is)) =
-        let low : IsLowered P I moving.from_slot moving.to_slot y = inr (directory, why, is) in
-        let enough = c.coherent Rule.links y (fallen_reached y low) in
-        let two = enough.directory (subst (λ (i : ℕ). IsDirectory I i) (sym is) c.source_directory) [] tt (λ x none. absurd none) in
-        omega (arith, two)
-
-    has_link : (y : ℕ) → IsLowered P I moving.from_slot moving.to_slot y → HasLink P (left P I moving.from_slot moving.to_slot) y
-    has_link y low =
-        let (least, most) = words.falls_range P I (reverse (parent from)) (reverse (parent to)) moving.from_slot moving.to_slot c y low in
-        let reached = fallen_reached y low in
-        let kind = later.node_kind y most ∙ after.node_kind y most in
-        let links = later.links y most ∙ after.links y most in
-        let some = linked_by y low in
-        record {
-          least = least;
-          most = most;
-          node = (
-            elim ((c.coherent Rule.kinds y).kind reached) [ inl file ↦ inl (kind ∙ file) | inr directory ↦ inr (kind ∙ directory) ],
-            later.own y most ∙ after.own y most ∙ (c.coherent Rule.kinds y).own reached,
-          );
-          some_link = omega (arith, links, some);
-        }
-
-    fall_by : (falling : Option ℕ) → Holds (IsFalling P W moving.from_slot moving.to_directory (target_of moving)) falling → MayFall P (left P I moving.from_slot moving.to_slot) falling
-    fall_by None falls = tt
-    fall_by (Some y) falls =
-        has_link y ((near.lowered P W I (reverse (parent from)) (reverse (parent to)) moving.from_slot moving.to_directory moving.to_slot (target_of moving) (rising_of moving) ready y).0 falls)
-
-    pub can_clear_source : CanClearSource P (left P I moving.from_slot moving.to_slot) moving
-    can_clear_source = record {
-      from_in_range = c.source.held.in_range;
-      to_in_range = c.held.in_range;
-      left = (
-        words.left_number P I (reverse (parent from)) (reverse (parent to)) moving.from_slot moving.to_slot c,
-        pointer_stays moving.from_slot ∙ source_pointer,
-        subst IsNameWords (sym (name_stays moving.from_slot)) source_name,
-      );
-      moved = ((λ none. c.source.names (sym number_stays ∙ none)), ((λ none. points (sym (pointer_stays moving.to_slot) ∙ none)), subst IsNameWords (sym (name_stays moving.to_slot)) c.name));
-      pointer = pointer_stays moving.to_slot ∙ c.pointer;
-      other_slot = λ same. apart (sym same);
-      falling = fall_by (falling_of moving) (Moves.falls from to at);
-    }
+  pub can_clear_source : Holds (IsFalling P W from moving.to_directory (target_of moving)) (falling_of moving) → CanClearSource P D moving
+  can_clear_source falls = record {
+    from_in_range = c.source.held.in_range;
+    to_in_range = c.held.in_range;
+    left = (
+      MovedWords.left_number P I pa pb from dest c,
+      left_only.pointer from ∙ committed_only.pointer from ∙ c.alone from c.source.held apart,
+      subst IsNameWords (sym (left_only.words from ∙ committed_only.words from)) (c.coherent Rule.names from source_slot),
+    );
+    moved = (
+      (λ none. dest_moved.0 (sym (left_only.inode dest (λ same. apart (sym same))) ∙ none)),
+      ((λ none. dest_moved.1.0 (sym (left_only.pointer dest) ∙ none)), subst IsNameWords (sym (left_only.words dest)) dest_moved.1.1),
+    );
+    pointer = left_only.pointer dest ∙ committed_only.pointer dest ∙ c.pointer;
+    other_slot = λ same. apart (sym same);
+    falling = falls_left (falling_of moving) falls;
+  }

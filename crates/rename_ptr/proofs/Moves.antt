@@ -82,7 +82,7 @@ module _ {P : ℕ} {W : List ℕ} {state : State} (from to : Route) {moving : Mo
   two_nodes : is_same_node state.tree from to ≡ true → ⊥
   two_nodes same =
       let is : IsNothingOr true KeepNames (λ action. (m : Moving) × (action ≡ Move m) × IsMovingFor P W state from to m) (Move moving)
-          = subst (λ (b : Bool). IsNothingOr b KeepNames (λ action. (m : Moving) × (action ≡ Move m) × IsMovingFor P W state from to m) (Move moving)) same at.planned.plan_is in
+      = subst (λ (b : Bool). IsNothingOr b KeepNames (λ action. (m : Moving) × (action ≡ Move m) × IsMovingFor P W state from to m) (Move moving)) same at.planned.plan_is in
       let clash : ◌≡◌ {A = Action} (Move moving) KeepNames = is in
       cc
 
@@ -117,7 +117,7 @@ module _ {P : ℕ} {W : List ℕ} {state : State} (from to : Route) {moving : Mo
   pub source_inode : slot_inode P W moving.from_slot ≡ moving.inode
   source_inode =
       let names : Names P W (slot_name P W moving.from_slot ∷ from_way) (slot_inode P W moving.from_slot)
-          = (moving.from_slot, source_path, paths.slot_leads P W coherent moving.from_slot for_move.source.slot_is.slot) in
+      = (moving.from_slot, source_path, paths.slot_leads P W coherent moving.from_slot for_move.source.slot_is.slot) in
       let there = (at.reads.tree.names from (slot_inode P W moving.from_slot)).1 (subst (λ (r : Route). Names P W r (slot_inode P W moving.from_slot)) (sym from_reversed) names) in
       some_one (slot_inode P W moving.from_slot) moving.inode (sym there ∙ for_move.source.inode_is)
 
@@ -145,9 +145,9 @@ module _ {P : ℕ} {W : List ℕ} {state : State} (from to : Route) {moving : Mo
   pub outside : (r : Route) → to_way ≢ r ++ slot_name P W moving.from_slot ∷ from_way
   outside r same =
       let up : parent to ≡ from ++ reverse r
-          = sym (reverse-reverse (parent to)) ∙ ap reverse (same ∙ ap (λ (q : Route). r ++ q) (sym from_reversed)) ∙ reverse-append r (reverse from) ∙ ap (λ (q : Route). q ++ reverse r) (reverse-reverse from) in
+      = sym (reverse-reverse (parent to)) ∙ ap reverse (same ∙ ap (λ (q : Route). r ++ q) (sym from_reversed)) ∙ reverse-append r (reverse from) ∙ ap (λ (q : Route). q ++ reverse r) (reverse-reverse from) in
       let down : to ≡ from ++ (reverse r ++ last_name to ∷ [])
-          = whole_path to row.new_holder.below ∙ ap (λ (q : Route). q ++ last_name to ∷ []) up ∙ append_assoc from (reverse r) (last_name to ∷ []) in
+      = whole_path to row.new_holder.below ∙ ap (λ (q : Route). q ++ last_name to ∷ []) up ∙ append_assoc from (reverse r) (last_name to ∷ []) in
       let found = ap (λ (q : Route). rest_after from q) down ∙ rest_after-append from (reverse r ++ last_name to ∷ []) in
       let clash : ◌≡◌ {A = Option Route} None (Some (reverse r ++ last_name to ∷ [])) = sym moves.outside ∙ found in
       cc
@@ -173,9 +173,14 @@ module _ {P : ℕ} {W : List ℕ} {state : State} (from to : Route) {moving : Mo
   -- ---- kinds
 
   pub source_reached : Reached P W moving.inode
-  source_reached =
-      (slot_name P W moving.from_slot ∷ from_way, (moving.from_slot, source_path,
-      subst (λ (i : ℕ). Leads P W moving.from_slot (slot_name P W moving.from_slot) i) source_inode (paths.slot_leads P W coherent moving.from_slot for_move.source.slot_is.slot)))
+  source_reached = (
+    slot_name P W moving.from_slot ∷ from_way,
+    (
+      moving.from_slot,
+      source_path,
+      subst (λ (i : ℕ). Leads P W moving.from_slot (slot_name P W moving.from_slot) i) source_inode (paths.slot_leads P W coherent moving.from_slot for_move.source.slot_is.slot),
+    ),
+  )
 
   pub is_dir : (i : ℕ) → Reached P W i → IsDirectory W i → is_directory state.tree i ≡ true
   is_dir i reached two = ((size_law P W state coherent at.reads).directories i).1 (reached, two)
@@ -208,15 +213,20 @@ module _ {P : ℕ} {W : List ℕ} {state : State} (from to : Route) {moving : Mo
     target_inode =
         let name : slot_name P W moving.to_slot ≡ last_name to = target.0.slot_is.name ∙ target.0.name_is in
         let names : Names P W (slot_name P W moving.to_slot ∷ to_way) (slot_inode P W moving.to_slot)
-            = (moving.to_slot, subst (λ (x : ℕ). Names P W to_way x) (sym target_owner) to_named, paths.slot_leads P W coherent moving.to_slot target.0.slot_is.slot) in
+        = (moving.to_slot, subst (λ (x : ℕ). Names P W to_way x) (sym target_owner) to_named, paths.slot_leads P W coherent moving.to_slot target.0.slot_is.slot) in
         let way : reverse to ≡ slot_name P W moving.to_slot ∷ to_way = to_reversed ∙ ap (λ (n : List ℕ). n ∷ to_way) (sym name) in
         let there = (at.reads.tree.names to (slot_inode P W moving.to_slot)).1 (subst (λ (r : Route). Names P W r (slot_inode P W moving.to_slot)) (sym way) names) in
         some_one (slot_inode P W moving.to_slot) loss.inode (sym there ∙ target.0.inode_is)
 
     pub replaced_reached : Reached P W loss.inode
-    replaced_reached =
-        (slot_name P W moving.to_slot ∷ to_way, (moving.to_slot, subst (λ (x : ℕ). Names P W to_way x) (sym target_owner) to_named,
-        subst (λ (i : ℕ). Leads P W moving.to_slot (slot_name P W moving.to_slot) i) target_inode (paths.slot_leads P W coherent moving.to_slot target.0.slot_is.slot)))
+    replaced_reached = (
+      slot_name P W moving.to_slot ∷ to_way,
+      (
+        moving.to_slot,
+        subst (λ (x : ℕ). Names P W to_way x) (sym target_owner) to_named,
+        subst (λ (i : ℕ). Leads P W moving.to_slot (slot_name P W moving.to_slot) i) target_inode (paths.slot_leads P W coherent moving.to_slot target.0.slot_is.slot),
+      ),
+    )
 
     pub other_inode : loss.inode ≢ slot_inode P W moving.from_slot
     other_inode same = replaces.other (replaced_is ∙ same ∙ source_inode ∙ sym moved_is)
@@ -253,7 +263,7 @@ module _ {P : ℕ} {W : List ℕ} {state : State} (from to : Route) {moving : Mo
   pub target_at : (loss : Loss) → moving.replaced ≡ Some loss → IsTargetOf P W state from to moving (Some loss)
   target_at loss is = subst (IsTargetOf P W state from to moving) is for_move.target
 
-  place_at : (none : moving.replaced ≡ None) (page : Option ℕ) → moving.new_page ≡ page → IsPlace P W moving.to_directory moving.to_slot page
+  pub place_at : (none : moving.replaced ≡ None) (page : Option ℕ) → moving.new_page ≡ page → IsPlace P W moving.to_directory moving.to_slot page
   place_at none page is = subst (IsPlace P W moving.to_directory moving.to_slot) is (naming none).new_name.place
 
   -- ---- the move

@@ -26,7 +26,11 @@ fn falling(moving: &Moving) -> Option<u64>
         NodeKind::File => moving.replaced.map(|loss| loss.inode),
         NodeKind::Directory => {
             let leaves = moving.from_directory != moving.to_directory || moving.replaced.is_some();
-            if leaves { Some(moving.from_directory) } else { None }
+            if leaves {
+                Some(moving.from_directory)
+            } else {
+                None
+            }
         }
     }
 }
@@ -53,11 +57,7 @@ fn clear_slots<P: Pm>(pm: &mut P, geometry: &Geometry, moving: &Moving)
 }
 
 // Ends the move of the two slots.
-pub fn clear_source<P: Pm>(
-    pm: &mut P,
-    geometry: &Geometry,
-    moving: &Moving,
-) -> Result<(), PmFault>
+pub fn clear_source<P: Pm>(pm: &mut P, geometry: &Geometry, moving: &Moving) -> Result<(), PmFault>
     requires ready { CanClearSource geometry.now.pages (P.view pm.old).words moving.now }
     requires begins { MayFence (P.view pm.old) (512 * geometry.now.pages)
         (word_events + clearing_events (count_of (falling_of moving.now))) 1 }

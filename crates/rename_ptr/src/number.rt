@@ -12,11 +12,7 @@ use pm_trait::{Pm, PmFault};
 use volume::{COMMIT_EVENTS, Moving};
 
 // Gives the new name's slot the number: the commit.
-pub fn take_number<P: Pm>(
-    pm: &mut P,
-    geometry: &Geometry,
-    moving: &Moving,
-) -> Result<(), PmFault>
+pub fn take_number<P: Pm>(pm: &mut P, geometry: &Geometry, moving: &Moving) -> Result<(), PmFault>
     requires ready { CanTakeOver geometry.now.pages (P.view pm.old).words moving.now }
     requires begins { MayFence (P.view pm.old) (512 * geometry.now.pages) COMMIT_EVENTS 1 }
     ensures takes { Takes (naming geometry.now.pages moving.now.to_slot moving.now.inode) (P.view pm.old)
@@ -30,11 +26,7 @@ pub fn take_number<P: Pm>(
 }
 
 // Takes the number out of the old name's slot.
-pub fn leave_number<P: Pm>(
-    pm: &mut P,
-    geometry: &Geometry,
-    moving: &Moving,
-) -> Result<(), PmFault>
+pub fn leave_number<P: Pm>(pm: &mut P, geometry: &Geometry, moving: &Moving) -> Result<(), PmFault>
     requires ready { CanLeave geometry.now.pages (P.view pm.old).words moving.now }
     requires begins { MayFence (P.view pm.old) (512 * geometry.now.pages) COMMIT_EVENTS 1 }
     ensures takes { Takes (unnaming geometry.now.pages moving.now.from_slot) (P.view pm.old) (P.view pm.new) result }

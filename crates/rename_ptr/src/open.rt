@@ -15,12 +15,7 @@ use volume::{FENCE_EVENTS, Moving, PAGE_EVENTS};
 const FILL_EVENTS: u64 = PAGE_EVENTS + FENCE_EVENTS;
 
 // Fills a free page with slots of which the first has the name.
-fn fill_page<P: Pm>(
-    pm: &mut P,
-    geometry: &Geometry,
-    page: u64,
-    name: &Name,
-) -> Result<(), PmFault>
+fn fill_page<P: Pm>(pm: &mut P, geometry: &Geometry, page: u64, name: &Name) -> Result<(), PmFault>
     requires free { MayTake geometry.now.pages (P.view pm.old).words (Some page) }
     requires begins { MayFence (P.view pm.old) (512 * geometry.now.pages) FILL_EVENTS 1 }
     ensures takes { Takes (filling_named geometry.now.pages page (words_of_name name.now)) (P.view pm.old)
@@ -31,11 +26,7 @@ fn fill_page<P: Pm>(
 }
 
 // Gives the new name's directory its new page, where it needs one.
-pub fn open_page<P: Pm>(
-    pm: &mut P,
-    geometry: &Geometry,
-    moving: &Moving,
-) -> Result<(), PmFault>
+pub fn open_page<P: Pm>(pm: &mut P, geometry: &Geometry, moving: &Moving) -> Result<(), PmFault>
     requires some_directory { 1 ≤ moving.now.to_directory }
     requires page { MayTake geometry.now.pages (P.view pm.old).words moving.now.new_page }
     requires begins { MayFence (P.view pm.old) (512 * geometry.now.pages)

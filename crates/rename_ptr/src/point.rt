@@ -101,7 +101,13 @@ fn point_slot<P: Pm>(pm: &mut P, geometry: &Geometry, moving: &Moving)
     match (moving.replaced, moving.new_page) {
         (Some(_), _) => point_taken(pm, geometry, moving.to_slot, moving.from_slot),
         (None, Some(_)) => point_named(pm, geometry, moving.to_slot, moving.from_slot),
-        (None, None) => point_new(pm, geometry, moving.to_slot, &moving.to_name, moving.from_slot),
+        (None, None) => point_new(
+            pm,
+            geometry,
+            moving.to_slot,
+            &moving.to_name,
+            moving.from_slot,
+        ),
     }
 }
 
@@ -112,7 +118,11 @@ fn rising(moving: &Moving) -> Option<u64>
     let gains = moving.kind == NodeKind::Directory
         && moving.from_directory != moving.to_directory
         && moving.replaced.is_none();
-    if gains { Some(moving.to_directory) } else { None }
+    if gains {
+        Some(moving.to_directory)
+    } else {
+        None
+    }
 }
 
 // Counts one link more of a node, where there is one, and flushes the count.
