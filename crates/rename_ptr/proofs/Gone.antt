@@ -63,7 +63,7 @@ some_node : (o : Option Node) → (is_some o ≡ true → ⊥) → is_none o ≡
 some_node None none = refl
 some_node (Some x) none = absurd (none refl)
 
-number_is : (moving : Moving) (replaced : Option Loss) (page : Option ℕ) → number_of replaced ≡ old_number (target_by moving replaced page)
+pub number_is : (moving : Moving) (replaced : Option Loss) (page : Option ℕ) → number_of replaced ≡ old_number (target_by moving replaced page)
 number_is moving None None = refl
 number_is moving None (Some page) = refl
 number_is moving (Some loss) page = refl

@@ -5,3 +5,4 @@ pub mod Asked
 pub mod Begun
 pub mod Gone
 pub mod Given
+pub mod Finished
