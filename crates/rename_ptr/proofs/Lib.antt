@@ -3,3 +3,6 @@ pub mod Linked
 pub mod Moves
 pub mod Asked
 pub mod Begun
+pub mod Gone
+pub mod Given
+pub mod Finished
