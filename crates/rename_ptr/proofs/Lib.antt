@@ -6,3 +6,4 @@ pub mod Begun
 pub mod Gone
 pub mod Given
 pub mod Finished
+pub mod Turned
