@@ -87,7 +87,7 @@ module _ {P : ℕ} {W : List ℕ} {state : State} (from to : Route) {moving : Mo
   coherent : IsCoherent P W
   coherent = Moves.coherent from to at
 
-  coherent_after : IsCoherent P after
+  pub coherent_after : IsCoherent P after
   coherent_after = (here.after P I (reverse (parent from)) (reverse (parent to)) moving.from_slot moving.to_slot c).coherent
 
   only : OnlySlot P I after moving.to_slot
@@ -98,10 +98,10 @@ module _ {P : ℕ} {W : List ℕ} {state : State} (from to : Route) {moving : Mo
 
   -- ---- whether a replaced node goes
 
-  tree_is : tree_after (least_free_id state.tree) state.tree (Rename from to) ≡ renamed state.tree from to
+  pub tree_is : tree_after (least_free_id state.tree) state.tree (Rename from to) ≡ renamed state.tree from to
   tree_is = ap (λ (same : Bool). if same then state.tree else renamed state.tree from to) (Moves.moves from to at).differ
 
-  reads_after : Reads P after (renamed state.tree from to)
+  pub reads_after : Reads P after (renamed state.tree from to)
   reads_after = committed_law P W I (reverse (parent from)) (reverse (parent to)) from to moving.from_slot moving.to_directory moving.to_slot (target_of moving) (rising_of moving)
       state.tree ready (Moves.are_paths from to at) at.reads.tree
 

@@ -7,3 +7,4 @@ pub mod Gone
 pub mod Given
 pub mod Finished
 pub mod Course
+pub mod Turned
