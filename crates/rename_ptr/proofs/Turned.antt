@@ -7,7 +7,6 @@ use Rattle.pm_trait.specs.Unfolds.{Step, Along, Through, Unfolds, events_in, fen
 use Rattle.pm_trait.proofs.Unfolding.{intervals, map_ok, through}
 use Rattle.layout.specs.Geometry.{slot_word_of}
 use Rattle.layout.specs.declared.fields.DescriptorFields.{DescriptorFields}
-use Rattle.layout.specs.Name.{words_of_name}
 use Rattle.layout.proofs.GeometryLaws.{slot_word_within}
 use Rattle.tree_model.specs.PathText.{Route}
 use Rattle.tree_model.specs.Tree.{Tree, parent}
@@ -36,7 +35,7 @@ use Rattle.volume.specs.Crashes.{MayReadAs}
 use Rattle.volume.specs.Moves.{rising_of, falling_of}
 use Rattle.volume.specs.declared.plan.Action.TheVariants.{Move}
 use Rattle.volume.specs.declared.plan.Moving.{Moving}
-use Rattle.entry_steps.specs.Steps.{MayTake, naming}
+use Rattle.entry_steps.specs.Steps.{MayTake}
 use Rattle.entry_steps.proofs.Moments.{is_mix}
 use Rattle.entry_steps.proofs.Turning.{IsUnderway, Turns, one_side, hangs_on, turned}
 use Rattle.removal_steps.specs.Steps.{AreGonePages, count_cut, number_of, unnaming, giving, freeing}
