@@ -204,11 +204,11 @@ module _ {P : ℕ} {W : List ℕ} {state : State} (from to : Route) {moving : Mo
     unfolding inode_links
     no_links goes file =
         let low : IsLowered P I moving.from_slot moving.to_slot loss.inode =
-            (near.lowered P W I (reverse (parent from)) (reverse (parent to)) moving.from_slot moving.to_directory moving.to_slot (Taken loss.inode) (rising_of moving) taken loss.inode).0 (inr (file, refl)) in
+        (near.lowered P W I (reverse (parent from)) (reverse (parent to)) moving.from_slot moving.to_directory moving.to_slot (Taken loss.inode) (rising_of moving) taken loss.inode).0 (inr (file, refl)) in
         let less = (has.links loss.inode range.0 range.1).falls low in
         let other : loss.inode ≢ moving.to_directory = λ same. not_both_kinds W loss.inode file (subst (λ (i : ℕ). IsDirectory W i) (sym same) can.target_directory) in
         let before = near.inode_same P W I (reverse (parent from)) (reverse (parent to)) moving.from_slot moving.to_directory moving.to_slot (Taken loss.inode) (rising_of moving) taken
-            loss.inode 1 range.0 range.1 (omega arith) (inl other) in
+        loss.inode 1 range.0 range.1 (omega arith) (inl other) in
         let one = links_one goes file in
         omega (arith, less, before, one)
 
