@@ -1,5 +1,5 @@
 -- The intervals of a move after its commit are those of the laws, and the pages that go are as many as its plan says.
-use Rattle.std.proofs.Common.{◌≡◌, ◌↔◌, inl, inr, ℕ, suc, ◌<◌, Bool, true, false, List, [], ◌∷◌, length, slice_index, reverse, Option, Some, None, refl, sym, ap, subst, ◌∙◌, arith}
+use Rattle.std.proofs.Common.{◌≡◌, inl, inr, ℕ, suc, Bool, true, false, List, [], ◌∷◌, length, slice_index, reverse, Option, Some, None, refl, sym, ap, ◌∙◌, arith}
 use Rattle.std.specs.Prelude.{Contains}
 use Rattle.std.proofs.lemmas.Bool.{cases_lt, false≢true}
 use Rattle.std.proofs.lemmas.List.{get_or_default}
@@ -14,9 +14,8 @@ use Rattle.image_reading.specs.Counts.{IsDistinct}
 use Rattle.image_reading.proofs.Counts.{count_one}
 use Rattle.image_counts.specs.Entries.{IsPageIn}
 use Rattle.image_laws.specs.Drop.{GivesPages, ClearsRest}
-use Rattle.image_laws.specs.Move.{moved}
 use Rattle.rename_laws.specs.Ready.{IsOpened, PointsAt, IsMoveReady}
-use Rattle.rename_laws.specs.Intervals.{left, ClearsSource, IsGone, IsGivenUp, IsCleared, IsGiven, Finishes}
+use Rattle.rename_laws.specs.Intervals.{left, ClearsSource, IsCleared, IsGiven, Finishes}
 use Rattle.volume.specs.Costs.{goes_of, pages_of_loss}
 use Rattle.volume.specs.Moves.{rising_of, falling_of}
 use Rattle.volume.specs.declared.plan.Loss.{Loss}

@@ -1,5 +1,5 @@
 -- What the last two intervals of a move ask for: J are the words without the source's name, G those without the owners of the pages that go.
-use Rattle.std.proofs.Common.{◌≡◌, ◌≢◌, ◌⊎◌, ◌↔◌, inl, inr, ℕ, ◌+◌, ◌<◌, ◌≤◌, Bool, true, false, List, [], ◌∷◌, length, slice_index, reverse, Option, Some, None, refl, sym, ap, subst, ◌∙◌, arith}
+use Rattle.std.proofs.Common.{◌≡◌, ◌≢◌, inl, inr, ℕ, ◌<◌, ◌≤◌, true, false, List, [], ◌∷◌, length, slice_index, reverse, Option, Some, None, refl, sym, ap, subst, ◌∙◌, arith}
 use Rattle.std.proofs.lemmas.Bool.{cases_eq, false≢true}
 use Rattle.std.proofs.lemmas.List.Elements.{Contains-get_or}
 use Rattle.layout.specs.declared.kinds.NodeKind.{NodeKind}
@@ -24,7 +24,7 @@ use Rattle.image_counts.proofs.Links.{link_law, link_word_law, not_both_kinds}
 use Rattle.image_counts.proofs.Paths as paths
 use Rattle.image_counts.proofs.Tidied.{owned_kept, room_law}
 use Rattle.image_laws.specs.Drop.{GivesPages}
-use Rattle.image_laws.specs.Move.{CanMove, moved}
+use Rattle.image_laws.specs.Move.{moved}
 use Rattle.rename_laws.specs.Target.{Target, Taken, CanReplace, CanRename}
 use Rattle.rename_laws.specs.Ready.{IsMoveReady}
 use Rattle.rename_laws.specs.Intervals.{left, ClearsSource, IsCleared}
@@ -204,11 +204,11 @@ module _ {P : ℕ} {W : List ℕ} {state : State} (from to : Route) {moving : Mo
     unfolding inode_links
     no_links goes file =
         let low : IsLowered P I moving.from_slot moving.to_slot loss.inode =
-            (near.lowered P W I (reverse (parent from)) (reverse (parent to)) moving.from_slot moving.to_directory moving.to_slot (Taken loss.inode) (rising_of moving) taken loss.inode).0 (inr (file, refl)) in
+        (near.lowered P W I (reverse (parent from)) (reverse (parent to)) moving.from_slot moving.to_directory moving.to_slot (Taken loss.inode) (rising_of moving) taken loss.inode).0 (inr (file, refl)) in
         let less = (has.links loss.inode range.0 range.1).falls low in
         let other : loss.inode ≢ moving.to_directory = λ same. not_both_kinds W loss.inode file (subst (λ (i : ℕ). IsDirectory W i) (sym same) can.target_directory) in
         let before = near.inode_same P W I (reverse (parent from)) (reverse (parent to)) moving.from_slot moving.to_directory moving.to_slot (Taken loss.inode) (rising_of moving) taken
-            loss.inode 1 range.0 range.1 (omega arith) (inl other) in
+        loss.inode 1 range.0 range.1 (omega arith) (inl other) in
         let one = links_one goes file in
         omega (arith, less, before, one)
 

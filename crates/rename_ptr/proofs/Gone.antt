@@ -1,56 +1,40 @@
 -- What goes with a move, told after the commit: a replaced node with its pages, and the source's page.
-use Rattle.std.proofs.Common.{◌≡◌, ◌≢◌, ◌⊎◌, ◌↔◌, inl, inr, ℕ, ◌+◌, ◌<◌, ◌≤◌, Bool, true, false, if◌then◌else◌, List, [], ◌∷◌, length, slice_index, reverse, Option, Some, None, is_some, is_none, refl, sym, ap, subst, ◌∙◌, arith}
-use Rattle.std.specs.Prelude.{Contains}
+use Rattle.std.proofs.Common.{◌≡◌, ◌≢◌, ◌↔◌, inl, inr, ℕ, ◌<◌, Bool, true, false, if◌then◌else◌, List, reverse, Option, Some, None, is_some, is_none, refl, sym, ap, subst, ◌∙◌}
 use Rattle.std.proofs.lemmas.Bool.{cases_eq, false≢true}
-use Rattle.std.proofs.lemmas.List.Elements.{Contains-get_or}
-use Rattle.layout.specs.declared.kinds.NodeKind.{NodeKind}
-use Rattle.layout.specs.declared.kinds.NodeKind.TheVariants.{File, Directory}
-use Rattle.layout.specs.Geometry.{inodes_of, data_pages_of, page_of_slot, inode_word_of, descriptor_word_of, slot_word_of}
-use Rattle.layout.specs.Kinds.{node_code}
-use Rattle.layout.proofs.GeometryLaws.{page_of_slot_below, slot_below, same_descriptor_word, inode_word_not_descriptor_word, descriptor_word_not_slot_word}
-use Rattle.layout.specs.Fields.{word, inode_kind, inode_links, inode_own, page_owner, page_kind, page_offset, slot_inode}
+use Rattle.layout.specs.Geometry.{data_pages_of, page_of_slot}
+use Rattle.layout.proofs.GeometryLaws.{page_of_slot_below, slot_below}
+use Rattle.layout.specs.Fields.{inode_kind, page_owner, slot_inode}
 use Rattle.tree_model.specs.PathText.{Route}
-use Rattle.tree_model.specs.Tree.{Node, Tree, node_at, is_directory, parent, link_count}
+use Rattle.tree_model.specs.Tree.{Node, Tree, node_at, parent}
 use Rattle.tree_model.specs.Step.{least_free_id, tree_after}
 use Rattle.tree_model.specs.Run.{State}
 use Rattle.tree_model.specs.declared.command.Command.TheVariants.{Rename}
-use Rattle.inode_state.specs.Unused.{IsHeldSlot}
-use Rattle.page_state.specs.Page.{descriptor_of}
-use Rattle.page_state.proofs.PageLaws.{same_descriptor_fields}
-use Rattle.image_reading.specs.Counts.{Count}
-use Rattle.image_reading.specs.Reading.{HasBytes, IsDirectory, slot_owner, Reached, IsReachedSlot, IsNameOf, Reads, IsRoomOf}
-use Rattle.image_reading.specs.Soundness.{Rule, IsCoherent}
-use Rattle.image_reading.proofs.Counts.{count_one}
+use Rattle.image_reading.specs.Reading.{slot_owner, Reached, IsReachedSlot, Reads, IsRoomOf}
+use Rattle.image_reading.specs.Soundness.{IsCoherent}
 use Rattle.image_reading.proofs.Tidied.{tidied}
-use Rattle.image_counts.specs.Entries.{IsPageIn}
-use Rattle.image_counts.proofs.Links.{link_law, link_word_law, not_both_kinds}
 use Rattle.image_counts.proofs.Nodes as nodes
 use Rattle.image_counts.proofs.Paths as paths
-use Rattle.image_counts.proofs.Tidied.{owned_kept, room_law}
-use Rattle.image_laws.specs.Drop.{GivesPages}
+use Rattle.image_counts.proofs.Tidied.{room_law}
 use Rattle.image_laws.specs.Move.{CanMove, moved}
 use Rattle.image_laws.proofs.OnlySlot.{OnlySlot}
-use Rattle.rename_laws.specs.Target.{Target, Vacant, Opened, Taken, CanTake, CanRename, old_number}
+use Rattle.rename_laws.specs.Target.{Target, Vacant, Opened, Taken, CanRename, old_number}
 use Rattle.rename_laws.specs.Ready.{IsMoveReady}
-use Rattle.rename_laws.specs.Intervals.{left, ClearsSource, IsGone, IsGivenUp, IsCleared}
+use Rattle.rename_laws.specs.Intervals.{IsGone, IsGivenUp}
 use Rattle.rename_laws.specs.End.{renamed}
 use Rattle.rename_laws.specs.Index.{HasEntryMoved}
-use Rattle.rename_laws.proofs.MovedCounts.{IsLowered}
 use Rattle.rename_laws.proofs.MovedEntries.{moved_entry_law}
 use Rattle.rename_laws.proofs.MovedNames as here
 use Rattle.rename_laws.proofs.MoveIntervals as intervals
 use Rattle.rename_laws.proofs.MoveNear as near
 use Rattle.rename_laws.proofs.MoveNear.{IsOpenedPage}
 use Rattle.rename_laws.proofs.MoveReads.{committed_law}
-use Rattle.rename_laws.proofs.MoveSpare.{HasCleared}
 use Rattle.volume.specs.Costs.{goes_of}
-use Rattle.volume.specs.Moves.{is_directory_kind, rising_of, falling_of}
+use Rattle.volume.specs.Moves.{rising_of}
 use Rattle.volume.specs.Planned.{IsTargetOf, IsGivenBack, IsEmptiedBy}
 use Rattle.volume.specs.declared.plan.Loss.{Loss}
 use Rattle.volume.specs.declared.plan.Moving.{Moving}
 use Rattle.entry_steps.proofs.Lists.{not_none, one_page}
-use Rattle.removal_steps.specs.Steps.{AreGonePages, AreFilePages, IsLeft, MayEmpty, MayClear, MayGo, CanDisown, CanClearRest, IsCut, number_of}
-use Rattle.removal_steps.proofs.Stages.{were_file_pages, may_be_emptied}
+use Rattle.removal_steps.specs.Steps.{AreGonePages, IsCut, number_of}
 use Rattle.rename_ptr.specs.Steps.{target_by, target_of}
 use Rattle.rename_ptr.specs.Renaming.{IsMovingAt}
 use Rattle.rename_ptr.proofs.Moves

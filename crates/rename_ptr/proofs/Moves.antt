@@ -1,21 +1,17 @@
 -- What the plan of a rename says of the words: it is a move of the laws, with the counts that rise and fall.
-use Rattle.std.proofs.Common.{◌≡◌, ◌≢◌, ◌⊎◌, inl, inr, ℕ, ◌+◌, ◌*◌, ◌<◌, Bool, true, false, not, ◌&&◌, ◌||◌, ◌==◌, if◌then◌else◌, List, [], ◌∷◌, ◌++◌, length, reverse, Option, Some, None, is_some, is_none, refl, sym, ap, subst, ◌∙◌, arith, append_assoc}
+use Rattle.std.proofs.Common.{◌≡◌, ◌≢◌, inl, inr, ℕ, ◌+◌, ◌*◌, Bool, true, false, not, ◌&&◌, ◌||◌, ◌==◌, if◌then◌else◌, List, [], ◌∷◌, ◌++◌, length, reverse, Option, Some, None, is_some, is_none, refl, sym, ap, subst, ◌∙◌, arith, append_assoc}
 use Rattle.std.proofs.lemmas.Bool.{false≢true}
 use Rattle.std.proofs.lemmas.Bool.Decides.{nat_tests}
 use Rattle.std.proofs.lemmas.List.{reverse-append, reverse-reverse}
-use Rattle.layout.specs.Geometry.{IsVolumeSize, data_pages_of, page_of_slot}
+use Rattle.layout.specs.Geometry.{IsVolumeSize, page_of_slot}
 use Rattle.layout.proofs.GeometryLaws.{page_of_entry}
 use Rattle.layout.specs.Fields.{inode_kind, slot_inode, slot_name}
-use Rattle.layout.specs.Name.{words_of_name, name_in_words}
-use Rattle.layout.proofs.NameLaws.{name_in_words-words_of_name}
-use Rattle.layout.specs.declared.kinds.NodeKind.{NodeKind}
-use Rattle.layout.specs.declared.kinds.NodeKind.TheVariants.{File, Directory}
 use Rattle.tree_model.specs.PathText.{Route}
-use Rattle.tree_model.specs.Tree.{Node, id_at, is_directory, parent, last_name, rest_after}
+use Rattle.tree_model.specs.Tree.{id_at, is_directory, parent, last_name, rest_after}
 use Rattle.tree_model.specs.Capacity.{untaken}
 use Rattle.tree_model.specs.Step.{is_same_node}
 use Rattle.tree_model.specs.Run.{State}
-use Rattle.tree_model.specs.Accepted.{HasHolder, MayName, MayReplace, MayMove, MayRename}
+use Rattle.tree_model.specs.Accepted.{MayReplace, MayMove, MayRename}
 use Rattle.tree_model.specs.declared.command.Command.TheVariants.{Rename}
 use Rattle.tree_model.proofs.AcceptedLaws.{Accepted-from_row}
 use Rattle.tree_model.proofs.Lookups.{rest_after-append}
@@ -27,10 +23,10 @@ use Rattle.image_counts.proofs.Nodes.{size_law}
 use Rattle.image_counts.proofs.Paths as paths
 use Rattle.image_counts.proofs.Slots.{absence_law}
 use Rattle.image_counts.proofs.States.{state_law}
-use Rattle.rename_laws.specs.Target.{Target, Vacant, Opened, Taken, CanReplace, CanTake, CanRename, Holds, IsDirectoryMoved, IsRising, IsFalling, name_of}
+use Rattle.rename_laws.specs.Target.{CanReplace, CanTake, CanRename, Holds, IsDirectoryMoved, IsRising, IsFalling, name_of}
 use Rattle.rename_laws.specs.End.{ArePaths, FillsItsPages}
 use Rattle.volume.specs.Moves.{is_directory_kind, inode_of_loss, rising_of, falling_of}
-use Rattle.volume.specs.Planned.{IsMovingFor, IsTargetOf, IsNewNameAt, IsPlace, IsPlanOf, IsNothingOr}
+use Rattle.volume.specs.Planned.{IsMovingFor, IsTargetOf, IsPlace, IsNothingOr}
 use Rattle.volume.specs.declared.plan.Action.{Action}
 use Rattle.volume.specs.declared.plan.Action.TheVariants.{Move, KeepNames}
 use Rattle.volume.specs.declared.plan.Loss.{Loss}

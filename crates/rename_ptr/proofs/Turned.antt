@@ -7,7 +7,6 @@ use Rattle.pm_trait.specs.Unfolds.{Step, Along, Through, Unfolds, events_in, fen
 use Rattle.pm_trait.proofs.Unfolding.{intervals, map_ok, through}
 use Rattle.layout.specs.Geometry.{slot_word_of}
 use Rattle.layout.specs.declared.fields.DescriptorFields.{DescriptorFields}
-use Rattle.layout.specs.Name.{words_of_name}
 use Rattle.layout.proofs.GeometryLaws.{slot_word_within}
 use Rattle.tree_model.specs.PathText.{Route}
 use Rattle.tree_model.specs.Tree.{Tree, parent}
@@ -36,7 +35,7 @@ use Rattle.volume.specs.Crashes.{MayReadAs}
 use Rattle.volume.specs.Moves.{rising_of, falling_of}
 use Rattle.volume.specs.declared.plan.Action.TheVariants.{Move}
 use Rattle.volume.specs.declared.plan.Moving.{Moving}
-use Rattle.entry_steps.specs.Steps.{MayTake, naming}
+use Rattle.entry_steps.specs.Steps.{MayTake}
 use Rattle.entry_steps.proofs.Moments.{is_mix}
 use Rattle.entry_steps.proofs.Turning.{IsUnderway, Turns, one_side, hangs_on, turned}
 use Rattle.removal_steps.specs.Steps.{AreGonePages, count_cut, number_of, unnaming, giving, freeing}
@@ -108,7 +107,7 @@ module _ {P : ℕ} (old : DeviceView) {state : State} (from to : Route) {moving 
           (is_mix after (left P I moving.from_slot moving.to_slot) M (subst (λ (l : List ℕ). Mix after l M) leaves mix)))),
       (λ J clears.
           let clears_left : ClearsSource P (left P I moving.from_slot moving.to_slot) J moving.from_slot moving.to_slot (falling_of moving)
-              = subst (λ (l : List ℕ). ClearsSource P l J moving.from_slot moving.to_slot (falling_of moving)) leaves clears in (
+          = subst (λ (l : List ℕ). ClearsSource P l J moving.from_slot moving.to_slot (falling_of moving)) leaves clears in (
             (λ M mix. later_of M (clearing_law P W I J M (reverse (parent from)) (reverse (parent to)) moving.from_slot moving.to_directory moving.to_slot (target_of moving) (rising_of moving) (falling_of moving) ready
                 (Finished.cleared from to at pages are I ready J clears_left)
                 (is_mix (left P I moving.from_slot moving.to_slot) J M (subst (λ (l : List ℕ). Mix l J M) leaves mix)))),
@@ -133,7 +132,7 @@ module _ {P : ℕ} (old : DeviceView) {state : State} (from to : Route) {moving 
   turns_from : (B : List ℕ) → IsOpened P W B moving.to_directory moving.to_slot (target_of moving) → Turns Before (IsLater P tree) (slot_word_of P moving.to_slot 0) (moving_steps P moving pages) B
   turns_from B opened I points =
       let law = ready_law P W B I (reverse (parent from)) (reverse (parent to)) moving.from_slot moving.to_directory moving.to_slot (target_of moving) (rising_of moving)
-          (Moves.can_rename from to at) (Moves.rises from to at) opened points in
+      (Moves.can_rename from to at) (Moves.rises from to at) opened points in
       inl (
         (λ M mix. law.pointing M (is_mix B I M mix)),
         (λ C commits.
@@ -153,8 +152,8 @@ module _ {P : ℕ} (old : DeviceView) {state : State} (from to : Route) {moving 
   turns_by (Some page) is = λ A made.
       let free : MayTake P W (Some page) = subst (MayTake P W) is (Begun.may_take from to at) in
       let quiet : IsPageQuiet P W A (owned P A page moving.to_directory)
-          = page_quiet_law P W A (reverse (parent to)) moving.to_directory page (Moves.coherent from to at) (Moves.to_named from to at) (Moves.to_holds from to at).1
-          (free.0, ap (λ (d : DescriptorFields). d.owner) free.1) made.empty in
+      = page_quiet_law P W A (reverse (parent to)) moving.to_directory page (Moves.coherent from to at) (Moves.to_named from to at) (Moves.to_holds from to at).1
+      (free.0, ap (λ (d : DescriptorFields). d.owner) free.1) made.empty in
       inl (
         (λ M mix. quiet.making M (is_mix W A M mix)),
         (λ B owns. inl (
@@ -175,8 +174,8 @@ module _ {P : ℕ} (old : DeviceView) {state : State} (from to : Route) {moving 
         (one_side state.tree (λ image same. record { sound = same.coherent; tree = state.tree; reads = same.reads state.tree at.reads.tree; allowed = inl refl })
         (λ image same. same.reads state.tree at.reads.tree))
         (λ image same later.
-            let alike : state.tree ≡ tree = one_tree P image state.tree tree (same.reads state.tree at.reads.tree) later in
-            differ (subst (λ (T : Tree). Reads P W T) alike at.reads.tree))
+        let alike : state.tree ≡ tree = one_tree P image state.tree tree (same.reads state.tree at.reads.tree) later in
+        differ (subst (λ (T : Tree). Reads P W T) alike at.reads.tree))
         (one_side tree (λ image later. record { sound = later.coherent; tree = tree; reads = later.reads; allowed = inr (inl refl) }) (λ image later. later.reads))
         (λ image later. later.reads)
         refl settled (same_itself P W (Moves.coherent from to at)) turns made
