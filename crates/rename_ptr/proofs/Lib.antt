@@ -6,5 +6,4 @@ pub mod Begun
 pub mod Gone
 pub mod Given
 pub mod Finished
-pub mod Course
 pub mod Turned
