@@ -3,3 +3,7 @@ pub mod Linked
 pub mod Moves
 pub mod Asked
 pub mod Begun
+pub mod Gone
+pub mod Given
+pub mod Finished
+pub mod Turned

@@ -1,21 +1,17 @@
 -- What the plan of a rename says of the words: it is a move of the laws, with the counts that rise and fall.
-use Rattle.std.proofs.Common.{◌≡◌, ◌≢◌, ◌⊎◌, inl, inr, ℕ, ◌+◌, ◌*◌, ◌<◌, Bool, true, false, not, ◌&&◌, ◌||◌, ◌==◌, if◌then◌else◌, List, [], ◌∷◌, ◌++◌, length, reverse, Option, Some, None, is_some, is_none, refl, sym, ap, subst, ◌∙◌, arith, append_assoc}
+use Rattle.std.proofs.Common.{◌≡◌, ◌≢◌, inl, inr, ℕ, ◌+◌, ◌*◌, Bool, true, false, not, ◌&&◌, ◌||◌, ◌==◌, if◌then◌else◌, List, [], ◌∷◌, ◌++◌, length, reverse, Option, Some, None, is_some, is_none, refl, sym, ap, subst, ◌∙◌, arith, append_assoc}
 use Rattle.std.proofs.lemmas.Bool.{false≢true}
 use Rattle.std.proofs.lemmas.Bool.Decides.{nat_tests}
 use Rattle.std.proofs.lemmas.List.{reverse-append, reverse-reverse}
-use Rattle.layout.specs.Geometry.{IsVolumeSize, data_pages_of, page_of_slot}
+use Rattle.layout.specs.Geometry.{IsVolumeSize, page_of_slot}
 use Rattle.layout.proofs.GeometryLaws.{page_of_entry}
 use Rattle.layout.specs.Fields.{inode_kind, slot_inode, slot_name}
-use Rattle.layout.specs.Name.{words_of_name, name_in_words}
-use Rattle.layout.proofs.NameLaws.{name_in_words-words_of_name}
-use Rattle.layout.specs.declared.kinds.NodeKind.{NodeKind}
-use Rattle.layout.specs.declared.kinds.NodeKind.TheVariants.{File, Directory}
 use Rattle.tree_model.specs.PathText.{Route}
-use Rattle.tree_model.specs.Tree.{Node, id_at, is_directory, parent, last_name, rest_after}
+use Rattle.tree_model.specs.Tree.{id_at, is_directory, parent, last_name, rest_after}
 use Rattle.tree_model.specs.Capacity.{untaken}
 use Rattle.tree_model.specs.Step.{is_same_node}
 use Rattle.tree_model.specs.Run.{State}
-use Rattle.tree_model.specs.Accepted.{HasHolder, MayName, MayReplace, MayMove, MayRename}
+use Rattle.tree_model.specs.Accepted.{MayReplace, MayMove, MayRename}
 use Rattle.tree_model.specs.declared.command.Command.TheVariants.{Rename}
 use Rattle.tree_model.proofs.AcceptedLaws.{Accepted-from_row}
 use Rattle.tree_model.proofs.Lookups.{rest_after-append}
@@ -27,10 +23,10 @@ use Rattle.image_counts.proofs.Nodes.{size_law}
 use Rattle.image_counts.proofs.Paths as paths
 use Rattle.image_counts.proofs.Slots.{absence_law}
 use Rattle.image_counts.proofs.States.{state_law}
-use Rattle.rename_laws.specs.Target.{Target, Vacant, Opened, Taken, CanReplace, CanTake, CanRename, Holds, IsDirectoryMoved, IsRising, IsFalling, name_of}
-use Rattle.rename_laws.specs.End.{ArePaths}
+use Rattle.rename_laws.specs.Target.{CanReplace, CanTake, CanRename, Holds, IsDirectoryMoved, IsRising, IsFalling, name_of}
+use Rattle.rename_laws.specs.End.{ArePaths, FillsItsPages}
 use Rattle.volume.specs.Moves.{is_directory_kind, inode_of_loss, rising_of, falling_of}
-use Rattle.volume.specs.Planned.{IsMovingFor, IsTargetOf, IsNewNameAt, IsPlace, IsPlanOf, IsNothingOr}
+use Rattle.volume.specs.Planned.{IsMovingFor, IsTargetOf, IsPlace, IsNothingOr}
 use Rattle.volume.specs.declared.plan.Action.{Action}
 use Rattle.volume.specs.declared.plan.Action.TheVariants.{Move, KeepNames}
 use Rattle.volume.specs.declared.plan.Loss.{Loss}
@@ -182,13 +178,13 @@ module _ {P : ℕ} {W : List ℕ} {state : State} (from to : Route) {moving : Mo
     ),
   )
 
-  is_dir : (i : ℕ) → Reached P W i → IsDirectory W i → is_directory state.tree i ≡ true
+  pub is_dir : (i : ℕ) → Reached P W i → IsDirectory W i → is_directory state.tree i ≡ true
   is_dir i reached two = ((size_law P W state coherent at.reads).directories i).1 (reached, two)
 
-  dir_is : (i : ℕ) → is_directory state.tree i ≡ true → IsDirectory W i
+  pub dir_is : (i : ℕ) → is_directory state.tree i ≡ true → IsDirectory W i
   dir_is i is = (((size_law P W state coherent at.reads).directories i).0 is).1
 
-  file_is : (i : ℕ) → Reached P W i → is_directory state.tree i ≡ false → HasBytes W i
+  pub file_is : (i : ℕ) → Reached P W i → is_directory state.tree i ≡ false → HasBytes W i
   file_is i reached isnt = elim ((coherent Rule.kinds i).kind reached) [ inl bytes ↦ bytes | inr two ↦ absurd (false≢true (sym isnt ∙ is_dir i reached two)) ]
 
   source_dir : is_directory_kind moving.kind ≡ true → IsDirectory W (slot_inode P W moving.from_slot)
@@ -244,7 +240,7 @@ module _ {P : ℕ} {W : List ℕ} {state : State} (from to : Route) {moving : Mo
         by_kind true is = dir_is loss.inode (kinds_agree ∙ is) ∙ sym (dir_is moving.inode is)
         by_kind false is = file_is loss.inode replaced_reached (kinds_agree ∙ is) ∙ sym (file_is moving.inode source_reached is)
 
-    can_replace : CanReplace P W moving.from_slot moving.to_directory moving.to_slot loss.inode
+    pub can_replace : CanReplace P W moving.from_slot moving.to_directory moving.to_slot loss.inode
     can_replace = record {
       entry = (target.0.slot_is.slot, target_owner);
       number = target_inode;
@@ -340,3 +336,13 @@ module _ {P : ℕ} {W : List ℕ} {state : State} (from to : Route) {moving : Mo
 
   pub falls : Holds (IsFalling P W moving.from_slot moving.to_directory (target_of moving)) (falling_of moving)
   falls = falls_by (is_directory_kind moving.kind) (moving.from_directory == moving.to_directory) moving.replaced moving.new_page refl refl refl
+
+  -- ---- the pages of the directory
+
+  fills_by : (replaced : Option Loss) (page : Option ℕ) → moving.replaced ≡ replaced → moving.new_page ≡ page → FillsItsPages state moving.to_directory (target_by moving replaced page)
+  fills_by None None none no_page = tt
+  fills_by None (Some page) none is = Places.full_by (naming none) (Some page) (place_at none (Some page) is)
+  fills_by (Some loss) page is same = tt
+
+  pub fills : FillsItsPages state moving.to_directory (target_of moving)
+  fills = fills_by moving.replaced moving.new_page refl refl
