@@ -10,3 +10,5 @@ pub mod NodePages
 mod Few
 mod Named
 mod Freed
+pub mod Fewer
+pub mod Losing

@@ -7,3 +7,8 @@ pub mod Gone
 pub mod Given
 pub mod Finished
 pub mod Turned
+pub mod Owned
+pub mod GivenUp
+pub mod MovedEntries
+pub mod MovedPages
+pub mod MovedVolume

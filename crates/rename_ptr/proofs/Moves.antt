@@ -75,7 +75,7 @@ module _ {P : ℕ} {W : List ℕ} {state : State} (from to : Route) {moving : Mo
       let (same_from, same_to) = same_route from to a b is in
       subst (λ (r : Route). IsMovingFor P W state r to moving) (sym same_from) (subst (λ (r : Route). IsMovingFor P W state a r moving) (sym same_to) for)
 
-  two_nodes : is_same_node state.tree from to ≡ true → ⊥
+  pub two_nodes : is_same_node state.tree from to ≡ true → ⊥
   two_nodes same =
       let is : IsNothingOr true KeepNames (λ action. (m : Moving) × (action ≡ Move m) × IsMovingFor P W state from to m) (Move moving)
       = subst (λ (b : Bool). IsNothingOr b KeepNames (λ action. (m : Moving) × (action ≡ Move m) × IsMovingFor P W state from to m) (Move moving)) same at.planned.plan_is in
@@ -161,7 +161,7 @@ module _ {P : ℕ} {W : List ℕ} {state : State} (from to : Route) {moving : Mo
         new_name = target.1;
       }
 
-  page_here : (page : ℕ) → IsPlace P W moving.to_directory moving.to_slot (Some page) → page_of_slot moving.to_slot ≡ page
+  pub page_here : (page : ℕ) → IsPlace P W moving.to_directory moving.to_slot (Some page) → page_of_slot moving.to_slot ≡ page
   page_here page place =
       let plain : moving.to_slot ≡ 32 * page + 0 = (let is = place.slot_is in omega (arith, is)) in
       ap (λ (s : ℕ). page_of_slot s) plain ∙ page_of_entry page 0 (omega arith)
@@ -230,7 +230,7 @@ module _ {P : ℕ} {W : List ℕ} {state : State} (from to : Route) {moving : Mo
     kinds_agree : is_directory state.tree loss.inode ≡ is_directory state.tree moving.inode
     kinds_agree = ap (λ (i : ℕ). is_directory state.tree i) (sym replaced_is) ∙ replaces.kind ∙ ap (λ (i : ℕ). is_directory state.tree i) moved_is
 
-    no_names : (t : ℕ) → IsSlotOf P W loss.inode t → ⊥
+    pub no_names : (t : ℕ) → IsSlotOf P W loss.inode t → ⊥
     no_names t slot = ((absence_law P W state coherent at.reads).empty replaces.target.id).0 replaces.empty t (subst (λ (i : ℕ). IsSlotOf P W i t) (sym replaced_is) slot)
 
     same_kind : inode_kind W loss.inode ≡ inode_kind W (slot_inode P W moving.from_slot)

@@ -26,7 +26,7 @@ use Rattle.volume.proofs.PageLists.{in_contained, contained_in}
 use Rattle.volume.proofs.Given.{length-with_given, free_before_given, free_still_given, free_given}
 use Rattle.entry_steps.proofs.Lists.{contains_at}
 use Rattle.entry_steps.proofs.Naming.{knows_by}
-use Rattle.unlink_ops.proofs.Fewer.{distinct_less, less_was, less_still, in_given, of_given, given_cases}
+use Rattle.removal_steps.proofs.Fewer.{distinct_less, less_was, less_still, in_given, of_given, given_cases}
 use Rattle.unlink_ops.proofs.Lost.{HasLost}
 
 -- a page that loses its owner: the node's, which goes, or the one that is given back
