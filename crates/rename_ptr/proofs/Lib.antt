@@ -12,3 +12,4 @@ pub mod GivenUp
 pub mod MovedEntries
 pub mod MovedPages
 pub mod MovedVolume
+pub mod MovedState
