@@ -29,7 +29,7 @@ use Rattle.removal_steps.specs.Steps.{AreGonePages, gone_pages}
 use Rattle.removal_steps.proofs.NodePages
 use Rattle.rename_ptr.specs.Steps.{steps_of}
 use Rattle.rename_ptr.specs.Renaming.{IsMovingAt, IsRenamed, HasRenamed}
-use Rattle.rename_ptr.proofs.Left
+use Rattle.rename_ptr.proofs.MovedState
 use Rattle.rename_ptr.proofs.MovedVolume
 use Rattle.rename_ptr.proofs.Moves
 use Rattle.rename_ptr.proofs.Turned
@@ -108,8 +108,7 @@ module _ (volume after : VolumeView) (old new : DeviceView) (moving : Moving) (i
         let all = device (Ok done) made in
         let at = moving_at state from to plan in
         record {
-          made = Left.leaves_state from to at new.words renamed volume after refl (MovedVolume.same_size from to at new.words renamed volume after refl plan.stands.knows has)
-              (MovedVolume.knows_after from to at new.words renamed volume after refl plan.stands.knows has) old new refl all.settled all.counted;
+          made = MovedState.leaves_state from to at new.words renamed volume after refl plan.stands.knows has old new refl all.settled all.counted;
           atomic = atomic (Ok done) made state from to at;
         }
 

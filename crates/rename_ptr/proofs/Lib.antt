@@ -12,6 +12,6 @@ pub mod GivenUp
 pub mod MovedEntries
 pub mod MovedPages
 pub mod MovedVolume
-pub mod Left
 pub mod Unchanged
 pub mod Carrying
+pub mod MovedState
