@@ -34,6 +34,9 @@ use Rattle.volume.specs.Volume.{VolumeView}
 use Rattle.volume.proofs.PlanFences.{plan_fences_law}
 use Rattle.entry_steps.proofs.Answered.{follows_as}
 
+pub no_move : (moving : Moving) → KeepNames ≢ Move moving
+no_move moving e = cc
+
 -- ---- whose plan it is
 
 keeps_names : Action → Bool
