@@ -1,11 +1,11 @@
 -- What the steps of a move ask for, by what those before them made: B are the words with a new page, I those from which the slot may
 -- take the number.
-use Rattle.std.proofs.Common.{◌≡◌, ◌≢◌, ◌⊎◌, inl, inr, ℕ, ◌+◌, ◌<◌, ◌≤◌, List, [], ◌∷◌, slice_index, Some, None, refl, sym, ap, subst, ◌∙◌, arith}
+use Rattle.std.proofs.Common.{◌≡◌, ◌≢◌, inl, inr, ℕ, ◌≤◌, List, [], ◌∷◌, slice_index, Some, None, refl, sym, ap, subst, ◌∙◌, arith}
 use Rattle.std.specs.Prelude.{Option}
 use Rattle.layout.specs.declared.fields.InodeFields.{InodeFields}
-use Rattle.layout.specs.Geometry.{inodes_of, slots_of}
-use Rattle.layout.specs.Fields.{word, inode_kind, inode_links, slot_inode, slot_pointer, slot_words}
-use Rattle.layout.specs.Name.{words_of_name, IsNameWords}
+use Rattle.layout.specs.Geometry.{inodes_of}
+use Rattle.layout.specs.Fields.{word, inode_kind, inode_links, slot_inode, slot_pointer}
+use Rattle.layout.specs.Name.{IsNameWords}
 use Rattle.layout.proofs.NameLaws.{IsNameWords-words_of_name}
 use Rattle.tree_model.specs.PathText.{Route}
 use Rattle.tree_model.specs.Run.{State}
@@ -14,8 +14,8 @@ use Rattle.inode_state.specs.Inode.{fields_at}
 use Rattle.inode_state.proofs.InodeLaws.{same_fields_at}
 use Rattle.dentry_state.specs.States as slots
 use Rattle.dentry_state.specs.Dentry.{slot_fields_at}
-use Rattle.image_reading.specs.Reading.{HasBytes, IsDirectory, slot_owner, Reached, IsReachedSlot, IsNameOf}
-use Rattle.image_reading.specs.Soundness.{Rule, IsCoherent}
+use Rattle.image_reading.specs.Reading.{HasBytes, IsDirectory, Reached, IsReachedSlot, IsNameOf}
+use Rattle.image_reading.specs.Soundness.{Rule}
 use Rattle.image_laws.specs.Drop.{dropped}
 use Rattle.image_laws.specs.Move.{CanMove, moved}
 use Rattle.image_laws.proofs.Adds.{only}

@@ -1,23 +1,20 @@
 -- What the first steps of a move ask for, in turn: B are the words with a new page, I those with the pointer, C with the number.
-use Rattle.std.proofs.Common.{◌≡◌, ℕ, ◌+◌, ◌*◌, ◌≤◌, List, [], ◌∷◌, Some, None, refl, sym, ap, subst, ◌∙◌, arith}
-use Rattle.std.specs.Prelude.{Option, Result, Ok}
+use Rattle.std.proofs.Common.{◌≡◌, ℕ, ◌+◌, ◌*◌, ◌≤◌, List, Some, None, refl, sym, ap, subst, ◌∙◌, arith}
+use Rattle.std.specs.Prelude.{Option, Ok}
 use Rattle.pm_trait.specs.DeviceView.{DeviceView}
 use Rattle.pm_trait.specs.Unfolds.{Step, Through, Unfolds, fences_in}
 use Rattle.pm_trait.proofs.Unfolding.{through}
-use Rattle.layout.specs.Fields.{slot_inode}
 use Rattle.layout.specs.Name.{words_of_name}
 use Rattle.tree_model.specs.PathText.{Route}
 use Rattle.tree_model.specs.Run.{State}
 use Rattle.image_counts.proofs.Inodes.{inode_count_law}
-use Rattle.image_laws.specs.Create.{committed, owned, MakesNamedPage}
+use Rattle.image_laws.specs.Create.{committed, MakesNamedPage}
 use Rattle.image_laws.specs.Drop.{dropped}
 use Rattle.image_laws.specs.Move.{moved}
-use Rattle.rename_laws.specs.Target.{Target}
 use Rattle.rename_laws.specs.Ready.{IsOpened, IsMoveReady, PointsAt}
 use Rattle.rename_laws.proofs.MoveNear
 use Rattle.rename_laws.proofs.Ready.{ready_law}
 use Rattle.volume.specs.Moves.{rising_of}
-use Rattle.volume.specs.Planned.{IsPlace}
 use Rattle.volume.specs.declared.plan.Loss.{Loss}
 use Rattle.volume.specs.declared.plan.Moving.{Moving}
 use Rattle.entry_steps.specs.Steps.{MayTake, first_slot}

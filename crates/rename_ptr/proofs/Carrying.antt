@@ -1,6 +1,6 @@
 -- The plan of a move is carried out, once the name has its new place on the device and in the volume.
-use Rattle.std.proofs.Common.{◌≡◌, ℕ, ◌+◌, ◌*◌, ◌≤◌, List, true, false, refl, Option, Some, None, sym, ap, subst, ◌∙◌, arith}
-use Rattle.std.specs.Prelude.{Result, Ok, Err, OnOk}
+use Rattle.std.proofs.Common.{◌≡◌, ℕ, ◌*◌, ◌≤◌, List, true, false, refl, Some, sym, ap, subst, ◌∙◌, arith}
+use Rattle.std.specs.Prelude.{Result, Ok, Err}
 use Rattle.pm_trait.specs.DeviceView.{DeviceView, MakesIntervals}
 use Rattle.pm_trait.specs.Unfolds.{MayFence, events_in, Unfolds}
 use Rattle.pm_trait.proofs.DeviceViewLaws.{intervals_as}

@@ -16,7 +16,7 @@ use Rattle.image_counts.proofs.Nodes as nodes
 use Rattle.image_counts.proofs.Tidied.{room_law}
 use Rattle.image_laws.specs.Move.{moved}
 use Rattle.image_laws.proofs.Removes.{move_law}
-use Rattle.rename_laws.specs.Target.{Target, Vacant, Opened, Taken}
+use Rattle.rename_laws.specs.Target.{Target, Taken}
 use Rattle.rename_laws.specs.Ready.{IsMoveReady}
 use Rattle.rename_laws.specs.Intervals.{IsGone, IsGivenUp}
 use Rattle.rename_laws.specs.End.{renamed}

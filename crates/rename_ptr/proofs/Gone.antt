@@ -1,5 +1,5 @@
 -- What goes with a move, told after the commit: a replaced node with its pages, and the source's page.
-use Rattle.std.proofs.Common.{◌≡◌, ◌≢◌, ◌↔◌, inl, inr, ℕ, ◌<◌, Bool, true, false, if◌then◌else◌, List, reverse, Option, Some, None, is_some, is_none, refl, sym, ap, subst, ◌∙◌}
+use Rattle.std.proofs.Common.{◌≡◌, ◌≢◌, ◌↔◌, inl, inr, ℕ, ◌<◌, Bool, true, if◌then◌else◌, List, reverse, Option, Some, None, is_some, is_none, refl, sym, ap, subst, ◌∙◌}
 use Rattle.std.proofs.lemmas.Bool.{cases_eq, false≢true}
 use Rattle.layout.specs.Geometry.{data_pages_of, page_of_slot}
 use Rattle.layout.proofs.GeometryLaws.{page_of_slot_below, slot_below}
@@ -13,7 +13,6 @@ use Rattle.image_reading.specs.Reading.{slot_owner, Reached, IsReachedSlot, Read
 use Rattle.image_reading.specs.Soundness.{IsCoherent}
 use Rattle.image_reading.proofs.Tidied.{tidied}
 use Rattle.image_counts.proofs.Nodes as nodes
-use Rattle.image_counts.proofs.Paths as paths
 use Rattle.image_counts.proofs.Tidied.{room_law}
 use Rattle.image_laws.specs.Move.{CanMove, moved}
 use Rattle.image_laws.proofs.OnlySlot.{OnlySlot}
@@ -24,7 +23,6 @@ use Rattle.rename_laws.specs.End.{renamed}
 use Rattle.rename_laws.specs.Index.{HasEntryMoved}
 use Rattle.rename_laws.proofs.MovedEntries.{moved_entry_law}
 use Rattle.rename_laws.proofs.MovedNames as here
-use Rattle.rename_laws.proofs.MoveIntervals as intervals
 use Rattle.rename_laws.proofs.MoveNear as near
 use Rattle.rename_laws.proofs.MoveNear.{IsOpenedPage}
 use Rattle.rename_laws.proofs.MoveReads.{committed_law}

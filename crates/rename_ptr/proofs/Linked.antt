@@ -1,5 +1,5 @@
 -- Words of slots are stored, and then a link count: what the interval of both makes.
-use Rattle.std.proofs.Common.{◌≡◌, ◌≢◌, ◌⊎◌, inl, inr, ℕ, ◌+◌, ◌-◌, ◌*◌, ◌<◌, ◌≤◌, List, length, Some, None, is_some, sym, ap, subst, ◌∙◌, arith}
+use Rattle.std.proofs.Common.{◌≡◌, ◌⊎◌, inl, inr, ℕ, ◌+◌, ◌-◌, ◌*◌, ◌≤◌, List, length, Some, None, is_some, sym, ap, subst, ◌∙◌, arith}
 use Rattle.std.specs.Prelude.{Option, ◌||◌, if◌then◌else◌}
 use Rattle.std.proofs.lemmas.Bool.{cases_eq}
 use Rattle.pm_trait.specs.DeviceView.{DeviceView, Stores}
@@ -21,13 +21,11 @@ use Rattle.inode_state.proofs.InodeLaws.{same_fields_at as same_inode_at}
 use Rattle.dentry_state.specs.States.{free_fields}
 use Rattle.dentry_state.specs.Dentry.{IsSlotWord, IsRestWord, slot_fields_at}
 use Rattle.dentry_state.proofs.DentryLaws.{same_fields_at, slot_word_is_no_inode_word}
-use Rattle.image_laws.specs.Create.{IsAmong}
 use Rattle.rename_laws.specs.Target.{Target, Vacant, Opened, Taken}
 use Rattle.rename_laws.specs.Ready.{IsNewNameWord, HasNewName, PointsAt}
 use Rattle.image_laws.specs.Links.{Falls, IsLinkWord, Rises}
 use Rattle.rename_laws.specs.Intervals.{ClearsSource}
-use Rattle.entry_steps.specs.Steps.{IsLinkable}
-use Rattle.removal_steps.specs.Steps.{HasLink, MayFall}
+use Rattle.removal_steps.specs.Steps.{MayFall}
 use Rattle.removal_steps.proofs.Clearing.{zero_word}
 use Rattle.removal_steps.proofs.Slots.{inode_settled}
 use Rattle.rename_ptr.specs.Steps.{MayRise, IsPointedWord, target_by}

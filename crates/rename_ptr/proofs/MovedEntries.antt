@@ -1,10 +1,9 @@
 -- The entries that a volume knows once a name has moved: those of the last words.
-use Rattle.std.proofs.Common.{◌≡◌, ◌≢◌, ◌↔◌, ◌⊎◌, inl, inr, ℕ, ◌≤◌, List, Option, Some, None, refl, sym, ap, subst, ◌∙◌, arith}
+use Rattle.std.proofs.Common.{◌≡◌, ◌≢◌, ◌↔◌, ◌⊎◌, inl, inr, ℕ, ◌≤◌, List, Option, Some, None, refl, sym, ap, subst, ◌∙◌}
 use Rattle.std.specs.Prelude.{Contains}
 use Rattle.std.proofs.lemmas.Bool.{cases_eq}
 use Rattle.layout.specs.Geometry.{inodes_of}
 use Rattle.layout.specs.Fields.{page_owner, slot_inode, slot_name}
-use Rattle.layout.specs.Name.{words_of_name}
 use Rattle.layout.proofs.NameLaws.{name_in_words-words_of_name}
 use Rattle.tree_model.specs.PathText.{Route}
 use Rattle.tree_model.specs.Run.{State}
@@ -18,7 +17,7 @@ use Rattle.rename_laws.specs.Target.{name_of}
 use Rattle.rename_laws.specs.Index.{HasEntryMoved}
 use Rattle.volume.specs.Volume.{VolumeView}
 use Rattle.volume.specs.Entered.{LeavesName, TakesName, HasMoved}
-use Rattle.volume.specs.Stands.{Knows, KnowsNodes}
+use Rattle.volume.specs.Stands.{KnowsNodes}
 use Rattle.volume.specs.declared.plan.Loss.{Loss}
 use Rattle.volume.specs.declared.plan.Moving.{Moving}
 use Rattle.entry_steps.proofs.Naming.{has_name}

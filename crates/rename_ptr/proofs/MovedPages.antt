@@ -1,5 +1,5 @@
 -- The pages that a volume knows once a name has moved: those of the last words.
-use Rattle.std.proofs.Common.{◌≡◌, ◌≢◌, ◌↔◌, inl, inr, ℕ, ◌<◌, ◌≤◌, Bool, true, false, nat_eq, cond, List, [], ◌∷◌, ◌++◌, Option, Some, None, refl, sym, ap, subst, ◌∙◌, arith}
+use Rattle.std.proofs.Common.{◌≡◌, ◌≢◌, inl, inr, ℕ, ◌<◌, ◌≤◌, Bool, true, false, nat_eq, cond, List, Option, Some, None, refl, sym, ap, subst, ◌∙◌, arith}
 use Rattle.std.proofs.lemmas.Bool.{cases_eq}
 use Rattle.std.proofs.lemmas.Bool.Decides.{nat_tests}
 use Rattle.std.proofs.lemmas.List.{append-nil}
@@ -11,7 +11,6 @@ use Rattle.image_reading.specs.Reading.{slot_owner, Reached}
 use Rattle.image_counts.proofs.Inodes.{inode_count_law}
 use Rattle.image_laws.specs.Move.{moved}
 use Rattle.volatile_index.specs.Index.{NodeView, pages_of}
-use Rattle.volatile_index.specs.declared.entry.Entry.{Entry}
 use Rattle.rename_laws.specs.Target.{Target}
 use Rattle.rename_laws.specs.Ready.{IsMoveReady}
 use Rattle.rename_laws.specs.Index.{HasIndexMoved}
@@ -23,7 +22,6 @@ use Rattle.volume.specs.declared.plan.Loss.{Loss}
 use Rattle.volume.specs.declared.plan.Moving.{Moving}
 use Rattle.entry_steps.proofs.Lists.{one_page}
 use Rattle.entry_steps.proofs.Naming.{HasName, has_name}
-use Rattle.removal_steps.proofs.Fewer.{given_cases}
 use Rattle.removal_steps.proofs.Losing.{everywhere, LosesPage, loses_page, LosesNode, loses_node}
 use Rattle.rename_ptr.specs.Steps.{target_by, target_of}
 use Rattle.rename_ptr.specs.Renaming.{IsMovingAt}

@@ -4,7 +4,7 @@ use Rattle.std.specs.Prelude.{Option, Ok}
 use Rattle.std.proofs.lemmas.Bool.{cases_eq}
 use Rattle.pm_trait.specs.DeviceView.{DeviceView, IsSettledView}
 use Rattle.layout.specs.Geometry.{data_pages_of, page_of_slot}
-use Rattle.layout.specs.Fields.{inode_kind, page_owner, slot_inode}
+use Rattle.layout.specs.Fields.{page_owner, slot_inode}
 use Rattle.layout.proofs.GeometryLaws.{page_of_slot_below, slot_below}
 use Rattle.tree_model.specs.PathText.{Route}
 use Rattle.tree_model.specs.Capacity.{untaken}
@@ -19,7 +19,6 @@ use Rattle.image_reading.specs.Tidy.{Tidy}
 use Rattle.image_reading.proofs.Tidied.{tidied, as_tidy}
 use Rattle.image_counts.proofs.States.{state_law}
 use Rattle.image_counts.proofs.Tidied.{room_law}
-use Rattle.image_laws.specs.Move.{CanMove, moved}
 use Rattle.image_laws.proofs.Rooms.{dec_room}
 use Rattle.rename_laws.specs.End.{renamed, HasStepRoom}
 use Rattle.rename_laws.specs.Index.{HasEntryMoved}

@@ -1,12 +1,12 @@
 -- A volume that took in a move knows what the last words say.
-use Rattle.std.proofs.Common.{◌≡◌, ◌≢◌, ◌↔◌, inl, inr, ℕ, ◌-◌, ◌*◌, ◌<◌, ◌≤◌, Bool, true, false, cond, List, [], ◌∷◌, length, Option, Some, None, refl, sym, ap, subst, ◌∙◌, arith}
+use Rattle.std.proofs.Common.{◌≡◌, ◌≢◌, ◌↔◌, inl, inr, ℕ, ◌-◌, ◌<◌, ◌≤◌, Bool, true, false, cond, List, [], ◌∷◌, length, Option, Some, None, refl, sym, ap, subst, ◌∙◌, arith}
 use Rattle.std.specs.Prelude.{slice_get}
 use Rattle.std.proofs.lemmas.Bool.{cases_eq}
 use Rattle.layout.specs.Geometry.{inodes_of, data_pages_of}
 use Rattle.layout.specs.Fields.{inode_kind, page_owner, page_offset}
 use Rattle.tree_model.specs.PathText.{Route}
 use Rattle.tree_model.specs.Run.{State}
-use Rattle.image_reading.specs.Reading.{HasBytes, IsDirectory, slot_owner, Reached, IsPageOf}
+use Rattle.image_reading.specs.Reading.{HasBytes, IsDirectory, Reached, IsPageOf}
 use Rattle.image_reading.specs.Soundness.{Rule}
 use Rattle.image_reading.specs.Tidy.{IsTidied}
 use Rattle.image_counts.proofs.Inodes.{inode_count_law}

@@ -1,11 +1,10 @@
 -- Stores of the words of two slots, each with its flush, by the numbers that a plan has.
-use Rattle.std.proofs.Common.{◌≡◌, ◌≢◌, ◌⊎◌, inl, inr, ℕ, ◌+◌, ◌<◌, ◌≤◌, List, [], ◌∷◌, sym, ap, subst, ◌∙◌, arith}
-use Rattle.std.specs.Prelude.{Option, Result}
-use Rattle.pm_trait.specs.Trail.{Trail}
+use Rattle.std.proofs.Common.{◌≡◌, ◌≢◌, ◌⊎◌, inl, inr, ℕ, ◌+◌, List, [], ◌∷◌, sym, ap, subst, ◌∙◌, arith}
+use Rattle.std.specs.Prelude.{Result}
 use Rattle.pm_trait.specs.Device.{IsFlushed}
 use Rattle.pm_trait.specs.declared.event.Event.{Event}
 use Rattle.pm_trait.specs.declared.event.Event.TheVariants.{Store}
-use Rattle.pm_trait.specs.DeviceView.{DeviceView, Performs, Stores, StoresOnly}
+use Rattle.pm_trait.specs.DeviceView.{DeviceView, Performs, Stores}
 use Rattle.pm_trait.specs.Unfolds.{Takes}
 use Rattle.pm_trait.proofs.DeviceLaws.{flushed_stays}
 use Rattle.pm_trait.proofs.DeviceViewLaws.{store_stores, stores_then, stores_flushed, stores_weaker}

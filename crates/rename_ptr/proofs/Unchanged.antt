@@ -1,17 +1,16 @@
 -- A rename whose two names are one node's: nothing is to be done.
-use Rattle.std.proofs.Common.{◌≡◌, ◌≢◌, ℕ, ◌+◌, Bool, true, false, ◌&&◌, ◌==◌, if◌then◌else◌, inl, List, length, None, is_some, refl, sym, ap, subst, ◌∙◌, arith}
+use Rattle.std.proofs.Common.{◌≡◌, ◌≢◌, ℕ, Bool, true, false, ◌&&◌, ◌==◌, if◌then◌else◌, inl, List, length, None, refl, sym, ap, subst, ◌∙◌, arith}
 use Rattle.std.specs.Prelude.{Option, Some, Ok}
-use Rattle.pm_trait.specs.Device.{StaysOnce}
 use Rattle.pm_trait.specs.DeviceView.{DeviceView, IsSettledView}
 use Rattle.pm_trait.specs.Unfolds.{Quietly}
 use Rattle.pm_trait.proofs.DeviceLaws.{leaves_here}
 use Rattle.pm_trait.proofs.DeviceViewLaws.{intervals_none}
 use Rattle.tree_model.specs.Capacity.{untaken}
 use Rattle.tree_model.specs.PathText.{Route}
-use Rattle.tree_model.specs.Run.{State, Steps}
+use Rattle.tree_model.specs.Run.{State}
 use Rattle.tree_model.specs.Fences.{fences_of}
 use Rattle.tree_model.specs.Step.{Answer, Done, step, id_of, is_same_node, is_there, gaining, losing, least_free_id, tree_after, room_after, RoomAfter, outcome_of}
-use Rattle.tree_model.specs.Tree.{Tree, Room, IsRoom, is_directory, is_number, id_at, bytes_of, parent}
+use Rattle.tree_model.specs.Tree.{Tree, IsRoom, is_directory, is_number, id_at, parent}
 use Rattle.tree_model.specs.declared.command.Command.{Command}
 use Rattle.tree_model.specs.declared.command.Command.TheVariants.{Create, Mkdir, Link, Unlink, Rmdir, Rename, Write, Truncate, Read, Stat as Tell, List as Show, Df}
 use Rattle.tree_model.specs.declared.reply.Refusal.{Refusal}
@@ -28,7 +27,7 @@ use Rattle.volume.specs.Crashes.{MayReadAs}
 use Rattle.volume.specs.declared.plan.Action.{Action}
 use Rattle.volume.specs.declared.plan.Action.TheVariants.{Make, Name, Remove, Move, Write as WriteBytes, WriteNothing, Resize, KeepSize, KeepNames, Read as ReadBytes, Status, Names, Space}
 use Rattle.volume.specs.declared.plan.Moving.{Moving}
-use Rattle.volume.specs.Planned.{IsMovingFor, IsWritingFor, IsResizingFor, IsNothingOr, IsPlanOf, is_size_of}
+use Rattle.volume.specs.Planned.{IsMovingFor, IsNothingOr, IsPlanOf, is_size_of}
 use Rattle.volume.specs.Stands.{StandsFor}
 use Rattle.volume.specs.Volume.{VolumeView}
 use Rattle.volume.proofs.PlanFences.{plan_fences_law}

@@ -1,4 +1,4 @@
-use Rattle.std.proofs.Common.{◌∙◌, ap}
+use Rattle.std.proofs.Common.{ap}
 use Rattle.dentry_state.specs.Dentry.{DentryView, touched_lines}
 use Rattle.removal_steps.proofs.Slots.{slot_settled}
 use Rattle.rename_ptr.proofs.Stored.{pointer_stored}

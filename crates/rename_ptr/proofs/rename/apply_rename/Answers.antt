@@ -1,5 +1,5 @@
-use Rattle.std.proofs.Common.{◌≡◌, ◌∙◌, ◌≤◌, ℕ, List, Some, sym, ap, subst}
-use Rattle.std.specs.Prelude.{Option, Ok, Err}
+use Rattle.std.proofs.Common.{◌≡◌, ◌∙◌, ℕ, List, sym, subst}
+use Rattle.std.specs.Prelude.{Ok, Err}
 use Rattle.pm_trait.specs.DeviceView.{DeviceView}
 use Rattle.pm_trait.specs.declared.event.PmFault.{PmFault}
 use Rattle.pm_trait.proofs.Unfolding.{unfolds_as, unfolds_failed_as}
@@ -58,7 +58,7 @@ move_name-requires-clause-planned g c =
     let moving = c.in-Move.moving in
     let is : c.args.plan ≡ Move moving = sym c.into_action.ensures ∙ c.in-Move.is in
     let at = Carrying.at volume volume old old moving (subst IsName c.as_slice-bytes.ensures.bytes c.as_slice-bytes.ensures.name) (subst IsBytes c.as_slice-bytes.ensures.bytes c.as_slice-bytes.ensures.of_bytes)
-        state from to (plan_by volume old state from to c.args.plan moving is plan) in
+    state from to (plan_by volume old state from to c.args.plan moving is plan) in
     (state, from, to, subst (λ (p : ℕ). IsMovingAt p old.words state from to moving) (sym c.geometry.ensures) at)
 
 pub move_name-requires-clause-pages : goal.move_name-requires-clause-pages
@@ -69,7 +69,7 @@ move_name-requires-clause-pages g c =
     let moving = c.in-Move.moving in
     let is : c.args.plan ≡ Move moving = sym c.into_action.ensures ∙ c.in-Move.is in
     let are = Carrying.are volume volume old old moving (subst IsName c.as_slice-bytes.ensures.bytes c.as_slice-bytes.ensures.name) (subst IsBytes c.as_slice-bytes.ensures.bytes c.as_slice-bytes.ensures.of_bytes)
-        state from to (plan_by volume old state from to c.args.plan moving is plan) in
+    state from to (plan_by volume old state from to c.args.plan moving is plan) in
     subst (λ (l : List ℕ). AreGonePages c.geometry.result.now.pages old.words moving.replaced l) (sym c.gone_pages-pages.ensures)
     (subst (λ (p : ℕ). AreGonePages p old.words moving.replaced (gone_pages volume moving.replaced)) (sym c.geometry.ensures) are)
 
