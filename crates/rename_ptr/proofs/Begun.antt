@@ -14,14 +14,13 @@ use Rattle.image_laws.specs.Drop.{dropped}
 use Rattle.image_laws.specs.Move.{moved}
 use Rattle.rename_laws.specs.Target.{Target}
 use Rattle.rename_laws.specs.Ready.{IsOpened, IsMoveReady, PointsAt}
-use Rattle.rename_laws.specs.Ready as laws
 use Rattle.rename_laws.proofs.MoveNear
 use Rattle.rename_laws.proofs.Ready.{ready_law}
 use Rattle.volume.specs.Moves.{rising_of}
 use Rattle.volume.specs.Planned.{IsPlace}
 use Rattle.volume.specs.declared.plan.Loss.{Loss}
 use Rattle.volume.specs.declared.plan.Moving.{Moving}
-use Rattle.entry_steps.specs.Steps.{MayTake}
+use Rattle.entry_steps.specs.Steps.{MayTake, first_slot}
 use Rattle.entry_steps.proofs.Places
 use Rattle.rename_ptr.specs.Steps.{target_by, target_of, opening, CanPoint, CanTakeOver, CanLeave, CanClearSource}
 use Rattle.rename_ptr.specs.Renaming.{IsMovingAt}
@@ -44,8 +43,8 @@ module _ {P : ℕ} {W : List ℕ} {state : State} (from to : Route) {moving : Mo
 
   module _ (B : List ℕ) where
     -- the new page's first slot is the one that takes the name
-    named_page : (page : ℕ) (A : List ℕ) → moving.to_slot ≡ 32 * page → MakesNamedPage P W A page (words_of_name moving.to_name) → laws.MakesNamedPage P W A page moving.to_slot (words_of_name moving.to_name)
-    named_page page A is made = subst (λ (slot : ℕ). laws.MakesNamedPage P W A page slot (words_of_name moving.to_name)) (sym is) (record { empty = made.empty; name_is = made.name_is; zeros = made.zeros })
+    named_page : (page : ℕ) (A : List ℕ) → moving.to_slot ≡ 32 * page → MakesNamedPage P W A page (first_slot page) (words_of_name moving.to_name) → MakesNamedPage P W A page moving.to_slot (words_of_name moving.to_name)
+    named_page page A is made = subst (λ (slot : ℕ). MakesNamedPage P W A page slot (words_of_name moving.to_name)) (sym is) made
 
     opened_from : (replaced : Option Loss) (page : Option ℕ) → moving.replaced ≡ replaced → moving.new_page ≡ page → Through (opening P moving page) W B
         → IsOpened P W B moving.to_directory moving.to_slot (target_by moving replaced page)

@@ -39,7 +39,7 @@ use Rattle.volume.specs.Moves.{is_directory_kind, rising_of, falling_of}
 use Rattle.volume.specs.Planned.{IsTargetOf, IsGivenBack, IsEmptiedBy}
 use Rattle.volume.specs.declared.plan.Loss.{Loss}
 use Rattle.volume.specs.declared.plan.Moving.{Moving}
-use Rattle.removal_steps.specs.Steps.{AreGonePages, AreFilePages, IsLeft, MayEmpty, MayClear, MayGo, CanDisown, CanClearRest, IsCut, number_of}
+use Rattle.removal_steps.specs.Steps.{AreGonePages, AreFilePages, IsLeft, MayEmpty, MayClear, MayClearGone, CanDisown, CanClearRest, IsCut, number_of}
 use Rattle.removal_steps.proofs.Stages.{were_file_pages, may_be_emptied}
 use Rattle.rename_ptr.specs.Steps.{target_by, target_of}
 use Rattle.rename_ptr.specs.Renaming.{IsMovingAt}
@@ -349,7 +349,7 @@ module _ {P : ℕ} {W : List ℕ} {state : State} (from to : Route) {moving : Mo
     can_disown = record { file = file_by moving.replaced refl are; left = left_by moving.replaced refl are; emptied_is = may_empty }
 
     module _ (G : List ℕ) (gives : GivesPages P J G (IsCut pages moving.given_back)) where
-      go_by : (replaced : Option Loss) → moving.replaced ≡ replaced → AreGonePages P W replaced pages → MayGo P G replaced
+      go_by : (replaced : Option Loss) → moving.replaced ≡ replaced → AreGonePages P W replaced pages → MayClearGone P G replaced
       go_by None is none = tt
       go_by (Some loss) is among = may_clear loss is pages among G gives (λ j cut. (Gone.cut_given from to at I ready pages are j cut).in_range)
 

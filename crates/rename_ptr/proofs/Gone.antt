@@ -120,7 +120,7 @@ module _ {P : ℕ} {W : List ℕ} {state : State} (from to : Route) {moving : Mo
       here.room_from P I (reverse (parent from)) (reverse (parent to)) moving.from_slot moving.to_slot c after (slot_owner P after moving.from_slot) j t reached page owner
 
   -- where it is emptied, no name is left in it
-  emptied_none : IsEmptiedBy P W moving → (j : ℕ) → j ≡ page_of_slot moving.from_slot → IsRoomOf P after (slot_owner P after moving.from_slot) j → ⊥
+  pub emptied_none : IsEmptiedBy P W moving → (j : ℕ) → j ≡ page_of_slot moving.from_slot → IsRoomOf P after (slot_owner P after moving.from_slot) j → ⊥
   emptied_none (alone, other_page) j at_source room =
       let (t, page, owner, live) = room.slot in
       let reached : IsReachedSlot P after t = record {
@@ -159,7 +159,7 @@ module _ {P : ℕ} {W : List ℕ} {state : State} (from to : Route) {moving : Mo
       let at_source : j ≡ page_of_slot moving.from_slot = sym (one_page page j is) ∙ back.1 in
       record { in_range = subst (λ (k : ℕ). k < data_pages_of P) (sym at_source) page_low; why = inr (at_source, emptied_none back.0 j at_source) }
 
-  given_back_is : (given : Option ℕ) → IsGivenBack (IsEmptiedBy P W moving) moving.from_slot given → (j : ℕ) → j ≡ page_of_slot moving.from_slot
+  pub given_back_is : (given : Option ℕ) → IsGivenBack (IsEmptiedBy P W moving) moving.from_slot given → (j : ℕ) → j ≡ page_of_slot moving.from_slot
       → (IsRoomOf P after (slot_owner P after moving.from_slot) j → ⊥) → given ≡ Some j
   given_back_is None back j at_source none =
       let empty = subst (λ (k : ℕ). IsRoomOf P after (slot_owner P after moving.from_slot) k → ⊥) at_source none in

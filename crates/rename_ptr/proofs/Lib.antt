@@ -12,3 +12,6 @@ pub mod GivenUp
 pub mod MovedEntries
 pub mod MovedPages
 pub mod MovedVolume
+pub mod Unchanged
+pub mod Carrying
+pub mod MovedState
