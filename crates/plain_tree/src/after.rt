@@ -6,8 +6,6 @@ ghost use Rattle.tree_model.specs.Step.{page_for_name, gaining as gaining_of, lo
 ghost use Rattle.tree_model.specs.Run.{IsVolumeState, plain_state};
 ghost use Rattle.plain_tree.specs.Entries.{node_of};
 
-use tree_model::Command;
-use tree_model::Path;
 use crate::bytes::{overwritten, resized};
 use crate::parts::PlainNode;
 use crate::routes::route_of;
@@ -16,6 +14,7 @@ use crate::tables::{Rooms, Tables};
 use crate::walks::{id_of, is_same_node, is_there, parent_id};
 use pm_trait::NoMemory;
 use std::alloc::Global;
+use tree_model::{Command, Path};
 
 // A new node at a path.
 fn with_new(alloc: Global, tree: Tables, path: &Path, node: PlainNode) -> Result<Tables, NoMemory>

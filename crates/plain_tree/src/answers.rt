@@ -6,13 +6,12 @@ ghost use Rattle.tree_model.specs.Step.{answer_of, page_for_name, gaining, space
 ghost use Rattle.tree_model.specs.Replies.{reply_of};
 ghost use Rattle.tree_model.specs.Run.{is_changing as is_changing_of};
 
-use tree_model::Command;
 use crate::row::{page_for, page_for_rename};
 use crate::tables::counts::{free_inodes, free_pages};
 use crate::tables::{Rooms, Tables};
 use crate::walks::id_of;
-use tree_model::{Free, Reply, Stat};
 use layout::Geometry;
+use tree_model::{Command, Free, Reply, Stat};
 
 /// Whether a command may change the tree where it is not refused.
 pub fn is_changing(command: &Command) -> bool

@@ -3,10 +3,10 @@ ghost use Rattle.std.specs.Prelude.{◌≡◌, ◌++◌, IfOk, MatchOption, None
 ghost use Rattle.tree_model.specs.Tree.{rest_after as rest_after_of, parent as parent_of};
 ghost use Rattle.tree_model.specs.Step.{moved_path};
 
-use tree_model::Path;
 use layout::Name;
 use pm_trait::NoMemory;
 use std::alloc::Global;
+use tree_model::Path;
 
 /// The names of a path.
 ///

@@ -6,12 +6,11 @@ ghost use Rattle.tree_model.specs.Capacity.{untaken, free_inodes as free_inodes_
 ghost use Rattle.tree_model.specs.Step.{first as first_of, at as at_of, is_full as is_full_of, page_for_name, gaining, rise as rise_of, id_of as id_of_path, lacks_pages as lacks_pages_of, need};
 ghost use Rattle.tree_model.specs.declared.command.Command.TheVariants as command;
 
-use tree_model::Path;
 use crate::tables::counts::{free_pages, pages_for};
 use crate::tables::{Rooms, Tables};
 use crate::walks::{is_there, parent_id};
-use tree_model::Refusal;
 use layout::Geometry;
+use tree_model::{Path, Refusal};
 
 const NAMES_PER_PAGE: u64 = 32;
 

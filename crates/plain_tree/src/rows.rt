@@ -6,8 +6,6 @@ ghost use Rattle.tree_model.specs.Step.{first as first_of, faults_of_rename, ref
 ghost use Rattle.plain_tree.specs.Rows.{faults_before_rename};
 ghost use Rattle.tree_model.specs.declared.command.Command.TheVariants as command;
 
-use tree_model::{Command, FileBytes};
-use tree_model::Path;
 use crate::row::{
     FILE_LIMIT, READ_LIMIT, at, ends_too_far, first, lacks_pages, page_for, page_for_rename, rise,
 };
@@ -16,8 +14,8 @@ use crate::tables::{Rooms, Tables};
 use crate::walks::{
     id_of, is_above, is_one_root, is_root, is_same_node, is_there, parent_fault, walk_fault,
 };
-use tree_model::Refusal;
 use layout::Geometry;
+use tree_model::{Command, FileBytes, Path, Refusal};
 
 fn fault_of_new(tree: &Tables, rooms: &Rooms, geometry: &Geometry, path: &Path) -> Option<Refusal>
     ensures create { result ≡ refusal_of geometry.now.pages tree.now rooms.now (command.Create path.now) }

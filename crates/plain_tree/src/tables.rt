@@ -11,14 +11,12 @@ mod fits;
 pub mod moves;
 
 use crate::fronts::Front;
-use crate::lookups::{
-    has_id, id_at_front, is_directory_id, is_file_id, pages_of_id, paths_of,
-};
+use crate::lookups::{has_id, id_at_front, is_directory_id, is_file_id, pages_of_id, paths_of};
 use crate::parts::{NameEntry, NodeEntry, PagesEntry, PlainNode};
 use pm_trait::NoMemory;
-use tree_model::Path;
 use std::alloc::Global;
 use std::marker::Model;
+use tree_model::Path;
 
 pub const ROOT_ID: u64 = 1;
 

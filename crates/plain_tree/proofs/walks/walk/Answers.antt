@@ -37,7 +37,11 @@ loop-preserved c =
     let step = ap length c.in-Some.ensures.steps in
     let next : k + 1 ≤ length c.args.steps = omega (arith, counted, given, step) in
     let within = c.requires.within in
-    let low : k < length c.args.path.now = omega (arith, next, within) in
-    (tt, tt, omega (arith, counted, step), c.in-Some-id_at.ensures.grows,
-    walk-next c.args.tree.now c.args.path.now k c.loop.id low c.loop.invariant.4 c.id_at.result (sym c.is_directory.ensures ∙ c.if-not-is_directory.false) (sym c.id_at.ensures.is)
-    ∙ ap (place_at (take (k + 1) c.args.path.now)) c.in-Some-id_at.is)
+    let low : k < length c.args.path.now = omega (arith, next, within) in (
+      tt,
+      tt,
+      omega (arith, counted, step),
+      c.in-Some-id_at.ensures.grows,
+      walk-next c.args.tree.now c.args.path.now k c.loop.id low c.loop.invariant.4 c.id_at.result (sym c.is_directory.ensures ∙ c.if-not-is_directory.false) (sym c.id_at.ensures.is)
+          ∙ ap (place_at (take (k + 1) c.args.path.now)) c.in-Some-id_at.is,
+    )
