@@ -1,0 +1,10 @@
+mod TableLaws
+mod RouteLaws
+mod FrontLaws
+mod EditLaws
+mod RoomLaws
+mod WalkLaws
+mod FaultLaws
+mod AnswerLaws
+mod CountLaws
+mod StateLaws

@@ -1,0 +1,4 @@
+pub mod Plain
+pub mod Entries
+pub mod Rows
+pub mod Fronts
