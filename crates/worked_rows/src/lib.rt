@@ -1,16 +1,8 @@
-//! Worked examples of whole jobs, on a device, with a script and an output in memory.
+//! Worked rows: scripts and jobs, what is told, and how many fences that takes.
 #![tactic(auto)]
 
 #[cfg(test)]
 mod contents;
-#[cfg(test)]
-mod costs;
-#[cfg(test)]
-mod crashes;
-#[cfg(test)]
-mod faults;
-#[cfg(test)]
-mod jobs;
 #[cfg(test)]
 mod limits;
 #[cfg(test)]
@@ -18,13 +10,7 @@ mod lines;
 #[cfg(test)]
 mod links;
 #[cfg(test)]
-mod recoveries;
-#[cfg(test)]
 mod removals;
-#[cfg(test)]
-mod renames;
-#[cfg(test)]
-mod scarce;
 #[cfg(test)]
 mod space;
 #[cfg(test)]

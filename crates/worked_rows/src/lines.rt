@@ -1,31 +1,13 @@
 // Scripts on a fresh volume of 16 pages, which has 4 inodes, and what each line is answered.
-use crate::jobs::{job_on, small_volume};
-use squirrel_cli::Status;
-use std::alloc::Global;
-use std::process::Abort;
 use std::test::Fail;
-
-// Runs each script of the table on a fresh volume, and compares what is told.
-pub(crate) fn compare(rt: &impl Abort, alloc: Global, table: &[(&str, &str)]) -> Result<(), Fail> {
-    let volume = small_volume(alloc)?;
-    for (script, wanted) in table {
-        let left = job_on(
-            alloc,
-            "squirrel run v",
-            volume.as_slice(),
-            script.as_bytes(),
-        )?;
-        assert_eq!(rt; left.told.as_slice(), wanted.as_bytes(), "at {script}");
-        assert_eq!(rt; left.status, Status::Done, "at {script}");
-    }
-    Ok(())
-}
+use worked_drivers::rows::compare_replies;
+use worked_drivers::volumes::small_volume;
 
 #[test]
 fn files_are_made_and_told(rt: HostRuntime) -> Result<(), Fail> {
-    compare(
-        &rt,
+    compare_replies(
         rt.alloc(),
+        small_volume(rt.alloc())?.as_slice(),
         &[
             (
                 "create /a\nstat /a\nlist /\n",
@@ -54,9 +36,9 @@ fn files_are_made_and_told(rt: HostRuntime) -> Result<(), Fail> {
 
 #[test]
 fn directories_are_made_and_told(rt: HostRuntime) -> Result<(), Fail> {
-    compare(
-        &rt,
+    compare_replies(
         rt.alloc(),
+        small_volume(rt.alloc())?.as_slice(),
         &[
             (
                 "mkdir /d\ncreate /d/x\nstat /d\n",
@@ -84,9 +66,9 @@ fn directories_are_made_and_told(rt: HostRuntime) -> Result<(), Fail> {
 
 #[test]
 fn commands_are_refused(rt: HostRuntime) -> Result<(), Fail> {
-    compare(
-        &rt,
+    compare_replies(
         rt.alloc(),
+        small_volume(rt.alloc())?.as_slice(),
         &[
             (
                 "create /a\ncreate /a/b\ncreate /x/y\ncreate /a\n",
@@ -114,9 +96,9 @@ fn commands_are_refused(rt: HostRuntime) -> Result<(), Fail> {
 
 #[test]
 fn lines_are_refused(rt: HostRuntime) -> Result<(), Fail> {
-    compare(
-        &rt,
+    compare_replies(
         rt.alloc(),
+        small_volume(rt.alloc())?.as_slice(),
         &[
             ("", ""),
             ("\n", "error BadLine\n"),
@@ -139,9 +121,9 @@ fn lines_are_refused(rt: HostRuntime) -> Result<(), Fail> {
 
 #[test]
 fn paths_are_refused(rt: HostRuntime) -> Result<(), Fail> {
-    compare(
-        &rt,
+    compare_replies(
         rt.alloc(),
+        small_volume(rt.alloc())?.as_slice(),
         &[
             (
                 "create /\ncreate /.\ncreate //a\ncreate /a%2Fb\ncreate a\ncreate /a/\nlist /\n",

@@ -1,51 +1,47 @@
 // Second names of files.
-use crate::jobs::{compare_run, numbered, repeated, volume_with_a};
 use std::alloc::Global;
-use std::process::Abort;
 use std::test::Fail;
+use worked_drivers::jobs::Left;
+use worked_drivers::rows::{compare_rows, compare_run};
+use worked_drivers::texts::{joined, numbered, repeated};
+use worked_drivers::volumes::volume_with_a;
 
-// A name in a directory without a page takes two fences more.
+// A name in a directory without a page takes a fence more.
 #[test]
 fn a_file_gets_more_names(rt: HostRuntime) -> Result<(), Fail> {
-    let volume = volume_with_a(rt.alloc())?;
-    for (script, told, fences) in [
-        (
-            "link /a /b\nstat /a\nstat /b\nlist /\nstat /\ndf\n",
-            "ok\nok file inode 2 links 2 size 0\nok file inode 2 links 2 size 0\nok 2 a b\nok dir inode 1 links 2 names 2\nok inodes 2 4 pages 12 13\n",
-            2u64,
-        ),
-        (
-            "link /a /b\nlink /b /c\nlink /c /B\nstat /a\nlist /\n",
-            "ok\nok\nok\nok file inode 2 links 4 size 0\nok 4 B a b c\n",
-            6,
-        ),
-        (
-            "mkdir /d\nlink /a /d/x\nstat /d/x\nstat /d\ndf\n",
-            "ok\nok\nok file inode 2 links 2 size 0\nok dir inode 3 links 2 names 1\nok inodes 1 4 pages 11 13\n",
-            6,
-        ),
-        (
-            "mkdir /d\nlink /a /d/a\nlink /d/a /d/b\nlist /d\nstat /a\n",
-            "ok\nok\nok\nok 2 a b\nok file inode 2 links 3 size 0\n",
-            8,
-        ),
-    ] {
-        compare_run(
-            &rt,
-            rt.alloc(),
-            volume.as_slice(),
-            script.as_bytes(),
-            told.as_bytes(),
-            fences,
-        )?;
-    }
-    Ok(())
+    compare_rows(
+        rt.alloc(),
+        volume_with_a(rt.alloc())?.as_slice(),
+        &[
+            (
+                "link /a /b\nstat /a\nstat /b\nlist /\nstat /\ndf\n",
+                "ok\nok file inode 2 links 2 size 0\nok file inode 2 links 2 size 0\nok 2 a b\nok dir inode 1 links 2 names 2\nok inodes 2 4 pages 12 13\n",
+                2,
+            ),
+            (
+                "link /a /b\nlink /b /c\nlink /c /B\nstat /a\nlist /\n",
+                "ok\nok\nok\nok file inode 2 links 4 size 0\nok 4 B a b c\n",
+                6,
+            ),
+            (
+                "mkdir /d\nlink /a /d/x\nstat /d/x\nstat /d\ndf\n",
+                "ok\nok\nok file inode 2 links 2 size 0\nok dir inode 3 links 2 names 1\nok inodes 1 4 pages 11 13\n",
+                5,
+            ),
+            (
+                "mkdir /d\nlink /a /d/a\nlink /d/a /d/b\nlist /d\nstat /a\n",
+                "ok\nok\nok\nok 2 a b\nok file inode 2 links 3 size 0\n",
+                7,
+            ),
+        ],
+    )
 }
 
 // The first path is walked first; that the new name is there comes before what the old one names.
 #[test]
 fn names_are_refused(rt: HostRuntime) -> Result<(), Fail> {
-    let volume = volume_with_a(rt.alloc())?;
+    let alloc = rt.alloc();
+    let volume = volume_with_a(alloc)?;
     for (line, told) in [
         ("link / /x\n", "error IsDir\n"),
         ("link /d /e\n", "error IsDir\n"),
@@ -60,18 +56,16 @@ fn names_are_refused(rt: HostRuntime) -> Result<(), Fail> {
         ("link /a /x/y\n", "error NotFound\n"),
         ("link /a /a/y\n", "error NotDir\n"),
     ] {
-        let mut script = b"mkdir /d\n".to_vec(rt.alloc())?;
-        script.extend_from_slice(line.as_bytes())?;
-        script.extend_from_slice(b"stat /a\nlist /\n")?;
-        let mut wanted = b"ok\n".to_vec(rt.alloc())?;
-        wanted.extend_from_slice(told.as_bytes())?;
-        wanted.extend_from_slice(b"ok file inode 2 links 1 size 0\nok 2 a d\n")?;
+        let script = joined(alloc, &["mkdir /d\n", line, "stat /a\nlist /\n"])?;
+        let wanted = joined(
+            alloc,
+            &["ok\n", told, "ok file inode 2 links 1 size 0\nok 2 a d\n"],
+        )?;
         compare_run(
-            &rt,
-            rt.alloc(),
+            alloc,
             volume.as_slice(),
-            &script,
-            wanted.as_slice(),
+            script.as_str(),
+            wanted.as_str(),
             2,
         )?;
     }
@@ -79,11 +73,12 @@ fn names_are_refused(rt: HostRuntime) -> Result<(), Fail> {
 }
 
 // How many words a line has is looked at before its paths, and a fault of form in either path before a name that is too
-// long in either.
+// long in either. A path that ends in `/` gets a name of 111 bytes.
 #[test]
 fn lines_of_two_paths_are_refused(rt: HostRuntime) -> Result<(), Fail> {
-    let volume = volume_with_a(rt.alloc())?;
-    let long = vec![in rt.alloc(); b'n'; 111]?;
+    let alloc = rt.alloc();
+    let volume = volume_with_a(alloc)?;
+    let long = repeated(alloc, "n", 111)?;
     for (start, end, told) in [
         ("link", "", "error BadLine\n"),
         ("link /a", "", "error BadLine\n"),
@@ -98,48 +93,38 @@ fn lines_of_two_paths_are_refused(rt: HostRuntime) -> Result<(), Fail> {
         ("link /", " /b", "error NameTooLong\n"),
         ("link /x /", "", "error NameTooLong\n"),
     ] {
-        let mut script = start.as_bytes().to_vec(rt.alloc())?;
-        if start.ends_with('/') {
-            script.extend_from_slice(&long)?;
-        }
-        script.extend_from_slice(end.as_bytes())?;
-        script.push(b'\n')?;
-        compare_run(
-            &rt,
-            rt.alloc(),
-            volume.as_slice(),
-            &script,
-            told.as_bytes(),
-            0,
-        )?;
+        let name = if start.ends_with('/') {
+            long.as_str()
+        } else {
+            ""
+        };
+        let script = joined(alloc, &[start, name, end, "\n"])?;
+        compare_run(alloc, volume.as_slice(), script.as_str(), told, 0)?;
     }
     Ok(())
 }
 
 // The words of the volume with 416 names of the file `/a`, which fill the 13 pages of the root, 32 in each.
-pub(crate) fn full_of_names(rt: &impl Abort, alloc: Global) -> Result<Vec<u64>, Fail> {
-    let volume = volume_with_a(alloc)?;
-    let full = compare_run(
-        rt,
+pub(crate) fn full_of_names(alloc: Global) -> Result<Left, Fail> {
+    compare_run(
         alloc,
-        volume.as_slice(),
-        numbered(alloc, "link /a /n", 1, 416)?.as_bytes(),
-        repeated(alloc, b"ok\n", 415)?.as_slice(),
-        854,
-    )?;
-    Ok(full.image)
+        volume_with_a(alloc)?.as_slice(),
+        numbered(alloc, "link /a /n", 1, 416)?.as_str(),
+        repeated(alloc, "ok\n", 415)?.as_str(),
+        842,
+    )
 }
 
 #[test]
 fn names_fill_a_volume(rt: HostRuntime) -> Result<(), Fail> {
-    let full = full_of_names(&rt, rt.alloc())?;
-    compare_run(
-        &rt,
+    let full = full_of_names(rt.alloc())?;
+    compare_rows(
         rt.alloc(),
-        full.as_slice(),
-        b"link /a /zz\ncreate /zz\nlink /a /n1\ndf\nstat /a\nstat /\n",
-        b"error NoPages\nerror NoPages\nerror Exists\nok inodes 2 4 pages 0 13\nok file inode 2 links 416 size 0\nok dir inode 1 links 2 names 416\n",
-        0,
-    )?;
-    Ok(())
+        full.image.as_slice(),
+        &[(
+            "link /a /zz\ncreate /zz\nlink /a /n1\ndf\nstat /a\nstat /\n",
+            "error NoPages\nerror NoPages\nerror Exists\nok inodes 2 4 pages 0 13\nok file inode 2 links 416 size 0\nok dir inode 1 links 2 names 416\n",
+            0,
+        )],
+    )
 }

@@ -1,15 +1,15 @@
 // How many inodes and pages `df` tells to be free, of all that a volume has.
-use crate::jobs::{job_on, small_volume};
-use crate::lines::compare;
-use squirrel_cli::Status;
 use std::test::Fail;
+use worked_drivers::jobs::{job_on, same};
+use worked_drivers::rows::compare_replies;
+use worked_drivers::volumes::small_volume;
 
 // Of 16 pages, which have 4 inodes and 13 data pages. A directory takes a page with its first name.
 #[test]
 fn what_is_free_is_told(rt: HostRuntime) -> Result<(), Fail> {
-    compare(
-        &rt,
+    compare_replies(
         rt.alloc(),
+        small_volume(rt.alloc())?.as_slice(),
         &[
             ("df\n", "ok inodes 3 4 pages 13 13\n"),
             (
@@ -37,8 +37,6 @@ fn what_is_free_is_told(rt: HostRuntime) -> Result<(), Fail> {
 fn what_is_free_is_read_alone(rt: HostRuntime) -> Result<(), Fail> {
     let volume = small_volume(rt.alloc())?;
     let left = job_on(rt.alloc(), "squirrel run v", volume.as_slice(), b"df\n")?;
-    assert_eq!(rt; left.status, Status::Done);
-    assert_eq!(rt; (left.fences, left.acks), (0, 1));
-    assert_eq!(rt; left.image.as_slice(), volume.as_slice());
-    Ok(())
+    same((left.fences, left.acks), (0, 1), "df")?;
+    same(left.image.as_slice(), volume.as_slice(), "df")
 }

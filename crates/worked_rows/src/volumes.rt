@@ -1,9 +1,10 @@
 // Making a volume, words that ask for no job, and words of a device that are no volume.
-use crate::jobs::{Left, job_on, set_words, small_volume, volume_with_a};
 use squirrel_cli::Status;
 use std::alloc::Global;
-use std::process::Abort;
 use std::test::Fail;
+use worked_drivers::jobs::{Left, is_done, job_on, same, text_of};
+use worked_drivers::rows::{compare_rows, compare_run};
+use worked_drivers::volumes::{set_words, small_volume, volume_with_a, with_words};
 
 const MAGIC: u64 = 0x3130_4D50_4C52_5153;
 
@@ -43,10 +44,9 @@ fn volumes_are_made(rt: HostRuntime) -> Result<(), Fail> {
         ),
     ] {
         let left = make(rt.alloc(), line, pages)?;
-        assert_eq!(rt; left.told.as_slice(), wanted.as_bytes(), "at {line}");
-        assert_eq!(rt; left.status, Status::Done, "at {line}");
-        assert_eq!(rt; left.status.number(), 0);
-        assert_eq!(rt; left.fences, 3, "at {line}");
+        is_done(&left, wanted, line)?;
+        same(left.fences, 3, line)?;
+        same(left.status.number(), 0, line)?;
     }
     Ok(())
 }
@@ -55,7 +55,7 @@ fn volumes_are_made(rt: HostRuntime) -> Result<(), Fail> {
 #[test]
 fn a_fresh_volume_has_the_words_of_the_format(rt: HostRuntime) -> Result<(), Fail> {
     let left = make(rt.alloc(), "squirrel mkfs v 16", 16)?;
-    assert_eq!(rt; left.image.len(), 8_192);
+    same(left.image.len(), 8_192, "a volume of 16 pages")?;
     for (first, wanted) in [
         (0usize, [MAGIC, 1, 16, 4, 13, 0].as_slice()),
         (512, [2, 2, 0, 1, 0].as_slice()),
@@ -64,11 +64,8 @@ fn a_fresh_volume_has_the_words_of_the_format(rt: HostRuntime) -> Result<(), Fai
         (1_535, [0, 7, 7].as_slice()),
         (8_191, [7].as_slice()),
     ] {
-        assert_eq!(rt;
-            left.image.get(first..first.saturating_add(wanted.len())),
-            Some(wanted),
-            "at {first}"
-        );
+        let found = left.image.get(first..first.saturating_add(wanted.len()));
+        same((first, found), (first, Some(wanted)), "a fresh volume")?;
     }
     Ok(())
 }
@@ -101,45 +98,33 @@ fn words_that_ask_for_no_job(rt: HostRuntime) -> Result<(), Fail> {
         "squirrel --version",
     ] {
         let left = job_on(rt.alloc(), line, volume.as_slice(), b"create /a\n")?;
-        assert_eq!(rt; left.status, Status::Usage, "at {line}");
-        assert_eq!(rt; left.status.number(), 2);
-        assert!(rt; left.told.is_empty(), "at {line}");
-        assert_eq!(rt; left.image.as_slice(), volume.as_slice(), "at {line}");
+        same(left.status, Status::Usage, line)?;
+        same(left.status.number(), 2, line)?;
+        same(text_of(&left.told), "", line)?;
+        same(left.image.as_slice(), volume.as_slice(), line)?;
     }
     Ok(())
 }
 
 // Runs a script on words that can't be mounted: it is told so, and nothing is done.
-fn compare(rt: &impl Abort, alloc: Global, image: &[u64], told: &str) -> Result<(), Fail> {
+fn compare(alloc: Global, image: &[u64], told: &str) -> Result<(), Fail> {
     let left = job_on(alloc, "squirrel run v", image, b"create /b\n")?;
-    assert_eq!(rt; left.told.as_slice(), told.as_bytes());
-    assert_eq!(rt; left.status.number(), 4);
-    assert_eq!(rt; left.image.as_slice(), image);
-    assert_eq!(rt; (left.fences, left.acks), (0, 0));
-    Ok(())
-}
-
-// The words of a volume of 16 pages with the file `/a`, of which some are set.
-fn with_words(alloc: Global, changes: &[(usize, u64)]) -> Result<Vec<u64>, Fail> {
-    let mut image = volume_with_a(alloc)?;
-    set_words(&mut image, changes)?;
-    Ok(image)
-}
-
-fn with_word(alloc: Global, word: usize, value: u64) -> Result<Vec<u64>, Fail> {
-    with_words(alloc, &[(word, value)])
+    same(text_of(&left.told), told, told)?;
+    same(left.status.number(), 4, told)?;
+    same(left.image.as_slice(), image, told)?;
+    same((left.fences, left.acks), (0, 0), told)
 }
 
 #[test]
 fn words_that_are_no_volume(rt: HostRuntime) -> Result<(), Fail> {
+    let volume = volume_with_a(rt.alloc())?;
     for (word, value) in [(0, 0), (0, MAGIC + 1), (1, 2), (2, 17), (3, 5), (4, 12)] {
-        let image = with_word(rt.alloc(), word, value)?;
-        compare(&rt, rt.alloc(), image.as_slice(), "not a volume\n")?;
+        let image = with_words(rt.alloc(), volume.as_slice(), &[(word, value)])?;
+        compare(rt.alloc(), image.as_slice(), "not a volume\n")?;
     }
-    let image = with_word(rt.alloc(), 0, MAGIC)?;
     for count in [0, 1, 5, 8_191] {
-        let cut = image.get(..count).ok_or("too short")?;
-        compare(&rt, rt.alloc(), cut, "not a volume\n")?;
+        let cut = volume.get(..count).ok_or("too short")?;
+        compare(rt.alloc(), cut, "not a volume\n")?;
     }
     Ok(())
 }
@@ -147,23 +132,24 @@ fn words_that_are_no_volume(rt: HostRuntime) -> Result<(), Fail> {
 // Litter: too many links of the file, a kind of a page without owner, and a name in a slot without a number.
 const LITTER: [(usize, u64); 3] = [(529, 7), (1_049, 3), (1_586, 0x63_0001)];
 
-// The volume with the file `/a` and these words is damaged, also where there is litter besides.
+// The volume with these words is damaged, also where there is litter besides.
 fn compare_damaged(
-    rt: &impl Abort,
     alloc: Global,
+    volume: &[u64],
     changes: &[(usize, u64)],
     told: &str,
 ) -> Result<(), Fail> {
-    let image = with_words(alloc, changes)?;
-    compare(rt, alloc, image.as_slice(), told)?;
-    let mut image = with_words(alloc, &LITTER)?;
+    let mut image = with_words(alloc, volume, changes)?;
+    compare(alloc, image.as_slice(), told)?;
+    image = with_words(alloc, volume, &LITTER)?;
     set_words(&mut image, changes)?;
-    compare(rt, alloc, image.as_slice(), told)
+    compare(alloc, image.as_slice(), told)
 }
 
 // Each word is of the root, of the file's inode, of the page's descriptor, or of a slot of the page.
 #[test]
 fn volumes_that_break_a_rule(rt: HostRuntime) -> Result<(), Fail> {
+    let volume = volume_with_a(rt.alloc())?;
     for (word, value, told) in [
         (512, 1, "damaged 2 1\n"),
         (515, 2, "damaged 2 1\n"),
@@ -181,7 +167,7 @@ fn volumes_that_break_a_rule(rt: HostRuntime) -> Result<(), Fail> {
         (528, 2, "damaged 14 1\n"),
         (529, 0, "damaged 14 2\n"),
     ] {
-        compare_damaged(&rt, rt.alloc(), &[(word, value)], told)?;
+        compare_damaged(rt.alloc(), volume.as_slice(), &[(word, value)], told)?;
     }
     Ok(())
 }
@@ -191,6 +177,7 @@ fn volumes_that_break_a_rule(rt: HostRuntime) -> Result<(), Fail> {
 // rules that are broken at once.
 #[test]
 fn volumes_that_break_a_rule_by_more_words(rt: HostRuntime) -> Result<(), Fail> {
+    let volume = volume_with_a(rt.alloc())?;
     for (changes, told) in [
         ([(1_553usize, 3u64), (1_569, 2)].as_slice(), "damaged 4 2\n"),
         ([(1_552, 2), (1_554, 0x61_0001)].as_slice(), "damaged 8 1\n"),
@@ -205,7 +192,7 @@ fn volumes_that_break_a_rule_by_more_words(rt: HostRuntime) -> Result<(), Fail> 
         ),
         ([(529, 0), (1_025, 1)].as_slice(), "damaged 10 0\n"),
     ] {
-        compare_damaged(&rt, rt.alloc(), changes, told)?;
+        compare_damaged(rt.alloc(), volume.as_slice(), changes, told)?;
     }
     Ok(())
 }
@@ -213,13 +200,17 @@ fn volumes_that_break_a_rule_by_more_words(rt: HostRuntime) -> Result<(), Fail> 
 // Words that no one reads may be anything.
 #[test]
 fn words_that_are_not_read(rt: HostRuntime) -> Result<(), Fail> {
+    let volume = volume_with_a(rt.alloc())?;
     for word in [
         5, 511, 514, 516, 527, 532, 1_026, 1_027, 1_031, 1_035, 2_048, 8_191,
     ] {
-        let image = with_word(rt.alloc(), word, 9)?;
-        let left = job_on(rt.alloc(), "squirrel run v", image.as_slice(), b"list /\n")?;
-        assert_eq!(rt; left.told.as_slice(), b"ok 1 a\n".as_slice(), "at {word}");
-        assert_eq!(rt; left.image.as_slice(), image.as_slice(), "at {word}");
+        let image = with_words(rt.alloc(), volume.as_slice(), &[(word, 9)])?;
+        let left = compare_run(rt.alloc(), image.as_slice(), "list /\n", "ok 1 a\n", 0)?;
+        same(
+            (word, left.image.as_slice()),
+            (word, image.as_slice()),
+            "it was changed",
+        )?;
     }
     Ok(())
 }
@@ -229,6 +220,7 @@ fn words_that_are_not_read(rt: HostRuntime) -> Result<(), Fail> {
 fn a_file_with_bytes_is_told(rt: HostRuntime) -> Result<(), Fail> {
     let image = with_words(
         rt.alloc(),
+        volume_with_a(rt.alloc())?.as_slice(),
         &[
             (530, 4_097),
             (1_032, 2),
@@ -240,17 +232,15 @@ fn a_file_with_bytes_is_told(rt: HostRuntime) -> Result<(), Fail> {
             (2_560, 0x61),
         ],
     )?;
-    let left = job_on(
+    compare_rows(
         rt.alloc(),
-        "squirrel run v",
         image.as_slice(),
-        b"stat /a\nread /a 4095 9\nread /a 0 1\ndf\n",
-    )?;
-    assert_eq!(rt;
-        left.told.as_slice(),
-        b"ok file inode 2 links 1 size 4097\nok 2 0062\nok 1 61\nok inodes 2 4 pages 10 13\n".as_slice()
-    );
-    Ok(())
+        &[(
+            "stat /a\nread /a 4095 9\nread /a 0 1\ndf\n",
+            "ok file inode 2 links 1 size 4097\nok 2 0062\nok 1 61\nok inodes 2 4 pages 10 13\n",
+            0,
+        )],
+    )
 }
 
 // The name `e` stands in page 0, its directory's in page 1.
@@ -304,20 +294,17 @@ fn directories_in_any_pages_are_told(rt: HostRuntime) -> Result<(), Fail> {
     for (words, script, told) in [
         (
             NAMED_BEFORE_ITS_DIRECTORY.as_slice(),
-            b"stat /d/e\nstat /\n".as_slice(),
+            "stat /d/e\nstat /\n",
             "ok dir inode 3 links 2 names 0\nok dir inode 1 links 3 names 1\n",
         ),
         (
             DIRECTORY_OF_TWO_PAGES.as_slice(),
-            b"list /d\nstat /d/g\n".as_slice(),
+            "list /d\nstat /d/g\n",
             "ok 2 f g\nok file inode 4 links 1 size 0\n",
         ),
     ] {
-        let mut image = volume.clone()?;
-        set_words(&mut image, words)?;
-        let left = job_on(rt.alloc(), "squirrel run v", image.as_slice(), script)?;
-        assert_eq!(rt; left.told.as_slice(), told.as_bytes());
-        assert_eq!(rt; left.fences, 0, "fences for {told}");
+        let image = with_words(rt.alloc(), volume.as_slice(), words)?;
+        compare_run(rt.alloc(), image.as_slice(), script, told, 0)?;
     }
     Ok(())
 }

@@ -1,42 +1,20 @@
-// A name that moves: what a script is told, what each line costs, and crashes before each of its fences.
-use crate::costs::{Cost, compare as compare_costs};
-use crate::crashes::{Crashes, Found, compare as compare_crashes};
-use crate::jobs::{job_on, numbered, small_volume};
+// A name that moves: what a script is told, and what each line costs.
 use std::alloc::Global;
-use std::process::Abort;
 use std::test::Fail;
+use worked_drivers::rows::{Cost, compare_costs};
+use worked_drivers::texts::{joined, numbered};
+use worked_drivers::volumes::volume_after;
 
 // Runs each script of a row on what those before it left: on a fresh volume of so many pages, once a first script was run.
-fn compare_on(
-    rt: &impl Abort,
-    alloc: Global,
-    pages: u64,
-    first: &str,
-    costs: &[Cost<'_>],
-) -> Result<(), Fail> {
+fn compare_on(alloc: Global, pages: u64, first: &str, costs: &[Cost<'_>]) -> Result<(), Fail> {
     let volume = volume_after(alloc, pages, first)?;
-    compare_costs(rt, alloc, volume.as_slice(), costs)?;
+    compare_costs(alloc, volume.as_slice(), costs)?;
     Ok(())
-}
-
-// The words of a volume of so many pages, 16 to 64, on which a script was run.
-fn volume_after(alloc: Global, pages: u64, script: &str) -> Result<Vec<u64>, Fail> {
-    let old = vec![in alloc; 0; 512 * pages.min(64) as usize]?;
-    let line = format!(in alloc; "squirrel mkfs v {pages}")?;
-    let fresh = job_on(alloc, line.as_str(), old.as_slice(), b"")?;
-    let left = job_on(
-        alloc,
-        "squirrel run v",
-        fresh.image.as_slice(),
-        script.as_bytes(),
-    )?;
-    Ok(left.image)
 }
 
 #[test]
 fn a_name_moves_in_a_directory(rt: HostRuntime) -> Result<(), Fail> {
     compare_on(
-        &rt,
         rt.alloc(),
         16,
         "create /a\n",
@@ -60,7 +38,6 @@ fn a_name_moves_in_a_directory(rt: HostRuntime) -> Result<(), Fail> {
 #[test]
 fn directories_do_not_move_into_themselves(rt: HostRuntime) -> Result<(), Fail> {
     compare_on(
-        &rt,
         rt.alloc(),
         16,
         "mkdir /d\nmkdir /d/e\n",
@@ -70,7 +47,6 @@ fn directories_do_not_move_into_themselves(rt: HostRuntime) -> Result<(), Fail> 
         ],
     )?;
     compare_on(
-        &rt,
         rt.alloc(),
         16,
         "mkdir /d\nmkdir /d/e\ncreate /d/e/x\n",
@@ -85,7 +61,6 @@ fn directories_do_not_move_into_themselves(rt: HostRuntime) -> Result<(), Fail> 
     )?;
     // A name that only begins like the directory's is another one.
     compare_on(
-        &rt,
         rt.alloc(),
         64,
         "mkdir /d\nmkdir /dd\n",
@@ -97,11 +72,14 @@ fn directories_do_not_move_into_themselves(rt: HostRuntime) -> Result<(), Fail> 
 #[test]
 fn a_directory_moves_to_another_parent(rt: HostRuntime) -> Result<(), Fail> {
     compare_on(
-        &rt,
         rt.alloc(),
         64,
-        "mkdir /p\nmkdir /q\nmkdir /p/d\ncreate /p/d/x\n",
+        "",
         &[
+            ("mkdir /p\n", "ok\n", 3, 593),
+            ("mkdir /q\n", "ok\n", 2, 27),
+            ("mkdir /p/d\n", "ok\n", 3, 593),
+            ("create /p/d/x\n", "ok\n", 3, 591),
             ("rename /p/d /q/e\n", "ok\n", 8, 623),
             ("stat /p\n", "ok dir inode 2 links 2 names 0\n", 0, 0),
             ("stat /q\n", "ok dir inode 3 links 3 names 1\n", 0, 0),
@@ -109,7 +87,7 @@ fn a_directory_moves_to_another_parent(rt: HostRuntime) -> Result<(), Fail> {
             ("mkdir /q/f\n", "ok\n", 2, 27),
             ("rename /q/e /q/f\n", "ok\n", 5, 37),
             ("stat /q\n", "ok dir inode 3 links 3 names 1\n", 0, 0),
-            ("mkdir /p/g\n", "ok\n", 4, 610),
+            ("mkdir /p/g\n", "ok\n", 3, 593),
             ("rename /q/f /p/g\n", "ok\n", 6, 43),
             ("stat /p\n", "ok dir inode 2 links 3 names 1\n", 0, 0),
             ("stat /q\n", "ok dir inode 3 links 2 names 0\n", 0, 0),
@@ -123,7 +101,6 @@ fn a_file_is_replaced(rt: HostRuntime) -> Result<(), Fail> {
     let first =
         "mkdir /p\nmkdir /q\ncreate /p/s\nwrite /p/s 0 6869\ncreate /q/t\ntruncate /q/t 5000\n";
     compare_on(
-        &rt,
         rt.alloc(),
         64,
         first,
@@ -136,7 +113,6 @@ fn a_file_is_replaced(rt: HostRuntime) -> Result<(), Fail> {
     )?;
     // One that has another name is kept.
     compare_on(
-        &rt,
         rt.alloc(),
         64,
         "create /a\nlink /a /b\ncreate /c\n",
@@ -154,9 +130,8 @@ fn a_file_is_replaced(rt: HostRuntime) -> Result<(), Fail> {
 fn a_full_directory_takes_a_page(rt: HostRuntime) -> Result<(), Fail> {
     let alloc = rt.alloc();
     let links = numbered(alloc, "link /z /d/n", 0, 32)?;
-    let first = format!(in alloc; "create /z\nmkdir /d\n{}", links.as_str())?;
+    let first = joined(alloc, &["create /z\nmkdir /d\n", links.as_str()])?;
     compare_on(
-        &rt,
         alloc,
         64,
         first.as_str(),
@@ -168,9 +143,8 @@ fn a_full_directory_takes_a_page(rt: HostRuntime) -> Result<(), Fail> {
             ("rename /z /d/z\n", "ok\n", 4, 44),
         ],
     )?;
-    let more = format!(in alloc; "{}link /z /d/n32\n", first.as_str())?;
+    let more = joined(alloc, &[first.as_str(), "link /z /d/n32\n"])?;
     compare_on(
-        &rt,
         alloc,
         64,
         more.as_str(),
@@ -188,7 +162,6 @@ fn a_full_directory_takes_a_page(rt: HostRuntime) -> Result<(), Fail> {
 fn no_page_is_left_for_a_name(rt: HostRuntime) -> Result<(), Fail> {
     let first = "mkdir /d\ncreate /d/x\ncreate /a\nmkdir /e\ntruncate /a 110592\n";
     compare_on(
-        &rt,
         rt.alloc(),
         32,
         first,
@@ -204,7 +177,6 @@ fn no_page_is_left_for_a_name(rt: HostRuntime) -> Result<(), Fail> {
 #[test]
 fn each_refusal_has_its_place(rt: HostRuntime) -> Result<(), Fail> {
     compare_on(
-        &rt,
         rt.alloc(),
         64,
         "mkdir /d\nmkdir /d/e\ncreate /f\nlink /f /g\n",
@@ -228,109 +200,4 @@ fn each_refusal_has_its_place(rt: HostRuntime) -> Result<(), Fail> {
             ),
         ],
     )
-}
-
-// Up to the fence `commit` the old name is found, and then the new one. What a mount clears rises up to the commit, and falls after it.
-#[test]
-fn a_name_is_old_or_new(rt: HostRuntime) -> Result<(), Fail> {
-    for (first, row) in [
-        (
-            "create /a\n",
-            Crashes {
-                line: "rename /a /b\n",
-                mounts: &[(0, 2), (2, 3), (3, 2), (2, 0)],
-                commit: 2,
-                asked: "list /\n",
-                before: Found {
-                    told: "ok 1 a\n",
-                    free: (2, 12),
-                },
-                after: Found {
-                    told: "ok 1 b\n",
-                    free: (2, 12),
-                },
-            },
-        ),
-        (
-            "mkdir /p\nmkdir /q\nmkdir /p/d\n",
-            Crashes {
-                line: "rename /p/d /q/e\n",
-                mounts: &[
-                    (0, 1),
-                    (1, 2),
-                    (2, 3),
-                    (3, 4),
-                    (4, 3),
-                    (3, 2),
-                    (2, 1),
-                    (1, 0),
-                ],
-                commit: 4,
-                asked: "list /p\nlist /q\n",
-                before: Found {
-                    told: "ok 1 d\nok 0\n",
-                    free: (0, 11),
-                },
-                after: Found {
-                    told: "ok 0\nok 1 e\n",
-                    free: (0, 11),
-                },
-            },
-        ),
-        (
-            "create /a\ncreate /b\nwrite /b 0 6869\n",
-            Crashes {
-                line: "rename /a /b\n",
-                mounts: &[(0, 1), (1, 4), (4, 3), (3, 2), (2, 1), (1, 0)],
-                commit: 2,
-                asked: "list /\n",
-                before: Found {
-                    told: "ok 2 a b\n",
-                    free: (1, 11),
-                },
-                after: Found {
-                    told: "ok 1 b\n",
-                    free: (2, 12),
-                },
-            },
-        ),
-        (
-            "mkdir /d\nmkdir /e\n",
-            Crashes {
-                line: "rename /d /e\n",
-                mounts: &[(0, 1), (1, 4), (4, 3), (3, 1), (1, 0)],
-                commit: 2,
-                asked: "list /\n",
-                before: Found {
-                    told: "ok 2 d e\n",
-                    free: (1, 12),
-                },
-                after: Found {
-                    told: "ok 1 e\n",
-                    free: (2, 12),
-                },
-            },
-        ),
-        (
-            "create /a\ncreate /b\nlink /b /c\n",
-            Crashes {
-                line: "rename /a /b\n",
-                mounts: &[(0, 1), (1, 3), (3, 2), (2, 0)],
-                commit: 2,
-                asked: "list /\n",
-                before: Found {
-                    told: "ok 3 a b c\n",
-                    free: (1, 12),
-                },
-                after: Found {
-                    told: "ok 2 b c\n",
-                    free: (1, 12),
-                },
-            },
-        ),
-    ] {
-        let volume = volume_after(rt.alloc(), 16, first)?;
-        compare_crashes(&rt, rt.alloc(), volume.as_slice(), row)?;
-    }
-    Ok(())
 }

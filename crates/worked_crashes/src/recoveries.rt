@@ -1,16 +1,16 @@
 // Sound volumes that a crash left with something to repair: what their mount makes of them, and what the run after it finds.
 // All are of 16 pages: inode 2 begins at word 528 and inode 3 at 544, the descriptors at 1,024, and the slots of data page 0
 // at 1,536, each of 16 words.
-use crate::jobs::{
-    crash_at, do_job, events_of, job_on, set_words, sink_of, small_volume, source_of, volume_with_a,
-};
-use mount_scan::mount;
 use pm_memory::RamPm;
-use pm_trait::Pm;
 use squirrel_cli::Status;
 use std::alloc::Global;
-use std::process::Abort;
 use std::test::Fail;
+use worked_drivers::crashes::{Found, compare_found, free_of};
+use worked_drivers::jobs::{
+    crash_at, do_job, events_of, is_done, run_on, same, sink_of, source_of, text_of,
+};
+use worked_drivers::rows::compare_run;
+use worked_drivers::volumes::{small_volume, volume_with_a, with_words};
 
 // With the file `/a` it is renamed to `/b`, as far as the commit. Besides a dead slot has a name, inode 2 has too many links,
 // inode 3 isn't named, page 1 is past the end of the file, and page 2 has an owner that no volume of this size has.
@@ -48,60 +48,22 @@ struct Row<'a> {
     free: (u64, u64),
 }
 
-// The words of a volume, some of them set.
-fn with_words(alloc: Global, volume: &[u64], changes: &[(usize, u64)]) -> Result<Vec<u64>, Fail> {
-    let mut image = volume.to_vec(alloc)?;
-    set_words(&mut image, changes)?;
-    Ok(image)
-}
-
 fn littered(alloc: Global) -> Result<Vec<u64>, Fail> {
-    let volume = volume_with_a(alloc)?;
-    with_words(alloc, volume.as_slice(), &LITTERED)
-}
-
-// How many inodes and data pages a mount finds free.
-fn free_of(alloc: Global, image: &[u64]) -> Result<(u64, u64), Fail> {
-    let mut pm = RamPm::new(alloc, image)?;
-    let volume = mount(alloc, &mut pm)?;
-    let free = volume.free(&pm);
-    Ok((free.inodes, free.pages))
+    with_words(alloc, volume_with_a(alloc)?.as_slice(), &LITTERED)
 }
 
 // Runs the script on the volume with the words set, and again on what the first run left, which takes no fence.
-fn compare(rt: &impl Abort, alloc: Global, volume: &[u64], row: &Row<'_>) -> Result<(), Fail> {
+fn compare(alloc: Global, volume: &[u64], row: &Row<'_>) -> Result<(), Fail> {
     let image = with_words(alloc, volume, row.words)?;
     let mut pm = RamPm::new(alloc, image.as_slice())?;
-    let source = source_of(alloc, row.script.as_bytes(), 4_096, 0)?;
-    let left = do_job(
-        alloc,
-        "squirrel run v",
-        &mut pm,
-        source,
-        sink_of(alloc, 4_096, 0)?,
-    )?;
-    assert_eq!(rt; left.told.as_slice(), row.told.as_bytes());
-    assert_eq!(rt; left.status, Status::Done);
-    assert_eq!(rt; left.fences, row.fences, "fences for {}", row.told);
-    assert_eq!(rt;
-        events_of(&pm)?,
-        row.events.saturating_add(left.acks),
-        "events for {}",
-        row.told
-    );
+    let left = run_on(alloc, &mut pm, row.script)?;
+    is_done(&left, row.told, row.script)?;
+    let events = events_of(&pm)?.saturating_sub(left.acks);
+    same((left.fences, events), (row.fences, row.events), row.told)?;
     let mended = with_words(alloc, volume, row.mended)?;
-    assert_eq!(rt; left.image.as_slice(), mended.as_slice());
-
-    let again = job_on(
-        alloc,
-        "squirrel run v",
-        mended.as_slice(),
-        row.script.as_bytes(),
-    )?;
-    assert_eq!(rt; again.told.as_slice(), row.told.as_bytes());
-    assert_eq!(rt; again.fences, 0, "the second run for {}", row.told);
-    assert_eq!(rt; free_of(alloc, mended.as_slice())?, row.free);
-    Ok(())
+    same(left.image.as_slice(), mended.as_slice(), row.told)?;
+    compare_run(alloc, mended.as_slice(), row.script, row.told, 0)?;
+    same(free_of(alloc, mended.as_slice())?, row.free, row.told)
 }
 
 // A file's inode that nothing names; a page of the root without a name; a page's kind without an owner.
@@ -122,7 +84,7 @@ fn the_root_alone_is_mended(rt: HostRuntime) -> Result<(), Fail> {
             told: "ok 0\nok dir inode 1 links 2 names 0\n",
             free: (3, 13),
         };
-        compare(&rt, rt.alloc(), volume.as_slice(), &row)?;
+        compare(rt.alloc(), volume.as_slice(), &row)?;
     }
     Ok(())
 }
@@ -153,7 +115,7 @@ fn a_file_is_left_as_it_was(rt: HostRuntime) -> Result<(), Fail> {
             told: "ok 1 a\nok dir inode 1 links 2 names 1\nok file inode 2 links 1 size 0\n",
             free: (2, 12),
         };
-        compare(&rt, rt.alloc(), volume.as_slice(), &row)?;
+        compare(rt.alloc(), volume.as_slice(), &row)?;
     }
     Ok(())
 }
@@ -184,7 +146,7 @@ fn a_rename_is_completed(rt: HostRuntime) -> Result<(), Fail> {
             told: "ok 1 b\nok file inode 2 links 1 size 0\n",
             free: (2, 12),
         };
-        compare(&rt, rt.alloc(), volume.as_slice(), &row)?;
+        compare(rt.alloc(), volume.as_slice(), &row)?;
     }
     Ok(())
 }
@@ -231,38 +193,21 @@ fn what_nothing_leads_to_goes(rt: HostRuntime) -> Result<(), Fail> {
             told: "ok 0\n",
             free: (3, 13),
         };
-        compare(&rt, rt.alloc(), volume.as_slice(), &row)?;
+        compare(rt.alloc(), volume.as_slice(), &row)?;
     }
     Ok(())
 }
 
-// What a run finds on the words that a crash left: what a script is told, and what is free.
-pub(crate) fn finds(
-    rt: &impl Abort,
-    alloc: Global,
-    image: &[u64],
-    script: &str,
-    told: &str,
-    free: (u64, u64),
-) -> Result<(), Fail> {
-    let left = job_on(alloc, "squirrel run v", image, script.as_bytes())?;
-    assert_eq!(rt; left.told.as_slice(), told.as_bytes());
-    assert_eq!(rt; left.status, Status::Done);
-    assert_eq!(rt; free_of(alloc, left.image.as_slice())?, free);
-    Ok(())
-}
-
 // The words that a crash at any moment of a device's trail may leave are found with the file under its new name.
-fn finds_the_file_everywhere(
-    rt: &impl Abort,
-    alloc: Global,
-    pm: &RamPm,
-    mixes: &[[u8; 2]],
-) -> Result<(), Fail> {
+fn finds_the_file_everywhere(alloc: Global, pm: &RamPm, mixes: &[[u8; 2]]) -> Result<(), Fail> {
+    let renamed = Found {
+        told: "ok 1 b\n",
+        free: (2, 12),
+    };
     for moment in 0..events_of(pm)?.saturating_add(1) {
         for keep in mixes {
             let image = crash_at(alloc, pm, moment, keep)?;
-            finds(rt, alloc, image.as_slice(), "list /\n", "ok 1 b\n", (2, 12))?;
+            compare_found(alloc, image.as_slice(), "list /\n", renamed)?;
         }
     }
     Ok(())
@@ -272,12 +217,10 @@ fn finds_the_file_everywhere(
 fn a_crash_at_each_moment_of_a_mount(rt: HostRuntime) -> Result<(), Fail> {
     let image = littered(rt.alloc())?;
     let mut pm = RamPm::new(rt.alloc(), image.as_slice())?;
-    let source = source_of(rt.alloc(), b"", 4_096, 0)?;
-    let sink = sink_of(rt.alloc(), 4_096, 0)?;
-    let left = do_job(rt.alloc(), "squirrel run v", &mut pm, source, sink)?;
-    assert_eq!(rt; left.status, Status::Done);
-    assert_eq!(rt; events_of(&pm)?, 59);
-    finds_the_file_everywhere(&rt, rt.alloc(), &pm, MIXES.as_slice())
+    let left = run_on(rt.alloc(), &mut pm, "")?;
+    is_done(&left, "", "a mount")?;
+    same(events_of(&pm)?, 59, "a mount")?;
+    finds_the_file_everywhere(rt.alloc(), &pm, MIXES.as_slice())
 }
 
 // The first read of the script would fail, if there were one.
@@ -290,15 +233,15 @@ fn a_fence_of_a_mount_fails(rt: HostRuntime) -> Result<(), Fail> {
         let source = source_of(rt.alloc(), b"list /\n", 4_096, 1)?;
         let sink = sink_of(rt.alloc(), 4_096, 0)?;
         let left = do_job(rt.alloc(), "squirrel run v", &mut pm, source, sink)?;
-        assert_eq!(rt; left.status, Status::DeviceFault, "at {fence}");
-        assert_eq!(rt; left.status.number(), 5);
-        assert!(rt; left.told.is_empty(), "at {fence}");
-        assert_eq!(rt;
+        same(left.status, Status::DeviceFault, "a mount")?;
+        same(left.status.number(), 5, "a mount")?;
+        same(text_of(&left.told), "", "a mount")?;
+        same(
             (left.fences, left.acks),
             (fence.saturating_sub(1), 0),
-            "at {fence}"
-        );
-        finds_the_file_everywhere(&rt, rt.alloc(), &pm, &[MIXES[2]])?;
+            "a mount",
+        )?;
+        finds_the_file_everywhere(rt.alloc(), &pm, &[MIXES[2]])?;
     }
     Ok(())
 }

@@ -1,12 +1,11 @@
 // Reads, writes and fences that fail, each in turn.
-ghost use Rattle.std.specs.Prelude.{◌≤◌};
-
-use crate::jobs::{Left, do_job, job_on, sink_of, small_volume, source_of};
 use pm_memory::RamPm;
 use squirrel_cli::Status;
 use std::alloc::Global;
-use std::process::Abort;
 use std::test::Fail;
+use worked_drivers::jobs::{Left, do_job, is_done, same, sink_of, source_of, text_of};
+use worked_drivers::rows::compare_replies;
+use worked_drivers::volumes::small_volume;
 
 // The first lines of a text, each with its newline.
 fn first_lines(text: &[u8], count: usize) -> &[u8] {
@@ -29,19 +28,27 @@ fn lines_in(text: &[u8]) -> usize {
 }
 
 // Runs a script that is cut before a byte: the read of that byte fails. The lines before are answered, and no other.
-fn cut(rt: &impl Abort, alloc: Global, script: &[u8], replies: &[u8]) -> Result<(), Fail> {
+fn cut(alloc: Global, script: &[u8], replies: &[u8]) -> Result<(), Fail> {
     let volume = small_volume(alloc)?;
     for place in 0..=script.len() {
         let mut pm = RamPm::new(alloc, volume.as_slice())?;
         let source = source_of(alloc, script, 1, (place as u64).saturating_add(1))?;
         let sink = sink_of(alloc, 4_096, 0)?;
         let left = do_job(alloc, "squirrel run v", &mut pm, source, sink)?;
-        let before = script.get(..place).unwrap_or(script);
-        let wanted = first_lines(replies, lines_in(before));
-        assert_eq!(rt; left.told.as_slice(), wanted, "at {place}");
-        assert_eq!(rt; left.status, Status::ReadFault, "at {place}");
-        assert_eq!(rt; left.status.number(), 6);
-        assert_eq!(rt; left.acks, lines_in(before) as u64, "at {place}");
+        let lines = lines_in(script.get(..place).unwrap_or(script));
+        let wanted = first_lines(replies, lines);
+        same(
+            (place, left.told.as_slice()),
+            (place, wanted),
+            "cut at a byte",
+        )?;
+        same(
+            (place, left.status),
+            (place, Status::ReadFault),
+            "cut at a byte",
+        )?;
+        same(left.status.number(), 6, "cut at a byte")?;
+        same((place, left.acks), (place, lines as u64), "cut at a byte")?;
     }
     Ok(())
 }
@@ -49,17 +56,11 @@ fn cut(rt: &impl Abort, alloc: Global, script: &[u8], replies: &[u8]) -> Result<
 #[test]
 fn the_script_is_cut_at_each_byte(rt: HostRuntime) -> Result<(), Fail> {
     cut(
-        &rt,
         rt.alloc(),
         b"create /a\nstat /a\nlist /\n",
         b"ok\nok file inode 2 links 1 size 0\nok 1 a\n",
     )?;
-    cut(
-        &rt,
-        rt.alloc(),
-        b"\ncreate /a\nlist /",
-        b"error BadLine\nok\n",
-    )
+    cut(rt.alloc(), b"\ncreate /a\nlist /", b"error BadLine\nok\n")
 }
 
 #[test]
@@ -69,9 +70,8 @@ fn a_read_fails_within_the_second_line(rt: HostRuntime) -> Result<(), Fail> {
     let source = source_of(rt.alloc(), b"list /\nlist /\n", 2, 5)?;
     let sink = sink_of(rt.alloc(), 4_096, 0)?;
     let left = do_job(rt.alloc(), "squirrel run v", &mut pm, source, sink)?;
-    assert_eq!(rt; left.told.as_slice(), b"ok 0\n".as_slice());
-    assert_eq!(rt; left.status, Status::ReadFault);
-    Ok(())
+    same(text_of(&left.told), "ok 0\n", "two lines")?;
+    same(left.status, Status::ReadFault, "two lines")
 }
 
 // Runs two lines that make files and one that lists them, with an output that is full or fails.
@@ -82,47 +82,52 @@ fn told_to(alloc: Global, volume: &[u64], room: usize, failing: u64) -> Result<L
     do_job(alloc, "squirrel run v", &mut pm, source, sink)
 }
 
+const WHOLE: &[u8] = b"ok\nok\nok 2 a b\n";
+
 #[test]
 fn the_output_is_full(rt: HostRuntime) -> Result<(), Fail> {
     let volume = small_volume(rt.alloc())?;
-    let whole = b"ok\nok\nok 2 a b\n";
     for room in 0..15 {
         let left = told_to(rt.alloc(), volume.as_slice(), room, 0)?;
-        assert_eq!(rt; Some(left.told.as_slice()), whole.get(..room), "at {room}");
-        assert_eq!(rt; left.status, Status::WriteFault, "at {room}");
-        assert_eq!(rt; left.status.number(), 7);
+        same(
+            Some(left.told.as_slice()),
+            WHOLE.get(..room),
+            "a full output",
+        )?;
+        same(
+            (room, left.status),
+            (room, Status::WriteFault),
+            "a full output",
+        )?;
+        same(left.status.number(), 7, "a full output")?;
         // A line is executed before its reply is written, and the run ends there.
-        assert_eq!(rt;
-            left.acks,
-            (lines_in(&left.told) as u64).saturating_add(1),
-            "at {room}"
-        );
+        let acks = (lines_in(&left.told) as u64).saturating_add(1);
+        same((room, left.acks), (room, acks), "a full output")?;
     }
     let left = told_to(rt.alloc(), volume.as_slice(), 15, 0)?;
-    assert_eq!(rt; left.told.as_slice(), whole.as_slice());
-    assert_eq!(rt; left.status, Status::Done);
-    Ok(())
+    is_done(&left, text_of(WHOLE), "room enough")
 }
 
 // Each write fails once: the output is a prefix of the whole one.
 #[test]
 fn a_write_fails(rt: HostRuntime) -> Result<(), Fail> {
     let volume = small_volume(rt.alloc())?;
-    let whole = b"ok\nok\nok 2 a b\n";
     let mut faults: u64 = 0;
     for failing in 1..16 {
         let left = told_to(rt.alloc(), volume.as_slice(), 4_096, failing)?;
-        assert!(rt; whole.starts_with(&left.told), "at {failing}");
-        if left.status == Status::Done {
-            assert_eq!(rt; left.told.len(), 15, "at {failing}");
+        same(WHOLE.starts_with(&left.told), true, "a failing write")?;
+        let whole = left.told.len() == 15;
+        let status = if whole {
+            Status::Done
         } else {
-            assert_eq!(rt; left.status, Status::WriteFault, "at {failing}");
-            assert!(rt; left.told.len() < 15, "at {failing}");
+            Status::WriteFault
+        };
+        same((failing, left.status), (failing, status), "a failing write")?;
+        if !whole {
             faults = faults.saturating_add(1);
         }
     }
-    assert!(rt; faults >= 3);
-    Ok(())
+    same(faults >= 3, true, "so many writes failed")
 }
 
 // The output takes four bytes, and the line whose reply was cut stands.
@@ -130,16 +135,13 @@ fn a_write_fails(rt: HostRuntime) -> Result<(), Fail> {
 fn a_reply_that_is_cut(rt: HostRuntime) -> Result<(), Fail> {
     let volume = small_volume(rt.alloc())?;
     let left = told_to(rt.alloc(), volume.as_slice(), 4, 0)?;
-    assert_eq!(rt; left.told.as_slice(), b"ok\no".as_slice());
-    assert_eq!(rt; left.status, Status::WriteFault);
-    let after = job_on(
+    same(text_of(&left.told), "ok\no", "a reply that is cut")?;
+    same(left.status, Status::WriteFault, "a reply that is cut")?;
+    compare_replies(
         rt.alloc(),
-        "squirrel run v",
         left.image.as_slice(),
-        b"list /\n",
-    )?;
-    assert_eq!(rt; after.told.as_slice(), b"ok 2 a b\n".as_slice());
-    Ok(())
+        &[("list /\n", "ok 2 a b\n")],
+    )
 }
 
 // The messages of a volume that can't be taken, of `mkfs` and of `run`, to an output without room.
@@ -151,8 +153,8 @@ fn a_job_tells_no_one(rt: HostRuntime) -> Result<(), Fail> {
         let source = source_of(rt.alloc(), b"", 1, 0)?;
         let sink = sink_of(rt.alloc(), 6, 0)?;
         let left = do_job(rt.alloc(), line, &mut pm, source, sink)?;
-        assert_eq!(rt; left.status, Status::WriteFault, "at {line}");
-        assert_eq!(rt; left.told.len(), 6, "at {line}");
+        same(left.status, Status::WriteFault, line)?;
+        same(left.told.len(), 6, line)?;
     }
     Ok(())
 }
@@ -177,27 +179,27 @@ fn a_fence_of_mkfs_fails(rt: HostRuntime) -> Result<(), Fail> {
     let old = vec![in rt.alloc(); 7; 8_192]?;
     for fence in 1u64..4 {
         let left = with_fault(rt.alloc(), "squirrel mkfs v 16", old.as_slice(), b"", fence)?;
-        assert_eq!(rt; left.status, Status::DeviceFault, "at {fence}");
-        assert_eq!(rt; left.status.number(), 5);
-        assert!(rt; left.told.is_empty(), "at {fence}");
-        assert_eq!(rt; left.fences, fence.saturating_sub(1), "at {fence}");
+        same((fence, left.status), (fence, Status::DeviceFault), "mkfs")?;
+        same(left.status.number(), 5, "mkfs")?;
+        same(text_of(&left.told), "", "mkfs")?;
+        same(left.fences, fence.saturating_sub(1), "mkfs")?;
     }
     Ok(())
 }
 
-// The first file takes a page: four fences. The second has room in it: two.
+// The first file takes a page: three fences. The second has room in it: two. What the failed fence left is then found as it
+// reads: a name is there once its number is stored.
 #[test]
 fn a_fence_of_a_line_fails(rt: HostRuntime) -> Result<(), Fail> {
     let volume = small_volume(rt.alloc())?;
     let first = "error Fault\nerror Stopped\nerror Stopped\nerror Stopped\n";
     let second = "ok\nok 1 a\nerror Fault\nerror Stopped\n";
-    for (fence, told, acks) in [
-        (1u64, first, 0),
-        (2, first, 0),
-        (3, first, 0),
-        (4, first, 0),
-        (5, second, 2),
-        (6, second, 2),
+    for (fence, told, acks, found) in [
+        (1, first, 0, "ok 0\n"),
+        (2, first, 0, "ok 0\n"),
+        (3, first, 0, "ok 1 a\n"),
+        (4, second, 2, "ok 1 a\n"),
+        (5, second, 2, "ok 2 a b\n"),
     ] {
         let left = with_fault(
             rt.alloc(),
@@ -206,11 +208,12 @@ fn a_fence_of_a_line_fails(rt: HostRuntime) -> Result<(), Fail> {
             b"create /a\nlist /\ncreate /b\nfrob",
             fence,
         )?;
-        assert_eq!(rt; left.told.as_slice(), told.as_bytes(), "at {fence}");
-        assert_eq!(rt; left.status, Status::DeviceFault, "at {fence}");
-        assert_eq!(rt; left.status.number(), 5);
-        assert_eq!(rt; left.acks, acks, "at {fence}");
-        assert_eq!(rt; left.fences, fence.saturating_sub(1), "at {fence}");
+        same((fence, text_of(&left.told)), (fence, told), "a line")?;
+        same((fence, left.status), (fence, Status::DeviceFault), "a line")?;
+        same(left.status.number(), 5, "a line")?;
+        same((fence, left.acks), (fence, acks), "a line")?;
+        same(left.fences, fence.saturating_sub(1), "a line")?;
+        compare_replies(rt.alloc(), left.image.as_slice(), &[("list /\n", found)])?;
     }
     Ok(())
 }
@@ -223,15 +226,10 @@ fn a_fence_fails_that_is_not_made(rt: HostRuntime) -> Result<(), Fail> {
         "squirrel run v",
         volume.as_slice(),
         b"create /a\ncreate /b\nlist /\ncreate /b\n",
-        7,
+        6,
     )?;
-    assert_eq!(rt;
-        left.told.as_slice(),
-        b"ok\nok\nok 2 a b\nerror Exists\n".as_slice()
-    );
-    assert_eq!(rt; left.status, Status::Done);
-    assert_eq!(rt; (left.fences, left.acks), (6, 4));
-    Ok(())
+    is_done(&left, "ok\nok\nok 2 a b\nerror Exists\n", "no fence fails")?;
+    same((left.fences, left.acks), (5, 4), "no fence fails")
 }
 
 // A read fails after a fence has failed: the run ends there.
@@ -243,40 +241,10 @@ fn a_read_fails_after_a_fence(rt: HostRuntime) -> Result<(), Fail> {
     let source = source_of(rt.alloc(), b"create /a\nlist /\nlist /\n", 1, 18)?;
     let sink = sink_of(rt.alloc(), 4_096, 0)?;
     let left = do_job(rt.alloc(), "squirrel run v", &mut pm, source, sink)?;
-    assert_eq!(rt;
-        left.told.as_slice(),
-        b"error Fault\nerror Stopped\n".as_slice()
-    );
-    assert_eq!(rt; left.status, Status::ReadFault);
-    Ok(())
-}
-
-// What a run finds on the words that a failed fence left, as they read: a name is there once its number is stored.
-#[test]
-fn words_after_a_failed_fence(rt: HostRuntime) -> Result<(), Fail> {
-    let volume = small_volume(rt.alloc())?;
-    for (fence, told) in [
-        (1, "ok 0\n"),
-        (2, "ok 0\n"),
-        (3, "ok 0\n"),
-        (4, "ok 1 a\n"),
-        (5, "ok 1 a\n"),
-        (6, "ok 2 a b\n"),
-    ] {
-        let left = with_fault(
-            rt.alloc(),
-            "squirrel run v",
-            volume.as_slice(),
-            b"create /a\ncreate /b\n",
-            fence,
-        )?;
-        let after = job_on(
-            rt.alloc(),
-            "squirrel run v",
-            left.image.as_slice(),
-            b"list /\n",
-        )?;
-        assert_eq!(rt; after.told.as_slice(), told.as_bytes(), "at {fence}");
-    }
-    Ok(())
+    same(
+        text_of(&left.told),
+        "error Fault\nerror Stopped\n",
+        "a fence and then a read",
+    )?;
+    same(left.status, Status::ReadFault, "a fence and then a read")
 }

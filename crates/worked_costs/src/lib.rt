@@ -1,0 +1,9 @@
+//! Worked rows of what lines cost: fences, and stores, flushes and fences together.
+#![tactic(auto)]
+
+#[cfg(test)]
+mod costs;
+#[cfg(test)]
+mod plans;
+#[cfg(test)]
+mod renames;

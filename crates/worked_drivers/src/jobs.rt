@@ -1,0 +1,137 @@
+// Whole jobs, and what they leave.
+ghost use Rattle.std.specs.Prelude.{◌≡◌, ◌≤◌};
+ghost use Rattle.pm_trait.specs.Device.{IsSettledAt};
+
+use io_edge::{MemSink, MemSource};
+use pm_memory::RamPm;
+use pm_trait::Pm;
+use squirrel_cli::{Status, Words, squirrel};
+use std::alloc::Global;
+use std::fmt::Debug;
+use std::test::Fail;
+
+// Events can be counted where there are no more acknowledgements.
+const MOST_ACKS: u64 = 1 << 62;
+
+// How many bytes of a script a read gives, and how many the output takes.
+const WIDE: usize = 4_096;
+
+/// How a job ended, what the output took, the device's words, and how many fences and acknowledgements it made.
+#[derive(Drop)]
+pub struct Left {
+    pub status: Status,
+    pub told: Vec<u8>,
+    pub image: Vec<u64>,
+    pub fences: u64,
+    pub acks: u64,
+}
+
+/// Fails a test where something isn't as it should be.
+pub fn same<T: Copy + PartialEq + Debug + Drop>(
+    found: T,
+    wanted: T,
+    place: &str,
+) -> Result<(), Fail> {
+    if found == wanted {
+        return Ok(());
+    }
+    Err(Fail::new(format_args!("{found:?}, and not {wanted:?}: {place}")))
+}
+
+/// Fails a test where a job didn't end as done, or told something else.
+pub fn is_done(left: &Left, told: &str, place: &str) -> Result<(), Fail> {
+    same(text_of(&left.told), told, place)?;
+    same(left.status, Status::Done, place)
+}
+
+/// The text of what was told.
+pub fn text_of(told: &[u8]) -> &str {
+    std::str::from_utf8(told).unwrap_or("no text")
+}
+
+// The words of a command line, each after a space.
+fn words_of(alloc: Global, line: &str) -> Result<Words, Fail> {
+    let mut words = Words::new(alloc);
+    for word in line.split(' ') {
+        if !word.is_empty() {
+            words.push(word)?;
+        }
+    }
+    Ok(words)
+}
+
+/// Does a job on a device that did nothing yet.
+pub fn do_job<P: Pm>(
+    alloc: Global,
+    line: &str,
+    pm: &mut P,
+    source: MemSource,
+    sink: MemSink,
+) -> Result<Left, Fail>
+    requires settled { IsSettledAt (P.view pm.old).words (P.view pm.old).trail }
+    requires fences { (P.view pm.old).fences ≡ 0 }
+    requires acks { (P.view pm.old).acks ≡ 0 }
+{
+    let words = words_of(alloc, line)?;
+    let mut source = source;
+    let mut sink = sink;
+    let status = squirrel(alloc, &words, pm, &mut source, &mut sink);
+    Ok(Left {
+        status,
+        told: sink.bytes().to_vec(alloc)?,
+        image: pm.image().to_vec(alloc)?,
+        fences: pm.fences(),
+        acks: pm.acks(),
+    })
+}
+
+/// Runs a script on a device that did nothing yet, where no read and no write fails.
+pub fn run_on<P: Pm>(alloc: Global, pm: &mut P, script: &str) -> Result<Left, Fail>
+    requires settled { IsSettledAt (P.view pm.old).words (P.view pm.old).trail }
+    requires fences { (P.view pm.old).fences ≡ 0 }
+    requires acks { (P.view pm.old).acks ≡ 0 }
+{
+    let source = source_of(alloc, script.as_bytes(), WIDE, 0)?;
+    let sink = sink_of(alloc, WIDE, 0)?;
+    do_job(alloc, "squirrel run v", pm, source, sink)
+}
+
+/// A script in memory whose reads give up to so many bytes, and one of them fails where its number isn't 0.
+pub fn source_of(alloc: Global, script: &[u8], step: usize, failing: u64) -> Result<MemSource, Fail>
+    requires { 1 ≤ step }
+{
+    let bytes = script.to_vec(alloc)?;
+    let failing = [failing].to_vec(alloc)?;
+    Ok(MemSource::new(bytes, step, failing))
+}
+
+/// An output that takes so many bytes, and one of whose writes fails where its number isn't 0.
+pub fn sink_of(alloc: Global, room: usize, failing: u64) -> Result<MemSink, Fail> {
+    let failing = [failing].to_vec(alloc)?;
+    Ok(MemSink::new(alloc, room, failing)?)
+}
+
+/// A job on these words, with this script, where nothing fails.
+pub fn job_on(alloc: Global, line: &str, image: &[u64], script: &[u8]) -> Result<Left, Fail> {
+    let mut pm = RamPm::new(alloc, image)?;
+    let source = source_of(alloc, script, WIDE, 0)?;
+    let sink = sink_of(alloc, WIDE, 0)?;
+    do_job(alloc, line, &mut pm, source, sink)
+}
+
+/// How many events a device has recorded.
+pub fn events_of(pm: &RamPm) -> Result<u64, Fail> {
+    if pm.acks() > MOST_ACKS {
+        return Err("too many acknowledgements".into());
+    }
+    Ok(pm.events())
+}
+
+/// The words that a crash at this moment may leave: of each word that isn't settled the bytes choose the old value or a
+/// later one.
+pub fn crash_at(alloc: Global, pm: &RamPm, moment: u64, keep: &[u8; 2]) -> Result<Vec<u64>, Fail> {
+    if pm.acks() > MOST_ACKS || moment > pm.events() {
+        return Err("no such moment".into());
+    }
+    Ok(pm.image_at(alloc, moment, keep)?)
+}

@@ -1,0 +1,8 @@
+//! Whole jobs of the program on a device in memory, and how rows of them are compared, for the crates of worked rows.
+#![tactic(auto)]
+
+pub mod crashes;
+pub mod jobs;
+pub mod rows;
+pub mod texts;
+pub mod volumes;
