@@ -35,7 +35,7 @@ use Rattle.entry_steps.specs.Steps.{IsLinkable}
 use Rattle.entry_steps.specs.Steps as steps
 use Rattle.entry_steps.proofs.Places
 use Rattle.removal_steps.specs.Steps.{HasLink, MayFall}
-use Rattle.rename_ptr.specs.Steps.{target_by, target_of, MayRise, MayPoint, CanPoint, CanTakeOver, CanLeave, CanClearSource}
+use Rattle.rename_ptr.specs.Steps.{target_by, target_of, MayRise, MayPoint, CanPointSlot, CanTakeOver, CanLeave, CanClearSource}
 use Rattle.rename_ptr.specs.Renaming.{IsMovingAt}
 use Rattle.rename_ptr.proofs.Moves
 
@@ -92,7 +92,7 @@ module _ {P : ℕ} {W : List ℕ} {state : State} (from to : Route) {moving : Mo
   rise_by target stands None none = tt
   rise_by target stands (Some y) rising = subst (λ (i : ℕ). IsLinkable P B i) (sym (risen target y rising)) (linkable target stands)
 
-  pub can_point : IsOpened P W B x d (target_of moving) → CanPoint P B moving
+  pub can_point : IsOpened P W B x d (target_of moving) → CanPointSlot P B moving
   can_point opened =
       let stands = opening.opened P W B (Moves.from_way from to at) (Moves.to_way from to at) s x d (target_of moving) (Moves.can_rename from to at) opened in
       let source = (Moves.for_move from to at).source.slot_is.slot in

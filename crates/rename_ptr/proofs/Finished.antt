@@ -15,7 +15,7 @@ use Rattle.image_reading.proofs.Counts.{count_one}
 use Rattle.image_counts.specs.Entries.{IsPageIn}
 use Rattle.image_laws.specs.Drop.{GivesPages, ClearsRest}
 use Rattle.rename_laws.specs.Ready.{IsOpened, PointsAt, IsMoveReady}
-use Rattle.rename_laws.specs.Intervals.{left, ClearsSource, IsCleared, IsGiven, Finishes}
+use Rattle.rename_laws.specs.Intervals.{left, ClearsSource, IsGiven, Finishes}
 use Rattle.volume.specs.Costs.{goes_of, pages_of_loss}
 use Rattle.volume.specs.Moves.{rising_of, falling_of}
 use Rattle.volume.specs.declared.plan.Loss.{Loss}
@@ -24,6 +24,7 @@ use Rattle.volume.proofs.PageLists.{in_contained, contained_in}
 use Rattle.removal_steps.specs.Steps.{AreGonePages, IsCut, number_of}
 use Rattle.rename_ptr.specs.Steps.{target_of}
 use Rattle.rename_ptr.specs.Renaming.{IsMovingAt, IsRenamed}
+use Rattle.rename_ptr.proofs.Given
 use Rattle.rename_ptr.proofs.Gone
 use Rattle.rename_ptr.proofs.Moves
 
@@ -64,13 +65,10 @@ module _ {P : ℕ} {W : List ℕ} {state : State} (from to : Route) {moving : Mo
 
   module _ (I : List ℕ) (ready : IsMoveReady P W I (reverse (parent from)) (reverse (parent to)) moving.from_slot moving.to_directory moving.to_slot (target_of moving) (rising_of moving))
       (J : List ℕ) (clears : ClearsSource P (left P I moving.from_slot moving.to_slot) J moving.from_slot moving.to_slot (falling_of moving)) where
-    pub cleared : IsCleared P W I J moving.from_slot moving.to_directory moving.to_slot (target_of moving) (falling_of moving)
-    cleared = record { falls = Moves.falls from to at; clears = clears }
-
     module _ (G : List ℕ) (gives : GivesPages P J G (IsCut pages moving.given_back)) where
       pub given : IsGiven P W I J G moving.from_slot moving.to_directory moving.to_slot (target_of moving) (falling_of moving)
       given = record {
-        cleared = cleared;
+        cleared = Given.cleared from to at I ready J clears;
         gives = record {
           size = gives.size;
           owners = λ j goes. gives.owners j (Gone.given_cut from to at I ready pages are j goes);
