@@ -1,7 +1,7 @@
 use Rattle.std.proofs.Common.{ap, arith}
 use Rattle.layout.specs.declared.fields.SlotFields.{SlotFields}
 use Rattle.dentry_state.proofs.Lent.{slots_differ, lent_over_store}
-use Rattle.dentry_state.proofs.dentry.DentryH+Clean+Named.point_at.Goals as goal
+use Rattle.dentry_state.proofs.dentry.DentryH+Clean+S.point_at.Goals as goal
 
 pub returns-clause-lent : goal.returns-clause-lent
 returns-clause-lent g c =
