@@ -60,7 +60,7 @@ module _ {T E : Type 0} {value : T} (P d : ℕ) (inode : InodeView) (size : IsVo
   pub inode_stays : (new_page : Option ℕ) → Unfolds {E = E} (claim_steps P d new_page) a b (Ok value) → InodeIsClean inode b
   inode_stays None opened = subst (InodeIsClean inode) (sym opened.in_turn.0) clean
   inode_stays (Some page) opened = elim opened.in_turn [
-    | inl failed ↦ absurd failed.1
+    | inl (made, is) ↦ absurd (let clash : false ≡ true = is in cc)
     | inr (c, claims, end) ↦
         let within : (x : ℕ) → IsInodeWord inode.number x → x < length c.words = λ x own.
         let inside = inode_word_in_volume P inode.number x size least most own in

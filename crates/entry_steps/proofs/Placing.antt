@@ -58,25 +58,30 @@ may_still P slot (Some page) a b same may = ((may.0.0, same_descriptor_of P page
 -- ---- the place
 
 -- it goes on while no word of it is stored, and over a fence
-pub place_waits : {W : ℕ → Type 0} (P slot : ℕ) (name : List ℕ) (fences : ℕ) (new_page : Option ℕ) (place : NamePlace InFlight) {a b : DeviceView} → place ≡ flying_place P slot name fences new_page
+pub place_waits : {W : ℕ → Type 0} (P slot : ℕ) (name : List ℕ) (fences : ℕ) (new_page : Option ℕ) (place : NamePlace InFlight) (a b : DeviceView) → place ≡ flying_place P slot name fences new_page
     → IsInterval W a.words a.trail b.words b.trail → ((x : ℕ) → IsPlaceWord P slot new_page x → ¬ W x) → PlaceIsInFlight place a → PlaceIsInFlight place b
-place_waits P slot name fences None place {a} {b} is run apart flight =
-    let flying : DentryView = record { pages = P; slot = slot; fields = named; touched = BothLines; ticket = Some fences } in
+place_waits P slot name fences None place a b is run apart flight =
+    let flying : DentryView = record { pages = P; slot = slot; fields = named_fields name; touched = BothLines; ticket = Some fences } in
     subst (λ (p : NamePlace InFlight). PlaceIsInFlight p b) (sym is) (stands_in_flight_stays (dentry_is_local flying) run apart (subst (λ (p : NamePlace InFlight). PlaceIsInFlight p a) is flight))
-  where
-    named : SlotFields
-    named = named_fields name
-place_waits P slot name fences (Some page) place {a} {b} is run apart flight = subst (λ (p : NamePlace InFlight). PlaceIsInFlight p b) (sym is) tt
+place_waits P slot name fences (Some page) place a b is run apart flight = subst (λ (p : NamePlace InFlight). PlaceIsInFlight p b) (sym is) tt
 
-pub place_fenced : (place : NamePlace InFlight) {a b : DeviceView} → b.words ≡ a.words → b.trail ≡ with_event a.trail Fence → PlaceIsInFlight place a → PlaceIsInFlight place b
-place_fenced (Slot dentry) words trail flight = stands_in_flight_fence words trail flight
-place_fenced (Page page) words trail flight = tt
+pub place_fenced : (place : NamePlace InFlight) (a b : DeviceView) → b.words ≡ a.words → b.trail ≡ with_event a.trail Fence → PlaceIsInFlight place a → PlaceIsInFlight place b
+place_fenced (Slot dentry) a b words trail flight = stands_in_flight_fence words trail flight
+place_fenced (Page page) a b words trail flight = tt
+
+some_one : (x y : ℕ) → ◌≡◌ {A = Option ℕ} (Some x) (Some y) → x ≡ y
+some_one x y e = cc
+
+no_one : (y : ℕ) → ◌≡◌ {A = Option ℕ} None (Some y) → ⊥
+no_one y e = cc
 
 -- a later token settles it
 pub place_settles : (P slot : ℕ) (name : List ℕ) (fences token made : ℕ) (new_page : Option ℕ) (place : NamePlace InFlight) → place ≡ flying_place P slot name fences new_page → fences < token → token ≤ made
     → ForSome (ticket_of place) (λ ticket. Settles ticket token made)
-place_settles P slot name fences token made None place is later upto = subst (λ (p : NamePlace InFlight). ForSome (ticket_of p) (λ ticket. Settles ticket token made)) (sym is) (record { later = later; made = upto })
-place_settles P slot name fences token made (Some page) place is later upto = subst (λ (p : NamePlace InFlight). ForSome (ticket_of p) (λ ticket. Settles ticket token made)) (sym is) tt
+place_settles P slot name fences token made None place is later upto = subst (λ (p : NamePlace InFlight). ForSome (ticket_of p) (λ ticket. Settles ticket token made)) (sym is)
+    (λ ticket told. subst (λ (n : ℕ). Settles n token made) (some_one fences ticket told) (record { later = later; made = upto }))
+place_settles P slot name fences token made (Some page) place is later upto = subst (λ (p : NamePlace InFlight). ForSome (ticket_of p) (λ ticket. Settles ticket token made)) (sym is)
+    (λ ticket told. absurd (no_one ticket told))
 
 pub place_settled : (P slot : ℕ) (name : List ℕ) (fences : ℕ) (new_page : Option ℕ) (place : NamePlace InFlight) (settled : NamePlace Clean) → settled ≡ settled_place place → place ≡ flying_place P slot name fences new_page
     → settled ≡ clean_place P slot name new_page
