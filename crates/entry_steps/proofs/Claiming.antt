@@ -1,16 +1,16 @@
 -- A new page gets its owner, where a name takes one: the step, its costs, and what goes on over it.
-use Rattle.std.proofs.Common.{inl, inr, ℕ, ◌+◌, ◌*◌, ◌<◌, ◌≤◌, Bool, true, false, if◌then◌else◌, List, [], ◌∷◌, ◌++◌, length, slice_index, sym, ap, subst, ◌∙◌, ◌≡◌, arith, get_or-set_other}
+use Rattle.std.proofs.Common.{inl, inr, ℕ, ◌*◌, ◌<◌, ◌≤◌, Bool, true, false, if◌then◌else◌, List, [], ◌∷◌, ◌++◌, length, slice_index, sym, ap, subst, ◌∙◌, ◌≡◌, arith, get_or-set_other}
 use Rattle.std.specs.Prelude.{Option, Some, None, Ok}
 use Rattle.pm_trait.specs.DeviceView.{DeviceView}
-use Rattle.pm_trait.specs.Unfolds.{MayFence, Step, Takes, Unfolds, Through, events_in, step_events, fences_in, step_fences}
+use Rattle.pm_trait.specs.Unfolds.{MayFence, Step, Takes, Unfolds, Through, events_in, step_events, fences_in}
 use Rattle.pm_trait.proofs.Unfolding.{last, starts_some, next_some}
-use Rattle.layout.specs.Geometry.{IsVolumeSize, inodes_of, data_pages_of, descriptor_word_of}
+use Rattle.layout.specs.Geometry.{IsVolumeSize, inodes_of, descriptor_word_of}
 use Rattle.layout.proofs.GeometryLaws.{inode_word_not_descriptor_word}
 use Rattle.inode_state.specs.Inode.{InodeView, IsInodeWord, InodeIsClean}
 use Rattle.inode_state.proofs.InodeLaws.{same_fields_at, inode_word_in_volume}
 use Rattle.image_laws.specs.Create.{owned, committed}
 use Rattle.volume.specs.Costs.{commit_events}
-use Rattle.entry_steps.specs.Steps.{MayTake, claim_steps, naming}
+use Rattle.entry_steps.specs.Steps.{claim_steps, naming}
 
 -- the words once a new page has its owner
 abbrev pub claimed : ℕ → List ℕ → ℕ → Option ℕ → List ℕ

@@ -1,10 +1,9 @@
 -- The place of a new name: what the plan says of it, in the tree and in the words, and what a new page leaves there.
-use Rattle.std.proofs.Common.{◌≡◌, ◌≢◌, ◌⊎◌, inl, inr, ℕ, ◌+◌, ◌-◌, ◌*◌, ◌^◌, ◌==◌, ◌<◌, ◌≤◌, true, false, List, [], ◌∷◌, length, slice_index, reverse, Option, Some, None, is_some, refl, sym, ap, subst, ◌∙◌, arith}
+use Rattle.std.proofs.Common.{◌≡◌, ◌≢◌, ◌⊎◌, inl, inr, ℕ, ◌+◌, ◌-◌, ◌*◌, ◌^◌, ◌==◌, ◌<◌, ◌≤◌, true, false, List, [], ◌∷◌, length, reverse, Option, Some, None, is_some, refl, sym, ap, subst, ◌∙◌, arith}
 use Rattle.std.proofs.lemmas.Bool.{cases_eq}
 use Rattle.std.proofs.lemmas.Bool.Decides.{nat_tests}
 use Rattle.std.proofs.lemmas.List.{reverse-append}
-use Rattle.layout.specs.declared.fields.InodeFields.{InodeFields}
-use Rattle.layout.specs.Geometry.{IsVolumeSize, inodes_of, data_pages_of, slots_of, page_of_slot, descriptor_word_of, slot_word_of}
+use Rattle.layout.specs.Geometry.{IsVolumeSize, inodes_of, data_pages_of, slots_of, page_of_slot, descriptor_word_of}
 use Rattle.layout.proofs.GeometryLaws.{slots_in_pages, data_pages_below, page_of_slot_below, page_of_entry, slot_below}
 use Rattle.layout.specs.Fields.{word, inode_kind, inode_links}
 use Rattle.layout.specs.Name.{IsName, IsBytes, words_of_name, name_in_words}
@@ -15,10 +14,6 @@ use Rattle.tree_model.specs.Accepted.{MayName}
 use Rattle.tree_model.specs.Capacity.{untaken}
 use Rattle.tree_model.specs.Step.{is_full}
 use Rattle.tree_model.specs.Run.{State, IsVolumeState}
-use Rattle.inode_state.specs.Inode.{fields_at}
-use Rattle.inode_state.proofs.InodeLaws.{same_fields_at}
-use Rattle.dentry_state.specs.States.{free_fields as free_slot}
-use Rattle.dentry_state.specs.Dentry.{slot_fields_at}
 use Rattle.image_reading.specs.Reading.{IsDirectory, slot_owner, Names, Reached, IsNameOf, IsChildOf, ReadsAs}
 use Rattle.image_reading.specs.Repairs.{IsLitterPage}
 use Rattle.image_reading.specs.Soundness.{Rule, IsCoherent}

@@ -1,15 +1,14 @@
 -- The place of a name: how it goes on while other words are stored, over a fence, and as a token settles it.
-use Rattle.std.proofs.Common.{◌≡◌, ◌⊎◌, inl, inr, ℕ, ◌+◌, ◌*◌, ◌<◌, ◌≤◌, List, length, slice_index, refl, sym, ap, subst, ◌∙◌, arith}
+use Rattle.std.proofs.Common.{◌≡◌, ◌⊎◌, inl, inr, ℕ, ◌+◌, ◌*◌, ◌<◌, ◌≤◌, List, slice_index, refl, sym, ap, subst, ◌∙◌, arith}
 use Rattle.std.specs.Prelude.{Option, Some, None}
 use Rattle.std.proofs.lemmas.Bool.{cases_eq}
 use Rattle.std.specs.Option.{ForSome}
 use Rattle.pm_trait.specs.declared.event.Event.TheVariants.{Fence}
 use Rattle.pm_trait.specs.Device.{IsInterval, with_event}
 use Rattle.pm_trait.specs.DeviceView.{DeviceView}
-use Rattle.layout.specs.declared.fields.SlotFields.{SlotFields}
 use Rattle.layout.specs.declared.fields.DescriptorFields.{DescriptorFields}
-use Rattle.layout.specs.Geometry.{IsVolumeSize, inodes_of, data_pages_of, slots_of, page_of_slot, descriptor_word_of, page_word_of}
-use Rattle.layout.specs.Fields.{word, page_owner, slot_words}
+use Rattle.layout.specs.Geometry.{IsVolumeSize, inodes_of, page_of_slot, descriptor_word_of, page_word_of}
+use Rattle.layout.specs.Fields.{word, page_owner}
 use Rattle.layout.specs.Name.{words_of_name, IsNameWords}
 use Rattle.layout.proofs.GeometryLaws.{page_of_entry}
 use Rattle.fence_token.specs.Ticket.{Settles}
@@ -21,16 +20,15 @@ use Rattle.dentry_state.specs.States.{IsNamed, named_fields}
 use Rattle.dentry_state.specs.declared.dentry.Touched.TheVariants.{BothLines}
 use Rattle.dentry_state.specs.Dentry.{DentryView, slot_fields_at}
 use Rattle.dentry_state.proofs.DentryLaws.{same_fields_at, dentry_is_local, name_word_is_slot_word, slot_word_is_no_inode_word, slot_word_in_volume}
-use Rattle.page_state.specs.Page.{IsOwnWord, IsFilledWord, descriptor_of}
-use Rattle.page_state.specs.States.{IsFree}
+use Rattle.page_state.specs.Page.{IsFilledWord}
 use Rattle.page_state.proofs.PageLaws.{own_word_within, same_descriptor_of, own_word_not_inode_word}
 use Rattle.image_laws.specs.Create.{MakesNamedPage}
 use Rattle.image_laws.specs.Taking.{IsNamedPage}
 use Rattle.image_laws.proofs.Paged.{named_page, named_page_same}
 use Rattle.entry_steps.specs.declared.place.NamePlace.{NamePlace}
 use Rattle.entry_steps.specs.declared.place.NamePlace.TheVariants.{Slot, Page}
-use Rattle.entry_steps.specs.Steps.{MayTake, CanClaim, first_slot}
-use Rattle.entry_steps.specs.Placing.{MayPlace, IsPlaceWord, IsWrittenWord, WritesPlace, flying_place, settled_place, clean_place, ticket_of, page_of, slot_of, PlaceIsInFlight, CanOpen}
+use Rattle.entry_steps.specs.Steps.{first_slot}
+use Rattle.entry_steps.specs.Placing.{MayPlace, IsPlaceWord, IsWrittenWord, flying_place, settled_place, clean_place, ticket_of, page_of, slot_of, PlaceIsInFlight, CanOpen}
 
 -- ---- words
 
