@@ -2,7 +2,7 @@
 use std::alloc::Global;
 use std::test::Fail;
 use worked_drivers::jobs::{job_on, same};
-use worked_drivers::rows::{compare_replies, compare_rows, compare_run};
+use worked_drivers::rows::{compare_rows, compare_run};
 use worked_drivers::texts::{joined, repeated};
 use worked_drivers::volumes::{fresh_volume, set_words, small_volume, volume_with_a};
 
@@ -10,19 +10,19 @@ use worked_drivers::volumes::{fresh_volume, set_words, small_volume, volume_with
 fn names_at_the_limit(rt: HostRuntime) -> Result<(), Fail> {
     let alloc = rt.alloc();
     let volume = small_volume(alloc)?;
-    for (verb, count, wanted) in [
-        ("create /", 1, "ok\nok 1 n\n"),
-        ("create /", 111, "error NameTooLong\nok 0\n"),
-        ("stat /", 110, "error NotFound\nok 0\n"),
-        ("stat /", 111, "error NameTooLong\nok 0\n"),
-        ("frob /", 111, "error BadLine\nok 0\n"),
-        ("create /", 65_528, "error NameTooLong\nok 0\n"),
-        ("create /", 65_529, "error BadLine\nok 0\n"),
-        ("create /", 200_000, "error BadLine\nok 0\n"),
+    for (verb, count, told, fences) in [
+        ("create /", 1, "ok\nok 1 n\n", 3),
+        ("create /", 111, "error NameTooLong\nok 0\n", 0),
+        ("stat /", 110, "error NotFound\nok 0\n", 0),
+        ("stat /", 111, "error NameTooLong\nok 0\n", 0),
+        ("frob /", 111, "error BadLine\nok 0\n", 0),
+        ("create /", 65_528, "error NameTooLong\nok 0\n", 0),
+        ("create /", 65_529, "error BadLine\nok 0\n", 0),
+        ("create /", 200_000, "error BadLine\nok 0\n", 0),
     ] {
         let name = repeated(alloc, "n", count)?;
         let script = joined(alloc, &[verb, name.as_str(), "\nlist /\n"])?;
-        compare_replies(alloc, volume.as_slice(), &[(script.as_str(), wanted)])?;
+        compare_run(alloc, volume.as_slice(), script.as_str(), told, fences)?;
     }
     Ok(())
 }
@@ -33,11 +33,15 @@ fn the_longest_name_is_told_whole(rt: HostRuntime) -> Result<(), Fail> {
     let name = repeated(alloc, "n", 110)?;
     let script = joined(alloc, &["create /", name.as_str(), "\nlist /\n"])?;
     let wanted = joined(alloc, &["ok\nok 1 ", name.as_str(), "\n"])?;
-    compare_replies(
+    let volume = small_volume(alloc)?;
+    compare_run(
         alloc,
-        small_volume(alloc)?.as_slice(),
-        &[(script.as_str(), wanted.as_str())],
-    )
+        volume.as_slice(),
+        script.as_str(),
+        wanted.as_str(),
+        3,
+    )?;
+    Ok(())
 }
 
 // A name of one byte too many is refused before a path below it is looked for, and a fault of form before both.
@@ -52,7 +56,7 @@ fn a_long_name_within_a_path(rt: HostRuntime) -> Result<(), Fail> {
         ("%", "error BadPath\n"),
     ] {
         let script = joined(alloc, &["create /", name.as_str(), end])?;
-        compare_replies(alloc, volume.as_slice(), &[(script.as_str(), wanted)])?;
+        compare_run(alloc, volume.as_slice(), script.as_str(), wanted, 0)?;
     }
     Ok(())
 }

@@ -72,13 +72,22 @@ fn names_are_refused(rt: HostRuntime) -> Result<(), Fail> {
     Ok(())
 }
 
+// A line of these parts, between which a name of 111 bytes stands where the first one ends in `/`.
+fn line_of(alloc: Global, start: &str, end: &str) -> Result<String, Fail> {
+    if start.ends_with('/') {
+        let name = repeated(alloc, "n", 111)?;
+        joined(alloc, &[start, name.as_str(), end, "\n"])
+    } else {
+        joined(alloc, &[start, end, "\n"])
+    }
+}
+
 // How many words a line has is looked at before its paths, and a fault of form in either path before a name that is too
-// long in either. A path that ends in `/` gets a name of 111 bytes.
+// long in either.
 #[test]
 fn lines_of_two_paths_are_refused(rt: HostRuntime) -> Result<(), Fail> {
     let alloc = rt.alloc();
     let volume = volume_with_a(alloc)?;
-    let long = repeated(alloc, "n", 111)?;
     for (start, end, told) in [
         ("link", "", "error BadLine\n"),
         ("link /a", "", "error BadLine\n"),
@@ -93,12 +102,7 @@ fn lines_of_two_paths_are_refused(rt: HostRuntime) -> Result<(), Fail> {
         ("link /", " /b", "error NameTooLong\n"),
         ("link /x /", "", "error NameTooLong\n"),
     ] {
-        let name = if start.ends_with('/') {
-            long.as_str()
-        } else {
-            ""
-        };
-        let script = joined(alloc, &[start, name, end, "\n"])?;
+        let script = line_of(alloc, start, end)?;
         compare_run(alloc, volume.as_slice(), script.as_str(), told, 0)?;
     }
     Ok(())

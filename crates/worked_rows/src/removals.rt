@@ -162,25 +162,20 @@ fn a_directory_gives_a_page_back(rt: HostRuntime) -> Result<(), Fail> {
 #[test]
 fn a_name_of_a_full_volume_goes(rt: HostRuntime) -> Result<(), Fail> {
     let alloc = rt.alloc();
-    let full = full_of_names(alloc)?;
-    let unlinks = numbered(alloc, "unlink /n", 1, 33)?;
-    let unlinked = repeated(alloc, "ok\n", 32)?;
-    compare_rows(
+    let full = full_of_names(alloc)?.image;
+    compare_run(
         alloc,
-        full.image.as_slice(),
-        &[
-            (
-                "unlink /n1\ndf\nlink /a /zz\nlink /a /n1\n",
-                "ok\nok inodes 2 4 pages 0 13\nok\nerror NoPages\n",
-                4,
-            ),
-            (
-                joined(alloc, &[unlinks.as_str(), "df\n"])?.as_str(),
-                joined(alloc, &[unlinked.as_str(), "ok inodes 2 4 pages 0 13\n"])?.as_str(),
-                64,
-            ),
-        ],
-    )
+        full.as_slice(),
+        "unlink /n1\ndf\nlink /a /zz\nlink /a /n1\n",
+        "ok\nok inodes 2 4 pages 0 13\nok\nerror NoPages\n",
+        4,
+    )?;
+    let unlinks = numbered(alloc, "unlink /n", 1, 33)?;
+    let script = joined(alloc, &[unlinks.as_str(), "df\n"])?;
+    let unlinked = repeated(alloc, "ok\n", 32)?;
+    let told = joined(alloc, &[unlinked.as_str(), "ok inodes 2 4 pages 0 13\n"])?;
+    compare_run(alloc, full.as_slice(), script.as_str(), told.as_str(), 64)?;
+    Ok(())
 }
 
 // The file `/a` has 4,097 bytes, and its second page stands before its first.
