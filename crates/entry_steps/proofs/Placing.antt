@@ -1,11 +1,12 @@
 -- The place of a name: how it goes on while other words are stored, over a fence, and as a token settles it.
 use Rattle.std.proofs.Common.{◌≡◌, ◌⊎◌, inl, inr, ℕ, ◌+◌, ◌*◌, ◌<◌, ◌≤◌, List, slice_index, refl, sym, ap, subst, ◌∙◌, arith}
-use Rattle.std.specs.Prelude.{Option, Some, None}
+use Rattle.std.specs.Prelude.{Option, Some, None, Result}
 use Rattle.std.proofs.lemmas.Bool.{cases_eq}
 use Rattle.std.specs.Option.{ForSome}
 use Rattle.pm_trait.specs.declared.event.Event.TheVariants.{Fence}
 use Rattle.pm_trait.specs.Device.{IsInterval, with_event}
 use Rattle.pm_trait.specs.DeviceView.{DeviceView}
+use Rattle.pm_trait.specs.Unfolds.{Unfolds}
 use Rattle.layout.specs.declared.fields.DescriptorFields.{DescriptorFields}
 use Rattle.layout.specs.Geometry.{IsVolumeSize, inodes_of, page_of_slot, descriptor_word_of, page_word_of}
 use Rattle.layout.specs.Fields.{word, page_owner}
@@ -27,7 +28,7 @@ use Rattle.image_laws.specs.Taking.{IsNamedPage}
 use Rattle.image_laws.proofs.Paged.{named_page, named_page_same}
 use Rattle.entry_steps.specs.declared.place.NamePlace.{NamePlace}
 use Rattle.entry_steps.specs.declared.place.NamePlace.TheVariants.{Slot, Page}
-use Rattle.entry_steps.specs.Steps.{first_slot}
+use Rattle.entry_steps.specs.Steps.{first_slot, claim_steps}
 use Rattle.entry_steps.specs.Placing.{MayPlace, IsPlaceWord, IsWrittenWord, flying_place, settled_place, clean_place, ticket_of, page_of, slot_of, PlaceIsInFlight, CanOpen}
 
 -- ---- words
@@ -88,17 +89,30 @@ place_settled P slot name fences (Some page) place settled is flying = is ∙ ap
 
 -- ---- its page and its slot
 
-pub page_is : (P slot : ℕ) (name : List ℕ) (new_page : Option ℕ) → page_of (clean_place P slot name new_page) ≡ new_page
+page_is : (P slot : ℕ) (name : List ℕ) (new_page : Option ℕ) → page_of (clean_place P slot name new_page) ≡ new_page
 page_is P slot name None = refl
 page_is P slot name (Some page) = refl
 
-pub slot_pages : (P : ℕ) (I : List ℕ) (slot : ℕ) (name : List ℕ) (new_page : Option ℕ) → (slot_of P I (clean_place P slot name new_page)).pages ≡ P
+-- what `open` did, by the new page
+pub opened_as : {T E : Type 0} {old new : DeviceView} {result : Result T E} (P d slot : ℕ) (name : List ℕ) (new_page : Option ℕ) (place : NamePlace Clean) → place ≡ clean_place P slot name new_page → Unfolds (claim_steps P d (page_of place)) old new result
+    → Unfolds (claim_steps P d new_page) old new result
+opened_as {old = old} {new} {result} P d slot name new_page place is opened = subst (λ (page : Option ℕ). Unfolds (claim_steps P d page) old new result) (ap page_of is ∙ page_is P slot name new_page) opened
+
+slot_pages : (P : ℕ) (I : List ℕ) (slot : ℕ) (name : List ℕ) (new_page : Option ℕ) → (slot_of P I (clean_place P slot name new_page)).pages ≡ P
 slot_pages P I slot name None = refl
 slot_pages P I slot name (Some page) = refl
 
-pub slot_is : (P : ℕ) (I J : List ℕ) (slot : ℕ) (name : List ℕ) (new_page : Option ℕ) → MayPlace P I slot new_page → (slot_of P J (clean_place P slot name new_page)).slot ≡ slot
-slot_is P I J slot name None may = refl
-slot_is P I J slot name (Some page) may = sym may.1
+slot_is : (P : ℕ) (W I : List ℕ) (slot : ℕ) (name : List ℕ) (new_page : Option ℕ) → MayPlace P W slot new_page → (slot_of P I (clean_place P slot name new_page)).slot ≡ slot
+slot_is P W I slot name None may = refl
+slot_is P W I slot name (Some page) may = sym may.1
+
+-- and the slot that it answers
+module _ (P : ℕ) (W I : List ℕ) (slot : ℕ) (name : List ℕ) (new_page : Option ℕ) (place : NamePlace Clean) (is : place ≡ clean_place P slot name new_page) (dentry : DentryView) (answered : dentry ≡ slot_of P I place) where
+  pub opened_pages : dentry.pages ≡ P
+  opened_pages = ap (λ (d : DentryView). d.pages) answered ∙ ap (λ (p : NamePlace Clean). (slot_of P I p).pages) is ∙ slot_pages P I slot name new_page
+
+  pub opened_slot : MayPlace P W slot new_page → dentry.slot ≡ slot
+  opened_slot may = ap (λ (d : DentryView). d.slot) answered ∙ ap (λ (p : NamePlace Clean). (slot_of P I p).slot) is ∙ slot_is P W I slot name new_page may
 
 -- ---- the page that was filled
 
