@@ -89,7 +89,7 @@ place_settled P slot name fences (Some page) place settled is flying = is ∙ ap
 
 -- ---- its page and its slot
 
-page_is : (P slot : ℕ) (name : List ℕ) (new_page : Option ℕ) → page_of (clean_place P slot name new_page) ≡ new_page
+pub page_is : (P slot : ℕ) (name : List ℕ) (new_page : Option ℕ) → page_of (clean_place P slot name new_page) ≡ new_page
 page_is P slot name None = refl
 page_is P slot name (Some page) = refl
 
@@ -98,11 +98,11 @@ pub opened_as : {T E : Type 0} {old new : DeviceView} {result : Result T E} (P d
     → Unfolds (claim_steps P d new_page) old new result
 opened_as {old = old} {new} {result} P d slot name new_page place is opened = subst (λ (page : Option ℕ). Unfolds (claim_steps P d page) old new result) (ap page_of is ∙ page_is P slot name new_page) opened
 
-slot_pages : (P : ℕ) (I : List ℕ) (slot : ℕ) (name : List ℕ) (new_page : Option ℕ) → (slot_of P I (clean_place P slot name new_page)).pages ≡ P
+pub slot_pages : (P : ℕ) (I : List ℕ) (slot : ℕ) (name : List ℕ) (new_page : Option ℕ) → (slot_of P I (clean_place P slot name new_page)).pages ≡ P
 slot_pages P I slot name None = refl
 slot_pages P I slot name (Some page) = refl
 
-slot_is : (P : ℕ) (W I : List ℕ) (slot : ℕ) (name : List ℕ) (new_page : Option ℕ) → MayPlace P W slot new_page → (slot_of P I (clean_place P slot name new_page)).slot ≡ slot
+pub slot_is : (P : ℕ) (W I : List ℕ) (slot : ℕ) (name : List ℕ) (new_page : Option ℕ) → MayPlace P W slot new_page → (slot_of P I (clean_place P slot name new_page)).slot ≡ slot
 slot_is P W I slot name None may = refl
 slot_is P W I slot name (Some page) may = sym may.1
 
