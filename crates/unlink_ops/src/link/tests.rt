@@ -21,8 +21,7 @@ fn a_second_name(rt: HostRuntime) -> Result<(), Fail> {
         slot: 0,
         new_page: None,
     };
-    let file = write_name(&mut pm, &geometry, &link)?;
-    let NamedFile { inode, place } = file;
+    let NamedFile { inode, place } = write_name(&mut pm, &geometry, &link)?;
     let dentry = place.open(&mut pm, &geometry, link.directory)?;
     commit_name(&mut pm, dentry, &inode)?;
     let table = [

@@ -36,12 +36,12 @@ write_name-requires-clause-begins g c =
 
 pub open-requires-clause-begins : goal.open-requires-clause-begins
 open-requires-clause-begins g c =
-    let first = c.in_ok-file.ensures.takes.fenced in
+    let first = c.in_ok-inode.ensures.takes.fenced in
     let room = c.in_ok-reserve.ensures.device.ok in
     let fresh : c.reserve.new.self.fences ≡ 0 = search rules in
     let geometry = c.in_ok-geometry.geometry in
     let whole : length c.reserve.new.self.words.items ≡ 512 * geometry.pages = search rules in
-    may_open geometry.pages 1 c.in_ok-file.file.place _ (512 * geometry.pages) (ap page_of c.in_ok-file.ensures.file.place_is) (record {
+    may_open geometry.pages 1 c.in_ok-inode.field-0.place _ (512 * geometry.pages) (ap page_of c.in_ok-inode.ensures.file.place_is) (record {
       whole = first.long ∙ whole;
       settled = first.fenced.settled;
       room = omega arith;
@@ -50,13 +50,13 @@ open-requires-clause-begins g c =
 
 pub commit_name-requires-clause-begins : goal.commit_name-requires-clause-begins
 commit_name-requires-clause-begins g c =
-    let first = c.in_ok-file.ensures.takes.fenced in
+    let first = c.in_ok-inode.ensures.takes.fenced in
     let room = c.in_ok-reserve.ensures.device.ok in
     let fresh : c.reserve.new.self.fences ≡ 0 = search rules in
     let geometry = c.in_ok-geometry.geometry in
     let whole : length c.reserve.new.self.words.items ≡ 512 * geometry.pages = search rules in
-    let place = c.in_ok-file.ensures.file.place_is in
-    let same = stays geometry.pages 1 c.in_ok-file.file.place (ap page_of place) c.in_ok-dentry.ensures.unfolds in
+    let place = c.in_ok-inode.ensures.file.place_is in
+    let same = stays geometry.pages 1 c.in_ok-inode.field-0.place (ap page_of place) c.in_ok-dentry.ensures.unfolds in
     let pages = ap (λ (d : DentryView). d.pages) (c.in_ok-dentry.ensures.slot ∙ ap (slot_of geometry.pages _) place) in
     record {
       whole = ap (λ (d : DeviceView). length d.words) same ∙ first.long ∙ whole ∙ ap (λ (p : ℕ). 512 * p) (sym pages);
