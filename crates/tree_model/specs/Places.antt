@@ -20,7 +20,7 @@ takes_places old (Tell path) = false
 takes_places old (Show path) = false
 takes_places old Df = false
 
--- The command adds a name that no other gives up, or a page to a file. Where it does neither an acceptance is
+-- The command adds a name that wasn't there, or a page to a file. Where it does neither an acceptance is
 -- answered NoMemory only where the device refused to reserve room for its events.
 abbrev pub needs_places : State → Command → Bool
 needs_places old c = takes_places old (resolved old.tree c)
