@@ -1,10 +1,11 @@
-// A page of slots made and given to an inode, on a volume of 16 pages.
+// A name in a new page of a directory, on a volume of 16 pages.
 use super::*;
+use fence_token::fence;
 use pm_memory::RamPm;
 use std::test::Fail;
 
 #[test]
-fn a_page_of_slots(rt: HostRuntime) -> Result<(), Fail> {
+fn a_name_in_a_new_page(rt: HostRuntime) -> Result<(), Fail> {
     let alloc = rt.alloc();
     let mut old = vec![in alloc; 0; 1_536]?;
     let data_pages = vec![in alloc; 7; 6_656]?;
@@ -13,8 +14,12 @@ fn a_page_of_slots(rt: HostRuntime) -> Result<(), Fail> {
     pm.reserve(583)?;
     let geometry = Geometry::of(16).ok_or("no volume")?;
     assert_eq!(rt; geometry.data_pages, 13);
-    fill_page(&mut pm, &geometry, 2)?;
-    own_page(&mut pm, &geometry, 2, 3)?;
+    let name = Name::new(b"a".as_slice()).ok().ok_or("no name")?;
+    let written = NamePlace::write(&mut pm, &geometry, 64, Some(2), &name);
+    let token = fence(&mut pm)?;
+    let place = written.settle(&pm, &token);
+    let slot = place.open(&mut pm, &geometry, 3)?;
+    assert_eq!(rt; slot.slot(), 64);
     let table = [
         (1_039, 0),
         (1_040, 3),
@@ -22,6 +27,10 @@ fn a_page_of_slots(rt: HostRuntime) -> Result<(), Fail> {
         (1_042, 0),
         (2_559, 7),
         (2_560, 0),
+        (2_561, 0),
+        (2_562, 0x61_0001),
+        (2_563, 0),
+        (2_578, 0),
         (3_071, 0),
         (3_072, 7),
     ];
