@@ -7,7 +7,7 @@ use Rattle.tree_model.specs.Tree.{parent}
 use Rattle.tree_model.specs.Run.{State}
 use Rattle.tree_model.specs.declared.command.Command.TheVariants.{Rename}
 use Rattle.image_laws.specs.Drop.{GivesPages, ClearsRest}
-use Rattle.rename_laws.specs.Ready.{IsOpened, PointsAt, IsMoveReady}
+use Rattle.rename_laws.specs.Ready.{IsTargetOpened, PointsAt, IsMoveReady}
 use Rattle.rename_laws.specs.Intervals.{left, ClearsSource, IsGiven, Finishes}
 use Rattle.volume.specs.Costs.{goes_of, pages_of_loss}
 use Rattle.volume.specs.Moves.{rising_of, falling_of}
@@ -62,6 +62,6 @@ module _ {P : ℕ} {W : List ℕ} {state : State} (from to : Route) {moving : Mo
               };
             }
 
-        pub renamed : (B : List ℕ) → IsOpened P W B moving.to_directory moving.to_slot (target_of moving)
+        pub renamed : (B : List ℕ) → IsTargetOpened P W B moving.to_directory moving.to_slot (target_of moving)
             → PointsAt P B I moving.from_slot moving.to_slot (target_of moving) (rising_of moving) → IsRenamed P W K moving
         renamed B opened points = record { opened = B; pointed = I; cleared = J; given = G; page = opened; points = points; finishes = finishes }
