@@ -12,7 +12,7 @@ use Rattle.image_laws.specs.Create.{committed, MakesNamedPage}
 use Rattle.image_laws.specs.Drop.{dropped}
 use Rattle.image_laws.specs.Move.{moved}
 use Rattle.rename_laws.specs.Intervals.{left, ClearsSource}
-use Rattle.rename_laws.specs.Ready.{IsOpened, IsMoveReady, PointsAt}
+use Rattle.rename_laws.specs.Ready.{IsTargetOpened, IsMoveReady, PointsAt}
 use Rattle.rename_laws.proofs.MoveNear
 use Rattle.rename_laws.proofs.Ready.{ready_law}
 use Rattle.volume.specs.Moves.{rising_of, falling_of}
@@ -45,7 +45,7 @@ module _ {P : ℕ} {W : List ℕ} {state : State} (from to : Route) {moving : Mo
     named_page page A is made = subst (λ (slot : ℕ). MakesNamedPage P W A page slot (words_of_name moving.to_name)) (sym is) made
 
     opened_from : (replaced : Option Loss) (page : Option ℕ) → moving.replaced ≡ replaced → moving.new_page ≡ page → Through (opening P moving page) W B
-        → IsOpened P W B moving.to_directory moving.to_slot (target_by moving replaced page)
+        → IsTargetOpened P W B moving.to_directory moving.to_slot (target_by moving replaced page)
     opened_from None None none no_page same = same
     opened_from None (Some page) none is (A, made, (C, owns, same)) = (A, named_page page A (Moves.place_at from to at none (Some page) is).slot_is made, same ∙ owns)
     opened_from (Some loss) None is no_page same = same
@@ -53,13 +53,13 @@ module _ {P : ℕ} {W : List ℕ} {state : State} (from to : Route) {moving : Mo
         let none : ◌≡◌ {A = Option ℕ} None (Some page) = sym (Moves.target_at from to at loss is).2 ∙ here in
         absurd (let clash = none in cc)
 
-    pub opened_by : Through (opening P moving moving.new_page) W B → IsOpened P W B moving.to_directory moving.to_slot (target_of moving)
+    pub opened_by : Through (opening P moving moving.new_page) W B → IsTargetOpened P W B moving.to_directory moving.to_slot (target_of moving)
     opened_by all = opened_from moving.replaced moving.new_page refl refl all
 
-    pub can_point : IsOpened P W B moving.to_directory moving.to_slot (target_of moving) → CanPointSlot P B moving
+    pub can_point : IsTargetOpened P W B moving.to_directory moving.to_slot (target_of moving) → CanPointSlot P B moving
     can_point opened = Asked.can_point from to at B opened
 
-    module _ (opened : IsOpened P W B moving.to_directory moving.to_slot (target_of moving)) (I : List ℕ) (points : PointsAt P B I moving.from_slot moving.to_slot (target_of moving) (rising_of moving)) where
+    module _ (opened : IsTargetOpened P W B moving.to_directory moving.to_slot (target_of moving)) (I : List ℕ) (points : PointsAt P B I moving.from_slot moving.to_slot (target_of moving) (rising_of moving)) where
       pub ready : IsMoveReady P W I (Moves.from_way from to at) (Moves.to_way from to at) moving.from_slot moving.to_directory moving.to_slot (target_of moving) (rising_of moving)
       ready = (ready_law P W B I (Moves.from_way from to at) (Moves.to_way from to at) moving.from_slot moving.to_directory moving.to_slot (target_of moving) (rising_of moving)
           (Moves.can_rename from to at) (Moves.rises from to at) opened points).ready

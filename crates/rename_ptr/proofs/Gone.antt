@@ -1,16 +1,15 @@
 -- What goes with a move, told after the commit: a replaced node with its pages, and the source's page.
-use Rattle.std.proofs.Common.{◌≡◌, ◌↔◌, ◌⊎◌, inl, inr, ℕ, ◌<◌, true, List, reverse, Option, Some, None, is_some, is_none, refl, sym, ap, subst, ◌∙◌}
+use Rattle.std.proofs.Common.{◌≡◌, ◌↔◌, ◌⊎◌, inl, inr, ℕ, ◌<◌, true, List, reverse, Option, Some, None, is_none, refl, sym, ap, subst, ◌∙◌}
 use Rattle.std.proofs.lemmas.Bool.{false≢true}
 use Rattle.layout.specs.Geometry.{data_pages_of, page_of_slot}
 use Rattle.layout.proofs.GeometryLaws.{page_of_slot_below}
 use Rattle.layout.specs.Fields.{page_owner}
 use Rattle.tree_model.specs.PathText.{Route}
-use Rattle.tree_model.specs.Tree.{Node, Tree, node_at, parent}
+use Rattle.tree_model.specs.Tree.{Tree, node_at, parent}
 use Rattle.tree_model.specs.Run.{State}
 use Rattle.image_reading.specs.Reading.{slot_owner, Reached, Reads, IsRoomOf}
 use Rattle.image_reading.specs.Soundness.{IsCoherent}
 use Rattle.image_counts.specs.Entries.{IsPageIn}
-use Rattle.image_counts.proofs.Nodes as nodes
 use Rattle.image_laws.specs.Move.{CanMove, moved}
 use Rattle.image_laws.proofs.OnlySlot.{OnlySlot}
 use Rattle.rename_laws.specs.Target.{Target, Vacant, Opened, Taken, old_number}
@@ -30,18 +29,11 @@ use Rattle.volume.specs.declared.plan.Loss.{Loss}
 use Rattle.volume.specs.declared.plan.Moving.{Moving}
 use Rattle.entry_steps.proofs.Lists.{not_none, one_page}
 use Rattle.removal_steps.specs.Steps.{AreGonePages, IsCut, number_of}
+use Rattle.removal_steps.proofs.Goes.{goes_when}
 use Rattle.rename_ptr.specs.Steps.{target_by, target_of}
 use Rattle.rename_ptr.specs.Renaming.{IsMovingAt}
 use Rattle.rename_ptr.proofs.Emptied
 use Rattle.rename_ptr.proofs.Moves
-
-no_node : (o : Option Node) → is_none o ≡ true → is_some o ≡ true → ⊥
-no_node None none some = false≢true some
-no_node (Some x) none some = false≢true none
-
-some_node : (o : Option Node) → (is_some o ≡ true → ⊥) → is_none o ≡ true
-some_node None none = refl
-some_node (Some x) none = absurd (none refl)
 
 -- a page of a replaced node that goes
 abbrev pub IsOfLoss : ℕ → List ℕ → Option Loss → ℕ → Type 0
@@ -86,11 +78,8 @@ module _ {P : ℕ} {W : List ℕ} {state : State} (from to : Route) {moving : Mo
 
   pub loss_gone : (loss : Loss) → IsTargetOf P W state from to moving (Some loss) → (loss.goes ≡ true) ↔ (Reached P after loss.inode → ⊥)
   loss_gone loss (named, lost, none) =
-      let is : loss.goes ≡ is_none (node_at (renamed state.tree from to) loss.inode) = lost.goes_is ∙ ap (λ (tree : Tree). is_none (node_at tree loss.inode)) (Moves.tree_after_is from to at) in (
-        (λ goes reached. no_node (node_at (renamed state.tree from to) loss.inode) (sym is ∙ goes) (nodes.reached_node P after (renamed state.tree from to) coherent_after reads_after loss.inode reached)),
-        (λ gone. is ∙ some_node (node_at (renamed state.tree from to) loss.inode)
-            (λ there. gone (nodes.node_reached P after (renamed state.tree from to) coherent_after reads_after loss.inode there))),
-      )
+      goes_when P after (renamed state.tree from to) coherent_after reads_after loss.inode loss.goes
+      (lost.goes_is ∙ ap (λ (tree : Tree). is_none (node_at tree loss.inode)) (Moves.tree_after_is from to at))
 
   gone_by : (replaced : Option Loss) (page : Option ℕ) → moving.replaced ≡ replaced → (goes_of replaced ≡ true) ↔ IsGone P after (target_by moving replaced page)
   gone_by None None is = ((λ goes. absurd (false≢true goes)), (λ gone. absurd gone))

@@ -21,7 +21,7 @@ use Rattle.image_laws.specs.Frame.{SameMeaning}
 use Rattle.image_laws.specs.Move.{moved}
 use Rattle.image_laws.proofs.Meaning.{same_itself}
 use Rattle.image_laws.proofs.PageQuiet.{page_quiet_law}
-use Rattle.rename_laws.specs.Ready.{IsOpened, PointsAt, IsMoveReady}
+use Rattle.rename_laws.specs.Ready.{IsTargetOpened, PointsAt, IsMoveReady}
 use Rattle.rename_laws.specs.Intervals.{left, ClearsSource}
 use Rattle.rename_laws.proofs.Differs
 use Rattle.rename_laws.proofs.MoveIntervals.{leaving_law, clearing_law, giving_law, freeing_law}
@@ -74,7 +74,7 @@ module _ {P : ℕ} (old : DeviceView) {state : State} (from to : Route) {moving 
 
   -- ---- once the pointer is there
 
-  module _ (B : List ℕ) (opened : IsOpened P W B moving.to_directory moving.to_slot (target_of moving)) (I : List ℕ)
+  module _ (B : List ℕ) (opened : IsTargetOpened P W B moving.to_directory moving.to_slot (target_of moving)) (I : List ℕ)
       (points : PointsAt P B I moving.from_slot moving.to_slot (target_of moving) (rising_of moving)) where
     ready : IsMoveReady P W I (reverse (parent from)) (reverse (parent to)) moving.from_slot moving.to_directory moving.to_slot (target_of moving) (rising_of moving)
     ready = Begun.ready from to at B opened I points
@@ -121,7 +121,7 @@ module _ {P : ℕ} (old : DeviceView) {state : State} (from to : Route) {moving 
   abbrev Before : List ℕ → Type 0
   Before image = SameMeaning P W image
 
-  turns_from : (B : List ℕ) → IsOpened P W B moving.to_directory moving.to_slot (target_of moving) → Turns Before (IsLater P tree) (slot_word_of P moving.to_slot 0) (moving_steps P moving pages) B
+  turns_from : (B : List ℕ) → IsTargetOpened P W B moving.to_directory moving.to_slot (target_of moving) → Turns Before (IsLater P tree) (slot_word_of P moving.to_slot 0) (moving_steps P moving pages) B
   turns_from B opened I points =
       let law = ready_law P W B I (reverse (parent from)) (reverse (parent to)) moving.from_slot moving.to_directory moving.to_slot (target_of moving) (rising_of moving)
       (Moves.can_rename from to at) (Moves.rises from to at) opened points in
