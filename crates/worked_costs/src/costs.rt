@@ -1,10 +1,11 @@
 // What each line costs: its fences, and its stores, flushes and fences together, counted on a device in memory. On 16 pages inode 2
 // begins at word 528, the descriptors at 1,024 and the data pages, whose slots are of 16 words, at 1,536.
+use crate::plans::compare_costs;
 use std::test::Fail;
 use worked_drivers::jobs::job_on;
-use worked_drivers::rows::{compare_costs, compare_words};
+use worked_drivers::rows::compare_words;
 use worked_drivers::texts::numbered;
-use worked_drivers::volumes::{set_words, small_volume, volume_after};
+use worked_drivers::volumes::{fresh_volume, set_words, small_volume};
 
 const FENCE: u64 = 1;
 
@@ -83,20 +84,6 @@ fn what_is_made_costs(rt: HostRuntime) -> Result<(), Fail> {
             (2_066, 0x79_0001),
         ],
     )
-}
-
-// A second name has no node: the file's links rise.
-#[test]
-fn another_name_costs(rt: HostRuntime) -> Result<(), Fail> {
-    compare_costs(
-        rt.alloc(),
-        volume_after(rt.alloc(), 16, "create /a\nmkdir /d\n")?.as_slice(),
-        &[
-            ("link /a /d/x\n", "ok\n", 3, ENTRY_IN_PAGE - NODE + LINKS),
-            ("link /a /d/y\n", "ok\n", 2, ENTRY - NODE + LINKS),
-        ],
-    )?;
-    Ok(())
 }
 
 // The words that stood in the new page are zeroed, and those behind it aren't touched.
@@ -187,6 +174,36 @@ fn what_goes_costs(rt: HostRuntime) -> Result<(), Fail> {
     )
 }
 
+// Each kind of a name that is made or goes: with a new page and without one; a file with another name, one that goes, a page that
+// goes, a directory with and without one. Lines that only read cost nothing.
+#[test]
+fn names_cost(rt: HostRuntime) -> Result<(), Fail> {
+    let link = ENTRY - NODE + LINKS;
+    let link_in_page = ENTRY_IN_PAGE - NODE + LINKS;
+    compare_costs(
+        rt.alloc(),
+        fresh_volume(rt.alloc(), 64)?.as_slice(),
+        &[
+            ("create /a\n", "ok\n", 3, ENTRY_IN_PAGE),
+            ("create /b\n", "ok\n", 2, ENTRY),
+            ("mkdir /d\n", "ok\n", 2, ENTRY + LINKS),
+            ("mkdir /d/e\n", "ok\n", 3, ENTRY_IN_PAGE + LINKS),
+            ("link /a /d/x\n", "ok\n", 2, link),
+            ("link /a /d/e/y\n", "ok\n", 3, link_in_page),
+            ("unlink /d/x\n", "ok\n", 2, REMOVAL),
+            ("create /d/e/z\n", "ok\n", 2, ENTRY),
+            ("unlink /d/e/z\n", "ok\n", 3, REMOVAL + NODE + FENCE),
+            ("unlink /d/e/y\n", "ok\n", 4, REMOVAL + WORD + 3 + FENCE),
+            ("rmdir /d/e\n", "ok\n", 4, REMOVAL + WORD + 3 + NODE + FENCE),
+            ("rmdir /d\n", "ok\n", 3, REMOVAL + NODE + FENCE),
+            ("stat /b\n", "ok file inode 3 links 1 size 0\n", 0, 0),
+            ("list /\n", "ok 2 a b\n", 0, 0),
+            ("df\n", "ok inodes 13 16 pages 60 61\n", 0, 0),
+        ],
+    )?;
+    Ok(())
+}
+
 // Past the size all words of the last page from the old size on are stored: 512 and their 64 lines, or from the third on 510.
 #[test]
 fn bytes_cost(rt: HostRuntime) -> Result<(), Fail> {
@@ -234,6 +251,10 @@ fn another_size_costs(rt: HostRuntime) -> Result<(), Fail> {
                 3,
                 510 + 64 + 3 * PAGE + 1 + 7 + WORD,
             ),
+            ("truncate /a 12289\n", "ok\n", 0, 0),
+            // The words of the last page from the first on.
+            ("truncate /a 12290\n", "ok\n", 2, 512 + 64 + 1 + WORD),
+            ("read /a 12289 1\n", "ok 1 00\n", 0, 0),
         ],
     )?;
     Ok(())

@@ -1,7 +1,7 @@
 // A name that moves: what a script is told, and what each line costs.
+use crate::plans::{Cost, compare_costs};
 use std::alloc::Global;
 use std::test::Fail;
-use worked_drivers::rows::{Cost, compare_costs};
 use worked_drivers::texts::{joined, numbered};
 use worked_drivers::volumes::volume_after;
 

@@ -1,14 +1,10 @@
-// Rows of scripts: what is told, and how many fences and events that takes.
-use crate::jobs::{Left, events_of, is_done, job_on, run_on, same};
-use pm_memory::RamPm;
+// Rows of scripts: what is told, and how many fences that takes.
+use crate::jobs::{Left, is_done, job_on, same};
 use std::alloc::Global;
 use std::test::Fail;
 
 /// A script, its replies, and how many fences it takes.
 pub type Row<'a> = (&'a str, &'a str, u64);
-
-/// A script, its replies, and how many fences and events it takes.
-pub type Cost<'a> = (&'a str, &'a str, u64, u64);
 
 /// Runs each script on the same volume, and compares what is told alone.
 pub fn compare_replies(alloc: Global, volume: &[u64], rows: &[(&str, &str)]) -> Result<(), Fail> {
@@ -39,26 +35,6 @@ pub fn compare_run(
     is_done(&left, told, script)?;
     same(left.fences, fences, script)?;
     Ok(left)
-}
-
-/// Runs each script on what those before it left, the first on this volume. What they left at the end.
-pub fn compare_costs(alloc: Global, volume: &[u64], costs: &[Cost<'_>]) -> Result<Vec<u64>, Fail> {
-    let mut image = volume.to_vec(alloc)?;
-    for cost in costs {
-        image = compare_cost(alloc, image.as_slice(), *cost)?;
-    }
-    Ok(image)
-}
-
-// Runs a script to its end. What it left.
-fn compare_cost(alloc: Global, volume: &[u64], cost: Cost<'_>) -> Result<Vec<u64>, Fail> {
-    let (script, told, fences, events) = cost;
-    let mut pm = RamPm::new(alloc, volume)?;
-    let left = run_on(alloc, &mut pm, script)?;
-    is_done(&left, told, script)?;
-    let counted = (left.fences, events_of(&pm)?.saturating_sub(left.acks));
-    same(counted, (fences, events), script)?;
-    Ok(left.image)
 }
 
 /// Some words are these.
