@@ -1,5 +1,5 @@
 -- A write past the size and a truncation to more, in three intervals: the bytes with the new pages' kinds and offsets; the
--- new pages' owners; the size.
+-- new pages' owners, where there are new pages; the size.
 use Rattle.std.specs.Prelude.{◌≡◌, ◌≢◌, ◌⊎◌, ℕ, ◌+◌, ◌-◌, ◌/◌, ◌%◌, ◌^◌, ◌<◌, ◌≤◌, List, length, set, Contains, Some, slice_get}
 use Rattle.layout.specs.Fields.{word, inode_kind, inode_size, page_owner, page_kind, page_offset, page_byte}
 use Rattle.layout.specs.Geometry.{inode_word_of, descriptor_word_of, page_word_of}

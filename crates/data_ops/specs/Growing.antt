@@ -1,4 +1,4 @@
--- A file that grows, and the words that its three intervals store. P is the number of pages, W the words before.
+-- A file that grows, and the words that its intervals store: three, and two without new pages. P is the number of pages, W the words before.
 use Rattle.std.specs.Prelude.{◌≡◌, ℕ, ◌+◌, ◌*◌, ◌/◌, ◌^◌, ◌<◌, ◌≤◌, min, List, [], length, drop, Some, None}
 use Rattle.layout.specs.Fields.{inode_size}
 use Rattle.layout.specs.Geometry.{pieces}

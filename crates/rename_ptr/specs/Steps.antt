@@ -87,7 +87,7 @@ IsClearedWord P moving word = (word ≡ slot_word_of P moving.to_slot 1) ⊎ IsR
 
 -- ---- the steps
 
--- a new page for the new name, with the name in its first slot, and then its owner
+-- a new page for the new name, with the name in its first slot, which the plan has as the new name's slot, and then its owner
 abbrev pub opening : ℕ → Moving → Option ℕ → List Step
 opening P moving None = []
 opening P moving (Some page) = filling_named P page (words_of_name moving.to_name) ∷ owning P page moving.to_directory ∷ []
