@@ -1,4 +1,4 @@
--- A new page gets its owner, where a name takes one: the step, its costs, and what goes on over it.
+-- A new page gets its owner, where a name takes one: what the steps leave, and what goes on over this one.
 use Rattle.std.proofs.Common.{inl, inr, ℕ, ◌*◌, ◌<◌, ◌≤◌, Bool, true, false, if◌then◌else◌, List, [], ◌∷◌, ◌++◌, length, slice_index, sym, ap, subst, ◌∙◌, ◌≡◌, arith, get_or-set_other}
 use Rattle.std.specs.Prelude.{Option, Some, None, Ok}
 use Rattle.pm_trait.specs.DeviceView.{DeviceView}
@@ -23,36 +23,14 @@ pub name_through : (P : ℕ) (W : List ℕ) (d slot inode : ℕ) (new_page : Opt
 name_through P W d slot inode None write J (I, made, (K, is, same)) = (I, made, same ∙ is)
 name_through P W d slot inode (Some page) write J (I, made, (B, owns, (K, is, same))) = (I, made, same ∙ is ∙ ap (λ (l : List ℕ). committed P l slot inode) owns)
 
--- ---- what it costs
-
-claim_fences : (P d : ℕ) (new_page : Option ℕ) → fences_in (claim_steps P d new_page) ≤ 1
-claim_fences P d None = omega arith
-claim_fences P d (Some page) = omega arith
-
-one_fence : (stores : Bool) → (if stores then 1 else 0) ≤ 1
-one_fence true = omega arith
-one_fence false = omega arith
-
-module _ (P : ℕ) (d slot inode : ℕ) (new_page : Option ℕ) (write : Step) {a : DeviceView} {words : ℕ} (begins : MayFence a words (events_in (write ∷ (claim_steps P d new_page ++ naming P slot inode ∷ []))) 3) where
-  pub may_write : MayFence a words (step_events write) 1
-  may_write = record {
-    whole = begins.whole;
-    settled = begins.settled;
-    room = let room = begins.room in omega (arith, room);
-    countable = let few = begins.countable in omega (arith, few);
-  }
-
-  module _ {T E : Type 0} {value : T} (b : DeviceView) (written : Takes {E = E} write a b (Ok value)) where
-    after_write : MayFence b words (events_in (claim_steps P d new_page ++ naming P slot inode ∷ [])) 2
-    after_write =
-        let few = one_fence write.stores in
-        next_some (write ∷ []) (claim_steps P d new_page ++ naming P slot inode ∷ []) b 2 (omega (arith, few)) (last (Ok value) written) begins
-
-    pub may_claim : MayFence b words (events_in (claim_steps P d new_page)) 1
-    may_claim = starts_some (claim_steps P d new_page) (naming P slot inode ∷ []) 1 (omega arith) after_write
-
-    pub may_commit : {U F : Type 0} {slot_is : U} (c : DeviceView) → Unfolds {E = F} (claim_steps P d new_page) b c (Ok slot_is) → MayFence c words commit_events 1
-    may_commit c opened = let few = claim_fences P d new_page in next_some (claim_steps P d new_page) (naming P slot inode ∷ []) c 1 (omega (arith, few)) opened after_write
+-- what the first of them may take
+pub may_write : (P : ℕ) (d slot inode : ℕ) (new_page : Option ℕ) (write : Step) {a : DeviceView} {words : ℕ} → MayFence a words (events_in (write ∷ (claim_steps P d new_page ++ naming P slot inode ∷ []))) 3 → MayFence a words (step_events write) 1
+may_write P d slot inode new_page write begins = record {
+  whole = begins.whole;
+  settled = begins.settled;
+  room = let room = begins.room in omega (arith, room);
+  countable = let few = begins.countable in omega (arith, few);
+}
 
 -- ---- an inode is as clean as before
 
