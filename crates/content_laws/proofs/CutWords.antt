@@ -10,12 +10,12 @@ use Rattle.image_reading.specs.Soundness.{Rule}
 use Rattle.image_laws.specs.Resize.{CanResize, HasResized}
 use Rattle.image_laws.proofs.Addresses.{descriptor-ne_inode, descriptor-ne_slot, inode-ne_inode, inode-ne_field, inode-ne_slot, descriptor_word-one}
 use Rattle.image_laws.proofs.Decide.{dec_eq}
+use Rattle.image_laws.proofs.Given as lost
 use Rattle.image_laws.proofs.Paths.{reached_pos, reached-le}
 use Rattle.image_laws.proofs.Resize.{OnlySize, only_size}
 use Rattle.image_laws.proofs.Resizes.{resize_law}
 use Rattle.content_laws.specs.Cut.{CanCut, IsPastCut, Cuts}
 use Rattle.content_laws.specs.Growth.{sized}
-use Rattle.content_laws.proofs.Trims as trims
 
 -- fewer bytes take no more pages
 pub fewer_pages : (y z k : ℕ) → z ≤ y → k < pages_of_size z → k < pages_of_size y
@@ -83,13 +83,13 @@ module _ (P : ℕ) (W : List ℕ) (i z : ℕ) (can : CanCut P W i z) where
     -- ---- from the size to the owners
 
     give_descriptor : (x f : ℕ) → f < 8 → (f ≢ 0) ⊎ (IsPastCut P W i z x → ⊥) → word J (descriptor_word_of P x f) ≡ word (sized W i z) (descriptor_word_of P x f)
-    give_descriptor x f l8 other = trims.give_descriptor P (sized W i z) J (IsPastCut P W i z) h.gives x f l8 other
+    give_descriptor x f l8 other = lost.give_descriptor P (sized W i z) J (IsPastCut P W i z) h.gives x f l8 other
 
     give_inode : (x f : ℕ) → 1 ≤ x → x ≤ inodes_of P → f < 16 → word J (inode_word_of x f) ≡ word (sized W i z) (inode_word_of x f)
-    give_inode x f some high lt = trims.give_inode P (sized W i z) J (IsPastCut P W i z) h.gives x f some high lt
+    give_inode x f some high lt = lost.give_inode P (sized W i z) J (IsPastCut P W i z) h.gives x f some high lt
 
     give_slot : (t f : ℕ) → word J (slot_word_of P t f) ≡ word (sized W i z) (slot_word_of P t f)
-    give_slot t f = h.gives.others (slot_word_of P t f) (λ j g e. descriptor-ne_slot P j 0 t f g.in_range (omega arith) (sym e))
+    give_slot = lost.give_slot P (sized W i z) J (IsPastCut P W i z) h.gives (λ j g. g.in_range)
 
     -- ---- from the owners to the kinds and offsets
 

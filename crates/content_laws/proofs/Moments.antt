@@ -10,7 +10,7 @@ use Rattle.image_reading.specs.Soundness.{IsCoherent}
 use Rattle.image_laws.specs.Frame.{SameMeaning}
 use Rattle.image_laws.specs.Quiet.{IsMix}
 use Rattle.image_laws.proofs.Making.{mix_itself}
-use Rattle.content_laws.specs.Growth.{CanGrow, FillsFile, TakesPages, FillingLaw, MeansFilled, TakingLaw}
+use Rattle.content_laws.specs.Growth.{CanGrow, FillsFile, TakesPages, FillingLaw, MeansFilled, GrowthTakingLaw}
 use Rattle.content_laws.specs.Inside.{CanWrite, WritesInside}
 use Rattle.content_laws.specs.Moments.{IsEarly, InsideOnceLaw, GrowthHangsLaw, GrowthOnceLaw}
 use Rattle.content_laws.specs.Torn.{SameRange}
@@ -102,7 +102,7 @@ module _ (P : ℕ) (W A B : List ℕ) (i z offset : ℕ) (bytes pages : List ℕ
     old_size = field_of 2 (omega arith);
   }
 
-pub taking_law : TakingLaw
+pub taking_law : GrowthTakingLaw
 taking_law P W A B M i z offset bytes pages can fills takes mix = taken_mix P W A B i z offset bytes pages can fills takes M mix
 
 -- ---- before the size is stored

@@ -73,8 +73,8 @@ pub record MeansFilled (P : ℕ) (W A M : List ℕ) (i : ℕ) : Type 0 where
   pub old_size : inode_size M i ≡ inode_size W i
 
 -- So it is while the owners are stored.
-abbrev pub TakingLaw : Type 0
-TakingLaw = (P : ℕ) (W A B M : List ℕ) (i z offset : ℕ) (bytes pages : List ℕ) → CanGrow P W i z offset bytes pages → FillsFile P W A i offset bytes pages → TakesPages P A B i pages
+abbrev pub GrowthTakingLaw : Type 0
+GrowthTakingLaw = (P : ℕ) (W A B M : List ℕ) (i z offset : ℕ) (bytes pages : List ℕ) → CanGrow P W i z offset bytes pages → FillsFile P W A i offset bytes pages → TakesPages P A B i pages
     → IsMix A B M → MeansFilled P W A M i
 
 -- Then a crash leaves that or the end, which is tidy, with all the bytes.

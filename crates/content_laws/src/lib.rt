@@ -4,7 +4,7 @@
 ghost use Rattle.content_laws.specs.Mix.{ContentQuietLaw, ByteMixLaw};
 ghost use Rattle.content_laws.specs.Torn.{TornLaw, TornMeansLaw, TornTreeLaw, SameTornLaw};
 ghost use Rattle.content_laws.specs.Inside.{InsideLaw};
-ghost use Rattle.content_laws.specs.Growth.{FillingLaw, TakingLaw, GrowthLaw};
+ghost use Rattle.content_laws.specs.Growth.{FillingLaw, GrowthTakingLaw, GrowthLaw};
 ghost use Rattle.content_laws.specs.Steps.{InsideStepLaw, WritePastStepLaw, LengthenStepLaw};
 ghost use Rattle.content_laws.specs.Moments.{InsideOnceLaw, GrowthHangsLaw, GrowthOnceLaw};
 
@@ -38,7 +38,7 @@ pub fn inside_law()
 /// the bytes.
 pub fn growth_law()
     ensures filling { FillingLaw }
-    ensures taking { TakingLaw }
+    ensures taking { GrowthTakingLaw }
     ensures end { GrowthLaw }
 {}
 

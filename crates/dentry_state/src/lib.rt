@@ -7,7 +7,7 @@ mod states;
 
 pub use dentry::{DentryH, Touched};
 pub use laws::dentry_law;
-pub use states::{Cleared, DentryState, Free, Left, Live, Moved, Named, Pointing};
+pub use states::{Cleared, DentryState, Free, HasName, Left, Live, Moved, Named, Pointing};
 
 #[cfg(test)]
 mod tests;

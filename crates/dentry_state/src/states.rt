@@ -1,11 +1,18 @@
 // What the words of a slot mean.
 ghost use Rattle.layout.specs.declared.fields.SlotFields.{SlotFields};
+ghost use Rattle.layout.specs.Name.{IsNameWords};
 ghost use Rattle.dentry_state.specs.States.{IsFree, IsNamed, IsLive, IsPointing, IsMoved};
 
 /// A meaning that the words of a slot may have.
 pub trait DentryState {
     /// A slot has this meaning where its words say so.
     ghost Reads: { SlotFields → Type 0 };
+}
+
+/// A meaning of a slot that has a name, so that a rename may give it a rename pointer.
+pub trait HasName: DentryState {
+    /// The fields have a name wherever they have this meaning.
+    ghost named: { (fields : SlotFields) → Self.Reads fields → IsNameWords fields.name };
 }
 
 /// It is no entry of a directory: its words are 0.
@@ -62,4 +69,12 @@ impl DentryState for Moved {
 
 impl DentryState for Left {
     ghost Reads = { IsNamed };
+}
+
+impl HasName for Named {
+    ghost named = { λ fields reads. reads.2 };
+}
+
+impl HasName for Live {
+    ghost named = { λ fields reads. reads.2 };
 }

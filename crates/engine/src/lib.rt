@@ -11,6 +11,3 @@ mod turns;
 pub use laws::plain_runs_are_runs;
 pub use session::Session;
 pub use turns::run;
-
-#[cfg(test)]
-mod tests;

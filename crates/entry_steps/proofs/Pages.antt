@@ -1,5 +1,5 @@
 -- One page of a list of one: what its fill and its claim leave.
-use Rattle.std.proofs.Common.{◌≡◌, inl, inr, ℕ, ◌*◌, ◌<◌, List, [], length, slice_index, set, sym, ap, subst, ◌∙◌, arith, get_or-set_same, get_or-set_other, length-set}
+use Rattle.std.proofs.Common.{◌≡◌, inl, inr, ℕ, ◌*◌, ◌<◌, List, length, slice_index, set, sym, ap, subst, ◌∙◌, arith, get_or-set_same, get_or-set_other, length-set}
 use Rattle.std.specs.Prelude.{Option}
 use Rattle.std.proofs.lemmas.Bool.{cases_eq}
 use Rattle.std.proofs.lemmas.Grind.{same_number_lists}
@@ -12,11 +12,10 @@ use Rattle.layout.specs.Geometry.{IsVolumeSize, data_pages_of, descriptor_word_o
 use Rattle.layout.specs.Fields.{word, page_owner}
 use Rattle.fence_token.proofs.StoredLaws.{exactly_stores, flushes_stores}
 use Rattle.page_state.specs.declared.page.Touched.{Touched}
-use Rattle.page_state.specs.Page.{EachPage, OfSome, IsOwnWord, IsFilledWord, IsOwnerWord, IsSlotPage, touched_lines}
+use Rattle.page_state.specs.Page.{EachPage, OfSome, IsOwnWord, IsFilledWord, IsOwnerWord, touched_lines}
 use Rattle.page_state.specs.Events.{FillsPages, ClaimsPages, FlushesPages}
 use Rattle.page_state.proofs.PageLaws.{own_word_within, descriptor_word_is}
-use Rattle.image_laws.specs.Create.{IsPageMadeWord, MakesPage, owned}
-use Rattle.image_laws.proofs.NewPage.{makes_page}
+use Rattle.image_laws.specs.Create.{IsPageMadeWord, owned}
 
 -- a word of one of the pages is one of the page
 pub of_one : (pages : List ℕ) (Q : ℕ → ℕ → Type 0) (word : ℕ) → length pages ≡ 1 → OfSome pages Q word → Q (slice_index pages 0) word
@@ -42,20 +41,7 @@ filled_word P j a (inl content) = inl (content.place, content.in_page, content.a
 filled_word P j a (inr (inl kind)) = inr (inl kind)
 filled_word P j a (inr (inr offset)) = inr (inr offset)
 
-made_of : {W A : List ℕ} {tw ta : Option Trail} (P : ℕ) (pages : List ℕ) → length pages ≡ 1 → EachPage pages (IsSlotPage P A []) → IsInterval (OfSome pages (IsFilledWord P)) W tw A ta → MakesPage P W A (slice_index pages 0)
-unfolding word
-made_of {W} {A} P pages one filled run =
-    let page = filled.each 0 (omega (arith, one)) in
-    makes_page P W A (slice_index pages 0) (interval_length run) page.contents.each page.kind page.offset
-    (λ a out. interval_keeps a run (λ some. out (filled_word P (slice_index pages 0) a (of_one pages (IsFilledWord P) a one some))))
-
 module _ (P V : ℕ) (pages ps : List ℕ) (volume : V ≡ P) (list : ps ≡ pages) (one : length pages ≡ 1) where
-  pub page_made : {W A B : List ℕ} {tw ta : Option Trail} → B ≡ A → EachPage ps (IsSlotPage V A []) → IsInterval (OfSome ps (IsFilledWord V)) W tw A ta → MakesPage P W B (slice_index pages 0)
-  page_made {W} {A} {B} same filled run =
-      let made : MakesPage V W A (slice_index ps 0) = made_of V ps (ap length list ∙ one) filled run in
-      subst (λ (words : List ℕ). MakesPage P W words (slice_index pages 0)) (sym same)
-      (subst (λ (v : ℕ). MakesPage v W A (slice_index pages 0)) volume (subst (λ (l : List ℕ). MakesPage V W A (slice_index l 0)) list made))
-
   -- each word that was filled is flushed, where each of the page's is
   pub made_flushed : {t : Option Trail} → ((word : ℕ) → OfSome ps (IsOwnWord V) word → IsFlushed t word) → (word : ℕ) → OfSome pages (IsFilledWord P) word → IsFlushed t word
   made_flushed {t} flushed word some =

@@ -1,10 +1,9 @@
 -- The place of a new name: what the plan says of it, in the tree and in the words, and what a new page leaves there.
-use Rattle.std.proofs.Common.{◌≡◌, ◌≢◌, ◌⊎◌, inl, inr, ℕ, ◌+◌, ◌-◌, ◌*◌, ◌^◌, ◌==◌, ◌<◌, ◌≤◌, true, false, List, [], ◌∷◌, length, slice_index, reverse, Option, Some, None, is_some, refl, sym, ap, subst, ◌∙◌, arith}
+use Rattle.std.proofs.Common.{◌≡◌, ◌≢◌, ◌⊎◌, inl, inr, ℕ, ◌+◌, ◌-◌, ◌*◌, ◌^◌, ◌==◌, ◌<◌, ◌≤◌, true, false, List, [], ◌∷◌, length, reverse, Option, Some, None, is_some, refl, sym, ap, subst, ◌∙◌, arith}
 use Rattle.std.proofs.lemmas.Bool.{cases_eq}
 use Rattle.std.proofs.lemmas.Bool.Decides.{nat_tests}
 use Rattle.std.proofs.lemmas.List.{reverse-append}
-use Rattle.layout.specs.declared.fields.InodeFields.{InodeFields}
-use Rattle.layout.specs.Geometry.{IsVolumeSize, inodes_of, data_pages_of, slots_of, page_of_slot, descriptor_word_of, slot_word_of}
+use Rattle.layout.specs.Geometry.{IsVolumeSize, inodes_of, data_pages_of, slots_of, page_of_slot, descriptor_word_of}
 use Rattle.layout.proofs.GeometryLaws.{slots_in_pages, data_pages_below, page_of_slot_below, page_of_entry, slot_below}
 use Rattle.layout.specs.Fields.{word, inode_kind, inode_links}
 use Rattle.layout.specs.Name.{IsName, IsBytes, words_of_name, name_in_words}
@@ -15,10 +14,6 @@ use Rattle.tree_model.specs.Accepted.{MayName}
 use Rattle.tree_model.specs.Capacity.{untaken}
 use Rattle.tree_model.specs.Step.{is_full}
 use Rattle.tree_model.specs.Run.{State, IsVolumeState}
-use Rattle.inode_state.specs.Inode.{fields_at}
-use Rattle.inode_state.proofs.InodeLaws.{same_fields_at}
-use Rattle.dentry_state.specs.States.{free_fields as free_slot}
-use Rattle.dentry_state.specs.Dentry.{slot_fields_at}
 use Rattle.image_reading.specs.Reading.{IsDirectory, slot_owner, Names, Reached, IsNameOf, IsChildOf, ReadsAs}
 use Rattle.image_reading.specs.Repairs.{IsLitterPage}
 use Rattle.image_reading.specs.Soundness.{Rule, IsCoherent}
@@ -35,9 +30,9 @@ use Rattle.image_counts.proofs.Tidied.{page_count_law, room_law}
 use Rattle.image_laws.specs.Create.{CanName, IsVacant}
 use Rattle.volume.specs.Planned.{IsVacantSlot, IsPlace, IsNewNameAt}
 use Rattle.volume.proofs.Ways.{whole_path}
-use Rattle.entry_steps.specs.Steps.{IsLinkable, MayTake, IsHolder, IsOpened}
+use Rattle.entry_steps.specs.Steps.{IsLinkable, MayTake}
+use Rattle.entry_steps.specs.Placing.{MayPlace}
 use Rattle.entry_steps.proofs.Counts.{none_of, count_below}
-use Rattle.entry_steps.proofs.Opened
 use Rattle.entry_steps.proofs.Zeros.{zero_slot, zero_descriptor}
 
 -- The image is tidy and reads as the state, whose command may give this name to a path's directory, and this is its place.
@@ -116,9 +111,6 @@ module _ {P : ℕ} {W : List ℕ} {state : State} {path : Route} {d : ℕ} {name
 
   pub named : Names P W (reverse (parent path)) d
   named = (at.reads.tree.names (parent path) d).0 at.new_name.directory_is
-
-  pub holder : IsHolder P W d
-  holder = record { coherent = coherent; path = reverse (parent path); named = named; is_directory = holds.1 }
 
   inodes : HasInodes P W state.tree
   inodes = inode_count_law P W state coherent at.reads
@@ -204,40 +196,10 @@ module _ {P : ℕ} {W : List ℕ} {state : State} {path : Route} {d : ℕ} {name
   full_by None place = not_equal (name_count state.tree d) (32 * pages_in state.room d) (λ full. room_words.full.0 full slot place.vacant.page place.vacant.vacant)
   full_by (Some page) place = is_same (name_count state.tree d) (32 * pages_in state.room d) (room_words.full.1 (λ s is none. place.full s (record { page = is; vacant = none })))
 
-  -- ---- once the directory has its new page, where it takes one
+  -- the place is free
+  free_by : (page : Option ℕ) → MayTake P W page → IsPlace P W d slot page → MayPlace P W slot page
+  free_by None may place = (place.vacant.page.in_range, zero_slot P W slot (λ f lt. room_words.zeros slot f place.vacant.page place.vacant.vacant lt))
+  free_by (Some page) may place = (may, place.slot_is)
 
-  module _ (B : List ℕ) (opened : IsOpened P W B d new_page) where
-    pub opened_whole : length B ≡ 512 * P
-    opened_whole = Opened.opened_long P W B d size whole new_page takes opened ∙ whole
-
-    pub opened_fields : (x : ℕ) → 1 ≤ x → x ≤ inodes_of P → fields_at B x ≡ fields_at W x
-    unfolding word
-    opened_fields x some most = same_fields_at x W B (λ a is.
-        let lt = is.is_field in
-        ap (λ (k : ℕ). slice_index B k) is.at
-        ∙ Opened.opened_inode P W B d size whole new_page takes opened x is.field some most (omega (arith, lt))
-        ∙ ap (λ (k : ℕ). slice_index W k) (sym is.at))
-
-    pub opened_linkable : (x : ℕ) → IsLinkable P W x → IsLinkable P B x
-    opened_linkable x before =
-        let same = opened_fields x before.least before.most in
-        let links = ap (λ (f : InodeFields). f.links) same in
-        let room = before.countable in
-        record {
-          least = before.least;
-          most = before.most;
-          live = subst (λ (f : InodeFields). ((f.kind ≡ 1) ⊎ (f.kind ≡ 2)) × (f.own ≡ x)) (sym same) before.live;
-          countable = omega (arith, links, room);
-        }
-
-    slot_zero : (page : Option ℕ) → new_page ≡ page → IsPlace P W d slot page → (f : ℕ) → f < 16 → word B (slot_word_of P slot f) ≡ 0
-    slot_zero None is place f lt =
-        Opened.opened_slot P W B d size whole new_page takes opened slot f lt (λ e. let clash : ◌≡◌ {A = Option ℕ} None (Some (page_of_slot slot)) = sym is ∙ e in cc)
-        ∙ room_words.zeros slot f place.vacant.page place.vacant.vacant lt
-    slot_zero (Some page) is place f lt =
-        let plain : slot ≡ 32 * page + 0 = omega (arith, place.slot_is) in
-        let stands = ap (λ (s : ℕ). page_of_slot s) plain ∙ page_of_entry page 0 (omega arith) in
-        Opened.opened_zero P W B d size whole new_page takes opened slot f lt (is ∙ ap (λ (j : ℕ). Some j) (sym stands))
-
-    pub slot_free : slot_fields_at P B slot ≡ free_slot
-    slot_free = zero_slot P B slot (slot_zero new_page refl at.new_name.place)
+  pub may_place : MayPlace P W slot new_page
+  may_place = free_by new_page takes at.new_name.place

@@ -1,10 +1,11 @@
-//! Steps that several calls of accepted commands make: a directory takes a new page, a slot gets a name, a node gets a link.
+//! Steps that several calls of accepted commands make: a directory gets a name, in a slot or in a new page, a node gets a link.
 #![tactic(auto)]
 
 mod links;
 mod name;
 mod page;
+mod place;
 
 pub use links::raise_links;
-pub use name::name_slot;
-pub use page::{claim_page, fill_named, take_page};
+pub use page::{claim_page, fill_page};
+pub use place::NamePlace;

@@ -26,10 +26,10 @@ use Rattle.image_laws.proofs.Paths.{reached_pos, reached-le}
 use Rattle.image_laws.proofs.Ready.{dec_among, dec_either}
 use Rattle.image_laws.specs.Stages.{IsReadySlot}
 
-dec_linked : (P s i a : ℕ) → Dec (IsLinkedWord P s i a)
+pub dec_linked : (P s i a : ℕ) → Dec (IsLinkedWord P s i a)
 dec_linked P s i a = dec_either _ _ (dec_among (λ k. slot_word_of P s (2 + k)) 14 a) (dec_eq a (inode_word_of i 1))
 
-not_linked : (P s i a : ℕ) → ((k : ℕ) → k < 14 → a ≢ slot_word_of P s (2 + k)) → a ≢ inode_word_of i 1 → IsLinkedWord P s i a → ⊥
+pub not_linked : (P s i a : ℕ) → ((k : ℕ) → k < 14 → a ≢ slot_word_of P s (2 + k)) → a ≢ inode_word_of i 1 → IsLinkedWord P s i a → ⊥
 not_linked P s i a g h m = elim m [ inl (k, lt, e) ↦ g k lt e | inr e ↦ h e ]
 
 module _ (P : ℕ) (B C : List ℕ) (p : Route) (d s i : ℕ) (name : List ℕ) (place : IsReadySlot P B p d s name) (file : IsOldFile P B i) (makes : MakesLink P B C s i name) where

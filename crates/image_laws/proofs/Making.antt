@@ -39,7 +39,7 @@ links_more P I x n h = record {
   directory = λ k xs d all. let le = h.directory k xs d all in omega (arith, le);
 }
 
-links_for : (node : Node) (P : ℕ) (I : List ℕ) (x n : ℕ) → HasLinks P I x n → HasLinks P I x (parent_links node n)
+pub links_for : (node : Node) (P : ℕ) (I : List ℕ) (x n : ℕ) → HasLinks P I x n → HasLinks P I x (parent_links node n)
 links_for Directory P I x n h = links_more P I x n h
 links_for (File bytes) P I x n h = h
 

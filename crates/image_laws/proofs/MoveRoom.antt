@@ -74,7 +74,7 @@ module _ (D : ℕ → Type 0) (R S : ℕ → ℕ → Type 0) (room : Room) (has 
 
 module _ (P : ℕ) (I J : List ℕ) (pa pb : Route) (s d i : ℕ) (coherent : IsCoherent P I) (a : Moves P I J pa pb s d i) (after : HasMoved P I J (slot_name P I s ∷ pa) (slot_name P I d ∷ pb)) where
   -- what stood at the new path
-  replaced_live : slot_inode P I d ≢ 0 → IsLive P I d
+  pub replaced_live : slot_inode P I d ≢ 0 → IsLive P I d
   replaced_live some = record {
     held = a.held;
     names = some;
@@ -85,11 +85,11 @@ module _ (P : ℕ) (I J : List ℕ) (pa pb : Route) (s d i : ℕ) (coherent : Is
   }
 
   -- it holds no live slot
-  no_owner : (t : ℕ) → IsLive P I t → Reached P I (slot_owner P I t) → IsDirectory I (slot_owner P I t) → slot_owner P I t ≢ slot_inode P I d
+  pub no_owner : (t : ℕ) → IsLive P I t → Reached P I (slot_owner P I t) → IsDirectory I (slot_owner P I t) → slot_owner P I t ≢ slot_inode P I d
   no_owner t live reached directory e =
       a.leaf (replaced_live (λ z. reached_pos P I (slot_owner P I t) reached (e ∙ z))) (ap (inode_kind I) (sym e) ∙ directory) t live e
 
-  target_reached : Reached P J (slot_owner P I d)
+  pub target_reached : Reached P J (slot_owner P I d)
   target_reached = (pb, subst (Names P J pb) (slots.owner_same P I J pa pb s d i coherent a d a.held.in_range) (slots.pb_stays P I J pa pb s d i coherent a))
 
   reached_back : (x : ℕ) → Reached P J x → Reached P I x
@@ -99,7 +99,7 @@ module _ (P : ℕ) (I J : List ℕ) (pa pb : Route) (s d i : ℕ) (coherent : Is
   kind_same = slots.kind_reached P I J pa pb s d i coherent a
 
   -- what is reached but the replaced stays reached
-  reached_forward : (x : ℕ) → x ≢ slot_inode P I d → Reached P I x → Reached P J x
+  pub reached_forward : (x : ℕ) → x ≢ slot_inode P I d → Reached P I x → Reached P J x
   reached_forward x ne (q, b) = go q x b ne
     where
       go : (q : Route) (x : ℕ) → Names P I q x → x ≢ slot_inode P I d → Reached P J x
@@ -167,7 +167,7 @@ module _ (P : ℕ) (I J : List ℕ) (pa pb : Route) (s d i : ℕ) (coherent : Is
 
   -- ---- pages with a live slot
 
-  room_back : (x j : ℕ) → IsRoomOf P J x j → ((x ≡ slot_owner P I d) × (j ≡ page_of_slot d)) ⊎ IsRoomOf P I x j
+  pub room_back : (x j : ℕ) → IsRoomOf P J x j → ((x ≡ slot_owner P I d) × (j ≡ page_of_slot d)) ⊎ IsRoomOf P I x j
   room_back x j room =
       let (t, at, o, live) = room.slot in
       let owner = sym (slots.owner_same P I J pa pb s d i coherent a t live.held.in_range) ∙ o in
@@ -180,17 +180,17 @@ module _ (P : ℕ) (I J : List ℕ) (pa pb : Route) (s d i : ℕ) (coherent : Is
         })
       ]
 
-  room_new : IsRoomOf P J (slot_owner P I d) (page_of_slot d)
+  pub room_new : IsRoomOf P J (slot_owner P I d) (page_of_slot d)
   room_new = record {
     reached = target_reached;
     directory = kind_same (slot_owner P I d) (pb, a.target_path) ∙ a.target_directory;
     slot = (d, refl, slots.owner_same P I J pa pb s d i coherent a d a.held.in_range, slots.live_new P I J pa pb s d i coherent a);
   }
 
-  room_old : IsRoomOf P I (slot_owner P I s) (page_of_slot s)
+  pub room_old : IsRoomOf P I (slot_owner P I s) (page_of_slot s)
   room_old = record { reached = (pa, a.source_path); directory = a.source_directory; slot = (s, refl, refl, a.source) }
 
-  room_cases : (x j : ℕ) → IsRoomOf P I x j → ((x ≡ slot_owner P I s) × (j ≡ page_of_slot s)) ⊎ IsRoomOf P J x j
+  pub room_cases : (x j : ℕ) → IsRoomOf P I x j → ((x ≡ slot_owner P I s) × (j ≡ page_of_slot s)) ⊎ IsRoomOf P J x j
   room_cases x j room =
       let (t, at, o, live) = room.slot in
       let reached = subst (Reached P I) (sym o) room.reached in

@@ -23,13 +23,23 @@ use Rattle.image_laws.proofs.Ready.{dec_among, dec_either}
 use Rattle.image_laws.proofs.Decide.{dec_eq}
 use Rattle.image_laws.proofs.Words.{agrees_from_words}
 
-dec_page_made : (P j a : ℕ) → Dec (IsPageMadeWord P j a)
+pub dec_page_made : (P j a : ℕ) → Dec (IsPageMadeWord P j a)
 dec_page_made P j a = dec_either _ _ (dec_among (page_word_of P j) 512 a) (dec_either _ _ (dec_eq a (descriptor_word_of P j 1)) (dec_eq a (descriptor_word_of P j 2)))
 
-not_page_made : (P j a : ℕ) → ((w : ℕ) → w < 512 → a ≢ page_word_of P j w) → ((f : ℕ) → 1 ≤ f → f < 3 → a ≢ descriptor_word_of P j f) → IsPageMadeWord P j a → ⊥
+pub not_page_made : (P j a : ℕ) → ((w : ℕ) → w < 512 → a ≢ page_word_of P j w) → ((f : ℕ) → 1 ≤ f → f < 3 → a ≢ descriptor_word_of P j f) → IsPageMadeWord P j a → ⊥
 not_page_made P j a f g m = elim m [
   | inl (w, lt, e) ↦ f w lt e
   | inr n ↦ elim n [ inl e ↦ g 1 (omega arith) (omega arith) e | inr e ↦ g 2 (omega arith) (omega arith) e ]
+]
+
+-- the words of a free page are free
+pub free_page_word : (P : ℕ) (W : List ℕ) (j : ℕ) → IsFreePage P W j → (a : ℕ) → IsPageMadeWord P j a → IsFree P W a
+free_page_word P W j page a m = elim m [
+  | inl (w, lt, e) ↦ subst (IsFree P W) (sym e) (IsFree.page j w page.0 lt page.1)
+  | inr n ↦ elim n [
+    | inl e ↦ subst (IsFree P W) (sym e) (IsFree.descriptor j 1 page.0 (omega arith) page.1)
+    | inr e ↦ subst (IsFree P W) (sym e) (IsFree.descriptor j 2 page.0 (omega arith) page.1)
+  ]
 ]
 
 -- what only reads inodes' links is carried over by equal words
@@ -79,15 +89,6 @@ module _ (P : ℕ) (W A : List ℕ) (j : ℕ) (coherent : IsCoherent P W) (page 
   unfolding page_owner
   made_owner x lt = made_descriptor x 0 lt (omega arith) (inr refl)
 
-  free_page_word : (a : ℕ) → IsPageMadeWord P j a → IsFree P W a
-  free_page_word a m = elim m [
-    | inl (w, lt, e) ↦ subst (IsFree P W) (sym e) (IsFree.page j w page.0 lt page.1)
-    | inr n ↦ elim n [
-      | inl e ↦ subst (IsFree P W) (sym e) (IsFree.descriptor j 1 page.0 (omega arith) page.1)
-      | inr e ↦ subst (IsFree P W) (sym e) (IsFree.descriptor j 2 page.0 (omega arith) page.1)
-    ]
-  ]
-
   made_links : (x : ℕ) → Reached P W x → inode_links A x ≡ inode_links W x
   unfolding inode_links
   made_links x r = let h = reached_pos P W x r in made_inode x 1 (omega (arith, h)) (reached-le P W coherent x r) (omega arith)
@@ -95,7 +96,7 @@ module _ (P : ℕ) (W A : List ℕ) (j : ℕ) (coherent : IsCoherent P W) (page 
   pub made_stores : Stores P W A
   made_stores = record {
     size = makes.size;
-    words = λ a. elim (dec_page_made P j a) [ no n ↦ inl (makes.others a n) | yes m ↦ inr (free_page_word a m) ];
+    words = λ a. elim (dec_page_made P j a) [ no n ↦ inl (makes.others a n) | yes m ↦ inr (free_page_word P W j page a m) ];
     owners = λ x lt. inl (made_owner x lt);
     links = links_kept P W A coherent made_links;
   }

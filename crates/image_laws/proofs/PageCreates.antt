@@ -19,32 +19,37 @@ use Rattle.image_laws.proofs.Creates.{named, created, free_inode}
 use Rattle.image_laws.proofs.Making as making
 use Rattle.image_laws.proofs.Meaning.{shape, reached_slot, reached_slot_forward, same_chained}
 use Rattle.image_laws.proofs.NewPage.{made_descriptor, made_inode, made_slot, zero_slot, owned_owner, owned_descriptor, owned_inode, owned_slot, alike_stores}
-use Rattle.image_laws.proofs.PageQuiet as page_quiet
+use Rattle.image_laws.proofs.PageQuiet.{fills_empty}
 use Rattle.image_laws.proofs.PageReady.{HasTaken, page_ready, page_clean, inode_ready, no_room}
 use Rattle.image_laws.proofs.Ready.{IsCleanSlot, IsNamed}
+use Rattle.image_laws.proofs.Taking as taking
 use Rattle.image_laws.specs.Stages.{IsReady, IsFreeInode}
+use Rattle.image_laws.specs.Taking.{FillsPage}
 
 module _ (P : ℕ) (W A : List ℕ) (p : Route) (d j s : ℕ) (name : List ℕ) (can : CanName P W p d name) (page : IsFreePage P W j) (at_s : page_of_slot s ≡ j) (makes : MakesEmptyPage P W A j) where
+  fills : FillsPage P W A j
+  fills = fills_empty P W A j can.tidy.coherent page makes
+
   same_page : SameMeaning P W A
-  same_page = page_quiet.same_page P W A p d j can.tidy.coherent can.path can.directory page makes
+  same_page = taking.same_page P W A p d j can.tidy.coherent can.path can.directory page fills
 
   alike_page : Alike P W A
-  alike_page = page_quiet.alike_page P W A p d j can.tidy.coherent can.path can.directory page makes
+  alike_page = taking.alike_page P W A p d j can.tidy.coherent can.path can.directory page fills
 
   d_reached : Reached P A d
-  d_reached = page_quiet.d_reached P W A p d j can.tidy.coherent can.path can.directory page makes
+  d_reached = taking.d_reached P W A p d j can.tidy.coherent can.path can.directory page fills
 
   d_directory : IsDirectory A d
-  d_directory = page_quiet.d_directory P W A p d j can.tidy.coherent can.path can.directory page makes
+  d_directory = taking.d_directory P W A p d j can.tidy.coherent can.path can.directory page fills
 
   unowned : page_owner P A j ≡ 0
-  unowned = page_quiet.unowned P W A p d j can.tidy.coherent can.path can.directory page makes
+  unowned = taking.unowned P W A p d j can.tidy.coherent can.path can.directory page fills
 
   owning_stores : Stores P A (owned P A j d)
-  owning_stores = page_quiet.owning_stores P W A p d j can.tidy.coherent can.path can.directory page makes
+  owning_stores = taking.owning_stores P W A p d j can.tidy.coherent can.path can.directory page fills
 
   same_owned : SameMeaning P A (owned P A j d)
-  same_owned = page_quiet.same_owned P W A p d j can.tidy.coherent can.path can.directory page makes
+  same_owned = taking.same_owned P W A p d j can.tidy.coherent can.path can.directory page fills
 
   alike_owned : Alike P A (owned P A j d)
   alike_owned = alike_stores P A (owned P A j d) same_page.coherent owning_stores

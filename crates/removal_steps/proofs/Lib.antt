@@ -7,6 +7,7 @@ mod Unused
 mod Resting
 pub mod Stages
 pub mod NodePages
+pub mod Goes
 mod Few
 mod Named
 mod Freed

@@ -18,7 +18,7 @@ use Rattle.image_laws.proofs.PageReady.{HasTaken, page_ready, entry_same, slot_s
 use Rattle.image_laws.proofs.Ready.{no_pointer, tidy_but}
 use Rattle.image_laws.proofs.Words.{slot_words-same}
 use Rattle.rename_laws.specs.Target.{Target, Vacant, Opened, Taken, CanRename, old_number}
-use Rattle.rename_laws.specs.Ready.{IsOpened, HasNewPage, IsNewPage, IsTargetWord}
+use Rattle.rename_laws.specs.Ready.{IsTargetOpened, HasNewPage, IsNewPage, IsTargetWord}
 
 -- the name words that slot d gets, or has
 abbrev pub words_for : ℕ → List ℕ → ℕ → Target → List ℕ
@@ -163,7 +163,7 @@ module _ (P : ℕ) (W A : List ℕ) (pb : Route) (x d j : ℕ) (name : List ℕ)
 
 -- ---- in all three cases
 
-pub opened : (P : ℕ) (W B : List ℕ) (pa pb : Route) (s x d : ℕ) (target : Target) → CanRename P W pa pb s x d target → IsOpened P W B x d target → IsOpen P W B x d target
+pub opened : (P : ℕ) (W B : List ℕ) (pa pb : Route) (s x d : ℕ) (target : Target) → CanRename P W pa pb s x d target → IsTargetOpened P W B x d target → IsOpen P W B x d target
 opened P W B pa pb s x d (Vacant name) can same = subst (λ I. IsOpen P W I x d (Vacant name)) (sym same) (vacant_open P W pa pb s x d name can)
 opened P W B pa pb s x d (Opened j name) can (A, makes, same) =
     subst (λ I. IsOpen P W I x d (Opened j name)) (sym same) (opened_open P W A pb x d j name can.target_slot.0 can.target_slot.1 can.target_slot.2 makes)

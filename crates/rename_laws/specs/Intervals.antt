@@ -1,6 +1,6 @@
 -- The intervals of a rename from its commit on, each by what stands before it. I are the words from which slot d may take its number,
 -- J, G and K those after the last three intervals.
-use Rattle.std.specs.Prelude.{◌≡◌, ◌≢◌, ◌⊎◌, ℕ, ◌+◌, ◌<◌, ◌≤◌, List, length, Option, Some, None}
+use Rattle.std.specs.Prelude.{◌≡◌, ◌≢◌, ◌⊎◌, ℕ, ◌<◌, ◌≤◌, List, length, Option}
 use Rattle.layout.specs.Fields.{word, page_owner, slot_pointer}
 use Rattle.layout.specs.Geometry.{data_pages_of, page_of_slot, slot_word_of}
 use Rattle.tree_model.specs.PathText.{Route}

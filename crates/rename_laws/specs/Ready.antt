@@ -1,6 +1,6 @@
 -- The intervals of a rename before its commit: a new page of the directory where it needs one, and then the pointer, with the name and a
 -- link. W are the words before, B those with the new page, I those from which slot d may take its number.
-use Rattle.std.specs.Prelude.{◌≡◌, ◌≢◌, ◌⊎◌, ℕ, ◌+◌, List, length, Option, Some, None}
+use Rattle.std.specs.Prelude.{◌≡◌, ◌≢◌, ◌⊎◌, ℕ, ◌+◌, List, length, Option}
 use Rattle.layout.specs.Fields.{word, page_owner, page_kind, page_offset, slot_inode, slot_pointer, slot_name, slot_words}
 use Rattle.layout.specs.Geometry.{page_of_slot, descriptor_word_of, slot_word_of, page_word_of}
 use Rattle.layout.specs.Kinds.{page_code}
@@ -19,10 +19,10 @@ use Rattle.rename_laws.specs.Target.{Target, Vacant, Opened, Taken, CanRename, H
 -- ---- a new page
 
 -- From W to B directory x has taken its new page, where there is one.
-abbrev pub IsOpened : ℕ → List ℕ → List ℕ → ℕ → ℕ → Target → Type 0
-IsOpened P W B x d (Vacant name) = B ≡ W
-IsOpened P W B x d (Opened j name) = (A : List ℕ) × MakesNamedPage P W A j d name × (B ≡ owned P A j x)
-IsOpened P W B x d (Taken r) = B ≡ W
+abbrev pub IsTargetOpened : ℕ → List ℕ → List ℕ → ℕ → ℕ → Target → Type 0
+IsTargetOpened P W B x d (Vacant name) = B ≡ W
+IsTargetOpened P W B x d (Opened j name) = (A : List ℕ) × MakesNamedPage P W A j d name × (B ≡ owned P A j x)
+IsTargetOpened P W B x d (Taken r) = B ≡ W
 
 -- ---- the pointer
 
@@ -96,5 +96,5 @@ pub record LeavesReady (P : ℕ) (W B I : List ℕ) (pa pb : Route) (s x d : ℕ
 
 abbrev pub ReadyLaw : Type 0
 ReadyLaw = (P : ℕ) (W B I : List ℕ) (pa pb : Route) (s x d : ℕ) (target : Target) (rising : Option ℕ) → CanRename P W pa pb s x d target
-    → Holds (IsRising P W s x target) rising → IsOpened P W B x d target → PointsAt P B I s d target rising
+    → Holds (IsRising P W s x target) rising → IsTargetOpened P W B x d target → PointsAt P B I s d target rising
     → LeavesReady P W B I pa pb s x d target rising

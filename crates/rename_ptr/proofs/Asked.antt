@@ -21,7 +21,7 @@ use Rattle.image_laws.specs.Move.{CanMove, moved}
 use Rattle.image_laws.proofs.Adds.{only}
 use Rattle.image_laws.proofs.OnlySlot.{OnlySlot}
 use Rattle.rename_laws.specs.Target.{Target, Vacant, Opened, Taken, Holds, IsRising, IsFalling}
-use Rattle.rename_laws.specs.Ready.{IsOpened, IsMoveReady}
+use Rattle.rename_laws.specs.Ready.{IsTargetOpened, IsMoveReady}
 use Rattle.rename_laws.proofs.MovedCounts.{IsLowered}
 use Rattle.rename_laws.proofs.MovedNames
 use Rattle.rename_laws.proofs.MovedWords
@@ -32,10 +32,10 @@ use Rattle.volume.specs.Moves.{rising_of, falling_of}
 use Rattle.volume.specs.declared.plan.Loss.{Loss}
 use Rattle.volume.specs.declared.plan.Moving.{Moving}
 use Rattle.entry_steps.specs.Steps.{IsLinkable}
-use Rattle.entry_steps.specs.Steps as steps
+use Rattle.entry_steps.specs.Placing.{MayPlace}
 use Rattle.entry_steps.proofs.Places
 use Rattle.removal_steps.specs.Steps.{HasLink, MayFall}
-use Rattle.rename_ptr.specs.Steps.{target_by, target_of, MayRise, MayPoint, CanPoint, CanTakeOver, CanLeave, CanClearSource}
+use Rattle.rename_ptr.specs.Steps.{target_by, target_of, MayRise, MayPoint, CanPointSlot, CanTakeOver, CanLeave, CanClearSource}
 use Rattle.rename_ptr.specs.Renaming.{IsMovingAt}
 use Rattle.rename_ptr.proofs.Moves
 
@@ -62,9 +62,9 @@ module _ {P : ℕ} {W : List ℕ} {state : State} (from to : Route) {moving : Mo
       ap (λ (k : ℕ). slice_index B k) is.at ∙ stands.inodes i is.field least most (omega (arith, lt)) ∙ ap (λ (k : ℕ). slice_index W k) (sym is.at))
 
   point_by : (replaced : Option Loss) (page : Option ℕ) → moving.replaced ≡ replaced → moving.new_page ≡ page → IsOpen P W B x d (target_by moving replaced page)
-      → IsOpened P W B x d (target_by moving replaced page) → MayPoint P B d (target_by moving replaced page)
+      → IsTargetOpened P W B x d (target_by moving replaced page) → MayPoint P B d (target_by moving replaced page)
   point_by None None none no_page stands is =
-      Places.slot_free (Moves.naming from to at none) B (subst (λ (page : Option ℕ). steps.IsOpened P W B x page) (sym no_page) is)
+      subst (λ (l : List ℕ). slot_fields_at P l d ≡ slots.free_fields) (sym is) (subst (MayPlace P W d) no_page (Places.may_place (Moves.naming from to at none))).1
   point_by None (Some page) none here stands is =
       (stands.number, stands.no_pointer d stands.held, subst IsNameWords (sym stands.name_words) (IsNameWords-words_of_name moving.to_name at.is_name at.of_bytes))
   point_by (Some loss) page is same stands opened = entry (target_by moving (Some loss) page) stands d (Moves.target_at from to at loss is).0.slot_is.slot
@@ -92,7 +92,7 @@ module _ {P : ℕ} {W : List ℕ} {state : State} (from to : Route) {moving : Mo
   rise_by target stands None none = tt
   rise_by target stands (Some y) rising = subst (λ (i : ℕ). IsLinkable P B i) (sym (risen target y rising)) (linkable target stands)
 
-  pub can_point : IsOpened P W B x d (target_of moving) → CanPoint P B moving
+  pub can_point : IsTargetOpened P W B x d (target_of moving) → CanPointSlot P B moving
   can_point opened =
       let stands = opening.opened P W B (Moves.from_way from to at) (Moves.to_way from to at) s x d (target_of moving) (Moves.can_rename from to at) opened in
       let source = (Moves.for_move from to at).source.slot_is.slot in

@@ -11,15 +11,16 @@ use Rattle.image_counts.proofs.Inodes.{inode_count_law}
 use Rattle.image_laws.specs.Create.{committed, MakesNamedPage}
 use Rattle.image_laws.specs.Drop.{dropped}
 use Rattle.image_laws.specs.Move.{moved}
-use Rattle.rename_laws.specs.Ready.{IsOpened, IsMoveReady, PointsAt}
+use Rattle.rename_laws.specs.Intervals.{left, ClearsSource}
+use Rattle.rename_laws.specs.Ready.{IsTargetOpened, IsMoveReady, PointsAt}
 use Rattle.rename_laws.proofs.MoveNear
 use Rattle.rename_laws.proofs.Ready.{ready_law}
-use Rattle.volume.specs.Moves.{rising_of}
+use Rattle.volume.specs.Moves.{rising_of, falling_of}
 use Rattle.volume.specs.declared.plan.Loss.{Loss}
 use Rattle.volume.specs.declared.plan.Moving.{Moving}
 use Rattle.entry_steps.specs.Steps.{MayTake, first_slot}
 use Rattle.entry_steps.proofs.Places
-use Rattle.rename_ptr.specs.Steps.{target_by, target_of, opening, CanPoint, CanTakeOver, CanLeave, CanClearSource}
+use Rattle.rename_ptr.specs.Steps.{target_by, target_of, opening, CanPointSlot, CanTakeOver, CanLeave, CanClearSource}
 use Rattle.rename_ptr.specs.Renaming.{IsMovingAt}
 use Rattle.rename_ptr.proofs.Asked
 use Rattle.rename_ptr.proofs.Moves
@@ -44,7 +45,7 @@ module _ {P : ℕ} {W : List ℕ} {state : State} (from to : Route) {moving : Mo
     named_page page A is made = subst (λ (slot : ℕ). MakesNamedPage P W A page slot (words_of_name moving.to_name)) (sym is) made
 
     opened_from : (replaced : Option Loss) (page : Option ℕ) → moving.replaced ≡ replaced → moving.new_page ≡ page → Through (opening P moving page) W B
-        → IsOpened P W B moving.to_directory moving.to_slot (target_by moving replaced page)
+        → IsTargetOpened P W B moving.to_directory moving.to_slot (target_by moving replaced page)
     opened_from None None none no_page same = same
     opened_from None (Some page) none is (A, made, (C, owns, same)) = (A, named_page page A (Moves.place_at from to at none (Some page) is).slot_is made, same ∙ owns)
     opened_from (Some loss) None is no_page same = same
@@ -52,13 +53,13 @@ module _ {P : ℕ} {W : List ℕ} {state : State} (from to : Route) {moving : Mo
         let none : ◌≡◌ {A = Option ℕ} None (Some page) = sym (Moves.target_at from to at loss is).2 ∙ here in
         absurd (let clash = none in cc)
 
-    pub opened_by : Through (opening P moving moving.new_page) W B → IsOpened P W B moving.to_directory moving.to_slot (target_of moving)
+    pub opened_by : Through (opening P moving moving.new_page) W B → IsTargetOpened P W B moving.to_directory moving.to_slot (target_of moving)
     opened_by all = opened_from moving.replaced moving.new_page refl refl all
 
-    pub can_point : IsOpened P W B moving.to_directory moving.to_slot (target_of moving) → CanPoint P B moving
+    pub can_point : IsTargetOpened P W B moving.to_directory moving.to_slot (target_of moving) → CanPointSlot P B moving
     can_point opened = Asked.can_point from to at B opened
 
-    module _ (opened : IsOpened P W B moving.to_directory moving.to_slot (target_of moving)) (I : List ℕ) (points : PointsAt P B I moving.from_slot moving.to_slot (target_of moving) (rising_of moving)) where
+    module _ (opened : IsTargetOpened P W B moving.to_directory moving.to_slot (target_of moving)) (I : List ℕ) (points : PointsAt P B I moving.from_slot moving.to_slot (target_of moving) (rising_of moving)) where
       pub ready : IsMoveReady P W I (Moves.from_way from to at) (Moves.to_way from to at) moving.from_slot moving.to_directory moving.to_slot (target_of moving) (rising_of moving)
       ready = (ready_law P W B I (Moves.from_way from to at) (Moves.to_way from to at) moving.from_slot moving.to_directory moving.to_slot (target_of moving) (rising_of moving)
           (Moves.can_rename from to at) (Moves.rises from to at) opened points).ready
@@ -76,9 +77,17 @@ module _ {P : ℕ} {W : List ℕ} {state : State} (from to : Route) {moving : Mo
         pub can_give : CanLeave P C moving
         can_give = subst (λ (l : List ℕ). CanLeave P l moving) (sym (commits ∙ committed_is)) (Asked.can_leave P W I (Moves.from_way from to at) (Moves.to_way from to at) moving (rising_of moving) ready)
 
+        left_is : (D : List ℕ) → D ≡ dropped P C moving.from_slot → D ≡ left P I moving.from_slot moving.to_slot
+        left_is D leaves = leaves ∙ ap (λ (l : List ℕ). dropped P l moving.from_slot) (commits ∙ committed_is)
+
         pub can_clear : (D : List ℕ) → D ≡ dropped P C moving.from_slot → CanClearSource P D moving
-        can_clear D leaves = subst (λ (l : List ℕ). CanClearSource P l moving) (sym (leaves ∙ ap (λ (l : List ℕ). dropped P l moving.from_slot) (commits ∙ committed_is)))
+        can_clear D leaves = subst (λ (l : List ℕ). CanClearSource P l moving) (sym (left_is D leaves))
             (Asked.can_clear_source P W I (Moves.from_way from to at) (Moves.to_way from to at) moving (rising_of moving) ready (Moves.falls from to at))
+
+        -- the words without the source, as the laws have them
+        pub cleared_left : (D : List ℕ) → D ≡ dropped P C moving.from_slot → (J : List ℕ) → ClearsSource P D J moving.from_slot moving.to_slot (falling_of moving)
+            → ClearsSource P (left P I moving.from_slot moving.to_slot) J moving.from_slot moving.to_slot (falling_of moving)
+        cleared_left D leaves J clears = subst (λ (l : List ℕ). ClearsSource P l J moving.from_slot moving.to_slot (falling_of moving)) (left_is D leaves) clears
 
 -- a new page takes two fences
 pub opening_fences : (P : ℕ) (moving : Moving) (page : Option ℕ) → fences_in (opening P moving page) + 6 ≤ 8

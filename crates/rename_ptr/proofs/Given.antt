@@ -1,6 +1,6 @@
 -- What the last two intervals of a move ask for: J are the words without the source's name, G those without the owners of the pages that go.
 use Rattle.std.proofs.Common.{◌≡◌, ◌≢◌, inl, inr, ℕ, ◌<◌, ◌≤◌, true, List, [], ◌∷◌, length, slice_index, reverse, Option, Some, None, refl, sym, ap, subst, ◌∙◌, arith}
-use Rattle.std.proofs.lemmas.Bool.{cases_eq, false≢true}
+use Rattle.std.proofs.lemmas.Bool.{cases_eq, cases_lt, false≢true}
 use Rattle.std.proofs.lemmas.List.Elements.{Contains-get_or}
 use Rattle.layout.specs.declared.kinds.NodeKind.{NodeKind}
 use Rattle.layout.specs.declared.kinds.NodeKind.TheVariants.{File, Directory}
@@ -45,6 +45,13 @@ use Rattle.rename_ptr.specs.Steps.{target_by, target_of}
 use Rattle.rename_ptr.specs.Renaming.{IsMovingAt}
 use Rattle.rename_ptr.proofs.Gone
 use Rattle.rename_ptr.proofs.Moves
+
+-- where nothing is replaced, no page goes with it
+pub no_pages : (P : ℕ) (W pages : List ℕ) → AreGonePages P W None pages → length pages ≡ 0
+no_pages P W pages none = elim (cases_lt 0 (length pages)) [
+  | inl some ↦ absurd (false≢true ((none.among (slice_index pages 0)).0 (Contains-get_or pages 0 0 some)).0)
+  | inr less ↦ omega (arith, less)
+]
 
 module _ {P : ℕ} {W : List ℕ} {state : State} (from to : Route) {moving : Moving} (at : IsMovingAt P W state from to moving) (I : List ℕ)
     (ready : IsMoveReady P W I (reverse (parent from)) (reverse (parent to)) moving.from_slot moving.to_directory moving.to_slot (target_of moving) (rising_of moving))
@@ -329,20 +336,14 @@ module _ {P : ℕ} {W : List ℕ} {state : State} (from to : Route) {moving : Mo
   -- ---- with the pages that go
 
   module _ (pages : List ℕ) (are : AreGonePages P W moving.replaced pages) where
-    no_pages : AreGonePages P W None pages → length pages ≡ 0
-    no_pages none = (let same : (k : ℕ) → k < length pages → ⊥ = λ k inside. false≢true ((none.among (slice_index pages k)).0 (Contains-get_or pages k 0 inside)).0 in zero_long (length pages) same)
-      where
-        zero_long : (n : ℕ) → ((k : ℕ) → k < n → ⊥) → n ≡ 0
-        zero_long n none = elim (cases_eq n 0) [ inl zero ↦ zero | inr some ↦ absurd (none 0 (omega (arith, some))) ]
-
     file_by : (replaced : Option Loss) → moving.replaced ≡ replaced → AreGonePages P W replaced pages → AreFilePages P J (number_of replaced) pages
     file_by None is none =
-        let long = no_pages none in
+        let long = no_pages P W pages none in
         record { in_range = record { each = λ k inside. absurd (omega (arith, inside, long)) }; distinct = none.distinct; each = λ k inside. absurd (omega (arith, inside, long)) }
     file_by (Some loss) is some = file_pages loss is pages some
 
     left_by : (replaced : Option Loss) → moving.replaced ≡ replaced → AreGonePages P W replaced pages → 0 < length pages → IsLeft P J (number_of replaced)
-    left_by None is none some = let long = no_pages none in absurd (omega (arith, some, long))
+    left_by None is none some = let long = no_pages P W pages none in absurd (omega (arith, some, long))
     left_by (Some loss) is among some = is_left loss is pages among some
 
     pub can_disown : CanDisown P J moving.replaced pages moving.given_back

@@ -1,22 +1,18 @@
 -- What goes with a move, told after the commit: a replaced node with its pages, and the source's page.
-use Rattle.std.proofs.Common.{◌≡◌, ◌≢◌, ◌↔◌, inl, inr, ℕ, ◌<◌, Bool, true, if◌then◌else◌, List, reverse, Option, Some, None, is_some, is_none, refl, sym, ap, subst, ◌∙◌}
-use Rattle.std.proofs.lemmas.Bool.{cases_eq, false≢true}
+use Rattle.std.proofs.Common.{◌≡◌, ◌↔◌, ◌⊎◌, inl, inr, ℕ, ◌<◌, true, List, reverse, Option, Some, None, is_none, refl, sym, ap, subst, ◌∙◌}
+use Rattle.std.proofs.lemmas.Bool.{false≢true}
 use Rattle.layout.specs.Geometry.{data_pages_of, page_of_slot}
-use Rattle.layout.proofs.GeometryLaws.{page_of_slot_below, slot_below}
-use Rattle.layout.specs.Fields.{inode_kind, page_owner, slot_inode}
+use Rattle.layout.proofs.GeometryLaws.{page_of_slot_below}
+use Rattle.layout.specs.Fields.{page_owner}
 use Rattle.tree_model.specs.PathText.{Route}
-use Rattle.tree_model.specs.Tree.{Node, Tree, node_at, parent}
-use Rattle.tree_model.specs.Step.{least_free_id, tree_after}
+use Rattle.tree_model.specs.Tree.{Tree, node_at, parent}
 use Rattle.tree_model.specs.Run.{State}
-use Rattle.tree_model.specs.declared.command.Command.TheVariants.{Rename}
-use Rattle.image_reading.specs.Reading.{slot_owner, Reached, IsReachedSlot, Reads, IsRoomOf}
+use Rattle.image_reading.specs.Reading.{slot_owner, Reached, Reads, IsRoomOf}
 use Rattle.image_reading.specs.Soundness.{IsCoherent}
-use Rattle.image_reading.proofs.Tidied.{tidied}
-use Rattle.image_counts.proofs.Nodes as nodes
-use Rattle.image_counts.proofs.Tidied.{room_law}
+use Rattle.image_counts.specs.Entries.{IsPageIn}
 use Rattle.image_laws.specs.Move.{CanMove, moved}
 use Rattle.image_laws.proofs.OnlySlot.{OnlySlot}
-use Rattle.rename_laws.specs.Target.{Target, Vacant, Opened, Taken, CanRename, old_number}
+use Rattle.rename_laws.specs.Target.{Target, Vacant, Opened, Taken, old_number}
 use Rattle.rename_laws.specs.Ready.{IsMoveReady}
 use Rattle.rename_laws.specs.Intervals.{IsGone, IsGivenUp}
 use Rattle.rename_laws.specs.End.{renamed}
@@ -33,17 +29,19 @@ use Rattle.volume.specs.declared.plan.Loss.{Loss}
 use Rattle.volume.specs.declared.plan.Moving.{Moving}
 use Rattle.entry_steps.proofs.Lists.{not_none, one_page}
 use Rattle.removal_steps.specs.Steps.{AreGonePages, IsCut, number_of}
+use Rattle.removal_steps.proofs.Goes.{goes_when}
 use Rattle.rename_ptr.specs.Steps.{target_by, target_of}
 use Rattle.rename_ptr.specs.Renaming.{IsMovingAt}
+use Rattle.rename_ptr.proofs.Emptied
 use Rattle.rename_ptr.proofs.Moves
 
-no_node : (o : Option Node) → is_none o ≡ true → is_some o ≡ true → ⊥
-no_node None none some = false≢true some
-no_node (Some x) none some = false≢true none
+-- a page of a replaced node that goes
+abbrev pub IsOfLoss : ℕ → List ℕ → Option Loss → ℕ → Type 0
+IsOfLoss P W replaced j = (goes_of replaced ≡ true) × IsPageIn P W (number_of replaced) j
 
-some_node : (o : Option Node) → (is_some o ≡ true → ⊥) → is_none o ≡ true
-some_node None none = refl
-some_node (Some x) none = absurd (none refl)
+-- a page that loses its owner: it is one of these, or given back
+abbrev pub IsLostPage : ℕ → List ℕ → Moving → ℕ → Type 0
+IsLostPage P W moving j = IsOfLoss P W moving.replaced j ⊎ (moving.given_back ≡ Some j)
 
 pub number_is : (moving : Moving) (replaced : Option Loss) (page : Option ℕ) → number_of replaced ≡ old_number (target_by moving replaced page)
 number_is moving None None = refl
@@ -63,12 +61,6 @@ module _ {P : ℕ} {W : List ℕ} {state : State} (from to : Route) {moving : Mo
   c : CanMove P I (reverse (parent from)) (reverse (parent to)) moving.from_slot moving.to_slot
   c = ready.can_move
 
-  can : CanRename P W (reverse (parent from)) (reverse (parent to)) moving.from_slot moving.to_directory moving.to_slot (target_of moving)
-  can = ready.can
-
-  coherent : IsCoherent P W
-  coherent = Moves.coherent from to at
-
   pub coherent_after : IsCoherent P after
   coherent_after = (here.after P I (reverse (parent from)) (reverse (parent to)) moving.from_slot moving.to_slot c).coherent
 
@@ -80,20 +72,14 @@ module _ {P : ℕ} {W : List ℕ} {state : State} (from to : Route) {moving : Mo
 
   -- ---- whether a replaced node goes
 
-  pub tree_is : tree_after (least_free_id state.tree) state.tree (Rename from to) ≡ renamed state.tree from to
-  tree_is = ap (λ (same : Bool). if same then state.tree else renamed state.tree from to) (Moves.moves from to at).differ
-
   pub reads_after : Reads P after (renamed state.tree from to)
   reads_after = committed_law P W I (reverse (parent from)) (reverse (parent to)) from to moving.from_slot moving.to_directory moving.to_slot (target_of moving) (rising_of moving)
       state.tree ready (Moves.are_paths from to at) at.reads.tree
 
   pub loss_gone : (loss : Loss) → IsTargetOf P W state from to moving (Some loss) → (loss.goes ≡ true) ↔ (Reached P after loss.inode → ⊥)
   loss_gone loss (named, lost, none) =
-      let is : loss.goes ≡ is_none (node_at (renamed state.tree from to) loss.inode) = lost.goes_is ∙ ap (λ (tree : Tree). is_none (node_at tree loss.inode)) tree_is in (
-        (λ goes reached. no_node (node_at (renamed state.tree from to) loss.inode) (sym is ∙ goes) (nodes.reached_node P after (renamed state.tree from to) coherent_after reads_after loss.inode reached)),
-        (λ gone. is ∙ some_node (node_at (renamed state.tree from to) loss.inode)
-            (λ there. gone (nodes.node_reached P after (renamed state.tree from to) coherent_after reads_after loss.inode there))),
-      )
+      goes_when P after (renamed state.tree from to) coherent_after reads_after loss.inode loss.goes
+      (lost.goes_is ∙ ap (λ (tree : Tree). is_none (node_at tree loss.inode)) (Moves.tree_after_is from to at))
 
   gone_by : (replaced : Option Loss) (page : Option ℕ) → moving.replaced ≡ replaced → (goes_of replaced ≡ true) ↔ IsGone P after (target_by moving replaced page)
   gone_by None None is = ((λ goes. absurd (false≢true goes)), (λ gone. absurd gone))
@@ -113,83 +99,54 @@ module _ {P : ℕ} {W : List ℕ} {state : State} (from to : Route) {moving : Mo
   page_low : page_of_slot moving.from_slot < data_pages_of P
   page_low = page_of_slot_below P moving.from_slot c.source.held.in_range
 
-  room_of : (t j : ℕ) → IsReachedSlot P after t → page_of_slot t ≡ j → slot_owner P after t ≡ slot_owner P after moving.from_slot → IsRoomOf P after (slot_owner P after moving.from_slot) j
-  room_of t j reached page owner =
-      here.room_from P I (reverse (parent from)) (reverse (parent to)) moving.from_slot moving.to_slot c after (slot_owner P after moving.from_slot) j t reached page owner
-
-  -- where it is emptied, no name is left in it
-  pub emptied_none : IsEmptiedBy P W moving → (j : ℕ) → j ≡ page_of_slot moving.from_slot → IsRoomOf P after (slot_owner P after moving.from_slot) j → ⊥
-  emptied_none (alone, other_page) j at_source room =
-      let (t, page, owner, live) = room.slot in
-      let reached : IsReachedSlot P after t = record {
-        owner = subst (Reached P after) (sym owner) room.reached;
-        directory = ap (inode_kind after) owner ∙ room.directory;
-        live = live;
-      } in
-      elim ((entries.entries (slot_owner P after t) t).0 (reached, refl)) [
-        | inl (old, other) ↦ old.0.live.names (alone t (page ∙ at_source) other)
-        | inr (owned, taken) ↦ other_page (ap page_of_slot (sym taken) ∙ page ∙ at_source)
-      ]
-
-  -- and where one is left, another slot has it
-  alone_by : (IsRoomOf P after (slot_owner P after moving.from_slot) (page_of_slot moving.from_slot) → ⊥) → (t : ℕ) → page_of_slot t ≡ page_of_slot moving.from_slot → t ≢ moving.from_slot
-      → slot_inode P W t ≡ 0
-  unfolding slot_owner
-  alone_by none t page other = elim (cases_eq (slot_inode P W t) 0) [
-    | inl zero ↦ zero
-    | inr some ↦
-        let owner : slot_owner P W t ≡ slot_owner P W moving.from_slot = ap (page_owner P W) page in
-        let inside = slot_below P t (subst (λ (j : ℕ). j < data_pages_of P) (sym page) page_low) in
-        let reached = ((room_law P W state (tidied at.tidy) at.reads (slot_owner P W moving.from_slot) can.source.owner can.source.directory).live t (record { in_range = inside; owner = owner })).1 some in
-        let later = (entries.entries (slot_owner P W moving.from_slot) t).1 (inl ((reached, owner), other)) in
-        absurd (none (room_of t (page_of_slot moving.from_slot) later.0 page (later.1 ∙ sym source_owner)))
-  ]
-
-  other_by : (IsRoomOf P after (slot_owner P after moving.from_slot) (page_of_slot moving.from_slot) → ⊥) → page_of_slot moving.to_slot ≢ page_of_slot moving.from_slot
-  unfolding slot_owner
-  other_by none page =
-      let taken = (entries.entries moving.to_directory moving.to_slot).1 (inr (refl, refl)) in
-      none (room_of moving.to_slot (page_of_slot moving.from_slot) taken.0 page (ap (page_owner P after) page))
+  keeps : (j : ℕ) → j ≡ page_of_slot moving.from_slot → IsRoomOf P after (slot_owner P after moving.from_slot) j ↔ Emptied.KeepsName from to at I ready after entries
+  keeps j at_source = (
+    (λ room. subst (λ (x : ℕ). IsRoomOf P after x (page_of_slot moving.from_slot)) source_owner (subst (IsRoomOf P after (slot_owner P after moving.from_slot)) at_source room)),
+    (λ room. subst (λ (x : ℕ). IsRoomOf P after x j) (sym source_owner) (subst (IsRoomOf P after (slot_owner P W moving.from_slot)) (sym at_source) room)),
+  )
 
   back_given : (given : Option ℕ) → IsGivenBack (IsEmptiedBy P W moving) moving.from_slot given → (j : ℕ) → given ≡ Some j → IsGivenUp P after moving.from_slot (target_of moving) j
   back_given None back j is = absurd (not_none j is)
   back_given (Some page) back j is =
       let at_source : j ≡ page_of_slot moving.from_slot = sym (one_page page j is) ∙ back.1 in
-      record { in_range = subst (λ (k : ℕ). k < data_pages_of P) (sym at_source) page_low; why = inr (at_source, emptied_none back.0 j at_source) }
+      record {
+        in_range = subst (λ (k : ℕ). k < data_pages_of P) (sym at_source) page_low;
+        why = inr (at_source, (λ room. Emptied.emptied_none from to at I ready after entries back.0 ((keeps j at_source).0 room)));
+      }
 
-  pub given_back_is : (given : Option ℕ) → IsGivenBack (IsEmptiedBy P W moving) moving.from_slot given → (j : ℕ) → j ≡ page_of_slot moving.from_slot
+  given_back : (given : Option ℕ) → IsGivenBack (IsEmptiedBy P W moving) moving.from_slot given → (j : ℕ) → j ≡ page_of_slot moving.from_slot
       → (IsRoomOf P after (slot_owner P after moving.from_slot) j → ⊥) → given ≡ Some j
-  given_back_is None back j at_source none =
-      let empty = subst (λ (k : ℕ). IsRoomOf P after (slot_owner P after moving.from_slot) k → ⊥) at_source none in
-      absurd (back (alone_by empty, other_by empty))
-  given_back_is (Some page) back j at_source none = ap (λ (k : ℕ). Some k) (back.1 ∙ sym at_source)
+  given_back None back j at_source none = absurd (back (Emptied.emptied from to at I ready after entries (λ room. none ((keeps j at_source).1 room))))
+  given_back (Some page) back j at_source none = ap (λ (k : ℕ). Some k) (back.1 ∙ sym at_source)
 
-  -- ---- the pages that are given back
+  -- ---- the pages that are given up
 
-  owner_same : (j : ℕ) → j < data_pages_of P → (IsOpenedPage (target_of moving) j → ⊥) → page_owner P after j ≡ page_owner P W j
-  owner_same j low old =
+  owner_same : (j : ℕ) → j < data_pages_of P → IsGone P after (target_of moving) → page_owner P after j ≡ page_owner P W j
+  owner_same j low gone =
       only.owner j low
-      ∙ near.owner_same P W I (reverse (parent from)) (reverse (parent to)) moving.from_slot moving.to_directory moving.to_slot (target_of moving) (rising_of moving) ready j low old
+      ∙ near.owner_same P W I (reverse (parent from)) (reverse (parent to)) moving.from_slot moving.to_directory moving.to_slot (target_of moving) (rising_of moving) ready j low
+      (gone_not_opened P after (target_of moving) j gone)
 
+  pub lost_given : (j : ℕ) → IsLostPage P W moving j → IsGivenUp P after moving.from_slot (target_of moving) j
+  lost_given j (inl (goes, page)) =
+      let gone = gone_when.0 goes in
+      record { in_range = page.in_range; why = inl (gone, owner_same j page.in_range gone ∙ page.owner ∙ number_is moving moving.replaced moving.new_page) }
+  lost_given j (inr back) = back_given moving.given_back (Moves.for_move from to at).given_back j back
+
+  pub given_lost : (j : ℕ) → IsGivenUp P after moving.from_slot (target_of moving) j → IsLostPage P W moving j
+  given_lost j given = elim given.why [
+    | inl (gone, owner) ↦ inl (
+      gone_when.1 gone,
+      record { in_range = given.in_range; owner = sym (owner_same j given.in_range gone) ∙ owner ∙ sym (number_is moving moving.replaced moving.new_page) },
+    )
+    | inr (at_source, none) ↦ inr (given_back moving.given_back (Moves.for_move from to at).given_back j at_source none)
+  ]
+
+  -- by the list of a replaced node's pages
   module _ (pages : List ℕ) (are : AreGonePages P W moving.replaced pages) where
     pub cut_given : (j : ℕ) → IsCut pages moving.given_back j → IsGivenUp P after moving.from_slot (target_of moving) j
-    cut_given j (inl among) =
-        let (goes, page) = (are.among j).0 among in
-        let gone = gone_when.0 goes in
-        record {
-          in_range = page.in_range;
-          why = inl (gone, owner_same j page.in_range (gone_not_opened P after (target_of moving) j gone) ∙ page.owner ∙ number_is moving moving.replaced moving.new_page);
-        }
-    cut_given j (inr back) = back_given moving.given_back (Moves.for_move from to at).given_back j back
+    cut_given j (inl among) = lost_given j (inl ((are.among j).0 among))
+    cut_given j (inr back) = lost_given j (inr back)
 
     pub given_cut : (j : ℕ) → IsGivenUp P after moving.from_slot (target_of moving) j → IsCut pages moving.given_back j
-    given_cut j given = elim given.why [
-      | inl (gone, owner) ↦ inl ((are.among j).1 (
-        gone_when.1 gone,
-        record {
-          in_range = given.in_range;
-          owner = sym (owner_same j given.in_range (gone_not_opened P after (target_of moving) j gone)) ∙ owner ∙ sym (number_is moving moving.replaced moving.new_page);
-        },
-      ))
-      | inr (at_source, none) ↦ inr (given_back_is moving.given_back (Moves.for_move from to at).given_back j at_source none)
-    ]
+    given_cut j given = elim (given_lost j given) [ inl page ↦ inl ((are.among j).1 page) | inr back ↦ inr back ]

@@ -3,12 +3,12 @@ pub mod Linked
 pub mod Moves
 pub mod Asked
 pub mod Begun
+pub mod Emptied
 pub mod Gone
 pub mod Given
 pub mod Finished
 pub mod Turned
 pub mod Owned
-pub mod GivenUp
 pub mod MovedEntries
 pub mod MovedPages
 pub mod MovedVolume

@@ -29,7 +29,7 @@ use Rattle.removal_steps.specs.Steps.{MayFall}
 use Rattle.removal_steps.proofs.Clearing.{zero_word}
 use Rattle.removal_steps.proofs.Slots.{inode_settled}
 use Rattle.rename_ptr.specs.Steps.{MayRise, IsPointedWord, target_by}
-use Rattle.rename_ptr.proofs.Stored.{pointer_word, rest_word}
+use Rattle.rename_ptr.proofs.Stored.{IsCleared, pointer_word, rest_word}
 
 links_word : (i w : ℕ) → w ≡ inode_word_of i 1 → IsInodeWord i w
 links_word i w is = record { field = 1; is_field = omega arith; at = is }
@@ -46,11 +46,6 @@ in_by_fall P I (Some i) may = (may.least, may.most)
 pub in_by_rise : (P : ℕ) (I : List ℕ) (o : Option ℕ) → MayRise P I o → IsIn P o
 in_by_rise P I None may = tt
 in_by_rise P I (Some i) may = (may.least, may.most)
-
--- the count's word, by either name
-pub fallen_is_link : (o : Option ℕ) (w : ℕ) → IsLinkWord o w → IsLinkWord o w
-fallen_is_link None w is = is
-fallen_is_link (Some i) w is = is
 
 off_slots : (P : ℕ) (o : Option ℕ) → IsIn P o → (s w : ℕ) → IsSlotWord P s w → IsLinkWord o w → ⊥
 off_slots P None within s w own is = is
@@ -89,20 +84,20 @@ module _ (P : ℕ) (W : ℕ → Type 0) (of_slots : (w : ℕ) → W w → (s : �
       clean_stays w one (inode_off i least most w own) (inode_settled P i size least most whole settled w own)
 
   -- and then the count
-  module _ (o : Option ℕ) (within : IsIn P o) {L : ℕ → Type 0} (links : (w : ℕ) → L w → IsLinkWord o w) {c : List ℕ} {tc : Option Trail} (two : IsInterval L b tb c tc) where
-    pub apart : (w : ℕ) → W w → L w → ⊥
-    apart w stored link = let (s, slot) = of_slots w stored in off_slots P o within s w slot (links w link)
+  module _ (o : Option ℕ) (within : IsIn P o) {c : List ℕ} {tc : Option Trail} (two : IsInterval (IsLinkWord o) b tb c tc) where
+    pub apart : (w : ℕ) → W w → IsLinkWord o w → ⊥
+    apart w stored link = let (s, slot) = of_slots w stored in off_slots P o within s w slot link
 
-    pub both_flushed : ((w : ℕ) → W w → IsFlushed tb w) → ((w : ℕ) → L w → IsFlushed tc w) → (w : ℕ) → W w ⊎ L w → IsFlushed tc w
+    pub both_flushed : ((w : ℕ) → W w → IsFlushed tb w) → ((w : ℕ) → IsLinkWord o w → IsFlushed tc w) → (w : ℕ) → W w ⊎ IsLinkWord o w → IsFlushed tc w
     both_flushed slots counts w (inl is) = flushed_stays w two (apart w is) (slots w is)
     both_flushed slots counts w (inr is) = counts w is
 
     pub slot_kept : (s : ℕ) → slot_fields_at P c s ≡ slot_fields_at P b s
-    slot_kept s = same_fields_at P s b c (λ w own. interval_keeps w two (λ link. off_slots P o within s w own (links w link)))
+    slot_kept s = same_fields_at P s b c (λ w own. interval_keeps w two (off_slots P o within s w own))
 
     pub others_kept : (w : ℕ) → (W w → ⊥) → (IsLinkWord o w → ⊥) → word c w ≡ word a w
     unfolding word
-    others_kept w out count = interval_keeps w two (λ link. count (links w link)) ∙ interval_keeps w one out
+    others_kept w out count = interval_keeps w two count ∙ interval_keeps w one out
 
     pub long : length c ≡ length a
     long = interval_length two ∙ interval_length one
@@ -120,9 +115,6 @@ module _ (P : ℕ) (W : ℕ → Type 0) (of_slots : (w : ℕ) → W w → (s : �
 
 -- ---- the interval that clears the source
 
-abbrev IsCleared : ℕ → ℕ → ℕ → ℕ → Type 0
-IsCleared P s d w = (w ≡ slot_word_of P d 1) ⊎ IsRestWord P s w
-
 pub cleared_slots : (P s d w : ℕ) → IsCleared P s d w → (t : ℕ) × IsSlotWord P t w
 cleared_slots P s d w (inl is) = (d, pointer_word P d w is)
 cleared_slots P s d w (inr is) = (s, rest_word P s w is)
@@ -131,13 +123,12 @@ pub source_cleared : (P s d : ℕ) (o : Option ℕ) → IsIn P o → {a b c : Li
     → slot_pointer P b d ≡ 0 → slot_fields_at P b s ≡ free_fields → Falls b c o → ClearsSource P a c s d o
 source_cleared P s d o within {a} {b} {c} one two pointer free fallen =
     let slots = cleared_slots P s d in
-    let links = fallen_is_link o in
     record {
-      size = long P (IsCleared P s d) slots one o within links two;
-      pointer = ap (λ (f : SlotFields). f.pointer) (slot_kept P (IsCleared P s d) slots one o within links two d) ∙ pointer;
-      zeros = λ f from few. zero_word P s f c (slot_kept P (IsCleared P s d) slots one o within links two s ∙ free) from few;
+      size = long P (IsCleared P s d) slots one o within two;
+      pointer = ap (λ (f : SlotFields). f.pointer) (slot_kept P (IsCleared P s d) slots one o within two d) ∙ pointer;
+      zeros = λ f from few. zero_word P s f c (slot_kept P (IsCleared P s d) slots one o within two s ∙ free) from few;
       links = falls_from P (IsCleared P s d) slots one o within c fallen;
-      others = λ w not_pointer not_rest count. others_kept P (IsCleared P s d) slots one o within links two w (λ is. elim is [ inl same ↦ not_pointer same | inr rest ↦ not_rest rest.field rest.is_rest rest.is_field rest.at ]) count;
+      others = λ w not_pointer not_rest count. others_kept P (IsCleared P s d) slots one o within two w (λ is. elim is [ inl same ↦ not_pointer same | inr rest ↦ not_rest rest.field rest.is_rest rest.is_field rest.at ]) count;
     }
 
 -- ---- the interval that points
@@ -160,13 +151,13 @@ pub slot_pointed : (P s d : ℕ) (target : Target) (o : Option ℕ) → IsIn P o
     → slot_pointer P b d ≡ s + 1 → HasNewName P b d target → Rises b c o → PointsAt P a c s d target o
 slot_pointed P s d target o within {a} {b} {c} one two pointer name risen =
     let slots = pointed_slots P d target in
-    let same = slot_kept P (IsPointed P d target) slots one o within (λ w is. is) two d in
+    let same = slot_kept P (IsPointed P d target) slots one o within two d in
     record {
-      size = long P (IsPointed P d target) slots one o within (λ w is. is) two;
+      size = long P (IsPointed P d target) slots one o within two;
       pointer = ap (λ (f : SlotFields). f.pointer) same ∙ pointer;
       name_is = name_kept P d target b c (ap (λ (f : SlotFields). f.name) same) name;
       links = rises_from P (IsPointed P d target) slots one o within c risen;
-      others = λ w not_pointer not_name count. others_kept P (IsPointed P d target) slots one o within (λ w is. is) two w (λ is. elim is [ inl same ↦ not_pointer same | inr new ↦ not_name new ]) count;
+      others = λ w not_pointer not_name count. others_kept P (IsPointed P d target) slots one o within two w (λ is. elim is [ inl same ↦ not_pointer same | inr new ↦ not_name new ]) count;
     }
 
 -- ---- a slot that gets a name with its pointer

@@ -1,6 +1,6 @@
 -- The pages that a volume knows once a name has moved: those of the last words.
 use Rattle.std.proofs.Common.{◌≡◌, ◌≢◌, inl, inr, ℕ, ◌<◌, ◌≤◌, Bool, true, false, nat_eq, cond, List, Option, Some, None, refl, sym, ap, subst, ◌∙◌, arith}
-use Rattle.std.proofs.lemmas.Bool.{cases_eq}
+use Rattle.std.proofs.lemmas.Bool.{cases_eq, false≢true}
 use Rattle.std.proofs.lemmas.Bool.Decides.{nat_tests}
 use Rattle.std.proofs.lemmas.List.{append-nil}
 use Rattle.layout.specs.Geometry.{inodes_of, data_pages_of, page_of_slot}
@@ -26,8 +26,8 @@ use Rattle.removal_steps.proofs.Losing.{everywhere, LosesPage, loses_page, Loses
 use Rattle.rename_ptr.specs.Steps.{target_by, target_of}
 use Rattle.rename_ptr.specs.Renaming.{IsMovingAt}
 use Rattle.rename_ptr.proofs.Moves
-use Rattle.rename_ptr.proofs.GivenUp as goes
-use Rattle.rename_ptr.proofs.GivenUp.{IsOfLoss, IsLostPage}
+use Rattle.rename_ptr.proofs.Gone
+use Rattle.rename_ptr.proofs.Gone.{IsOfLoss, IsLostPage}
 use Rattle.rename_ptr.proofs.Owned.{KnowsOwners, same_owners, by_owners, with_page, without_page, without_node}
 
 -- an owner, or none where it is this one
@@ -53,11 +53,11 @@ module _ {P : ℕ} {W : List ℕ} {state : State} (from to : Route) {moving : Mo
     (index : HasIndexMoved P W (moved P I moving.from_slot moving.to_slot) K moving.from_slot moving.to_directory moving.to_slot (target_of moving)) where
   -- ---- owners
 
-  lost : (j : ℕ) → j < data_pages_of P → IsLostPage P W moving j → page_owner P K j ≡ 0
-  lost j low is = index.given j ((goes.given_up from to at I ready j low).1 is)
+  lost : (j : ℕ) → IsLostPage P W moving j → page_owner P K j ≡ 0
+  lost j is = index.given j (Gone.lost_given from to at I ready j is)
 
   kept : (j : ℕ) → j < data_pages_of P → j ≢ page_of_slot moving.to_slot → (IsLostPage P W moving j → ⊥) → page_owner P K j ≡ page_owner P W j
-  kept j low other not = index.owners j low other (λ given. not ((goes.given_up from to at I ready j low).0 given))
+  kept j low other not = index.owners j low other (λ given. not (Gone.given_lost from to at I ready j given))
 
   new_owner : (j : ℕ) → j ≡ page_of_slot moving.to_slot → page_owner P K j ≡ moving.to_directory
   unfolding slot_owner
@@ -97,9 +97,9 @@ module _ {P : ℕ} {W : List ℕ} {state : State} (from to : Route) {moving : Mo
   kept_going : (loss : Loss) → moving.replaced ≡ Some loss → loss.goes ≡ true → (j : ℕ) → j < data_pages_of P → moving.given_back ≢ Some j → page_owner P K j ≡ unowned_by loss.inode (page_owner P W j)
   kept_going loss is going j low stays = elim (cases_eq (page_owner P W j) loss.inode) [
     | inl own ↦
-        lost j low (inl (subst (λ (r : Option Loss). IsOfLoss P W r j) (sym is) (going, own)))
+        lost j (inl (subst (λ (r : Option Loss). IsOfLoss P W r j) (sym is) (going, record { in_range = low; owner = own })))
         ∙ sym (unowned_here loss.inode (page_owner P W j) own)
-    | inr other ↦ kept_other loss is j low stays (λ of_loss. other of_loss.1) ∙ sym (unowned_other loss.inode (page_owner P W j) other)
+    | inr other ↦ kept_other loss is j low stays (λ of_loss. other of_loss.1.owner) ∙ sym (unowned_other loss.inode (page_owner P W j) other)
   ]
     where
       kept_other : (loss : Loss) → moving.replaced ≡ Some loss → (j : ℕ) → j < data_pages_of P → moving.given_back ≢ Some j → (IsOfLoss P W (Some loss) j → ⊥) → page_owner P K j ≡ page_owner P W j
@@ -111,14 +111,14 @@ module _ {P : ℕ} {W : List ℕ} {state : State} (from to : Route) {moving : Mo
   kept_staying : (loss : Loss) → moving.replaced ≡ Some loss → loss.goes ≡ false → (j : ℕ) → j < data_pages_of P → moving.given_back ≢ Some j → page_owner P K j ≡ page_owner P W j
   kept_staying loss is staying j low stays = elim (cases_eq j (page_of_slot moving.to_slot)) [
     | inl here ↦ new_owner j here ∙ sym (owner_before loss is j here)
-    | inr away ↦ kept j low away (not_lost (Some loss) is j stays (λ (going, own). (let clash : ◌≡◌ {A = Bool} true false = sym going ∙ staying in cc)))
+    | inr away ↦ kept j low away (not_lost (Some loss) is j stays (λ (going, page). false≢true (sym staying ∙ going)))
   ]
 
   kept_by : (replaced : Option Loss) → moving.replaced ≡ replaced → (j : ℕ) → j < data_pages_of P → moving.given_back ≢ Some j → page_owner P K j ≡ owner_by replaced j
   unfolding owner_by
   kept_by None none j low stays = elim (cases_eq j (page_of_slot moving.to_slot)) [
     | inl here ↦ new_owner j here ∙ sym (owner_ready j here)
-    | inr away ↦ kept j low away (not_lost None none j stays (λ no. no)) ∙ sym (owner_pointed j low (λ opened. away (opened_here j opened)))
+    | inr away ↦ kept j low away (not_lost None none j stays (λ (going, page). false≢true going)) ∙ sym (owner_pointed j low (λ opened. away (opened_here j opened)))
   ]
   kept_by (Some loss) is j low stays = by_goes loss.goes refl
     where
@@ -194,7 +194,7 @@ module _ {P : ℕ} {W : List ℕ} {state : State} (from to : Route) {moving : Mo
         (λ j low. kept_by moving.replaced refl j low (λ back. (let clash : ◌≡◌ {A = Option ℕ} None (Some j) = sym none ∙ back in cc)))
     last_knows (Some page) is loses =
         without_page P named (owner_by moving.replaced) knows new (page_owner P K) moving.from_directory page from_within.0 from_within.1 loses
-        (lost page (goes.back_low from to at I ready page is) (inr is))
+        (lost page (inr is))
         (λ j low other. kept_by moving.replaced refl j low (λ back. other (sym (one_page page j (sym is ∙ back)))))
 
   pub owners_known : (volume new : VolumeView) → KnowsOwners P volume (page_owner P W) → HasMoved volume new moving → KnowsOwners P new (page_owner P K)

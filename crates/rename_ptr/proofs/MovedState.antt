@@ -1,26 +1,22 @@
 -- A name that moved leaves a volume that stands for what its command leaves.
-use Rattle.std.proofs.Common.{◌≡◌, ◌≢◌, inl, inr, ℕ, ◌+◌, ◌<◌, Bool, List, if◌then◌else◌, Some, None, is_some, refl, sym, ap, subst, ◌∙◌}
+use Rattle.std.proofs.Common.{◌≡◌, ℕ, ◌+◌, List, Some, None, is_some, refl, sym, ap, subst, ◌∙◌}
 use Rattle.std.specs.Prelude.{Option, Ok}
-use Rattle.std.proofs.lemmas.Bool.{cases_eq}
 use Rattle.pm_trait.specs.DeviceView.{DeviceView, IsSettledView}
-use Rattle.layout.specs.Geometry.{data_pages_of, page_of_slot}
-use Rattle.layout.specs.Fields.{page_owner, slot_inode}
-use Rattle.layout.proofs.GeometryLaws.{page_of_slot_below, slot_below}
+use Rattle.layout.specs.Geometry.{page_of_slot}
 use Rattle.tree_model.specs.PathText.{Route}
 use Rattle.tree_model.specs.Capacity.{untaken}
 use Rattle.tree_model.specs.Tree.{Tree, Room, IsRoom}
 use Rattle.tree_model.specs.Run.{State, Steps}
-use Rattle.tree_model.specs.Step.{Answer, Done, step, outcome_of, refusal_of, least_free_id, room_after, tree_after, RoomAfter}
+use Rattle.tree_model.specs.Step.{Answer, Done, step, outcome_of, refusal_of, least_free_id, room_after, RoomAfter}
 use Rattle.tree_model.specs.Fences.{fences_of}
 use Rattle.tree_model.specs.declared.command.Command.TheVariants.{Rename}
 use Rattle.tree_model.specs.declared.reply.Refusal.{Refusal}
-use Rattle.image_reading.specs.Reading.{IsDirectory, slot_owner, Reached, IsReachedSlot, IsRoomOf, Reads, HasRoom, ReadsAs}
+use Rattle.image_reading.specs.Reading.{IsDirectory, slot_owner, Reached, IsRoomOf, Reads, HasRoom, ReadsAs}
 use Rattle.image_reading.specs.Tidy.{Tidy}
 use Rattle.image_reading.proofs.Tidied.{tidied, as_tidy}
 use Rattle.image_counts.proofs.States.{state_law}
-use Rattle.image_counts.proofs.Tidied.{room_law}
 use Rattle.image_laws.proofs.Rooms.{dec_room}
-use Rattle.rename_laws.specs.End.{renamed, HasStepRoom}
+use Rattle.rename_laws.specs.End.{HasStepRoom}
 use Rattle.rename_laws.specs.Index.{HasEntryMoved}
 use Rattle.rename_laws.specs.Ready.{IsMoveReady}
 use Rattle.rename_laws.proofs.MovedIndex.{moved_index_law}
@@ -41,6 +37,7 @@ use Rattle.volume.specs.declared.plan.Moving.{Moving}
 use Rattle.volume.proofs.PlanFences.{plan_fences_law}
 use Rattle.rename_ptr.specs.Steps.{target_of}
 use Rattle.rename_ptr.specs.Renaming.{IsMovingAt, IsRenamed}
+use Rattle.rename_ptr.proofs.Emptied
 use Rattle.rename_ptr.proofs.Moves
 use Rattle.rename_ptr.proofs.MovedVolume as volumes
 
@@ -77,48 +74,10 @@ module _ {P : ℕ} {W : List ℕ} {state : State} (from to : Route) {moving : Mo
   source_there : Reached P K source × IsDirectory K source
   source_there = (subst (Reached P K) source_same there.0, subst (λ (x : ℕ). IsDirectory K x) source_same there.1)
 
-  abbrev KeepsName : Type 0
-  KeepsName = IsRoomOf P K source (page_of_slot moving.from_slot)
-
-  -- a slot of it that is live stood there before, beside this one, or is the new one
-  emptied_none : IsEmptiedBy P W moving → KeepsName → ⊥
-  emptied_none (alone, other_page) room =
-      let (t, page, owner, live) = room.slot in
-      let reached : IsReachedSlot P K t = record {
-        owner = subst (λ (x : ℕ). Reached P K x) (sym owner) room.reached;
-        directory = subst (λ (x : ℕ). IsDirectory K x) (sym owner) room.directory;
-        live = live;
-      } in
-      elim ((entries.entries source t).0 (reached, owner)) [
-        | inl (old, other) ↦ old.0.live.names (alone t page other)
-        | inr (owned, taken) ↦ other_page (ap page_of_slot (sym taken) ∙ page)
-      ]
-
-  other_kept : (t : ℕ) → page_of_slot t ≡ page_of_slot moving.from_slot → t ≢ moving.from_slot → slot_inode P W t ≢ 0 → KeepsName
-  unfolding slot_owner
-  other_kept t page other some =
-      let slot = (Moves.for_move from to at).source.slot_is.slot in
-      let owner : slot_owner P W t ≡ source = ap (page_owner P W) page in
-      let low = page_of_slot_below P moving.from_slot slot.live.held.in_range in
-      let inside = slot_below P t (subst (λ (j : ℕ). j < data_pages_of P) (sym page) low) in
-      let reached = ((room_law P W state (tidied at.tidy) at.reads source slot.owner slot.directory).live t (record { in_range = inside; owner = owner })).1 some in
-      let (still, owner_is) = (entries.entries source t).1 (inl ((reached, owner), other)) in
-      record { reached = source_there.0; directory = source_there.1; slot = (t, page, owner_is, still.live) }
-
-  new_kept : page_of_slot moving.to_slot ≡ page_of_slot moving.from_slot → KeepsName
-  unfolding slot_owner
-  new_kept page =
-      let (still, owner_is) = (entries.entries moving.to_directory moving.to_slot).1 (inr (refl, refl)) in
-      let same : moving.to_directory ≡ source = sym ready.owner ∙ ap (page_owner P is.pointed) page ∙ source_same in
-      record { reached = source_there.0; directory = source_there.1; slot = (moving.to_slot, page, owner_is ∙ same, still.live) }
-
-  kept_name : (IsEmptiedBy P W moving → ⊥) → KeepsName
+  kept_name : (IsEmptiedBy P W moving → ⊥) → IsRoomOf P K source (page_of_slot moving.from_slot)
   kept_name busy = elim (dec_room P K source source_there.0 source_there.1 (page_of_slot moving.from_slot)) [
     | yes room ↦ room
-    | no none ↦ absurd (busy (
-      (λ t page other. elim (cases_eq (slot_inode P W t) 0) [ inl zero ↦ zero | inr some ↦ absurd (none (other_kept t page other some)) ]),
-      (λ page. none (new_kept page)),
-    ))
+    | no none ↦ absurd (busy (Emptied.emptied from to at is.pointed ready K entries none))
   ]
 
   -- ---- the room
@@ -133,15 +92,9 @@ module _ {P : ℕ} {W : List ℕ} {state : State} (from to : Route) {moving : Mo
   has_room : (given : Option ℕ) → IsGivenBack (IsEmptiedBy P W moving) moving.from_slot given → HasRoom P K (room_left given)
   unfolding room_left
   has_room None busy = gives.kept (kept_name busy)
-  has_room (Some page) back = gives.given (emptied_none back.0)
+  has_room (Some page) back = gives.given (Emptied.emptied_none from to at is.pointed ready K entries back.0)
 
   -- ---- the step
-
-  tree_after_is : (step P state.tree state.room (Rename from to)).tree ≡ tree_after (least_free_id state.tree) state.tree (Rename from to)
-  tree_after_is = ap (λ (o : Option Refusal). (outcome_of o (untaken P) (least_free_id state.tree) state.tree state.room (Rename from to)).tree) at.planned.accepted
-
-  tree_is : (step P state.tree state.room (Rename from to)).tree ≡ renamed state.tree from to
-  tree_is = tree_after_is ∙ ap (λ (same : Bool). if same then state.tree else renamed state.tree from to) (Moves.moves from to at).differ
 
   pub answer_is : (step P state.tree state.room (Rename from to)).answer ≡ Done
   answer_is = ap (λ (o : Option Refusal). (outcome_of o (untaken P) (least_free_id state.tree) state.tree state.room (Rename from to)).answer) at.planned.accepted
@@ -157,7 +110,7 @@ module _ {P : ℕ} {W : List ℕ} {state : State} (from to : Route) {moving : Mo
   reads_after : ReadsAs P K later
   unfolding later
   reads_after = record {
-    tree = subst (λ (tree : Tree). Reads P K tree) (sym tree_is)
+    tree = subst (λ (tree : Tree). Reads P K tree) (sym (Moves.tree_is from to at))
         (reads_law P W is.pointed is.cleared is.given K (Moves.from_way from to at) (Moves.to_way from to at) from to moving.from_slot moving.to_directory moving.to_slot (target_of moving)
         (rising_of moving) (falling_of moving) state.tree ready is.finishes (Moves.are_paths from to at) at.reads.tree);
     room = has_room moving.given_back (Moves.for_move from to at).given_back;
@@ -171,7 +124,7 @@ module _ {P : ℕ} {W : List ℕ} {state : State} (from to : Route) {moving : Mo
   unfolding room_left
   room_follows =
       subst (λ (o : Option Refusal). RoomAfter o state.tree state.room (Rename from to) (room_left moving.given_back)) (sym at.planned.accepted)
-      (is_some moving.given_back, refl, subst (λ (T : Tree). IsRoom T (room_left moving.given_back)) tree_after_is fits)
+      (is_some moving.given_back, refl, subst (λ (T : Tree). IsRoom T (room_left moving.given_back)) (Moves.tree_is from to at ∙ sym (Moves.tree_after_is from to at)) fits)
 
   steps_are : Steps P state (Rename from to) Done later
   unfolding later

@@ -1,7 +1,7 @@
 -- A volume that took in a move knows what the last words say.
 use Rattle.std.proofs.Common.{◌≡◌, ◌≢◌, ◌↔◌, inl, inr, ℕ, ◌-◌, ◌<◌, ◌≤◌, Bool, true, false, cond, List, [], ◌∷◌, length, Option, Some, None, refl, sym, ap, subst, ◌∙◌, arith}
 use Rattle.std.specs.Prelude.{slice_get}
-use Rattle.std.proofs.lemmas.Bool.{cases_eq}
+use Rattle.std.proofs.lemmas.Bool.{cases_eq, false≢true}
 use Rattle.layout.specs.Geometry.{inodes_of, data_pages_of}
 use Rattle.layout.specs.Fields.{inode_kind, page_owner, page_offset}
 use Rattle.tree_model.specs.PathText.{Route}
@@ -16,9 +16,9 @@ use Rattle.volatile_index.specs.Index.{NodeView, pages_of}
 use Rattle.rename_laws.specs.Target.{Target, Vacant, Opened, Taken, old_number}
 use Rattle.rename_laws.specs.Ready.{IsMoveReady}
 use Rattle.rename_laws.specs.Index.{StaysReached, HasIndexMoved}
-use Rattle.rename_laws.proofs.Ready.{ready_law}
 use Rattle.rename_laws.proofs.MovedIndex.{moved_index_law}
 use Rattle.rename_laws.proofs.MoveReads.{tidy_law}
+use Rattle.volume.specs.Costs.{goes_of}
 use Rattle.volume.specs.Moves.{rising_of, falling_of}
 use Rattle.volume.specs.Volume.{VolumeView}
 use Rattle.volume.specs.Entered.{with_given, TakesName, HasMoved}
@@ -32,7 +32,8 @@ use Rattle.removal_steps.proofs.Losing.{everywhere, loses_page, LosesNode, loses
 use Rattle.rename_ptr.specs.Steps.{target_by, target_of}
 use Rattle.rename_ptr.specs.Renaming.{IsMovingAt, IsRenamed}
 use Rattle.rename_ptr.proofs.Moves
-use Rattle.rename_ptr.proofs.GivenUp as goes
+use Rattle.rename_ptr.proofs.Begun
+use Rattle.rename_ptr.proofs.Gone
 use Rattle.rename_ptr.proofs.Owned.{KnowsOwners}
 use Rattle.rename_ptr.proofs.MovedPages as pages
 use Rattle.rename_ptr.proofs.MovedEntries as entries
@@ -67,9 +68,7 @@ is_taken old new moving (Some loss) leaves =
 module _ {P : ℕ} {W : List ℕ} {state : State} (from to : Route) {moving : Moving} (at : IsMovingAt P W state from to moving) (K : List ℕ) (is : IsRenamed P W K moving) where
   -- before the commit
   pub ready : IsMoveReady P W is.pointed (Moves.from_way from to at) (Moves.to_way from to at) moving.from_slot moving.to_directory moving.to_slot (target_of moving) (rising_of moving)
-  ready =
-      (ready_law P W is.opened is.pointed (Moves.from_way from to at) (Moves.to_way from to at) moving.from_slot moving.to_directory moving.to_slot (target_of moving) (rising_of moving)
-      (Moves.can_rename from to at) (Moves.rises from to at) is.page is.points).ready
+  ready = Begun.ready from to at is.opened is.page is.pointed is.points
 
   index : HasIndexMoved P W (moved P is.pointed moving.from_slot moving.to_slot) K moving.from_slot moving.to_directory moving.to_slot (target_of moving)
   index =
@@ -83,8 +82,8 @@ module _ {P : ℕ} {W : List ℕ} {state : State} (from to : Route) {moving : Mo
 
   -- ---- kinds
 
-  kind_same : (x : ℕ) → 1 ≤ x → x ≤ inodes_of P → (goes.Goes moving.replaced → x ≢ old_number (target_of moving)) → inode_kind K x ≡ inode_kind W x
-  kind_same x some most other = index.kinds x some most (λ gone. other ((goes.is_gone from to at is.pointed ready).0 gone))
+  kind_same : (x : ℕ) → 1 ≤ x → x ≤ inodes_of P → (goes_of moving.replaced ≡ true → x ≢ old_number (target_of moving)) → inode_kind K x ≡ inode_kind W x
+  kind_same x some most other = index.kinds x some most (λ gone. other ((Gone.gone_when from to at is.pointed ready).1 gone))
 
   number_is : (loss : Loss) → moving.replaced ≡ Some loss → old_number (target_of moving) ≡ loss.inode
   number_is loss same = ap (λ (r : Option Loss). old_number (target_by moving r moving.new_page)) same
@@ -92,7 +91,7 @@ module _ {P : ℕ} {W : List ℕ} {state : State} (from to : Route) {moving : Mo
   kind_gone : (loss : Loss) → moving.replaced ≡ Some loss → loss.goes ≡ true → inode_kind K loss.inode ≡ 0
   kind_gone loss same going =
       ap (λ (i : ℕ). inode_kind K i) (sym (number_is loss same))
-      ∙ index.gone ((goes.is_gone from to at is.pointed ready).1 (subst (λ (r : Option Loss). goes.Goes r) (sym same) going))
+      ∙ index.gone ((Gone.gone_when from to at is.pointed ready).0 (ap goes_of same ∙ going))
 
   kind_stays : (x : ℕ) → 1 ≤ x → x ≤ inodes_of P → HasBytes K x → inode_kind K x ≡ inode_kind W x
   kind_stays x some most bytes = index.kinds x some most (λ gone same. (let none = ap (λ (i : ℕ). inode_kind K i) same ∙ index.gone gone in omega (arith, none, bytes)))
@@ -189,13 +188,10 @@ module _ {P : ℕ} {W : List ℕ} {state : State} (from to : Route) {moving : Mo
     by_kind : (x : ℕ) → 1 ≤ x → x ≤ inodes_of P → inode_kind K x ≡ inode_kind W x → IsFree volume.inodes (x - 1) ↔ (inode_kind K x ≡ 0)
     by_kind x some most same = let was = inodes_before x some most in ((λ free. same ∙ was.0 free), (λ none. was.1 (sym same ∙ none)))
 
-    goes_by : (loss : Loss) → moving.replaced ≡ Some loss → goes.Goes moving.replaced → loss.goes ≡ true
-    goes_by loss same going = subst (λ (r : Option Loss). goes.Goes r) same going
-
     free_by : (loss : Loss) → moving.replaced ≡ Some loss → (going : Bool) → loss.goes ≡ going → (x : ℕ) → 1 ≤ x → x ≤ inodes_of P
         → IsFree (with_given volume.inodes (cond going ((loss.inode - 1) ∷ []) [])) (x - 1) ↔ (inode_kind K x ≡ 0)
     free_by loss same false staying x some most =
-        by_kind x some most (kind_same x some most (λ going here. (let clash : ◌≡◌ {A = Bool} true false = sym (goes_by loss same going) ∙ staying in cc)))
+        by_kind x some most (kind_same x some most (λ going here. false≢true (sym staying ∙ sym (ap goes_of same) ∙ going)))
     free_by loss same true going x some most = elim (cases_eq x loss.inode) [
       | inl here ↦ (
         (λ free. ap (λ (i : ℕ). inode_kind K i) here ∙ kind_gone loss same going),
@@ -211,7 +207,7 @@ module _ {P : ℕ} {W : List ℕ} {state : State} (from to : Route) {moving : Mo
 
     free_inodes : (replaced : Option Loss) → moving.replaced ≡ replaced → (x : ℕ) → 1 ≤ x → x ≤ inodes_of P → IsFree (with_given volume.inodes (lost_inodes replaced)) (x - 1) ↔ (inode_kind K x ≡ 0)
     unfolding lost_inodes
-    free_inodes None none x some most = by_kind x some most (kind_same x some most (λ going. absurd (subst (λ (r : Option Loss). goes.Goes r) none going)))
+    free_inodes None none x some most = by_kind x some most (kind_same x some most (λ going here. false≢true (sym (ap goes_of none) ∙ going)))
     free_inodes (Some loss) same x some most = free_by loss same loss.goes refl x some most
 
     inodes_are : new.inodes ≡ with_given volume.inodes (lost_inodes moving.replaced)

@@ -9,10 +9,11 @@ use Rattle.layout.specs.Fields.{inode_kind, slot_inode, slot_name}
 use Rattle.tree_model.specs.PathText.{Route}
 use Rattle.tree_model.specs.Tree.{id_at, is_directory, parent, last_name, rest_after}
 use Rattle.tree_model.specs.Capacity.{untaken}
-use Rattle.tree_model.specs.Step.{is_same_node}
+use Rattle.tree_model.specs.Step.{is_same_node, least_free_id, tree_after, outcome_of, step}
 use Rattle.tree_model.specs.Run.{State}
 use Rattle.tree_model.specs.Accepted.{MayReplace, MayMove, MayRename}
 use Rattle.tree_model.specs.declared.command.Command.TheVariants.{Rename}
+use Rattle.tree_model.specs.declared.reply.Refusal.{Refusal}
 use Rattle.tree_model.proofs.AcceptedLaws.{Accepted-from_row}
 use Rattle.tree_model.proofs.Lookups.{rest_after-append}
 use Rattle.image_reading.specs.Reading.{HasBytes, IsDirectory, slot_owner, Leads, Names, Reached}
@@ -24,7 +25,7 @@ use Rattle.image_counts.proofs.Paths as paths
 use Rattle.image_counts.proofs.Slots.{absence_law}
 use Rattle.image_counts.proofs.States.{state_law}
 use Rattle.rename_laws.specs.Target.{CanReplace, CanTake, CanRename, Holds, IsDirectoryMoved, IsRising, IsFalling, name_of}
-use Rattle.rename_laws.specs.End.{ArePaths, FillsItsPages}
+use Rattle.rename_laws.specs.End.{ArePaths, FillsItsPages, renamed}
 use Rattle.volume.specs.Moves.{is_directory_kind, inode_of_loss, rising_of, falling_of}
 use Rattle.volume.specs.Planned.{IsMovingFor, IsTargetOf, IsPlace, IsNothingOr}
 use Rattle.volume.specs.declared.plan.Action.{Action}
@@ -84,6 +85,15 @@ module _ {P : ℕ} {W : List ℕ} {state : State} (from to : Route) {moving : Mo
 
   pub moves : MayMove (untaken P) state.tree state.room from to row.source.id
   moves = elim row.moves [ inl same ↦ absurd (two_nodes same) | inr may ↦ may ]
+
+  -- the tree after it
+  pub tree_after_is : tree_after (least_free_id state.tree) state.tree (Rename from to) ≡ renamed state.tree from to
+  tree_after_is = ap (λ (same : Bool). if same then state.tree else renamed state.tree from to) moves.differ
+
+  pub tree_is : (step P state.tree state.room (Rename from to)).tree ≡ renamed state.tree from to
+  tree_is =
+      ap (λ (o : Option Refusal). (outcome_of o (untaken P) (least_free_id state.tree) state.tree state.room (Rename from to)).tree) at.planned.accepted
+      ∙ tree_after_is
 
   -- ---- the source
 

@@ -28,17 +28,11 @@ pub unnaming_as : {T E : Type 0} {P slot pages s : ℕ} {a b : DeviceView} {resu
 unnaming_as {P = P} {slot} {pages} {s} {a} {b} {result} volume same takes =
     subst (λ (p : ℕ). Takes (unnaming p slot) a b result) volume (subst (λ (t : ℕ). Takes (unnaming pages t) a b result) same takes)
 
-own_word : (P Q s t w : ℕ) → Q ≡ P → t ≡ s → IsSlotWord Q t w → IsSlotWord P s w
-own_word P Q s t w volume slot is = subst (λ (p : ℕ). IsSlotWord p s w) volume (subst (λ (k : ℕ). IsSlotWord Q k w) slot is)
+word_as : (Is : ℕ → ℕ → ℕ → Type 0) (P Q s t w : ℕ) → Q ≡ P → t ≡ s → Is Q t w → Is P s w
+word_as Is P Q s t w volume slot is = subst (λ (p : ℕ). Is p s w) volume (subst (λ (k : ℕ). Is Q k w) slot is)
 
-name_word_as : (P Q s t w : ℕ) → Q ≡ P → t ≡ s → IsNameWord Q t w → IsNameWord P s w
-name_word_as P Q s t w volume slot is = subst (λ (p : ℕ). IsNameWord p s w) volume (subst (λ (k : ℕ). IsNameWord Q k w) slot is)
-
-rest_word_as : (P Q s t w : ℕ) → Q ≡ P → t ≡ s → IsRestWord Q t w → IsRestWord P s w
-rest_word_as P Q s t w volume slot is = subst (λ (p : ℕ). IsRestWord p s w) volume (subst (λ (k : ℕ). IsRestWord Q k w) slot is)
-
-pointer_as : (P Q s t w : ℕ) → Q ≡ P → t ≡ s → w ≡ slot_word_of Q t 1 → w ≡ slot_word_of P s 1
-pointer_as P Q s t w volume slot is = is ∙ ap (λ (p : ℕ). slot_word_of p t 1) volume ∙ ap (λ (k : ℕ). slot_word_of P k 1) slot
+abbrev IsPointerWord : ℕ → ℕ → ℕ → Type 0
+IsPointerWord P s w = w ≡ slot_word_of P s 1
 
 pub pointer_word : (P s w : ℕ) → w ≡ slot_word_of P s 1 → IsSlotWord P s w
 pointer_word P s w is = record { field = 1; is_field = omega arith; at = is }
@@ -57,13 +51,13 @@ name_off_pointer P s w is same =
 pub pointer_stored : {a b c : DeviceView} {value line lines : ℕ} (P Q s t : ℕ) → Q ≡ P → t ≡ s → lines ≡ 1 → Performs a b (Store (slot_word_of Q t 1) value ∷ []) → FlushesLines b c line lines
     → Stores (λ word. word ≡ slot_word_of P s 1) a c 2
 pointer_stored P Q s t volume slot one stored flushes =
-    stores_weaker 2 (λ w is. pointer_as P Q s t w volume slot is) (omega arith) (slot_stored one stored flushes)
+    stores_weaker 2 (λ w is. word_as IsPointerWord P Q s t w volume slot is) (omega arith) (slot_stored one stored flushes)
 
 pub named_and_pointed : {a b c d : DeviceView} {line lines value : ℕ} {events : List Event} (P Q R s t u : ℕ) → Q ≡ P → t ≡ s → R ≡ P → u ≡ s → lines ≡ 2
     → StoresExactly (IsNameWord Q t) a b events 14 → Performs b c (Store (slot_word_of R u 1) value ∷ []) → FlushesLines c d line lines → Stores (IsRestWord P s) a d 17
 named_and_pointed {a} {b} {c} {d} {lines = lines} P Q R s t u volume slot again same both named pointed flushes =
-    let name : Stores (IsNameWord P s) a b 14 = stores_weaker 14 (λ w is. name_word_as P Q s t w volume slot is) (omega arith) (exactly_stores named) in
-    let pointer : Stores (λ word. word ≡ slot_word_of P s 1) b c 1 = stores_weaker 1 (λ w is. pointer_as P R s u w again same is) (omega arith) (store_stores pointed) in
+    let name : Stores (IsNameWord P s) a b 14 = stores_weaker 14 (λ w is. word_as IsNameWord P Q s t w volume slot is) (omega arith) (exactly_stores named) in
+    let pointer : Stores (λ word. word ≡ slot_word_of P s 1) b c 1 = stores_weaker 1 (λ w is. word_as IsPointerWord P R s u w again same is) (omega arith) (store_stores pointed) in
     let all : Stores (IsRestWord P s) a c 15 = stores_weaker 15 (rest P s) (omega arith) (stores_then name pointer (name_off_pointer P s)) in
     subst (λ (count : ℕ). Stores (IsRestWord P s) a d (15 + count)) both (stores_flushed all (lines_stores flushes))
   where
@@ -83,25 +77,25 @@ pub entry_stays : {a b : DeviceView} {events : List Event} (P Q s t u : ℕ) (en
     → StoresExactly (IsNameWord Q u) a b events 14 → DentryIsClean entry a → DentryIsClean entry b
 entry_stays {a} {b} P Q s t u entry volume slot again same live free named clean =
     (dentry_goes_on {a = a} {b = b} entry (exactly_stores named).stores (λ w is name.
-    let own = name_word_as P Q t u w again same name in
-    slot_words_apart P s t w (entry_not_free P s t a.words live free) (own_word P entry.pages s entry.slot w volume slot is) (record { field = own.field; is_field = own.is_field; at = own.at }))).clean clean
+    let own = word_as IsNameWord P Q t u w again same name in
+    slot_words_apart P s t w (entry_not_free P s t a.words live free) (word_as IsSlotWord P entry.pages s entry.slot w volume slot is) (record { field = own.field; is_field = own.is_field; at = own.at }))).clean clean
 
 -- ---- both slots of a move
 
-module _ (P s d : ℕ) (other : d ≢ s) where
-  abbrev IsCleared : ℕ → Type 0
-  IsCleared word = (word ≡ slot_word_of P d 1) ⊎ IsRestWord P s word
+abbrev pub IsCleared : ℕ → ℕ → ℕ → ℕ → Type 0
+IsCleared P s d w = (w ≡ slot_word_of P d 1) ⊎ IsRestWord P s w
 
+module _ (P s d : ℕ) (other : d ≢ s) where
   pub slots_cleared : {a b c e f : DeviceView} {first last one two value : ℕ} {events : List Event} (Q R t u : ℕ) → Q ≡ P → t ≡ d → R ≡ P → u ≡ s → one ≡ 1 → two ≡ 2
-      → Performs a b (Store (slot_word_of Q t 1) value ∷ []) → StoresExactly (IsRestWord R u) b c events 15 → FlushesLines c e first one → FlushesLines e f last two → Stores IsCleared a f 19
+      → Performs a b (Store (slot_word_of Q t 1) value ∷ []) → StoresExactly (IsRestWord R u) b c events 15 → FlushesLines c e first one → FlushesLines e f last two → Stores (IsCleared P s d) a f 19
   slots_cleared {a} {b} {c} {e} {f} {one = one} {two = two} Q R t u volume slot again same single both pointed freed flushed settled =
-      let pointer : Stores (λ word. word ≡ slot_word_of P d 1) a b 1 = stores_weaker 1 (λ w is. pointer_as P Q d t w volume slot is) (omega arith) (store_stores pointed) in
-      let rest : Stores (IsRestWord P s) b c 15 = stores_weaker 15 (λ w is. rest_word_as P R s u w again same is) (omega arith) (exactly_stores freed) in
+      let pointer : Stores (λ word. word ≡ slot_word_of P d 1) a b 1 = stores_weaker 1 (λ w is. word_as IsPointerWord P Q d t w volume slot is) (omega arith) (store_stores pointed) in
+      let rest : Stores (IsRestWord P s) b c 15 = stores_weaker 15 (λ w is. word_as IsRestWord P R s u w again same is) (omega arith) (exactly_stores freed) in
       let all = stores_flushed (stores_flushed (stores_then pointer rest (λ w is own. slot_words_apart P d s w other (pointer_word P d w is) (rest_word P s w own))) (lines_stores flushed)) (lines_stores settled) in
       stores_weaker 19 (λ w is. is) (omega (arith, single, both)) all
 
   pub cleared_flushed : {e f : DeviceView} {last two : ℕ} (Q R t u : ℕ) → Q ≡ P → t ≡ d → R ≡ P → u ≡ s → ((w : ℕ) → IsSlotWord Q t w → IsFlushed e.trail w) → FlushesLines e f last two
-      → ((w : ℕ) → IsSlotWord R u w → IsFlushed f.trail w) → (w : ℕ) → IsCleared w → IsFlushed f.trail w
+      → ((w : ℕ) → IsSlotWord R u w → IsFlushed f.trail w) → (w : ℕ) → IsCleared P s d w → IsFlushed f.trail w
   cleared_flushed Q R t u volume slot again same first settled last w (inl is) =
-      flushed_stays w (lines_stores settled).stores (λ none. none) (first w (own_word Q P t d w (sym volume) (sym slot) (pointer_word P d w is)))
-  cleared_flushed Q R t u volume slot again same first settled last w (inr is) = last w (own_word R P u s w (sym again) (sym same) (rest_word P s w is))
+      flushed_stays w (lines_stores settled).stores (λ none. none) (first w (word_as IsSlotWord Q P t d w (sym volume) (sym slot) (pointer_word P d w is)))
+  cleared_flushed Q R t u volume slot again same first settled last w (inr is) = last w (word_as IsSlotWord R P u s w (sym again) (sym same) (rest_word P s w is))

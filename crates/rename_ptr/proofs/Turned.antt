@@ -1,5 +1,5 @@
 -- What a crash leaves while a name moves: what means the words before, and from the number of the new slot on the words with it.
-use Rattle.std.proofs.Common.{◌≡◌, inl, inr, ℕ, ◌+◌, ◌*◌, Bool, List, [], ◌∷◌, ◌++◌, if◌then◌else◌, reverse, Option, Some, None, refl, sym, ap, subst, ◌∙◌, arith}
+use Rattle.std.proofs.Common.{◌≡◌, inl, inr, ℕ, ◌+◌, ◌*◌, List, [], ◌∷◌, ◌++◌, reverse, Option, Some, None, refl, sym, ap, subst, ◌∙◌, arith}
 use Rattle.std.specs.Prelude.{Result}
 use Rattle.pm_trait.specs.Device.{Mix}
 use Rattle.pm_trait.specs.DeviceView.{DeviceView, IsSettledView, MakesIntervals}
@@ -10,23 +10,19 @@ use Rattle.layout.specs.declared.fields.DescriptorFields.{DescriptorFields}
 use Rattle.layout.proofs.GeometryLaws.{slot_word_within}
 use Rattle.tree_model.specs.PathText.{Route}
 use Rattle.tree_model.specs.Tree.{Tree, parent}
-use Rattle.tree_model.specs.Capacity.{untaken}
-use Rattle.tree_model.specs.Step.{step, outcome_of, least_free_id}
+use Rattle.tree_model.specs.Step.{step}
 use Rattle.tree_model.specs.Run.{State}
 use Rattle.tree_model.specs.declared.command.Command.TheVariants.{Rename}
-use Rattle.tree_model.specs.declared.reply.Refusal.{Refusal}
 use Rattle.image_reading.specs.Reading.{Reads}
 use Rattle.image_reading.specs.Soundness.{IsCoherent}
 use Rattle.image_reading.proofs.Readings.{one_tree}
 use Rattle.image_laws.specs.Create.{IsPageQuiet, committed, owned}
-use Rattle.image_laws.specs.Drop.{dropped}
 use Rattle.image_laws.specs.Frame.{SameMeaning}
 use Rattle.image_laws.specs.Move.{moved}
 use Rattle.image_laws.proofs.Meaning.{same_itself}
 use Rattle.image_laws.proofs.PageQuiet.{page_quiet_law}
-use Rattle.rename_laws.specs.Ready.{IsOpened, PointsAt, IsMoveReady}
+use Rattle.rename_laws.specs.Ready.{IsTargetOpened, PointsAt, IsMoveReady}
 use Rattle.rename_laws.specs.Intervals.{left, ClearsSource}
-use Rattle.rename_laws.specs.End.{renamed}
 use Rattle.rename_laws.proofs.Differs
 use Rattle.rename_laws.proofs.MoveIntervals.{leaving_law, clearing_law, giving_law, freeing_law}
 use Rattle.rename_laws.proofs.Ready.{ready_law}
@@ -43,6 +39,7 @@ use Rattle.rename_ptr.specs.Steps.{target_of, opening, clearing_source, moving_s
 use Rattle.rename_ptr.specs.Renaming.{IsMovingAt, IsRenamed, HasRenamed}
 use Rattle.rename_ptr.proofs.Begun
 use Rattle.rename_ptr.proofs.Finished
+use Rattle.rename_ptr.proofs.Given
 use Rattle.rename_ptr.proofs.Gone
 use Rattle.rename_ptr.proofs.Moves
 
@@ -70,19 +67,14 @@ module _ {P : ℕ} (old : DeviceView) {state : State} (from to : Route) {moving 
   abbrev pub tree : Tree
   tree = (step P state.tree state.room (Rename from to)).tree
 
-  pub tree_is : tree ≡ renamed state.tree from to
-  tree_is =
-      ap (λ (o : Option Refusal). (outcome_of o (untaken P) (least_free_id state.tree) state.tree state.room (Rename from to)).tree) at.planned.accepted
-      ∙ ap (λ (same : Bool). if same then state.tree else renamed state.tree from to) (Moves.moves from to at).differ
-
   pub differ : Reads P W tree → ⊥
   differ same =
       Differs.difference_law P W (reverse (parent from)) (reverse (parent to)) from to moving.from_slot moving.to_directory moving.to_slot (target_of moving) state.tree
-      (Moves.can_rename from to at) (Moves.are_paths from to at) at.reads.tree (subst (λ (T : Tree). Reads P W T) tree_is same)
+      (Moves.can_rename from to at) (Moves.are_paths from to at) at.reads.tree (subst (λ (T : Tree). Reads P W T) (Moves.tree_is from to at) same)
 
   -- ---- once the pointer is there
 
-  module _ (B : List ℕ) (opened : IsOpened P W B moving.to_directory moving.to_slot (target_of moving)) (I : List ℕ)
+  module _ (B : List ℕ) (opened : IsTargetOpened P W B moving.to_directory moving.to_slot (target_of moving)) (I : List ℕ)
       (points : PointsAt P B I moving.from_slot moving.to_slot (target_of moving) (rising_of moving)) where
     ready : IsMoveReady P W I (reverse (parent from)) (reverse (parent to)) moving.from_slot moving.to_directory moving.to_slot (target_of moving) (rising_of moving)
     ready = Begun.ready from to at B opened I points
@@ -91,7 +83,7 @@ module _ {P : ℕ} (old : DeviceView) {state : State} (from to : Route) {moving 
     after = moved P I moving.from_slot moving.to_slot
 
     reads_after : Reads P after tree
-    reads_after = subst (λ (T : Tree). Reads P after T) (sym tree_is) (Gone.reads_after from to at I ready)
+    reads_after = subst (λ (T : Tree). Reads P after T) (sym (Moves.tree_is from to at)) (Gone.reads_after from to at I ready)
 
     later_of : (image : List ℕ) → SameMeaning P after image → IsLater P tree image
     later_of image same = record { coherent = same.coherent; reads = same.reads tree reads_after }
@@ -109,7 +101,7 @@ module _ {P : ℕ} (old : DeviceView) {state : State} (from to : Route) {moving 
           let clears_left : ClearsSource P (left P I moving.from_slot moving.to_slot) J moving.from_slot moving.to_slot (falling_of moving)
           = subst (λ (l : List ℕ). ClearsSource P l J moving.from_slot moving.to_slot (falling_of moving)) leaves clears in (
             (λ M mix. later_of M (clearing_law P W I J M (reverse (parent from)) (reverse (parent to)) moving.from_slot moving.to_directory moving.to_slot (target_of moving) (rising_of moving) (falling_of moving) ready
-                (Finished.cleared from to at pages are I ready J clears_left)
+                (Given.cleared from to at I ready J clears_left)
                 (is_mix (left P I moving.from_slot moving.to_slot) J M (subst (λ (l : List ℕ). Mix l J M) leaves mix)))),
             (λ G gives. (
               (λ M mix. later_of M (giving_law P W I J G M (reverse (parent from)) (reverse (parent to)) moving.from_slot moving.to_directory moving.to_slot (target_of moving) (rising_of moving) (falling_of moving) ready
@@ -129,7 +121,7 @@ module _ {P : ℕ} (old : DeviceView) {state : State} (from to : Route) {moving 
   abbrev Before : List ℕ → Type 0
   Before image = SameMeaning P W image
 
-  turns_from : (B : List ℕ) → IsOpened P W B moving.to_directory moving.to_slot (target_of moving) → Turns Before (IsLater P tree) (slot_word_of P moving.to_slot 0) (moving_steps P moving pages) B
+  turns_from : (B : List ℕ) → IsTargetOpened P W B moving.to_directory moving.to_slot (target_of moving) → Turns Before (IsLater P tree) (slot_word_of P moving.to_slot 0) (moving_steps P moving pages) B
   turns_from B opened I points =
       let law = ready_law P W B I (reverse (parent from)) (reverse (parent to)) moving.from_slot moving.to_directory moving.to_slot (target_of moving) (rising_of moving)
       (Moves.can_rename from to at) (Moves.rises from to at) opened points in
@@ -191,10 +183,8 @@ module _ {P : ℕ} (old : DeviceView) {state : State} (from to : Route) {moving 
     renamed_from K all =
         let (B, opens, (I, points, (C, commits, (D, leaves, (J, clears, (G, gives, (last, rest, same))))))) = split moving.new_page K all in
         let opened = Begun.opened_by from to at B opens in
-        let is : D ≡ left P I moving.from_slot moving.to_slot = leaves ∙ ap (λ (l : List ℕ). dropped P l moving.from_slot) (commits ∙ commit_is B opened I points) in
-        let clears_left = subst (λ (l : List ℕ). ClearsSource P l J moving.from_slot moving.to_slot (falling_of moving)) is clears in
         subst (λ (l : List ℕ). IsRenamed P W l moving) (sym same)
-        (Finished.renamed from to at pages are I (ready B opened I points) J clears_left G gives last rest B opened points)
+        (Finished.renamed from to at pages are I (ready B opened I points) J (Begun.cleared_left from to at B opened I points C commits D leaves J clears) G gives last rest B opened points)
 
     pub has_renamed : HasRenamed P old new moving pages result
     has_renamed = record { in_turn = made; made = map_ok _ _ result (λ all. renamed_from new.words all) (through result made); commit_word = hangs_on underway.hangs }

@@ -38,25 +38,6 @@ no_move moving e = cc
 
 -- ---- whose plan it is
 
-keeps_names : Action → Bool
-keeps_names KeepNames = true
-keeps_names (Make entry) = false
-keeps_names (Name link) = false
-keeps_names (Remove removal) = false
-keeps_names (Move moving) = false
-keeps_names (WriteBytes writing) = false
-keeps_names WriteNothing = false
-keeps_names (Resize resizing) = false
-keeps_names KeepSize = false
-keeps_names (ReadBytes reading) = false
-keeps_names (Status inode) = false
-keeps_names (Names inode) = false
-keeps_names Space = false
-
-apart : {X : Type 0} (other : Action) → KeepNames ≡ other → keeps_names other ≡ false → X
-unfolding keeps_names
-apart other is none = let both : true ≡ false = ap keeps_names is ∙ none in absurd (cc)
-
 -- the same route twice, or two names of one node
 abbrev pub IsOfNothing : State → Command → Type 0
 IsOfNothing state command = (from : Route) × (to : Route) × (command ≡ Rename from to) × (is_same_node state.tree from to ≡ true)
@@ -66,25 +47,24 @@ by_test X true nothing For plan left right = left refl plan
 by_test X false nothing For plan left right = right plan
 
 pub planned_keeping : (P : ℕ) (I : List ℕ) (state : State) (command : Command) → IsPlanOf P I state command KeepNames → IsOfNothing state command
-unfolding keeps_names
-planned_keeping P I state (Create path) (entry, is, made) = apart (Make entry) is refl
-planned_keeping P I state (Mkdir path) (entry, is, made) = apart (Make entry) is refl
-planned_keeping P I state (Link from to) (link, is, for) = apart (Name link) is refl
-planned_keeping P I state (Unlink path) (removal, is, for) = apart (Remove removal) is refl
-planned_keeping P I state (Rmdir path) (removal, is, for) = apart (Remove removal) is refl
+planned_keeping P I state (Create path) (entry, is, made) = let clash : ◌≡◌ {A = Action} KeepNames (Make entry) = is in absurd cc
+planned_keeping P I state (Mkdir path) (entry, is, made) = let clash : ◌≡◌ {A = Action} KeepNames (Make entry) = is in absurd cc
+planned_keeping P I state (Link from to) (link, is, for) = let clash : ◌≡◌ {A = Action} KeepNames (Name link) = is in absurd cc
+planned_keeping P I state (Unlink path) (removal, is, for) = let clash : ◌≡◌ {A = Action} KeepNames (Remove removal) = is in absurd cc
+planned_keeping P I state (Rmdir path) (removal, is, for) = let clash : ◌≡◌ {A = Action} KeepNames (Remove removal) = is in absurd cc
 planned_keeping P I state (Rename from to) plan =
     by_test (IsOfNothing state (Rename from to)) (is_same_node state.tree from to) KeepNames (λ action. (moving : Moving) × (action ≡ Move moving) × IsMovingFor P I state from to moving) plan
-    (λ same is. (from, to, refl, same)) (λ (moving, is, for). apart (Move moving) is refl)
+    (λ same is. (from, to, refl, same)) (λ (moving, is, for). let clash : ◌≡◌ {A = Action} KeepNames (Move moving) = is in absurd cc)
 planned_keeping P I state (Write path offset bytes) plan =
     by_test (IsOfNothing state (Write path offset bytes)) (length bytes == 0) WriteNothing _ plan
-    (λ same is. apart WriteNothing is refl) (λ (writing, is, for). apart (WriteBytes writing) is refl)
+    (λ same is. let clash : ◌≡◌ {A = Action} KeepNames WriteNothing = is in absurd cc) (λ (writing, is, for). let clash : ◌≡◌ {A = Action} KeepNames (WriteBytes writing) = is in absurd cc)
 planned_keeping P I state (Truncate path size) plan =
     by_test (IsOfNothing state (Truncate path size)) (is_size_of state path size) KeepSize _ plan
-    (λ same is. apart KeepSize is refl) (λ (resizing, is, for). apart (Resize resizing) is refl)
-planned_keeping P I state (Read path offset count) (reading, is, for) = apart (ReadBytes reading) is refl
-planned_keeping P I state (Tell path) is = apart (Status _) is refl
-planned_keeping P I state (Show path) is = apart (Names _) is refl
-planned_keeping P I state Df is = apart Space is refl
+    (λ same is. let clash : ◌≡◌ {A = Action} KeepNames KeepSize = is in absurd cc) (λ (resizing, is, for). let clash : ◌≡◌ {A = Action} KeepNames (Resize resizing) = is in absurd cc)
+planned_keeping P I state (Read path offset count) (reading, is, for) = let clash : ◌≡◌ {A = Action} KeepNames (ReadBytes reading) = is in absurd cc
+planned_keeping P I state (Tell path) is = let clash : ◌≡◌ {A = Action} KeepNames (Status (id_of state.tree path)) = is in absurd cc
+planned_keeping P I state (Show path) is = let clash : ◌≡◌ {A = Action} KeepNames (Names (id_of state.tree path)) = is in absurd cc
+planned_keeping P I state Df is = let clash : ◌≡◌ {A = Action} KeepNames Space = is in absurd cc
 
 -- the plan of a rename that isn't one of a move has nothing to do
 kept_by : (same : Bool) (For : Moving → Type 0) (action : Action) → IsNothingOr same KeepNames (λ action. (moving : Moving) × (action ≡ Move moving) × For moving) action

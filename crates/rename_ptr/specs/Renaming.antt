@@ -9,7 +9,7 @@ use Rattle.tree_model.specs.Run.{State}
 use Rattle.tree_model.specs.declared.command.Command.TheVariants.{Rename}
 use Rattle.image_reading.specs.Reading.{ReadsAs}
 use Rattle.image_reading.specs.Tidy.{Tidy}
-use Rattle.rename_laws.specs.Ready.{IsOpened, PointsAt}
+use Rattle.rename_laws.specs.Ready.{IsTargetOpened, PointsAt}
 use Rattle.rename_laws.specs.Intervals.{Finishes}
 use Rattle.volume.specs.Commit.{HangsOn}
 use Rattle.volume.specs.Moves.{rising_of, falling_of}
@@ -36,7 +36,7 @@ pub record IsRenamed (P : ℕ) (W K : List ℕ) (moving : Moving) : Type 0 where
   pub pointed : List ℕ
   pub cleared : List ℕ
   pub given : List ℕ
-  pub page : IsOpened P W opened moving.to_directory moving.to_slot (target_of moving)
+  pub page : IsTargetOpened P W opened moving.to_directory moving.to_slot (target_of moving)
   pub points : PointsAt P opened pointed moving.from_slot moving.to_slot (target_of moving) (rising_of moving)
   pub finishes : Finishes P W pointed cleared given K moving.from_slot moving.to_directory moving.to_slot (target_of moving) (falling_of moving)
 

@@ -41,7 +41,7 @@ MayPoint P I d (Opened page name) = IsNamed (slot_fields_at P I d)
 MayPoint P I d (Taken replaced) = IsLive (slot_fields_at P I d)
 
 -- The source's slot is an entry, and the other slot can be pointed at it: it has another number, or none.
-pub record CanPoint (P : ℕ) (I : List ℕ) (moving : Moving) : Type 0 where
+pub record CanPointSlot (P : ℕ) (I : List ℕ) (moving : Moving) : Type 0 where
   pub from_in_range : moving.from_slot < slots_of P
   pub to_in_range : moving.to_slot < slots_of P
   pub source : IsLive (slot_fields_at P I moving.from_slot)

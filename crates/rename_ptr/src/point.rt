@@ -13,7 +13,7 @@ ghost use Rattle.rename_laws.specs.Ready.{HasNewName};
 ghost use Rattle.image_laws.specs.Links.{IsLinkWord, Rises};
 ghost use Rattle.volume.specs.Costs.{count_of, word_events, fence_events, pointing_events};
 ghost use Rattle.volume.specs.Moves.{rising_of};
-ghost use Rattle.rename_ptr.specs.Steps.{target_of, MayRise, CanPoint, IsPointedWord, pointing};
+ghost use Rattle.rename_ptr.specs.Steps.{target_of, MayRise, CanPointSlot, IsPointedWord, pointing};
 
 use dentry_state::{DentryH, Free, Live, Named};
 use entry_steps::raise_links;
@@ -89,7 +89,7 @@ fn point_taken<P: Pm>(pm: &mut P, geometry: &Geometry, slot: u64, source: u64)
 fn point_slot<P: Pm>(pm: &mut P, geometry: &Geometry, moving: &Moving)
     requires whole { length (P.view pm.old).words ≡ 512 * geometry.now.pages }
     requires settled { IsSettledView (P.view pm.old) }
-    requires ready { CanPoint geometry.now.pages (P.view pm.old).words moving.now }
+    requires ready { CanPointSlot geometry.now.pages (P.view pm.old).words moving.now }
     requires room { pointing_events moving.now ≤ (P.view pm.old).spare }
     ensures pointer { slot_pointer geometry.now.pages (P.view pm.new).words moving.now.to_slot
         ≡ moving.now.from_slot + 1 }
@@ -130,7 +130,7 @@ fn count_link<P: Pm>(pm: &mut P, geometry: &Geometry, inode: Option<u64>)
 
 // Points the new name's slot at the old one's.
 pub fn point<P: Pm>(pm: &mut P, geometry: &Geometry, moving: &Moving) -> Result<(), PmFault>
-    requires ready { CanPoint geometry.now.pages (P.view pm.old).words moving.now }
+    requires ready { CanPointSlot geometry.now.pages (P.view pm.old).words moving.now }
     requires begins { MayFence (P.view pm.old) (512 * geometry.now.pages)
         (pointing_events moving.now + count_of (rising_of moving.now) * word_events + fence_events) 1 }
     ensures takes { Takes (pointing geometry.now.pages moving.now) (P.view pm.old) (P.view pm.new) result }

@@ -89,7 +89,7 @@ in_root n = (110 ∷ n / 100 ∷ n % 100 ∷ []) ∷ []
 -- ---- each line of the table
 
 new_names : on 16 (Create a ∷ Create b ∷ []) ++ on 16 (Mkdir d ∷ Mkdir p ∷ []) ++ on 16 (Create a ∷ Mkdir d ∷ Link a (in_d 1) ∷ Link a (in_d 2) ∷ [])
-    ≡ done (4 ∷ 2 ∷ []) ++ done (4 ∷ 2 ∷ []) ++ done (4 ∷ 2 ∷ 4 ∷ 2 ∷ [])
+    ≡ done (3 ∷ 2 ∷ []) ++ done (3 ∷ 2 ∷ []) ++ done (3 ∷ 2 ∷ 3 ∷ 2 ∷ [])
 unfolding inodes_of data_pages_of
 new_names = refl
 
@@ -97,29 +97,29 @@ new_names = refl
 unlinks_beside_other_names :
     on 16 (Create a ∷ Link a b ∷ Unlink b ∷ Write a 0 (codes "hi") ∷ Link a b ∷ Unlink a ∷ []) ++ on 16 (Create a ∷ Create b ∷ Unlink b ∷ [])
     ++ on 16 (Create a ∷ Write a 0 (codes "hi") ∷ Create b ∷ Unlink a ∷ [])
-    ≡ done (4 ∷ 2 ∷ 2 ∷ []) ++ (3, Count 2) ∷ done (2 ∷ 2 ∷ []) ++ done (4 ∷ 2 ∷ 3 ∷ []) ++ (4, Done) ∷ (3, Count 2) ∷ done (2 ∷ 4 ∷ [])
+    ≡ done (3 ∷ 2 ∷ 2 ∷ []) ++ (3, Count 2) ∷ done (2 ∷ 2 ∷ []) ++ done (3 ∷ 2 ∷ 3 ∷ []) ++ (3, Done) ∷ (3, Count 2) ∷ done (2 ∷ 4 ∷ [])
 unfolding inodes_of data_pages_of
 unlinks_beside_other_names = refl
 
 -- the same where the page is given back
 unlinks_of_a_last_name :
     on 16 (Create a ∷ Mkdir d ∷ Link a (in_d 1) ∷ Unlink (in_d 1) ∷ []) ++ on 16 (Create a ∷ Unlink a ∷ []) ++ on 16 (Create a ∷ Write a 0 (codes "hi") ∷ Unlink a ∷ [])
-    ≡ done (4 ∷ 2 ∷ 4 ∷ 4 ∷ []) ++ done (4 ∷ 4 ∷ []) ++ (4, Done) ∷ (3, Count 2) ∷ (4, Done) ∷ []
+    ≡ done (3 ∷ 2 ∷ 3 ∷ 4 ∷ []) ++ done (3 ∷ 4 ∷ []) ++ (3, Done) ∷ (3, Count 2) ∷ (4, Done) ∷ []
 unfolding inodes_of data_pages_of
 unlinks_of_a_last_name = refl
 
-rmdirs : on 16 (Mkdir d ∷ Mkdir p ∷ Rmdir p ∷ Rmdir d ∷ []) ≡ done (4 ∷ 2 ∷ 3 ∷ 4 ∷ [])
+rmdirs : on 16 (Mkdir d ∷ Mkdir p ∷ Rmdir p ∷ Rmdir d ∷ []) ≡ done (3 ∷ 2 ∷ 3 ∷ 4 ∷ [])
 unfolding inodes_of data_pages_of
 rmdirs = refl
 
-renames_of_one_node : on 16 (Create a ∷ Link a b ∷ Rename a b ∷ Rename a a ∷ []) ≡ done (4 ∷ 2 ∷ 0 ∷ 0 ∷ [])
+renames_of_one_node : on 16 (Create a ∷ Link a b ∷ Rename a b ∷ Rename a a ∷ []) ≡ done (3 ∷ 2 ∷ 0 ∷ 0 ∷ [])
 unfolding inodes_of data_pages_of
 renames_of_one_node = refl
 
 -- inside a directory, with a new page, with a page given back, and with both
 renames_to_a_new_name :
     on 16 (Create a ∷ Rename a b ∷ []) ++ on 16 (Create a ∷ Mkdir d ∷ Rename a (in_d 1) ∷ Rename (in_d 1) a ∷ []) ++ on 64 (Mkdir d ∷ Mkdir p ∷ Create (in_d 1) ∷ Rename (in_d 1) (below (codes "p") (codes "x")) ∷ [])
-    ≡ done (4 ∷ 4 ∷ []) ++ done (4 ∷ 2 ∷ 6 ∷ 6 ∷ []) ++ done (4 ∷ 2 ∷ 4 ∷ 8 ∷ [])
+    ≡ done (3 ∷ 4 ∷ []) ++ done (3 ∷ 2 ∷ 6 ∷ 6 ∷ []) ++ done (3 ∷ 2 ∷ 3 ∷ 8 ∷ [])
 unfolding inodes_of data_pages_of
 renames_to_a_new_name = refl
 
@@ -127,7 +127,7 @@ renames_to_a_new_name = refl
 renames_over_a_name :
     on 64 (Create a ∷ Link a b ∷ Create c ∷ Rename c b ∷ Write a 0 (codes "hi") ∷ Link a d ∷ Rename b d ∷ []) ++ on 64 (Create a ∷ Create b ∷ Rename a b ∷ []) ++ on 64 (Create a ∷ Create b ∷ Write b 0 (codes "hi") ∷ Rename a b ∷ [])
     ++ on 64 (Mkdir d ∷ Mkdir p ∷ Rename d p ∷ [])
-    ≡ done (4 ∷ 2 ∷ 2 ∷ 4 ∷ []) ++ (3, Count 2) ∷ done (2 ∷ 4 ∷ []) ++ done (4 ∷ 2 ∷ 5 ∷ []) ++ (4, Done) ∷ (2, Done) ∷ (3, Count 2) ∷ (6, Done) ∷ done (4 ∷ 2 ∷ 5 ∷ [])
+    ≡ done (3 ∷ 2 ∷ 2 ∷ 4 ∷ []) ++ (3, Count 2) ∷ done (2 ∷ 4 ∷ []) ++ done (3 ∷ 2 ∷ 5 ∷ []) ++ (3, Done) ∷ (2, Done) ∷ (3, Count 2) ∷ (6, Done) ∷ done (3 ∷ 2 ∷ 5 ∷ [])
 unfolding inodes_of data_pages_of
 renames_over_a_name = refl
 
@@ -135,7 +135,7 @@ renames_over_a_name = refl
 renames_of_a_last_name_over_a_name :
     on 64 (Create a ∷ Link a b ∷ Mkdir d ∷ Create (in_d 1) ∷ Rename (in_d 1) b ∷ []) ++ on 64 (Create a ∷ Mkdir d ∷ Create (in_d 1) ∷ Rename (in_d 1) a ∷ [])
     ++ on 64 (Create a ∷ Write a 0 (codes "hi") ∷ Mkdir d ∷ Create (in_d 1) ∷ Rename (in_d 1) a ∷ [])
-    ≡ done (4 ∷ 2 ∷ 2 ∷ 4 ∷ 6 ∷ []) ++ done (4 ∷ 2 ∷ 4 ∷ 6 ∷ []) ++ (4, Done) ∷ (3, Count 2) ∷ done (2 ∷ 4 ∷ 6 ∷ [])
+    ≡ done (3 ∷ 2 ∷ 2 ∷ 3 ∷ 6 ∷ []) ++ done (3 ∷ 2 ∷ 3 ∷ 6 ∷ []) ++ (3, Done) ∷ (3, Count 2) ∷ done (2 ∷ 3 ∷ 6 ∷ [])
 unfolding inodes_of data_pages_of
 renames_of_a_last_name_over_a_name = refl
 
@@ -143,7 +143,7 @@ renames_of_a_last_name_over_a_name = refl
 writes :
     on 16 (Create a ∷ Write a 0 [] ∷ Write a 5 [] ∷ Write a 0 (codes "abc") ∷ Write a 1 (codes "x") ∷ Write a 1 (codes "bc") ∷ Write a 1 (codes "bcd") ∷ Write a 4095 (codes "x")
     ∷ Write a 4095 (codes "xy") ∷ Write a 16384 (codes "x") ∷ Write a 16385 [] ∷ [])
-    ≡ (4, Done) ∷ (0, Count 0) ∷ (0, Count 0) ∷ (3, Count 3) ∷ (1, Count 1) ∷ (1, Count 2) ∷ (2, Count 3) ∷ (2, Count 1) ∷ (3, Count 2) ∷ (3, Count 1) ∷ (0, Count 0) ∷ []
+    ≡ (3, Done) ∷ (0, Count 0) ∷ (0, Count 0) ∷ (3, Count 3) ∷ (1, Count 1) ∷ (1, Count 2) ∷ (2, Count 3) ∷ (2, Count 1) ∷ (3, Count 2) ∷ (3, Count 1) ∷ (0, Count 0) ∷ []
 unfolding inodes_of data_pages_of
 writes = refl
 
@@ -151,12 +151,12 @@ writes = refl
 truncates :
     on 16 (Create a ∷ Truncate a 0 ∷ Truncate a 9000 ∷ Truncate a 9000 ∷ Truncate a 9001 ∷ Truncate a 8193 ∷ Truncate a 8192 ∷ Truncate a 4097 ∷ Truncate a 4096 ∷ Truncate a 4097 ∷ Truncate a 1
     ∷ Truncate a 0 ∷ [])
-    ≡ done (4 ∷ 0 ∷ 3 ∷ 0 ∷ 2 ∷ 1 ∷ 3 ∷ 1 ∷ 3 ∷ 3 ∷ 3 ∷ 3 ∷ [])
+    ≡ done (3 ∷ 0 ∷ 3 ∷ 0 ∷ 2 ∷ 1 ∷ 3 ∷ 1 ∷ 3 ∷ 3 ∷ 3 ∷ 3 ∷ [])
 unfolding inodes_of data_pages_of
 truncates = refl
 
 readers_and_refusals : on 16 (Create a ∷ Read a 0 4 ∷ Stat a ∷ Show [] ∷ Df ∷ Create a ∷ Truncate a 57345 ∷ [])
-    ≡ (4, Done) ∷ (0, Bytes []) ∷ (0, Status (record { dir = false; inode = 2; links = 1; amount = 0 })) ∷ (0, Listed 1 (codes "a" ∷ [])) ∷ space 2 4 12 13 ∷ (0, Refused Exists) ∷ (0, Refused NoPages) ∷ []
+    ≡ (3, Done) ∷ (0, Bytes []) ∷ (0, Status (record { dir = false; inode = 2; links = 1; amount = 0 })) ∷ (0, Listed 1 (codes "a" ∷ [])) ∷ space 2 4 12 13 ∷ (0, Refused Exists) ∷ (0, Refused NoPages) ∷ []
 unfolding inodes_of data_pages_of
 readers_and_refusals = refl
 
@@ -182,7 +182,7 @@ a_bad_line_takes_none = refl
 abbrev pub three_lines : List Command
 three_lines = Create a ∷ Create b ∷ Unlink a ∷ []
 
-sum_of_lines : fences_of_run fresh_state (map Ok three_lines) (plain_answers 16 fresh_state (map Ok three_lines)) (plain_states 16 fresh_state (map Ok three_lines)) ≡ 9
+sum_of_lines : fences_of_run fresh_state (map Ok three_lines) (plain_answers 16 fresh_state (map Ok three_lines)) (plain_states 16 fresh_state (map Ok three_lines)) ≡ 8
 unfolding inodes_of data_pages_of
 sum_of_lines = refl
 
@@ -196,37 +196,38 @@ which_commands_need_places = refl
 abbrev pub with_bytes_in_a : State
 with_bytes_in_a = plain_end 16 fresh_state (map Ok (Create a ∷ Write a 0 (codes "hi") ∷ []))
 
--- no bytes, bytes in the page that there is, and past it; to less, and to more in the page and past it; a rename to itself
+-- no bytes, bytes in the page that there is, and past it; to less, and to more in the page and past it; a rename to itself, and to
+-- a new name
 only_new_pages_need_places :
     map (needs_places with_bytes_in_a)
-    (Write a 9000 [] ∷ Write a 0 (codes "hi") ∷ Write a 4094 (codes "hi") ∷ Write a 4095 (codes "hi") ∷ Truncate a 0 ∷ Truncate a 4096 ∷ Truncate a 4097 ∷ Rename a a ∷ [])
-    ≡ false ∷ false ∷ false ∷ true ∷ false ∷ false ∷ true ∷ true ∷ []
+    (Write a 9000 [] ∷ Write a 0 (codes "hi") ∷ Write a 4094 (codes "hi") ∷ Write a 4095 (codes "hi") ∷ Truncate a 0 ∷ Truncate a 4096 ∷ Truncate a 4097 ∷ Rename a a ∷ Rename a b ∷ [])
+    ≡ false ∷ false ∷ false ∷ true ∷ false ∷ false ∷ true ∷ false ∷ true ∷ []
 unfolding inodes_of data_pages_of
 only_new_pages_need_places = refl
 
 -- ---- scripts with their known counts
 
 -- two names of a file, and both gone
-names_of_one_file_go : on 16 (Create a ∷ Link a b ∷ Unlink a ∷ Unlink b ∷ Df ∷ []) ≡ done (4 ∷ 2 ∷ 2 ∷ 4 ∷ []) ++ space 3 4 13 13 ∷ []
+names_of_one_file_go : on 16 (Create a ∷ Link a b ∷ Unlink a ∷ Unlink b ∷ Df ∷ []) ≡ done (3 ∷ 2 ∷ 2 ∷ 4 ∷ []) ++ space 3 4 13 13 ∷ []
 unfolding inodes_of data_pages_of
 names_of_one_file_go = refl
 
 -- a directory's second page, taken twice and given back once
 second_page_of_a_directory :
     run 64 fresh_state (kept (Mkdir d ∷ Create z ∷ map (λ n. Link z (in_d n)) (range_with_len 1 33) ++ Df ∷ []) ++ gives (Unlink (in_d 33)) ∷ kept (Df ∷ Link z (in_d 33) ∷ Unlink (in_d 1) ∷ Df ∷ Stat d ∷ []))
-    ≡ done (4 ∷ 2 ∷ 4 ∷ replicate 31 2 ++ 4 ∷ []) ++ space 13 16 58 61 ∷ (4, Done) ∷ space 13 16 59 61 ∷ done (4 ∷ 2 ∷ []) ++ space 13 16 58 61
+    ≡ done (3 ∷ 2 ∷ 3 ∷ replicate 31 2 ++ 3 ∷ []) ++ space 13 16 58 61 ∷ (4, Done) ∷ space 13 16 59 61 ∷ done (3 ∷ 2 ∷ []) ++ space 13 16 58 61
     ∷ (0, Status (record { dir = true; inode = 2; links = 2; amount = 32 })) ∷ []
 unfolding inodes_of data_pages_of
 second_page_of_a_directory = refl
 
 -- a file grows by little and is cut
 a_file_grows_and_is_cut : on 16 (Create a ∷ Write a 0 (codes "hi") ∷ Write a 1 (codes "zzz") ∷ Write a 8 (codes "!") ∷ Truncate a 2 ∷ Write a 4 (codes "!") ∷ [])
-    ≡ (4, Done) ∷ (3, Count 2) ∷ (2, Count 3) ∷ (2, Count 1) ∷ (1, Done) ∷ (2, Count 1) ∷ []
+    ≡ (3, Done) ∷ (3, Count 2) ∷ (2, Count 3) ∷ (2, Count 1) ∷ (1, Done) ∷ (2, Count 1) ∷ []
 unfolding inodes_of data_pages_of
 a_file_grows_and_is_cut = refl
 
 -- a rename, and one of a path to itself
-plain_rename : on 16 (Create a ∷ Rename a b ∷ Rename b b ∷ []) ≡ done (4 ∷ 4 ∷ 0 ∷ [])
+plain_rename : on 16 (Create a ∷ Rename a b ∷ Rename b b ∷ []) ≡ done (3 ∷ 4 ∷ 0 ∷ [])
 unfolding inodes_of data_pages_of
 plain_rename = refl
 
@@ -236,12 +237,12 @@ directories_move :
     ∷ Rename (below (codes "p") (codes "d")) (below (codes "q") (codes "e")) ∷ Mkdir (below (codes "q") (codes "f"))
     ∷ Rename (below (codes "q") (codes "e")) (below (codes "q") (codes "f")) ∷ Mkdir (below (codes "p") (codes "g"))
     ∷ Rename (below (codes "q") (codes "f")) (below (codes "p") (codes "g")) ∷ Df ∷ [])
-    ≡ done (4 ∷ 2 ∷ 4 ∷ 4 ∷ 8 ∷ 2 ∷ 5 ∷ 4 ∷ 6 ∷ []) ++ space 11 16 58 61 ∷ []
+    ≡ done (3 ∷ 2 ∷ 3 ∷ 3 ∷ 8 ∷ 2 ∷ 5 ∷ 3 ∷ 6 ∷ []) ++ space 11 16 58 61 ∷ []
 unfolding inodes_of data_pages_of
 directories_move = refl
 
 -- a file with another name is replaced, and then one without
-files_are_replaced : on 64 (Create a ∷ Link a b ∷ Create c ∷ Rename c b ∷ Rename a b ∷ Df ∷ []) ≡ done (4 ∷ 2 ∷ 2 ∷ 4 ∷ 5 ∷ []) ++ space 14 16 60 61 ∷ []
+files_are_replaced : on 64 (Create a ∷ Link a b ∷ Create c ∷ Rename c b ∷ Rename a b ∷ Df ∷ []) ≡ done (3 ∷ 2 ∷ 2 ∷ 4 ∷ 5 ∷ []) ++ space 14 16 60 61 ∷ []
 unfolding inodes_of data_pages_of
 files_are_replaced = refl
 
@@ -249,14 +250,14 @@ files_are_replaced = refl
 renames_in_a_full_directory :
     on 64 (Mkdir d ∷ Create z ∷ map (λ n. Link z (in_d n)) (range_with_len 0 32) ++ Df ∷ Rename (in_d 0) (in_d 100) ∷ Df ∷ Rename (in_d 1) (in_d 101) ∷ Df
     ∷ Rename z (in_d 102) ∷ Df ∷ [])
-    ≡ done (4 ∷ 2 ∷ 4 ∷ replicate 31 2) ++ space 13 16 59 61 ∷ (6, Done) ∷ space 13 16 58 61 ∷ (4, Done) ∷ space 13 16 58 61 ∷ (4, Done) ∷ space 13 16 58 61 ∷ []
+    ≡ done (3 ∷ 2 ∷ 3 ∷ replicate 31 2) ++ space 13 16 59 61 ∷ (6, Done) ∷ space 13 16 58 61 ∷ (4, Done) ∷ space 13 16 58 61 ∷ (4, Done) ∷ space 13 16 58 61 ∷ []
 unfolding inodes_of data_pages_of
 renames_in_a_full_directory = refl
 
 -- a file's last reference gives up its page, and another file gets what a cut gave back
 pages_pass_between_files :
     on 16 (Create a ∷ Truncate a 49152 ∷ Write a 49151 (255 ∷ []) ∷ Create b ∷ Truncate a 45056 ∷ Write b 0 (0 ∷ []) ∷ Link b c ∷ Unlink b ∷ Unlink c ∷ Df ∷ [])
-    ≡ (4, Done) ∷ (3, Done) ∷ (1, Count 1) ∷ (2, Done) ∷ (3, Done) ∷ (3, Count 1) ∷ done (2 ∷ 2 ∷ 4 ∷ []) ++ space 2 4 1 13 ∷ []
+    ≡ (3, Done) ∷ (3, Done) ∷ (1, Count 1) ∷ (2, Done) ∷ (3, Done) ∷ (3, Count 1) ∷ done (2 ∷ 2 ∷ 4 ∷ []) ++ space 2 4 1 13 ∷ []
 unfolding inodes_of data_pages_of
 pages_pass_between_files = refl
 
@@ -264,13 +265,13 @@ pages_pass_between_files = refl
 file_over_a_longer_one :
     on 64 (Mkdir p ∷ Mkdir q ∷ Create (below (codes "p") (codes "s")) ∷ Write (below (codes "p") (codes "s")) 0 (codes "hi") ∷ Create (below (codes "q") (codes "t"))
     ∷ Truncate (below (codes "q") (codes "t")) 5000 ∷ Df ∷ Rename (below (codes "p") (codes "s")) (below (codes "q") (codes "t")) ∷ Df ∷ [])
-    ≡ (4, Done) ∷ (2, Done) ∷ (4, Done) ∷ (3, Count 2) ∷ (4, Done) ∷ (3, Done) ∷ space 11 16 55 61 ∷ (6, Done) ∷ space 12 16 58 61 ∷ []
+    ≡ (3, Done) ∷ (2, Done) ∷ (3, Done) ∷ (3, Count 2) ∷ (3, Done) ∷ (3, Done) ∷ space 11 16 55 61 ∷ (6, Done) ∷ space 12 16 58 61 ∷ []
 unfolding inodes_of data_pages_of
 file_over_a_longer_one = refl
 
 -- so many times 32 new names, the first of which takes a page
 abbrev pub full_pages : ℕ → List (ℕ × Answer)
-full_pages n = flat_map (λ k. done (4 ∷ replicate 31 2)) (range_with_len 0 n)
+full_pages n = flat_map (λ k. done (3 ∷ replicate 31 2)) (range_with_len 0 n)
 
 -- a root with 416 names in the thirteen pages of a volume: no further name, and no page given back while each has one
 full_volume_of_names :

@@ -17,9 +17,9 @@ one_where holds = if holds then 1 else 0
 
 -- ---- what a command needed and gave up
 
--- two more where a directory needed a page for the new name
+-- one more where a directory needed a page for the new name, for the page's owner
 abbrev pub fences_for_name : State → Command → ℕ
-fences_for_name old c = 2 * need old.tree old.room c
+fences_for_name old c = need old.tree old.room c
 
 abbrev pub needs_pages : State → Command → Bool
 needs_pages old c = nat_lt 0 (need old.tree old.room c)
@@ -57,10 +57,11 @@ fences_for_loss old c path new = one_where (clears_owners old c path new) + one_
 
 -- ---- an accepted command
 
+-- a new page has an interval of its own here, and its owner another
 abbrev pub fences_of_rename : State → Route → Route → State → ℕ
 fences_of_rename old from to new =
     if is_same_node old.tree from to then 0
-    else 4 + fences_for_name old (Rename from to) + fences_for_loss old (Rename from to) to new
+    else 4 + 2 * fences_for_name old (Rename from to) + fences_for_loss old (Rename from to) to new
 
 -- a file gets a greater size
 abbrev pub fences_of_growth : State → Command → ℕ

@@ -1,5 +1,5 @@
 -- What the plan of a removal says of the tree and of the words.
-use Rattle.std.proofs.Common.{◌≡◌, ◌≢◌, ◌↔◌, ◌⊎◌, inl, inr, ℕ, ◌*◌, ◌<◌, true, List, [], ◌∷◌, length, reverse, Option, Some, None, is_some, is_none, refl, sym, ap, subst, ◌∙◌, arith}
+use Rattle.std.proofs.Common.{◌≡◌, ◌≢◌, ◌↔◌, ◌⊎◌, inl, inr, ℕ, ◌*◌, ◌<◌, true, List, [], ◌∷◌, length, reverse, Option, Some, None, is_none, refl, sym, ap, subst, ◌∙◌, arith}
 use Rattle.std.specs.Prelude.{Contains}
 use Rattle.std.proofs.Common.{get_or-set_same, get_or-set_other}
 use Rattle.std.proofs.lemmas.Bool.{cases_eq, false≢true}
@@ -20,7 +20,6 @@ use Rattle.image_reading.specs.Reading.{HasBytes, IsDirectory, slot_owner, Names
 use Rattle.image_reading.specs.Soundness.{Rule, IsCoherent}
 use Rattle.image_reading.proofs.Tidied.{tidied}
 use Rattle.image_counts.specs.Entries.{IsSlotOf, IsSlotIn, IsPageIn}
-use Rattle.image_counts.proofs.Nodes as nodes
 use Rattle.image_counts.proofs.Nodes.{size_law}
 use Rattle.image_counts.proofs.Paths as paths
 use Rattle.image_counts.proofs.Slots.{absence_law}
@@ -43,6 +42,7 @@ use Rattle.volume.specs.Planned.{IsAlone, IsGivenBack, IsRemovalFor, IsPlanOf}
 use Rattle.volume.specs.declared.plan.Removal.{Removal}
 use Rattle.volume.proofs.Ways.{whole_path}
 use Rattle.entry_steps.proofs.Lists.{not_none, one_page}
+use Rattle.removal_steps.proofs.Goes.{goes_when}
 use Rattle.unlink_ops.specs.Removing.{IsRemovalAt}
 use Rattle.unlink_ops.specs.Taking.{falling_by}
 
@@ -64,14 +64,6 @@ HasFound state path directory = MayRemove state.tree path
 holder_of : (state : State) (path : Route) (kind : steps.Removal) → HasFound state path kind → HasHolder state.tree path
 holder_of state path file found = found.holder
 holder_of state path directory found = found.holder
-
-no_node : (o : Option Node) → is_none o ≡ true → is_some o ≡ true → ⊥
-no_node None none some = false≢true some
-no_node (Some x) none some = false≢true none
-
-some_node : (o : Option Node) → (is_some o ≡ true → ⊥) → is_none o ≡ true
-some_node None none = refl
-some_node (Some x) none = absurd (none refl)
 
 -- the node that loses a link: the file, or the directory's parent
 abbrev pub falling_of : steps.Removal → Removal → ℕ
@@ -202,16 +194,8 @@ module _ {P : ℕ} {W : List ℕ} {state : State} (kind : steps.Removal) (path :
   goes_by file is = is
   goes_by directory is = is
 
-  left : Option Node
-  left = node_at (without_unnamed (without_path state.tree path)) removal.loss.inode
-
   pub gone_when : (removal.loss.goes ≡ true) ↔ (Reached P (dropped P W removal.slot) removal.loss.inode → ⊥)
-  unfolding left
-  gone_when =
-      let is = goes_by kind for_removal.loss.goes_is in (
-        (λ goes reached. no_node left (sym is ∙ goes) (nodes.reached_node P (dropped P W removal.slot) (without_unnamed (without_path state.tree path)) dropped_coherent dropped_reads removal.loss.inode reached)),
-        (λ gone. is ∙ some_node left (λ there. gone (nodes.node_reached P (dropped P W removal.slot) (without_unnamed (without_path state.tree path)) dropped_coherent dropped_reads removal.loss.inode there))),
-      )
+  gone_when = goes_when P (dropped P W removal.slot) (without_unnamed (without_path state.tree path)) dropped_coherent dropped_reads removal.loss.inode removal.loss.goes (goes_by kind for_removal.loss.goes_is)
 
   -- ---- the pages that are given back
 

@@ -1,5 +1,6 @@
 -- Which command a plan is of, by its action, and what is known of it then.
-use Rattle.std.proofs.Common.{◌≡◌, ◌⊎◌, inl, inr, ℕ, ◌^◌, ◌<◌, ◌≤◌, Bool, true, false, ◌&&◌, List, Option, None, Some, is_none, refl, sym, ap, subst, ◌∙◌, arith}
+use Rattle.std.proofs.Common.{◌≡◌, ◌⊎◌, inl, inr, ℕ, ◌^◌, ◌<◌, ◌≤◌, Bool, true, false, ◌&&◌, List, Option, None, Some, is_none, is_some, refl, sym, ap, subst, ◌∙◌, arith}
+use Rattle.std.specs.Prelude.{not}
 use Rattle.pm_trait.specs.DeviceView.{DeviceView}
 use Rattle.layout.specs.declared.kinds.NodeKind.{NodeKind}
 use Rattle.layout.specs.declared.kinds.NodeKind.TheVariants.{File, Directory}
@@ -137,7 +138,10 @@ pub places_needed : (P : ℕ) (I : List ℕ) (state : State) (command : Command)
 places_needed P I state command (Make entry) plan takes = let (path, is) = planned_making P I state command entry plan in ap (needs_places state) is ∙ making_needs state entry.kind path
 places_needed P I state command (Name link) plan takes = let (from, to, is, for) = planned_linking P I state command link plan in ap (needs_places state) is
 places_needed P I state command (Remove removal) plan takes = absurd takes
-places_needed P I state command (Move moving) plan takes = let (from, to, is, for) = planned_moving P I state command moving plan in ap (needs_places state) is
+places_needed P I state command (Move moving) plan takes =
+    let (from, to, is, for) = planned_moving P I state command moving plan in
+    let target : IsTargetOf P I state from to moving None = subst (IsTargetOf P I state from to moving) takes for.target in
+    ap (needs_places state) is ∙ ap (λ there. not (is_some there)) target.0
 places_needed P I state command (WriteBytes writing) plan takes = writing_needs P I state command writing plan takes
 places_needed P I state command WriteNothing plan takes = absurd takes
 places_needed P I state command (Resize resizing) plan takes = resizing_needs P I state command resizing plan takes

@@ -36,7 +36,7 @@ use Rattle.volume.specs.declared.plan.Action.TheVariants.{Remove, Move, Write as
 use Rattle.volume.specs.declared.plan.Loss.{Loss}
 use Rattle.volume.specs.declared.plan.Removal.{Removal}
 use Rattle.volume.specs.Planned.{IsPlace, IsLossOf, IsTargetOf, IsRemovalFor, IsMovingFor, IsWritingFor, IsResizingFor, IsNothingOr, IsPlanOf}
-use Rattle.volume.specs.Costs.{count_of, where_true, goes_of, pages_of_loss, fences_of_plan, fences_for_page, fences_for_loss, fences_for_growth}
+use Rattle.volume.specs.Costs.{count_of, where_true, goes_of, pages_of_loss, fences_of_plan, fences_for_claim, fences_for_page, fences_for_loss, fences_for_growth}
 use Rattle.volume.specs.Laws.{IsLeftBy, PlanFencesLaw}
 use Rattle.volume.proofs.Staying.{removal_stays, move_stays}
 
@@ -138,13 +138,17 @@ module _ (P : ℕ) (I : List ℕ) (state : State) (tidy : IsTidied P I) (reads :
     full_by slot (Some page) place =
         eq-eqb (name_count state.tree d) (32 * pages_in state.room d) (room_words.full.1 (λ s inside vacant. place.full s (record { page = inside; vacant = vacant })))
 
-    -- two fences where it needs a page
+    -- a fence where it needs a page
+    claim_steps : (slot : ℕ) (new_page : Option ℕ) → IsPlace P I d slot new_page → fences_for_claim new_page ≡ page_for_name state.tree state.room (Some (id_of state.tree (parent path)))
+    claim_steps slot new_page place =
+        ap one_where (sym (full_by slot new_page place))
+        ∙ ap (λ id. page_for_name state.tree state.room (Some id)) (sym (id_is (parent path) d held))
+
+    -- or two
     page_steps : (slot : ℕ) (new_page : Option ℕ) → IsPlace P I d slot new_page → fences_for_page new_page ≡ 2 * page_for_name state.tree state.room (Some (id_of state.tree (parent path)))
-    page_steps slot new_page place =
-        twice (is_some new_page) ∙ ap (λ full. 2 * cond full 1 0) (sym (full_by slot new_page place))
-        ∙ ap (λ id. 2 * page_for_name state.tree state.room (Some id)) (sym (id_is (parent path) d held))
+    page_steps slot new_page place = twice (is_some new_page) ∙ ap (λ n. 2 * n) (claim_steps slot new_page place)
       where
-        twice : (b : Bool) → where_true b 2 ≡ 2 * cond b 1 0
+        twice : (b : Bool) → where_true b 2 ≡ 2 * where_true b 1
         twice true = refl
         twice false = refl
 
@@ -336,13 +340,13 @@ module _ (P : ℕ) (I : List ℕ) (state : State) (tidy : IsTidied P I) (reads :
       → fences_of_plan action ≡ fences_of state (Ok c) (answer_of (untaken P) state.tree state.room c) later
   by_command later (Create path) action accepted (entry, is, for) left =
       let found = Accepted-from_row (untaken P) state.tree state.room (Create path) tree accepted in
-      ap fences_of_plan is ∙ ap (λ n. 2 + n) (page_steps path found.place.holder entry.directory for.directory_is entry.slot entry.new_page for.place)
+      ap fences_of_plan is ∙ ap (λ n. 2 + n) (claim_steps path found.place.holder entry.directory for.directory_is entry.slot entry.new_page for.place)
   by_command later (Mkdir path) action accepted (entry, is, for) left =
       let found = Accepted-from_row (untaken P) state.tree state.room (Mkdir path) tree accepted in
-      ap fences_of_plan is ∙ ap (λ n. 2 + n) (page_steps path found.place.holder entry.directory for.directory_is entry.slot entry.new_page for.place)
+      ap fences_of_plan is ∙ ap (λ n. 2 + n) (claim_steps path found.place.holder entry.directory for.directory_is entry.slot entry.new_page for.place)
   by_command later (Link from to) action accepted (link, is, for) left =
       let found = Accepted-from_row (untaken P) state.tree state.room (Link from to) tree accepted in
-      ap fences_of_plan is ∙ ap (λ n. 2 + n) (page_steps to found.place.holder link.directory for.new_name.directory_is link.slot link.new_page for.new_name.place)
+      ap fences_of_plan is ∙ ap (λ n. 2 + n) (claim_steps to found.place.holder link.directory for.new_name.directory_is link.slot link.new_page for.new_name.place)
   by_command later (Unlink path) action accepted (removal, is, for) left =
       ap fences_of_plan is ∙ unlink_steps later path removal for accepted (subst (λ (d : Action). IsLeftBy P state (Unlink path) d later) is left)
   by_command later (Rmdir path) action accepted (removal, is, for) left =

@@ -56,13 +56,13 @@ Costs action events fences = (events_of action ≡ events) × (fences_of_plan ac
 
 -- ---- names
 
-files_made : Costs (new_node File None) 25 2 × Costs (new_node File (Some 7)) 608 4
+files_made : Costs (new_node File None) 25 2 × Costs (new_node File (Some 7)) 591 3
 files_made = ((refl, refl), (refl, refl))
 
-directories_made : Costs (new_node Directory None) 27 2 × Costs (new_node Directory (Some 7)) 610 4
+directories_made : Costs (new_node Directory None) 27 2 × Costs (new_node Directory (Some 7)) 593 3
 directories_made = ((refl, refl), (refl, refl))
 
-links_made : Costs (new_name None) 22 2 × Costs (new_name (Some 7)) 605 4
+links_made : Costs (new_name None) 22 2 × Costs (new_name (Some 7)) 588 3
 links_made = ((refl, refl), (refl, refl))
 
 unlinks : Costs (removed File false 0 None) 23 2 × Costs (removed File true 0 None) 29 3 × Costs (removed File true 1 (Some 0)) 40 4

@@ -8,7 +8,7 @@ use Rattle.tree_model.specs.declared.command.Command.{Command}
 use Rattle.tree_model.specs.declared.command.Command.TheVariants.{Create, Mkdir, Link, Unlink, Rmdir, Rename, Write, Truncate, Read, Stat as Tell, List as Show, Df}
 use Rattle.volume.specs.declared.plan.Action.TheVariants.{Make, Name, Remove, Move, Write as WriteBytes, WriteNothing, Resize, KeepSize, KeepNames, Read as ReadBytes, Status, Names, Space}
 use Rattle.volume.specs.Planned.{IsMovingFor, IsWritingFor, IsResizingFor, IsNothingOr, IsPlanOf}
-use Rattle.volume.specs.Costs.{events_of, pages_removed, pages_replaced, goes_of, fences_for_page, fences_for_loss, fences_for_growth, fences_of_plan}
+use Rattle.volume.specs.Costs.{events_of, pages_removed, pages_replaced, goes_of, fences_for_claim, fences_for_page, fences_for_loss, fences_for_growth, fences_of_plan}
 use Rattle.volume.specs.Prepared.{making, is_change, IsChange}
 use Rattle.layout.specs.declared.kinds.NodeKind.{NodeKind}
 use Rattle.volume.specs.declared.plan.NewEntry.{NewEntry}
@@ -93,6 +93,9 @@ at_most : (b : Bool) (x y limit : ℕ) → x ≤ limit → y ≤ limit → cond 
 at_most true x y limit p q = p
 at_most false x y limit p q = q
 
+claim-le : (page : Option ℕ) → fences_for_claim page ≤ 1
+claim-le page = at_most (is_some page) 1 0 1 (omega arith) (omega arith)
+
 page-le : (page : Option ℕ) → fences_for_page page ≤ 2
 page-le page = at_most (is_some page) 2 0 2 (omega arith) (omega arith)
 
@@ -108,8 +111,8 @@ growth-le (page ∷ pages) = omega arith
 
 -- no plan makes more than a move with a new page that gives one back
 pub fences_of_plan-le : (action : Action) → fences_of_plan action ≤ most_fences
-fences_of_plan-le (Make entry) = let page = page-le entry.new_page in omega (arith, page)
-fences_of_plan-le (Name link) = let page = page-le link.new_page in omega (arith, page)
+fences_of_plan-le (Make entry) = let page = claim-le entry.new_page in omega (arith, page)
+fences_of_plan-le (Name link) = let page = claim-le link.new_page in omega (arith, page)
 fences_of_plan-le (Remove removal) = let loss = loss-le (pages_removed removal) removal.loss.goes in omega (arith, loss)
 fences_of_plan-le (Move moving) =
     let page = page-le moving.new_page in

@@ -5,6 +5,8 @@ use Rattle.layout.specs.declared.kinds.NodeKind.{NodeKind}
 use Rattle.layout.specs.declared.kinds.NodeKind.TheVariants.{File, Directory}
 use Rattle.tree_model.specs.Tree.{page_bytes}
 use Rattle.volume.specs.Moves.{rising_of, falling_of}
+use Rattle.volume.specs.declared.plan.NewEntry.{NewEntry}
+use Rattle.volume.specs.declared.plan.NewName.{NewName}
 use Rattle.volume.specs.declared.plan.Moving.{Moving}
 use Rattle.volume.specs.declared.plan.Action.{Action}
 use Rattle.volume.specs.declared.plan.Action.TheVariants.{Make, Name, Remove, Move, Write as WriteBytes, WriteNothing, Resize, KeepSize, KeepNames, Read as ReadBytes, Status, Names, Space}
@@ -48,7 +50,7 @@ page_events = 512 + 64 + 2 + 1
 abbrev pub descriptor_rest_events : ℕ
 descriptor_rest_events = 2 + 1
 
--- a directory's new page: its words, then its owner
+-- a directory's new page in a move: its words, then its owner
 abbrev pub new_page_events : Option ℕ → ℕ
 new_page_events page = where_true (is_some page) (page_events + fence_events + (word_events + fence_events))
 
@@ -64,6 +66,14 @@ clearing_events falls = slot_rest_events + falls * word_events + fence_events
 
 abbrev pub commit_events : ℕ
 commit_events = word_events + fence_events
+
+-- the words of a new name; where it stands in a new page all of the page's, the name's with them
+abbrev pub place_events : Option ℕ → ℕ
+place_events new_page = if is_some new_page then page_events else name_events
+
+-- a new page gets its owner
+abbrev pub claim_events : Option ℕ → ℕ
+claim_events new_page = where_true (is_some new_page) commit_events
 
 -- how many pieces of a size the bytes from first to before end touch
 abbrev pub touched_pieces : ℕ → ℕ → ℕ → ℕ
@@ -128,10 +138,21 @@ events_of_move moving =
     + (word_events + clearing_events (count_of (falling_of moving)))
     + loss_events (pages_replaced moving) (goes_of moving.replaced)
 
+-- a name with the node that it gets, or with the links of its file; then the owner of its page, and then the slot's number
+abbrev pub events_of_entry : NewEntry → ℕ
+events_of_entry entry =
+    (place_events entry.new_page + inode_events + links_events entry.kind + fence_events)
+    + claim_events entry.new_page + commit_events
+
+abbrev pub events_of_name : NewName → ℕ
+events_of_name link =
+    (place_events link.new_page + word_events + fence_events)
+    + claim_events link.new_page + commit_events
+
 -- the stores, flushes and fences of a plan
 abbrev pub events_of : Action → ℕ
-events_of (Make entry) = new_page_events entry.new_page + (inode_events + name_events + links_events entry.kind + fence_events) + commit_events
-events_of (Name link) = new_page_events link.new_page + (word_events + name_events + fence_events) + commit_events
+events_of (Make entry) = events_of_entry entry
+events_of (Name link) = events_of_name link
 events_of (Remove removal) = commit_events + clearing_events 1 + loss_events (pages_removed removal) removal.loss.goes
 events_of (Move moving) = events_of_move moving
 events_of (WriteBytes writing) = events_of_write writing
@@ -154,6 +175,11 @@ reserved_events action = where_true (nat_lt 0 (events_of action)) (events_of act
 
 -- ---- fences
 
+-- a new page gets its owner; it was filled in the interval of its name
+abbrev pub fences_for_claim : Option ℕ → ℕ
+fences_for_claim new_page = where_true (is_some new_page) 1
+
+-- a new page in a move, which fills it in an interval of its own
 abbrev pub fences_for_page : Option ℕ → ℕ
 fences_for_page page = where_true (is_some page) 2
 
@@ -177,10 +203,10 @@ abbrev pub fences_of_move : Moving → ℕ
 fences_of_move moving =
     fences_for_page moving.new_page + 4 + fences_for_loss (pages_replaced moving) (goes_of moving.replaced)
 
--- how many fences the call of a plan makes
+-- how many fences the call of a plan makes: one for each of its steps that has a store
 abbrev pub fences_of_plan : Action → ℕ
-fences_of_plan (Make entry) = 2 + fences_for_page entry.new_page
-fences_of_plan (Name link) = 2 + fences_for_page link.new_page
+fences_of_plan (Make entry) = 2 + fences_for_claim entry.new_page
+fences_of_plan (Name link) = 2 + fences_for_claim link.new_page
 fences_of_plan (Remove removal) = 2 + fences_for_loss (pages_removed removal) removal.loss.goes
 fences_of_plan (Move moving) = fences_of_move moving
 fences_of_plan (WriteBytes writing) = fences_of_write writing

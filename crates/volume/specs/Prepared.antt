@@ -29,7 +29,6 @@ use Rattle.volume.specs.declared.plan.NewEntry.{NewEntry}
 use Rattle.volume.specs.declared.plan.NewName.{NewName}
 use Rattle.volume.specs.declared.plan.Loss.{Loss}
 use Rattle.volume.specs.declared.plan.Removal.{Removal}
-use Rattle.volume.specs.declared.plan.Moving.{Moving}
 use Rattle.volume.specs.declared.plan.Writing.{Writing}
 use Rattle.volume.specs.declared.plan.Resizing.{Resizing}
 use Rattle.volume.specs.declared.plan.Action.{Action}
@@ -92,10 +91,6 @@ IsNaming action = (link : NewName) × (action ≡ Name link)
 -- it takes a name away
 abbrev pub IsRemoving : Action → Type 0
 IsRemoving action = (removal : Removal) × (action ≡ Remove removal)
-
--- it moves a name
-abbrev pub IsMoving : Action → Type 0
-IsMoving action = (moving : Moving) × (action ≡ Move moving)
 
 -- it is what a command does that may change the tree
 abbrev pub is_change : Action → Bool

@@ -24,7 +24,7 @@ pub const DESCRIPTOR_REST_EVENTS: u64 = 2 + 1;
 /// A word that is settled by a fence of its own.
 pub const COMMIT_EVENTS: u64 = WORD_EVENTS + FENCE_EVENTS;
 
-/// A page that is filled and then gets its owner, each settled by a fence.
+/// A page that a move fills and then gives its owner, each settled by a fence.
 pub const NEW_PAGE_EVENTS: u64 = PAGE_EVENTS + FENCE_EVENTS + COMMIT_EVENTS;
 
 /// The events for which a volume keeps room beside those of its plans.

@@ -3,6 +3,7 @@
 
 mod contents;
 mod costs;
+mod fences;
 mod laws;
 mod leaving;
 mod moved;

@@ -2,7 +2,7 @@
 ghost use Rattle.std.specs.Prelude.{◌≡◌, ◌+◌, ◌^◌, ◌<◌, ◌≤◌, length};
 ghost use Rattle.layout.specs.Geometry.{pieces as pieces_in};
 ghost use Rattle.tree_model.specs.Capacity.{file_limit};
-ghost use Rattle.volume.specs.Costs.{events_of, new_page_events as events_of_new_page, loss_events as events_of_loss, span_events as events_of_span, growth_events as events_of_growth};
+ghost use Rattle.volume.specs.Costs.{events_of, place_events as events_of_place, claim_events as events_of_claim, new_page_events as events_of_new_page, loss_events as events_of_loss, span_events as events_of_span, growth_events as events_of_growth};
 
 use crate::costs::{
     COMMIT_EVENTS, DESCRIPTOR_REST_EVENTS, FENCE_EVENTS, INODE_EVENTS, NAME_EVENTS,
@@ -37,8 +37,8 @@ impl NewEntry {
             NodeKind::File => 0,
             NodeKind::Directory => WORD_EVENTS,
         };
-        new_page_events(self.new_page)
-            + (INODE_EVENTS + NAME_EVENTS + links + FENCE_EVENTS)
+        (place_events(self.new_page) + INODE_EVENTS + links + FENCE_EVENTS)
+            + claim_events(self.new_page)
             + COMMIT_EVENTS
     }
 }
@@ -63,7 +63,9 @@ impl NewName {
     pub fn events(&self) -> u64
         ensures { result ≡ events_of (Action.Name self.now) }
     {
-        new_page_events(self.new_page) + (WORD_EVENTS + NAME_EVENTS + FENCE_EVENTS) + COMMIT_EVENTS
+        (place_events(self.new_page) + WORD_EVENTS + FENCE_EVENTS)
+            + claim_events(self.new_page)
+            + COMMIT_EVENTS
     }
 }
 
@@ -363,7 +365,27 @@ fn growth_events(old_size: u64, offset: u64, new_pages: u64) -> u64
     old_pages + new_pages * PAGE_EVENTS + FENCE_EVENTS + owners + COMMIT_EVENTS
 }
 
-// The events of a directory's new page, where it takes one.
+// The events by which a new name's words are stored: those of a slot, or of all of the new page that it stands in.
+fn place_events(new_page: Option<u64>) -> u64
+    ensures { result ≡ events_of_place new_page }
+{
+    match new_page {
+        None => NAME_EVENTS,
+        Some(_) => PAGE_EVENTS,
+    }
+}
+
+// The events by which a new page, where there is one, gets its owner.
+fn claim_events(new_page: Option<u64>) -> u64
+    ensures { result ≡ events_of_claim new_page }
+{
+    match new_page {
+        None => 0,
+        Some(_) => COMMIT_EVENTS,
+    }
+}
+
+// The events of a moving name's new page, where there is one: filled in an interval of its own, and then its owner.
 fn new_page_events(page: Option<u64>) -> u64
     ensures { result ≡ events_of_new_page page }
 {
@@ -436,7 +458,7 @@ impl Model for Plan {
 }
 
 impl Plan {
-    ghost use Rattle.volume.specs.Prepared.{IsMaking, IsNaming, IsRemoving, IsMoving};
+    ghost use Rattle.volume.specs.Prepared.{IsMaking, IsNaming, IsRemoving};
 
     // The plan of an action.
     pub(crate) fn of(action: Action) -> Plan
@@ -481,17 +503,6 @@ impl Plan {
     {
         match self.action {
             Action::Remove(removal) => removal,
-            _other => unreachable!(),
-        }
-    }
-
-    /// The name that the command moves. The plan is spent.
-    pub fn into_moving(self) -> Moving
-        requires { IsMoving self }
-        ensures { self ≡ Action.Move result }
-    {
-        match self.action {
-            Action::Move(moving) => moving,
             _other => unreachable!(),
         }
     }

@@ -1,7 +1,7 @@
 // Calls on a volume made by hand. Those that read a device are called where a volume is mounted.
-use crate::{Volume, Walk};
+use crate::{Action, Loss, Moving, NewName, Plan, Volume, Walk};
 use allocators::Numbers;
-use layout::{Geometry, Name};
+use layout::{Geometry, Name, NodeKind};
 use std::test::Fail;
 use tree_model::Refusal;
 use volatile_index::Index;
@@ -51,4 +51,38 @@ fn stops(rt: HostRuntime) -> Result<(), Fail> {
 fn walks_that_fail_are_refusals(rt: HostRuntime) {
     assert_eq!(rt; Refusal::from(Walk::NotFound), Refusal::NotFound);
     assert_eq!(rt; Refusal::from(Walk::NotDir), Refusal::NotDir);
+}
+
+#[test]
+fn counts_the_fences_of_plans(rt: HostRuntime) -> Result<(), Fail> {
+    let loss = Loss {
+        inode: 5,
+        kind: NodeKind::File,
+        goes: true,
+        pages: 0,
+    };
+    let moving = Moving {
+        inode: 2,
+        kind: NodeKind::File,
+        from_directory: 1,
+        from_name: Name::new(b"a").ok().ok_or("no name")?,
+        from_slot: 0,
+        to_directory: 1,
+        to_name: Name::new(b"b").ok().ok_or("no name")?,
+        to_slot: 1,
+        new_page: None,
+        replaced: Some(loss),
+        given_back: None,
+    };
+    assert_eq!(rt; Plan::of(Action::Move(moving)).fences(), 5);
+    let link = NewName {
+        directory: 1,
+        name: Name::new(b"a").ok().ok_or("no name")?,
+        inode: 2,
+        slot: 0,
+        new_page: Some(0),
+    };
+    assert_eq!(rt; Plan::of(Action::Name(link)).fences(), 3);
+    assert_eq!(rt; Plan::of(Action::KeepNames).fences(), 0);
+    Ok(())
 }

@@ -11,3 +11,5 @@ mod recoveries;
 mod scarce;
 #[cfg(test)]
 mod torn;
+#[cfg(test)]
+mod walk;

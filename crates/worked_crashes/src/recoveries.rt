@@ -38,14 +38,14 @@ const MIXES: [[u8; 2]; 4] = [[0, 0], [1, 1], [0, 1], [1, 0]];
 // Words that are set in a volume, what the mount takes in fences and in events, and how many words of the volume are
 // others afterwards. Then what a script is answered, and how many inodes and data pages are free.
 #[derive(Clone, Copy)]
-struct Row<'a> {
-    words: &'a [(usize, u64)],
-    fences: u64,
-    events: u64,
-    mended: &'a [(usize, u64)],
-    script: &'a str,
-    told: &'a str,
-    free: (u64, u64),
+pub(crate) struct Row<'a> {
+    pub(crate) words: &'a [(usize, u64)],
+    pub(crate) fences: u64,
+    pub(crate) events: u64,
+    pub(crate) mended: &'a [(usize, u64)],
+    pub(crate) script: &'a str,
+    pub(crate) told: &'a str,
+    pub(crate) free: (u64, u64),
 }
 
 fn littered(alloc: Global) -> Result<Vec<u64>, Fail> {
@@ -53,7 +53,7 @@ fn littered(alloc: Global) -> Result<Vec<u64>, Fail> {
 }
 
 // Runs the script on the volume with the words set, and again on what the first run left, which takes no fence.
-fn compare(alloc: Global, volume: &[u64], row: &Row<'_>) -> Result<(), Fail> {
+pub(crate) fn compare(alloc: Global, volume: &[u64], row: &Row<'_>) -> Result<(), Fail> {
     let image = with_words(alloc, volume, row.words)?;
     let mut pm = RamPm::new(alloc, image.as_slice())?;
     let left = run_on(alloc, &mut pm, row.script)?;

@@ -22,8 +22,9 @@ fn a_directory_in_the_root(rt: HostRuntime) -> Result<(), Fail> {
         slot: 0,
         new_page: None,
     };
-    let node = write_node(&mut pm, &geometry, &entry)?;
-    commit_node(&mut pm, node)?;
+    let NewNode { inode, place } = write_node(&mut pm, &geometry, &entry)?;
+    let dentry = place.open(&mut pm, &geometry, entry.directory)?;
+    commit_node(&mut pm, dentry, &inode)?;
     let table = [
         (512, 2),
         (513, 3),

@@ -21,8 +21,9 @@ fn a_second_name(rt: HostRuntime) -> Result<(), Fail> {
         slot: 0,
         new_page: None,
     };
-    let file = write_name(&mut pm, &geometry, &link)?;
-    commit_name(&mut pm, file)?;
+    let NamedFile { inode, place } = write_name(&mut pm, &geometry, &link)?;
+    let dentry = place.open(&mut pm, &geometry, link.directory)?;
+    commit_name(&mut pm, dentry, &inode)?;
     let table = [
         (528, 1),
         (529, 2),

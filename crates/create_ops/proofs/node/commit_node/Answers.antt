@@ -6,7 +6,7 @@ use Rattle.create_ops.proofs.node.commit_node.Goals as goal
 
 pub returns : goal.returns
 returns g c =
-    let dentry = c.args.node.dentry in
+    let dentry = c.args.dentry in
     let entry = c.commit-entry in
     let flush = c.flush-committed.ensures in
     record {

@@ -9,7 +9,7 @@ use Rattle.removal_steps.specs.Steps.{MayFall}
 use Rattle.volume.specs.Costs.{count_of}
 use Rattle.volume.specs.Moves.{falling_of}
 use Rattle.rename_ptr.proofs.Linked
-use Rattle.rename_ptr.proofs.Linked.{cleared_slots, in_by_fall, fallen_is_link, source_cleared}
+use Rattle.rename_ptr.proofs.Linked.{cleared_slots, in_by_fall, source_cleared}
 use Rattle.rename_ptr.specs.Steps.{IsClearedWord}
 use Rattle.rename_ptr.proofs.clear.clear_source.Goals as goal
 
@@ -50,7 +50,7 @@ returns g c =
             (source_cleared P m.from_slot m.to_slot o within one.device.stores two.device.stores one.pointer one.free two.links));
         fenced = subst (λ (n : ℕ). StoresAndFences old new n c.end_interval.result)
             (let same = ap (λ (o : Option ℕ). count_of o) c.falling.ensures in omega (arith, same))
-            (interval_ends c.end_interval.result c.requires.begins.settled (stores_then one.device two.device (Linked.apart P (IsClearedWord P m) slots one.device.stores o within (fallen_is_link o) two.device.stores))
-            (Linked.both_flushed P (IsClearedWord P m) slots one.device.stores o within (fallen_is_link o) two.device.stores one.flushed two.flushed) c.end_interval.ensures.device);
+            (interval_ends c.end_interval.result c.requires.begins.settled (stores_then one.device two.device (Linked.apart P (IsClearedWord P m) slots one.device.stores o within two.device.stores))
+            (Linked.both_flushed P (IsClearedWord P m) slots one.device.stores o within two.device.stores one.flushed two.flushed) c.end_interval.ensures.device);
       };
     }

@@ -49,7 +49,7 @@ returns g c =
             (slot_pointed P m.from_slot m.to_slot (target_of m) o within one.device.stores two.device.stores one.pointer one.name two.links));
         fenced = subst (λ (n : ℕ). StoresAndFences old new n c.end_interval.result)
             (let same = ap (λ (o : Option ℕ). count_of o) c.rising.ensures in omega (arith, same))
-            (interval_ends c.end_interval.result c.requires.begins.settled (stores_then one.device two.device (Linked.apart P (IsPointedWord P m) slots one.device.stores o within (λ w is. is) two.device.stores))
-            (Linked.both_flushed P (IsPointedWord P m) slots one.device.stores o within (λ w is. is) two.device.stores one.flushed two.flushed) c.end_interval.ensures.device);
+            (interval_ends c.end_interval.result c.requires.begins.settled (stores_then one.device two.device (Linked.apart P (IsPointedWord P m) slots one.device.stores o within two.device.stores))
+            (Linked.both_flushed P (IsPointedWord P m) slots one.device.stores o within two.device.stores one.flushed two.flushed) c.end_interval.ensures.device);
       };
     }

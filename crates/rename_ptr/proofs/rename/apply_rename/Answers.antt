@@ -45,56 +45,47 @@ gone_pages-pages-requires g c =
     let old = g.P.Pm.view c.args.pm.now in
     let moving = c.in-Move.moving in
     let is : c.args.plan ≡ Move moving = sym c.into_action.ensures ∙ c.in-Move.is in
+    let name = c.as_slice-bytes.ensures in
     record {
-      in_range = Carrying.node_in_index volume volume old old moving (subst IsName c.as_slice-bytes.ensures.bytes c.as_slice-bytes.ensures.name) (subst IsBytes c.as_slice-bytes.ensures.bytes c.as_slice-bytes.ensures.of_bytes)
-          state from to (plan_by volume old state from to c.args.plan moving is plan);
+      in_range = Carrying.node_in_index volume volume old old moving (subst IsName name.bytes name.name) (subst IsBytes name.bytes name.of_bytes) state from to
+          (plan_by volume old state from to c.args.plan moving is plan);
     }
 
-pub move_name-requires-clause-planned : goal.move_name-requires-clause-planned
-move_name-requires-clause-planned g c =
+pub move_name-requires : goal.move_name-requires
+move_name-requires g c =
     let (state, from, to, plan) = c.requires.planned in
     let volume = c.args.volume.now in
     let old = g.P.Pm.view c.args.pm.now in
     let moving = c.in-Move.moving in
     let is : c.args.plan ≡ Move moving = sym c.into_action.ensures ∙ c.in-Move.is in
-    let at = Carrying.at volume volume old old moving (subst IsName c.as_slice-bytes.ensures.bytes c.as_slice-bytes.ensures.name) (subst IsBytes c.as_slice-bytes.ensures.bytes c.as_slice-bytes.ensures.of_bytes)
-    state from to (plan_by volume old state from to c.args.plan moving is plan) in
-    (state, from, to, subst (λ (p : ℕ). IsMovingAt p old.words state from to moving) (sym c.geometry.ensures) at)
-
-pub move_name-requires-clause-pages : goal.move_name-requires-clause-pages
-move_name-requires-clause-pages g c =
-    let (state, from, to, plan) = c.requires.planned in
-    let volume = c.args.volume.now in
-    let old = g.P.Pm.view c.args.pm.now in
-    let moving = c.in-Move.moving in
-    let is : c.args.plan ≡ Move moving = sym c.into_action.ensures ∙ c.in-Move.is in
-    let are = Carrying.are volume volume old old moving (subst IsName c.as_slice-bytes.ensures.bytes c.as_slice-bytes.ensures.name) (subst IsBytes c.as_slice-bytes.ensures.bytes c.as_slice-bytes.ensures.of_bytes)
-    state from to (plan_by volume old state from to c.args.plan moving is plan) in
-    subst (λ (l : List ℕ). AreGonePages c.geometry.result.now.pages old.words moving.replaced l) (sym c.gone_pages-pages.ensures)
-    (subst (λ (p : ℕ). AreGonePages p old.words moving.replaced (gone_pages volume moving.replaced)) (sym c.geometry.ensures) are)
-
-pub move_name-requires-clause-begins : goal.move_name-requires-clause-begins
-move_name-requires-clause-begins g c =
-    let (state, from, to, plan) = c.requires.planned in
-    let volume = c.args.volume.now in
-    let old = g.P.Pm.view c.args.pm.now in
-    let moving = c.in-Move.moving in
-    let is : c.args.plan ≡ Move moving = sym c.into_action.ensures ∙ c.in-Move.is in
-    begins_at c.geometry.result.now.pages volume.size old moving c.gone_pages-pages.result.now (gone_pages volume moving.replaced) c.geometry.ensures c.gone_pages-pages.ensures
-    (Carrying.may_begin volume volume old old moving (subst IsName c.as_slice-bytes.ensures.bytes c.as_slice-bytes.ensures.name) (subst IsBytes c.as_slice-bytes.ensures.bytes c.as_slice-bytes.ensures.of_bytes)
-    state from to (plan_by volume old state from to c.args.plan moving is plan) (subst (MayCarry volume old) is c.requires.ready))
+    let name = c.as_slice-bytes.ensures in
+    let is_name = subst IsName name.bytes name.name in
+    let of_bytes = subst IsBytes name.bytes name.of_bytes in
+    let moved = plan_by volume old state from to c.args.plan moving is plan in
+    record {
+      planned = (
+        state,
+        from,
+        to,
+        subst (λ (p : ℕ). IsMovingAt p old.words state from to moving) (sym c.geometry.ensures)
+            (Carrying.at volume volume old old moving is_name of_bytes state from to moved),
+      );
+      pages = subst (λ (l : List ℕ). AreGonePages c.geometry.result.now.pages old.words moving.replaced l) (sym c.gone_pages-pages.ensures)
+          (subst (λ (p : ℕ). AreGonePages p old.words moving.replaced (gone_pages volume moving.replaced)) (sym c.geometry.ensures)
+          (Carrying.are volume volume old old moving is_name of_bytes state from to moved));
+      begins = begins_at c.geometry.result.now.pages volume.size old moving c.gone_pages-pages.result.now (gone_pages volume moving.replaced) c.geometry.ensures c.gone_pages-pages.ensures
+          (Carrying.may_begin volume volume old old moving is_name of_bytes state from to moved (subst (MayCarry volume old) is c.requires.ready));
+    }
 
 pub move_entry-requires-clause-planned : goal.move_entry-requires-clause-planned
 move_entry-requires-clause-planned g c =
     let (state, from, to, plan) = c.requires.planned in
-    let volume = c.args.volume.now in
+    let is : c.args.plan ≡ Move c.in-Move.moving = sym c.into_action.ensures ∙ c.in-Move.is in
     let old = g.P.Pm.view c.args.pm.now in
-    let moving = c.in-Move.moving in
-    let is : c.args.plan ≡ Move moving = sym c.into_action.ensures ∙ c.in-Move.is in
-    (old, state, Rename from to, plan_by volume old state from to c.args.plan moving is plan)
+    (old, state, Rename from to, plan_by c.args.volume.now old state from to c.args.plan c.in-Move.moving is plan)
 
-pub returns-in-Ok-clause-carries : goal.returns-in-Ok-clause-carries
-returns-in-Ok-clause-carries g c =
+pub returns-in-Ok : goal.returns-in-Ok
+returns-in-Ok g c =
     let (state, from, to, plan) = c.requires.planned in
     let volume = c.args.volume.now in
     let after = c.move_entry.new.self in
@@ -102,13 +93,19 @@ returns-in-Ok-clause-carries g c =
     let new = g.P.Pm.view c.move_name.new.pm in
     let moving = c.in-Move.moving in
     let is : c.args.plan ≡ Move moving = sym c.into_action.ensures ∙ c.in-Move.is in
-    subst (λ (action : Action). Carries {E = PmFault} volume after old new action Done (λ command. Unit {0}) (Ok Told)) (sym is)
-    (Carrying.carried volume after old new moving (subst IsName c.as_slice-bytes.ensures.bytes c.as_slice-bytes.ensures.name) (subst IsBytes c.as_slice-bytes.ensures.bytes c.as_slice-bytes.ensures.of_bytes)
-    state from to (plan_by volume old state from to c.args.plan moving is plan) _
-    (made_at moving c.geometry.ensures c.gone_pages-pages.ensures c.in-Ok.ensures.unfolds) c.move_entry.ensures c.requires.ready.going)
+    let name = c.as_slice-bytes.ensures in
+    let is_name = subst IsName name.bytes name.name in
+    let of_bytes = subst IsBytes name.bytes name.of_bytes in
+    let moved = plan_by volume old state from to c.args.plan moving is plan in
+    let made = made_at moving c.geometry.ensures c.gone_pages-pages.ensures c.in-Ok.ensures.unfolds in
+    record {
+      carries = subst (λ (action : Action). Carries {E = PmFault} volume after old new action Done (λ command. Unit {0}) (Ok Told)) (sym is)
+          (Carrying.carried volume after old new moving is_name of_bytes state from to moved _ made c.move_entry.ensures c.requires.ready.going);
+      stored = stored_as volume old new c.args.plan moving (Ok Told) is (Carrying.has_renamed volume volume old new moving is_name of_bytes state from to moved (Ok Told) (unfolds_as Told made));
+    }
 
-pub returns-in-Err-clause-carries : goal.returns-in-Err-clause-carries
-returns-in-Err-clause-carries g c =
+pub returns-in-Err : goal.returns-in-Err
+returns-in-Err g c =
     let (state, from, to, plan) = c.requires.planned in
     let volume = c.args.volume.now in
     let after = c.stop.new.self in
@@ -116,33 +113,14 @@ returns-in-Err-clause-carries g c =
     let new = g.P.Pm.view c.move_name.new.pm in
     let moving = c.in-Move.moving in
     let is : c.args.plan ≡ Move moving = sym c.into_action.ensures ∙ c.in-Move.is in
-    subst (λ (action : Action). Carries {E = PmFault} volume after old new action Done (λ command. Unit {0}) (Err c.in-Err.fault)) (sym is)
-    (Carrying.carried_no_further volume after old new moving (subst IsName c.as_slice-bytes.ensures.bytes c.as_slice-bytes.ensures.name) (subst IsBytes c.as_slice-bytes.ensures.bytes c.as_slice-bytes.ensures.of_bytes)
-    state from to (plan_by volume old state from to c.args.plan moving is plan) c.in-Err.fault
-    (made_at moving c.geometry.ensures c.gone_pages-pages.ensures c.in-Err.ensures.unfolds) c.stop.ensures)
-
-pub returns-in-Ok-clause-stored : goal.returns-in-Ok-clause-stored
-returns-in-Ok-clause-stored g c =
-    let (state, from, to, plan) = c.requires.planned in
-    let volume = c.args.volume.now in
-    let old = g.P.Pm.view c.args.pm.now in
-    let new = g.P.Pm.view c.move_name.new.pm in
-    let moving = c.in-Move.moving in
-    let is : c.args.plan ≡ Move moving = sym c.into_action.ensures ∙ c.in-Move.is in
-    stored_as volume old new c.args.plan moving (Ok Told) is
-    (Carrying.has_renamed volume volume old new moving (subst IsName c.as_slice-bytes.ensures.bytes c.as_slice-bytes.ensures.name) (subst IsBytes c.as_slice-bytes.ensures.bytes c.as_slice-bytes.ensures.of_bytes)
-    state from to (plan_by volume old state from to c.args.plan moving is plan) (Ok Told)
-    (unfolds_as Told (made_at moving c.geometry.ensures c.gone_pages-pages.ensures c.in-Ok.ensures.unfolds)))
-
-pub returns-in-Err-clause-stored : goal.returns-in-Err-clause-stored
-returns-in-Err-clause-stored g c =
-    let (state, from, to, plan) = c.requires.planned in
-    let volume = c.args.volume.now in
-    let old = g.P.Pm.view c.args.pm.now in
-    let new = g.P.Pm.view c.move_name.new.pm in
-    let moving = c.in-Move.moving in
-    let is : c.args.plan ≡ Move moving = sym c.into_action.ensures ∙ c.in-Move.is in
-    stored_as volume old new c.args.plan moving (Err c.in-Err.fault) is
-    (Carrying.has_renamed volume volume old new moving (subst IsName c.as_slice-bytes.ensures.bytes c.as_slice-bytes.ensures.name) (subst IsBytes c.as_slice-bytes.ensures.bytes c.as_slice-bytes.ensures.of_bytes)
-    state from to (plan_by volume old state from to c.args.plan moving is plan) (Err c.in-Err.fault)
-    (unfolds_failed_as c.in-Err.fault (made_at moving c.geometry.ensures c.gone_pages-pages.ensures c.in-Err.ensures.unfolds)))
+    let name = c.as_slice-bytes.ensures in
+    let is_name = subst IsName name.bytes name.name in
+    let of_bytes = subst IsBytes name.bytes name.of_bytes in
+    let moved = plan_by volume old state from to c.args.plan moving is plan in
+    let made = made_at moving c.geometry.ensures c.gone_pages-pages.ensures c.in-Err.ensures.unfolds in
+    record {
+      carries = subst (λ (action : Action). Carries {E = PmFault} volume after old new action Done (λ command. Unit {0}) (Err c.in-Err.fault)) (sym is)
+          (Carrying.carried_no_further volume after old new moving is_name of_bytes state from to moved c.in-Err.fault made c.stop.ensures);
+      stored = stored_as volume old new c.args.plan moving (Err c.in-Err.fault) is
+          (Carrying.has_renamed volume volume old new moving is_name of_bytes state from to moved (Err c.in-Err.fault) (unfolds_failed_as c.in-Err.fault made));
+    }

@@ -1,14 +1,5 @@
-use Rattle.std.proofs.Common.{◌≡◌, ℕ, List, [], ◌∷◌, ap, subst, ◌∙◌}
-use Rattle.tree_model.specs.PathText.{Route}
-use Rattle.tree_model.specs.Run.{State}
-use Rattle.image_laws.specs.Create.{committed}
-use Rattle.image_laws.specs.Drop.{dropped}
-use Rattle.rename_laws.specs.Intervals.{left, ClearsSource}
-use Rattle.rename_laws.specs.Ready.{IsOpened, PointsAt}
-use Rattle.volume.specs.Moves.{rising_of, falling_of}
-use Rattle.volume.specs.declared.plan.Moving.{Moving}
-use Rattle.rename_ptr.specs.Steps.{target_of, opening, pointing, clearing_source, moving_steps}
-use Rattle.rename_ptr.specs.Renaming.{IsMovingAt}
+use Rattle.std.proofs.Common.{[], ◌∷◌}
+use Rattle.rename_ptr.specs.Steps.{opening, pointing, clearing_source, moving_steps}
 use Rattle.pm_trait.proofs.Unfolding.{then, failed, last, joined, cut_off, starts, next, next_some}
 use Rattle.volume.specs.Costs.{goes_of}
 use Rattle.entry_steps.specs.Steps.{naming}
@@ -17,18 +8,6 @@ use Rattle.rename_ptr.proofs.Begun.{opening_fences, some_directory, may_take, th
 use Rattle.rename_ptr.proofs.Begun
 use Rattle.rename_ptr.proofs.Given.{can_disown, can_clear_rest}
 use Rattle.rename_ptr.proofs.rename.move_name.Goals as goal
-
--- the words without the source, as the laws have them
-cleared_from : {P : ℕ} {W : List ℕ} {state : State} (from to : Route) {moving : Moving} (at : IsMovingAt P W state from to moving)
-    (B : List ℕ) (opened : IsOpened P W B moving.to_directory moving.to_slot (target_of moving)) (I : List ℕ)
-    (points : PointsAt P B I moving.from_slot moving.to_slot (target_of moving) (rising_of moving))
-    (C : List ℕ) → C ≡ committed P I moving.to_slot moving.inode → (D : List ℕ) → D ≡ dropped P C moving.from_slot
-    → (J : List ℕ) → ClearsSource P D J moving.from_slot moving.to_slot (falling_of moving)
-    → ClearsSource P (left P I moving.from_slot moving.to_slot) J moving.from_slot moving.to_slot (falling_of moving)
-cleared_from {P} from to {moving} at B opened I points C commits D leaves J clears =
-    let is : D ≡ left P I moving.from_slot moving.to_slot
-    = leaves ∙ ap (λ (l : List ℕ). dropped P l moving.from_slot) (commits ∙ Begun.committed_is from to at B opened I points) in
-    subst (λ (l : List ℕ). ClearsSource P l J moving.from_slot moving.to_slot (falling_of moving)) is clears
 
 pub open_page-requires-clause-some_directory : goal.open_page-requires-clause-some_directory
 open_page-requires-clause-some_directory g c =
@@ -97,7 +76,7 @@ disown-requires-clause-ready g c =
     can_disown from to at (g.P.Pm.view c.point.new.pm).words
     (Begun.ready from to at (g.P.Pm.view c.open_page.new.pm).words opened (g.P.Pm.view c.point.new.pm).words c.point.ensures.takes.makes)
     (g.P.Pm.view c.clear_source.new.pm).words
-    (cleared_from from to at (g.P.Pm.view c.open_page.new.pm).words opened (g.P.Pm.view c.point.new.pm).words c.point.ensures.takes.makes
+    (Begun.cleared_left from to at (g.P.Pm.view c.open_page.new.pm).words opened (g.P.Pm.view c.point.new.pm).words c.point.ensures.takes.makes
     (g.P.Pm.view c.take_number.new.pm).words c.take_number.ensures.takes.makes (g.P.Pm.view c.leave_number.new.pm).words c.leave_number.ensures.takes.makes
     (g.P.Pm.view c.clear_source.new.pm).words c.clear_source.ensures.takes.makes)
     c.args.pages.now c.requires.pages
@@ -113,7 +92,7 @@ clear_rest-requires-clause-ready g c =
     can_clear_rest from to at (g.P.Pm.view c.point.new.pm).words
     (Begun.ready from to at (g.P.Pm.view c.open_page.new.pm).words opened (g.P.Pm.view c.point.new.pm).words c.point.ensures.takes.makes)
     (g.P.Pm.view c.clear_source.new.pm).words
-    (cleared_from from to at (g.P.Pm.view c.open_page.new.pm).words opened (g.P.Pm.view c.point.new.pm).words c.point.ensures.takes.makes
+    (Begun.cleared_left from to at (g.P.Pm.view c.open_page.new.pm).words opened (g.P.Pm.view c.point.new.pm).words c.point.ensures.takes.makes
     (g.P.Pm.view c.take_number.new.pm).words c.take_number.ensures.takes.makes (g.P.Pm.view c.leave_number.new.pm).words c.leave_number.ensures.takes.makes
     (g.P.Pm.view c.clear_source.new.pm).words c.clear_source.ensures.takes.makes)
     c.args.pages.now c.requires.pages (g.P.Pm.view c.disown.new.pm).words c.disown.ensures.takes.makes

@@ -6,7 +6,7 @@ use Rattle.unlink_ops.proofs.link.commit_name.Goals as goal
 
 pub returns : goal.returns
 returns g c =
-    let dentry = c.args.file.dentry in
+    let dentry = c.args.dentry in
     let entry = c.commit_link-entry in
     let flush = c.flush-committed.ensures in
     record {
