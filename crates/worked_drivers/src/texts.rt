@@ -20,6 +20,12 @@ pub fn repeated(alloc: Global, text: &str, count: u64) -> Result<String, Fail> {
     Ok(texts)
 }
 
+/// A text, a name of so many bytes, and another text.
+pub fn with_name(alloc: Global, start: &str, length: u64, end: &str) -> Result<String, Fail> {
+    let name = repeated(alloc, "n", length)?;
+    joined(alloc, &[start, name.as_str(), end])
+}
+
 /// Some texts, one behind the other.
 pub fn joined(alloc: Global, texts: &[&str]) -> Result<String, Fail> {
     let mut whole = String::new(alloc);

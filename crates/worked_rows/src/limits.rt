@@ -3,7 +3,7 @@ use std::alloc::Global;
 use std::test::Fail;
 use worked_drivers::jobs::{job_on, same};
 use worked_drivers::rows::{compare_rows, compare_run};
-use worked_drivers::texts::{joined, repeated};
+use worked_drivers::texts::{joined, repeated, with_name};
 use worked_drivers::volumes::{fresh_volume, set_words, small_volume, volume_with_a};
 
 #[test]
@@ -20,8 +20,7 @@ fn names_at_the_limit(rt: HostRuntime) -> Result<(), Fail> {
         ("create /", 65_529, "error BadLine\nok 0\n", 0),
         ("create /", 200_000, "error BadLine\nok 0\n", 0),
     ] {
-        let name = repeated(alloc, "n", count)?;
-        let script = joined(alloc, &[verb, name.as_str(), "\nlist /\n"])?;
+        let script = with_name(alloc, verb, count, "\nlist /\n")?;
         compare_run(alloc, volume.as_slice(), script.as_str(), told, fences)?;
     }
     Ok(())
@@ -30,9 +29,8 @@ fn names_at_the_limit(rt: HostRuntime) -> Result<(), Fail> {
 #[test]
 fn the_longest_name_is_told_whole(rt: HostRuntime) -> Result<(), Fail> {
     let alloc = rt.alloc();
-    let name = repeated(alloc, "n", 110)?;
-    let script = joined(alloc, &["create /", name.as_str(), "\nlist /\n"])?;
-    let wanted = joined(alloc, &["ok\nok 1 ", name.as_str(), "\n"])?;
+    let script = with_name(alloc, "create /", 110, "\nlist /\n")?;
+    let wanted = with_name(alloc, "ok\nok 1 ", 110, "\n")?;
     let volume = small_volume(alloc)?;
     compare_run(
         alloc,
@@ -49,13 +47,12 @@ fn the_longest_name_is_told_whole(rt: HostRuntime) -> Result<(), Fail> {
 fn a_long_name_within_a_path(rt: HostRuntime) -> Result<(), Fail> {
     let alloc = rt.alloc();
     let volume = small_volume(alloc)?;
-    let name = repeated(alloc, "n", 111)?;
     for (end, wanted) in [
         ("/a", "error NameTooLong\n"),
         ("//", "error BadPath\n"),
         ("%", "error BadPath\n"),
     ] {
-        let script = joined(alloc, &["create /", name.as_str(), end])?;
+        let script = with_name(alloc, "create /", 111, end)?;
         compare_run(alloc, volume.as_slice(), script.as_str(), wanted, 0)?;
     }
     Ok(())

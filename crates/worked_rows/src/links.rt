@@ -3,7 +3,7 @@ use std::alloc::Global;
 use std::test::Fail;
 use worked_drivers::jobs::Left;
 use worked_drivers::rows::{compare_rows, compare_run};
-use worked_drivers::texts::{joined, numbered, repeated};
+use worked_drivers::texts::{joined, numbered, repeated, with_name};
 use worked_drivers::volumes::volume_with_a;
 
 // A name in a directory without a page takes a fence more.
@@ -75,10 +75,9 @@ fn names_are_refused(rt: HostRuntime) -> Result<(), Fail> {
 // A line of these parts, between which a name of 111 bytes stands where the first one ends in `/`.
 fn line_of(alloc: Global, start: &str, end: &str) -> Result<String, Fail> {
     if start.ends_with('/') {
-        let name = repeated(alloc, "n", 111)?;
-        joined(alloc, &[start, name.as_str(), end, "\n"])
+        with_name(alloc, start, 111, end)
     } else {
-        joined(alloc, &[start, end, "\n"])
+        joined(alloc, &[start, end])
     }
 }
 
@@ -89,18 +88,18 @@ fn lines_of_two_paths_are_refused(rt: HostRuntime) -> Result<(), Fail> {
     let alloc = rt.alloc();
     let volume = volume_with_a(alloc)?;
     for (start, end, told) in [
-        ("link", "", "error BadLine\n"),
-        ("link /a", "", "error BadLine\n"),
-        ("link a", "", "error BadLine\n"),
-        ("link a b c", "", "error BadLine\n"),
-        ("Link /a /b", "", "error BadLine\n"),
-        ("link a /b", "", "error BadPath\n"),
-        ("link /a b", "", "error BadPath\n"),
-        ("link a /%", "", "error BadPath\n"),
-        ("link /", " b", "error BadPath\n"),
-        ("link b /", "", "error BadPath\n"),
-        ("link /", " /b", "error NameTooLong\n"),
-        ("link /x /", "", "error NameTooLong\n"),
+        ("link", "\n", "error BadLine\n"),
+        ("link /a", "\n", "error BadLine\n"),
+        ("link a", "\n", "error BadLine\n"),
+        ("link a b c", "\n", "error BadLine\n"),
+        ("Link /a /b", "\n", "error BadLine\n"),
+        ("link a /b", "\n", "error BadPath\n"),
+        ("link /a b", "\n", "error BadPath\n"),
+        ("link a /%", "\n", "error BadPath\n"),
+        ("link /", " b\n", "error BadPath\n"),
+        ("link b /", "\n", "error BadPath\n"),
+        ("link /", " /b\n", "error NameTooLong\n"),
+        ("link /x /", "\n", "error NameTooLong\n"),
     ] {
         let script = line_of(alloc, start, end)?;
         compare_run(alloc, volume.as_slice(), script.as_str(), told, 0)?;
