@@ -24,12 +24,12 @@ abbrev numbers : List ℕ
 numbers = 0 ∷ 1 ∷ 2 ∷ 3 ∷ 4 ∷ 5 ∷ 6 ∷ []
 
 -- each between the states before and after it, and none past the end
-fences_of_each_line : map (fences_at fresh_state lines answers states) numbers ≡ 4 ∷ 0 ∷ 3 ∷ 1 ∷ 0 ∷ 0 ∷ 0 ∷ []
+fences_of_each_line : map (fences_at fresh_state lines answers states) numbers ≡ 3 ∷ 0 ∷ 3 ∷ 1 ∷ 0 ∷ 0 ∷ 0 ∷ []
 unfolding inodes_of data_pages_of
 fences_of_each_line = refl
 
--- each at the state before it: bytes in the page that is there need no place
-places_of_each_line : map (needs_places_at fresh_state lines states) numbers ≡ true ∷ false ∷ true ∷ false ∷ true ∷ false ∷ false ∷ []
+-- each at the state before it: bytes in the page that is there need no place, and a name that is there needs none
+places_of_each_line : map (needs_places_at fresh_state lines states) numbers ≡ true ∷ false ∷ true ∷ false ∷ false ∷ false ∷ false ∷ []
 unfolding inodes_of data_pages_of
 places_of_each_line = refl
 

@@ -151,7 +151,11 @@ fn what_a_crash_leaves_is_cleared(rt: HostRuntime) -> Result<(), Fail> {
     let volume = small_volume(rt.alloc())?;
     for crash in &CRASHES {
         let words = words_of(rt.alloc(), crash)?;
-        let free = if crash.names == "ok 0\n" { (3, 13) } else { (2, 12) };
+        let free = if crash.names == "ok 0\n" {
+            (3, 13)
+        } else {
+            (2, 12)
+        };
         let row = Row {
             words: words.as_slice(),
             fences: crash.fences,
