@@ -2,7 +2,7 @@ ghost use Rattle.std.specs.Prelude.{◌≡◌, ◌≤◌, ◌+◌, ◌++◌, ◌
 ghost use Rattle.arrayvec.specs.ArrayVec.{array_vec_len};
 ghost use Rattle.io_edge.specs.Bytes.{Writes};
 ghost use Rattle.script.specs.Lines.{newline, space};
-ghost use Rattle.script.specs.Texts.{name_text, byte_text, refusal_text, fault_text, stands_for_itself as stands_for_itself_of, answer_text, formatted_text, not_a_volume_text, damaged_text};
+ghost use Rattle.script.specs.Texts.{name_text, byte_text, refusal_text, fault_text, stands_for_itself as stands_for_itself_of, answer_text, formatted_text, not_a_volume_text, damaged_text, acked_text};
 ghost use Rattle.script.specs.Replies.{IsPlain, reply_text};
 ghost use Rattle.tree_model.specs.Step.{Answer};
 
@@ -80,6 +80,14 @@ pub fn write_damaged<K: Sink>(rule: u64, place: u64, sink: &mut K) -> Result<(),
         (damaged_text rule place) result }
 {
     write_all(sink, damaged_line(rule, place).as_slice())
+}
+
+/// Writes the line that tells how many lines of a script had been acknowledged before a crash.
+pub fn write_acked<K: Sink>(acked: u64, sink: &mut K) -> Result<(), WriteFault>
+    ensures { Writes (K.took sink.old) (K.took sink.new) (K.faults sink.old) (K.faults sink.new)
+        (acked_text acked) result }
+{
+    write_all(sink, acked_line(acked).as_slice())
 }
 
 // The line of a plain reply.
@@ -197,6 +205,16 @@ fn damaged_line(rule: u64, place: u64) -> LineText
     push_text(&mut line, b" ");
     push_number(&mut line, place);
     push_text(&mut line, b"\n");
+    line
+}
+
+fn acked_line(acked: u64) -> LineText
+    ensures { result.items ≡ acked_text acked }
+{
+    let mut line = ArrayVec::new();
+    push_text(&mut line, b"acked ");
+    push_number(&mut line, acked);
+    line.push(b'\n');
     line
 }
 
