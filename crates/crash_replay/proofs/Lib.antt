@@ -1,0 +1,3 @@
+pub mod Places
+pub mod Replays
+pub mod Tallies

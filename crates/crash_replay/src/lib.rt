@@ -1,0 +1,14 @@
+//! The moment of a run that is asked for, and a count of its answers: what a replay of a crash is made of.
+#![tactic(auto)]
+
+mod laws;
+mod moment;
+//mod place;
+mod tally;
+//#[cfg(test)]
+//mod tests;
+
+pub use laws::{replay_law, tally_law};
+pub use moment::Moment;
+//pub use place::{acks_before, place_of};
+pub use tally::Tally;
