@@ -5,7 +5,7 @@ use Rattle.std.specs.List.{All, list_any, starts_with}
 use Rattle.std.proofs.lemmas.Bool.{cases_Bool, eq-eqb, eqb-true}
 use Rattle.std.proofs.lemmas.List.{append-nil, length-take, take_all, take-take, take-append-le}
 use Rattle.std.proofs.lemmas.List.Elements.{All-nil, All-cons}
-use Rattle.std.proofs.lemmas.List.Sums.{sum_by-append}
+use Rattle.std.proofs.lemmas.List.Sums.{sum_by-append, sum_by-cons}
 use Rattle.io_edge.specs.Count.{one_more}
 use Rattle.tree_model.specs.Step.{Answer, Refused}
 use Rattle.tree_model.specs.declared.reply.Refusal.TheVariants.{NoMemory}
@@ -19,6 +19,10 @@ use Rattle.crash_replay.specs.declared.tally.Tally.{Tally}
 
 abbrev ones : Bool → ℕ
 ones t = cond t 1 0
+
+-- one element more at the front
+one_counted : {X : Type 0} (passes : X → Bool) (x : X) (xs : List X) → count_by passes (x ∷ xs) ≡ ones (passes x) + count_by passes xs
+one_counted passes x xs = sum_by-cons (λ y. cond (passes y) 1 0) x xs
 
 -- ---- one byte more
 
@@ -181,9 +185,11 @@ one_each (answer ∷ answers) =
     let told = is_answer_line answer in
     let ok = ap ones told.ok in
     let error = ap ones told.error in
-    omega (arith, ok, error, one (is_accepted answer), one_each answers)
+    let ok-more = one_counted (begins_with (codes "ok")) told.line (answer_lines answers) in
+    let error-more = one_counted (begins_with (codes "error")) told.line (answer_lines answers) in
+    omega (arith, ok, error, ok-more, error-more, one (is_accepted answer), one_each answers)
   where
-    one : (t : Bool) → cond t 1 0 + cond (not t) 1 0 ≡ 1
+    one : (t : Bool) → ones t + ones (not t) ≡ 1
     one true = refl
     one false = refl
 
@@ -193,8 +199,8 @@ found (answer ∷ answers) zero is =
     let same : answer ≡ Refused NoMemory = cc is in
     let here : is_no_memory (is_answer_line answer).line ≡ true = ap is_no_memory ((is_answer_line answer).no_memory.1 same) in
     let counts = ap ones here in
-    omega (arith, counts)
-found (answer ∷ answers) (suc k) is = omega (arith, found answers k is)
+    omega (arith, counts, one_counted is_no_memory (is_answer_line answer).line (answer_lines answers))
+found (answer ∷ answers) (suc k) is = omega (arith, found answers k is, one_counted is_no_memory (is_answer_line answer).line (answer_lines answers))
 
 bytes_same : (bytes other : List ℕ) → bytes_eq bytes other ≡ true → bytes ≡ other
 bytes_same [] [] same = refl
@@ -213,7 +219,7 @@ none_found (answer ∷ answers) had = elim (cases_Bool (is_no_memory (is_answer_
   | inl here ↦ absurd (had 0 (ap (λ a. Some a) ((is_answer_line answer).no_memory.0 (bytes_same (is_answer_line answer).line (codes "error NoMemory") here))))
   | inr not_here ↦
       let counts = ap ones not_here in
-      omega (arith, counts, none_found answers (λ k is. had (suc k) is))
+      omega (arith, counts, one_counted is_no_memory (is_answer_line answer).line (answer_lines answers), none_found answers (λ k is. had (suc k) is))
 ]
 
 pub tally_law-holds : TallyLaw

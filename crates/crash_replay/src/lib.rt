@@ -3,12 +3,12 @@
 
 mod laws;
 mod moment;
-//mod place;
+mod place;
 mod tally;
 //#[cfg(test)]
 //mod tests;
 
 pub use laws::{replay_law, tally_law};
 pub use moment::Moment;
-//pub use place::{acks_before, place_of};
+pub use place::{acks_before, place_of};
 pub use tally::Tally;
