@@ -14,7 +14,7 @@ use percent_encoding::percent_encode_byte;
 use tree_model::{Free, LineFault, Refusal, Reply, Stat};
 
 // The text of a line that needs no bytes of a file. None is longer than 128 bytes.
-type LineText = ArrayVec<u8, 128>;
+pub type LineText = ArrayVec<u8, 128>;
 
 // A name has at most 110 bytes, and each becomes at most three.
 type NameText = ArrayVec<u8, 330>;
@@ -263,7 +263,7 @@ fn fault_name(fault: LineFault) -> &'static [u8]
 }
 
 // Adds a text.
-fn push_text<const SIZE: usize>(line: &mut ArrayVec<u8, SIZE>, text: &[u8])
+pub fn push_text<const SIZE: usize>(line: &mut ArrayVec<u8, SIZE>, text: &[u8])
     requires room { array_vec_len line.old + length text.now ≤ SIZE }
     ensures items { line.new.items ≡ line.old.items ++ text.now }
     ensures len { array_vec_len line.new ≡ array_vec_len line.old + length text.now }
@@ -272,7 +272,7 @@ fn push_text<const SIZE: usize>(line: &mut ArrayVec<u8, SIZE>, text: &[u8])
 }
 
 // Adds a number in decimal.
-fn push_number(line: &mut LineText, number: u64)
+pub fn push_number(line: &mut LineText, number: u64)
     requires room { array_vec_len line.old + 20 ≤ 128 }
     ensures items { line.new.items ≡ line.old.items ++ decimal number }
     ensures len { array_vec_len line.new ≤ array_vec_len line.old + 20 }
