@@ -1,8 +1,9 @@
-// How a mount is refused.
+// How a mount and a report fail.
 ghost use Rattle.std.specs.Prelude.{◌≡◌};
 ghost use Rattle.mount_scan.specs.declared.error.MountError.TheVariants.{NoMemory, PmFault};
 
 use image_reading::Violation;
+use io_edge::WriteFault;
 use pm_trait::{NoMemory, PmFault};
 use thiserror::Error;
 
@@ -36,5 +37,32 @@ impl From<PmFault> for MountError {
 
     fn from(_fault: PmFault) -> MountError {
         MountError::PmFault
+    }
+}
+
+/// Why the words of a device were not told.
+#[derive(Clone, Copy, Debug, PartialEq, Eq, Error)]
+pub enum ReportError {
+    /// There is no memory to look at the words. Nothing was written.
+    #[error("out of memory")]
+    NoMemory,
+    /// The output failed after a part of the text.
+    #[error("the output failed")]
+    WriteFault,
+}
+
+impl From<NoMemory> for ReportError {
+    ghost from_gives = { λ _ error. error ≡ ReportError.NoMemory };
+
+    fn from(_refused: NoMemory) -> ReportError {
+        ReportError::NoMemory
+    }
+}
+
+impl From<WriteFault> for ReportError {
+    ghost from_gives = { λ _ error. error ≡ ReportError.WriteFault };
+
+    fn from(_fault: WriteFault) -> ReportError {
+        ReportError::WriteFault
     }
 }

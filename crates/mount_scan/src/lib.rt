@@ -1,15 +1,18 @@
-//! Takes in the volume that a device holds.
+//! Takes in the volume that a device holds, and tells what its words are.
 #![tactic(auto)]
 
 mod build;
+mod counting;
 mod error;
 mod head;
 mod index;
 mod look;
 mod mounting;
+mod report;
 
-pub use error::MountError;
+pub use error::{MountError, ReportError};
 pub use mounting::mount;
+pub use report::report;
 
 #[cfg(test)]
 mod tests;

@@ -11,6 +11,7 @@ mod repairs;
 mod span;
 mod steps;
 
+pub use needs::{has_other_links, is_kept_directory_page, is_litter_inode};
 pub use part::Part;
 pub use plan::plan_repairs;
 pub use recover::repair;

@@ -263,7 +263,7 @@ fn fault_name(fault: LineFault) -> &'static [u8]
 }
 
 // Adds a text.
-pub fn push_text<const SIZE: usize>(line: &mut ArrayVec<u8, SIZE>, text: &[u8])
+pub(crate) fn push_text<const SIZE: usize>(line: &mut ArrayVec<u8, SIZE>, text: &[u8])
     requires room { array_vec_len line.old + length text.now ≤ SIZE }
     ensures items { line.new.items ≡ line.old.items ++ text.now }
     ensures len { array_vec_len line.new ≡ array_vec_len line.old + length text.now }
