@@ -67,11 +67,11 @@ lines_ended (b ∷ bytes) = elim (cases_Bool (list_any is_newline (b ∷ bytes))
       | inr not_here ↦ rw not_here (
           ap (onto_line b) later
           ∙ onto_more b (complete_lines_of bytes) (open_line bytes ∷ []) (some_line bytes (sym (ap (λ t. t || list_any is_newline bytes) not_here) ∙ some))
-        )
+          )
     ]
 
 any_more : (b : ℕ) (bytes : List ℕ) → list_any is_newline (bytes ++ b ∷ []) ≡ list_any is_newline bytes || is_newline b
-any_more b [] = elim (cases_Bool (is_newline b)) [ | inl here ↦ rw here refl | inr not_here ↦ rw not_here refl ]
+any_more b [] = elim (cases_Bool (is_newline b)) [ inl here ↦ rw here refl | inr not_here ↦ rw not_here refl ]
 any_more b (c ∷ bytes) = elim (cases_Bool (is_newline c)) [
   | inl here ↦ rw here refl
   | inr not_here ↦ rw not_here (any_more b bytes)
