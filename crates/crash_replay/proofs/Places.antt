@@ -1,13 +1,11 @@
 -- What the places among events are.
-use Rattle.std.proofs.Common.{◌≡◌, ◌≢◌, ℕ, zero, suc, ◌+◌, ◌-◌, ◌<◌, ◌≤◌, Bool, true, false, ◌==◌, min, cond, List, [], ◌∷◌, ◌++◌, length, take, drop, Some, refl, sym, ap, ◌∙◌, inl, inr, arith, length-append, length-drop}
-use Rattle.std.specs.Prelude.{Option, None, IfSome, slice_get, if◌then◌else◌, ◌⊎◌}
-use Rattle.std.proofs.lemmas.Bool.{cases_Bool, cases_lt, eqb-true, eqb-false, eq-eqb}
-use Rattle.std.proofs.lemmas.List.{length-take-le, drop_all, take_all, take-append-drop, drop-drop, drop-take}
-use Rattle.std.proofs.Math.Seq.{take-add}
+use Rattle.std.proofs.Common.{◌≡◌, ◌≢◌, ℕ, zero, suc, ◌+◌, ◌-◌, ◌<◌, ◌≤◌, ◌==◌, min, List, [], ◌∷◌, length, take, drop, Some, refl, sym, ap, ◌∙◌, inl, inr, arith, length-append, length-drop}
+use Rattle.std.specs.Prelude.{Option, None, IfSome, slice_get, ◌⊎◌}
+use Rattle.std.proofs.lemmas.Bool.{cases_Bool, cases_lt, eqb-true}
+use Rattle.std.proofs.lemmas.List.{drop_all, take-append-drop, drop-drop}
 use Rattle.pm_trait.specs.declared.event.Event.{Event}
 use Rattle.pm_trait.specs.declared.event.Event.TheVariants.{Store, Flush, Fence, BadFence, Ack}
 use Rattle.pm_trait.specs.Trail.{Trail, count_acks}
-use Rattle.pm_trait.proofs.TrailLaws.{count_acks-append}
 use Rattle.crash_replay.specs.Place.{through_acks, fence_within, start_of, from_call, place_in}
 use Rattle.crash_replay.specs.declared.moment.Moment.{Moment}
 use Rattle.crash_replay.specs.declared.moment.Moment.TheVariants.{At, Before}

@@ -1,4 +1,4 @@
-use Rattle.std.proofs.Common.{◌≡◌, ◌+◌, ◌-◌, take, ap, ◌∙◌, arith}
+use Rattle.std.proofs.Common.{◌+◌, ◌-◌, take, ap, ◌∙◌, arith}
 use Rattle.pm_trait.specs.Trail.{count_acks}
 use Rattle.crash_replay.proofs.Places.{first_of_limit}
 use Rattle.crash_replay.proofs.place.count_within.Goals as goal

@@ -1,4 +1,4 @@
-use Rattle.std.proofs.Common.{◌≡◌, length, sym, ap, ◌∙◌, arith}
+use Rattle.std.proofs.Common.{length, sym, ap, ◌∙◌, arith}
 use Rattle.crash_replay.specs.Place.{through_acks}
 use Rattle.crash_replay.proofs.Places.{rest_is}
 use Rattle.crash_replay.proofs.place.pass_acks.Goals as goal

@@ -1,4 +1,4 @@
-use Rattle.std.proofs.Common.{◌≡◌, length, sym, ◌∙◌, arith}
+use Rattle.std.proofs.Common.{sym, ◌∙◌, arith}
 use Rattle.crash_replay.proofs.Places.{rest_is, rest_inside, none_left}
 use Rattle.crash_replay.proofs.place.pass_events.Goals as goal
 

@@ -1,5 +1,5 @@
-use Rattle.std.proofs.Common.{◌≡◌, ◌+◌, ◌≤◌, min, length, drop, sym, ap, ◌∙◌, arith, rules, length-drop}
-use Rattle.crash_replay.specs.Place.{through_acks, start_of}
+use Rattle.std.proofs.Common.{◌≡◌, ◌+◌, arith}
+use Rattle.crash_replay.specs.Place.{start_of}
 use Rattle.crash_replay.proofs.Places.{start_more, start_inside}
 use Rattle.crash_replay.proofs.place.pass_to_call.Goals as goal
 

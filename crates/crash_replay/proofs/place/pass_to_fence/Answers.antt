@@ -1,4 +1,4 @@
-use Rattle.std.proofs.Common.{◌≡◌, ◌+◌, ◌-◌, length, take, ap, ◌∙◌, arith}
+use Rattle.std.proofs.Common.{◌+◌, ◌-◌, length, take, ap, ◌∙◌, arith}
 use Rattle.crash_replay.specs.Place.{fence_within}
 use Rattle.crash_replay.proofs.Places.{first_of_limit}
 use Rattle.crash_replay.proofs.place.pass_to_fence.Goals as goal
