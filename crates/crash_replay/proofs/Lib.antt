@@ -1,3 +1,4 @@
 pub mod Places
 pub mod Replays
 pub mod Tallies
+pub mod Rows

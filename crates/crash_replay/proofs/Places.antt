@@ -1,14 +1,14 @@
 -- What the places among events are.
-use Rattle.std.proofs.Common.{◌≡◌, ◌≢◌, ℕ, zero, suc, ◌+◌, ◌-◌, ◌<◌, ◌≤◌, Bool, true, false, ◌==◌, min, cond, List, [], ◌∷◌, ◌++◌, length, take, drop, Some, refl, sym, ap, ◌∙◌, inl, inr, arith, length-append, length-drop}
-use Rattle.std.specs.Prelude.{slice_get, if◌then◌else◌, ◌⊎◌}
-use Rattle.std.proofs.lemmas.Bool.{cases_Bool, eqb-true, eqb-false, eq-eqb}
-use Rattle.std.proofs.lemmas.List.{length-take-le, drop_all, take_all, take-append-drop, drop-drop, drop-take}
-use Rattle.std.proofs.Math.Seq.{take-add}
+use Rattle.std.proofs.Common.{◌≡◌, ◌≢◌, ℕ, zero, suc, ◌+◌, ◌-◌, ◌<◌, ◌≤◌, ◌==◌, min, List, [], ◌∷◌, length, take, drop, Some, refl, sym, ap, ◌∙◌, inl, inr, arith, length-append, length-drop}
+use Rattle.std.specs.Prelude.{Option, None, IfSome, slice_get, ◌⊎◌}
+use Rattle.std.proofs.lemmas.Bool.{cases_Bool, cases_lt, eqb-true}
+use Rattle.std.proofs.lemmas.List.{drop_all, take-append-drop, drop-drop}
 use Rattle.pm_trait.specs.declared.event.Event.{Event}
 use Rattle.pm_trait.specs.declared.event.Event.TheVariants.{Store, Flush, Fence, BadFence, Ack}
-use Rattle.pm_trait.specs.Trail.{count_acks}
-use Rattle.pm_trait.proofs.TrailLaws.{count_acks-append}
+use Rattle.pm_trait.specs.Trail.{Trail, count_acks}
 use Rattle.crash_replay.specs.Place.{through_acks, fence_within, start_of, from_call, place_in}
+use Rattle.crash_replay.specs.declared.moment.Moment.{Moment}
+use Rattle.crash_replay.specs.declared.moment.Moment.TheVariants.{At, Before}
 use Rattle.crash_replay.specs.Replay.{fences_before_ack}
 
 -- ---- to a fence
@@ -111,3 +111,43 @@ place_inside events mark zero fence = omega (arith, fence_inside fence (take mar
 place_inside events mark (suc acks) fence =
     let start = start_of events mark (suc acks) in
     omega (arith, fence_inside fence (drop start events), length-drop start events, start_inside events mark (suc acks))
+
+-- where a trail is recorded, the place of a moment is within it
+pub place_within : (trail : Option Trail) (mark : ℕ) (moment : Moment) (place : ℕ) → IfSome trail (λ t. place ≡ place_in t.events mark moment)
+    → IfSome trail (λ t. place ≤ length t.events)
+place_within None mark moment place is = tt
+place_within (Some trail) mark (At k) place is = omega (arith, is)
+place_within (Some trail) mark (Before call fence) place is = omega (arith, is, place_inside trail.events mark call fence)
+
+-- ---- a walk
+
+-- the rest of a list behind its first
+pub rest_is : (n : ℕ) (event : Event) (later events : List Event) → drop n events ≡ event ∷ later → later ≡ drop (n + 1) events
+rest_is n event later events is = ap (drop 1) (sym is) ∙ drop-drop 1 n events
+
+pub rest_inside : (n : ℕ) (event : Event) (later events : List Event) → drop n events ≡ event ∷ later → n + 1 ≤ length events
+rest_inside n event later events is = omega (arith, length-drop n events, ap length is)
+
+pub none_left : (n : ℕ) (events : List Event) → drop n events ≡ [] → n ≤ length events → n ≡ length events
+none_left n events is inside = omega (arith, length-drop n events, ap length is)
+
+-- the first of the events up to a limit
+pub first_of_limit : (n limit : ℕ) (event : Event) (later : List Event) → n < limit → take (limit - n) (event ∷ later) ≡ event ∷ take (limit - (n + 1)) later
+first_of_limit n limit event later below =
+    let more : limit - n ≡ suc (limit - (n + 1)) = omega arith in
+    ap (λ k. take k (event ∷ later)) more
+
+-- the start of a call, as a walk comes to it
+pub start_more : (events rest : List Event) (mark acks mount called : ℕ) → mount ≡ min mark (length events) → rest ≡ drop mount events → called ≡ through_acks acks rest
+    → mount + called ≡ start_of events mark (acks + 1)
+start_more events rest mark acks mount called passed left through =
+    let same : rest ≡ drop mark events = left ∙ ap (λ n. drop n events) passed ∙ drop_least events mark in
+    let more : acks + 1 ≡ suc acks = omega arith in
+    let start : start_of events mark (acks + 1) ≡ min mark (length events) + through_acks acks (drop mark events) = ap (start_of events mark) more in
+    omega (arith, passed, through, ap (through_acks acks) same, start)
+  where
+    drop_least : (l : List Event) (n : ℕ) → drop (min n (length l)) l ≡ drop n l
+    drop_least l n = elim (cases_lt n (length l)) [
+      | inl inside ↦ let least : min n (length l) ≡ n = omega (arith, inside) in ap (λ k. drop k l) least
+      | inr past ↦ drop_all (min n (length l)) l (omega (arith, past)) ∙ sym (drop_all n l (omega (arith, past)))
+    ]

@@ -1,5 +1,5 @@
 -- How many acknowledgements come before a place.
-use Rattle.std.proofs.Common.{◌≡◌, ℕ, zero, suc, ◌+◌, ◌-◌, ◌<◌, ◌≤◌, min, List, [], ◌∷◌, ◌++◌, length, take, drop, Some, refl, sym, ap, subst, ◌∙◌, inl, inr, arith, length-append, length-drop}
+use Rattle.std.proofs.Common.{◌≡◌, ℕ, zero, suc, ◌+◌, ◌<◌, ◌≤◌, min, List, [], ◌∷◌, length, take, drop, Some, refl, sym, ap, subst, ◌∙◌, arith, length-drop}
 use Rattle.std.specs.Prelude.{slice_get, ◌⊎◌}
 use Rattle.std.proofs.lemmas.List.{drop_all, take_all, take-append-drop, drop-drop, drop-take, length-take}
 use Rattle.std.proofs.Math.Seq.{take-add}
@@ -7,11 +7,11 @@ use Rattle.pm_trait.specs.declared.event.Event.{Event}
 use Rattle.pm_trait.specs.declared.event.Event.TheVariants.{Ack}
 use Rattle.pm_trait.specs.Trail.{count_acks}
 use Rattle.pm_trait.proofs.TrailLaws.{count_acks-append}
-use Rattle.crash_replay.specs.Place.{through_acks, fence_within, start_of, from_call, place_in}
-use Rattle.crash_replay.specs.Replay.{acked_at, acked_in_all, fences_before_ack, fences_of_call, IsBehindAll, IsBeforeAll, IsInCall, PlacesTell, ReplayLaw}
+use Rattle.crash_replay.specs.Place.{through_acks, fence_within, from_call, place_in}
+use Rattle.crash_replay.specs.Replay.{acked_at, acked_in_all, fences_of_call, IsBehindAll, IsBeforeAll, IsInCall, PlacesTell, ReplayLaw}
 use Rattle.crash_replay.specs.declared.moment.Moment.{Moment}
 use Rattle.crash_replay.specs.declared.moment.Moment.TheVariants.{At, Before}
-use Rattle.crash_replay.proofs.Places.{fence_inside, none_acked, IsNoFence, acked_there, acks_inside, acked_through, through_all, place_inside}
+use Rattle.crash_replay.proofs.Places.{fence_inside, none_acked, IsNoFence, acked_there, acked_through, through_all, place_inside}
 
 -- what stands in a list from a place on
 slice_get-drop : (events : List Event) (start k : ℕ) → slice_get (drop start events) k ≡ slice_get events (start + k)

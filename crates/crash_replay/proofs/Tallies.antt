@@ -1,21 +1,20 @@
 -- How a tally's counts follow the bytes.
-use Rattle.std.proofs.Common.{◌≡◌, ℕ, zero, suc, ◌+◌, ◌-◌, ◌^◌, ◌<◌, ◌≤◌, Bool, true, false, true≢false, ◌==◌, ◌&&◌, ◌||◌, min, cond, List, [], ◌∷◌, ◌++◌, length, map, take, drop, codes, flat_map, Some, refl, sym, ap, subst, ◌∙◌, inl, inr, arith, length-append, append_assoc}
-use Rattle.std.specs.Prelude.{◌↔◌, not, bytes_eq, count_by, slice_get, if◌then◌else◌}
+use Rattle.std.proofs.Common.{◌≡◌, ℕ, zero, suc, ◌+◌, ◌-◌, ◌^◌, ◌<◌, ◌≤◌, Bool, true, false, true≢false, ◌==◌, ◌&&◌, ◌||◌, min, cond, List, [], ◌∷◌, ◌++◌, length, map, take, codes, flat_map, Some, refl, sym, ap, ◌∙◌, inl, inr, arith, length-append}
+use Rattle.std.specs.Prelude.{not, bytes_eq, count_by, slice_get, if◌then◌else◌}
 use Rattle.std.specs.List.{All, list_any, starts_with}
-use Rattle.std.proofs.lemmas.Bool.{cases_Bool, eq-eqb, eqb-true}
+use Rattle.std.proofs.lemmas.Bool.{cases_Bool, eqb-true}
 use Rattle.std.proofs.lemmas.List.{append-nil, length-take, take_all, take-take, take-append-le}
 use Rattle.std.proofs.lemmas.List.Elements.{All-nil, All-cons}
 use Rattle.std.proofs.lemmas.List.Sums.{sum_by-append, sum_by-cons}
 use Rattle.io_edge.specs.Count.{one_more}
 use Rattle.tree_model.specs.Step.{Answer, Refused}
 use Rattle.tree_model.specs.declared.reply.Refusal.TheVariants.{NoMemory}
-use Rattle.script.specs.Answers.{begins_with, is_accepted, IsAnswerLine}
+use Rattle.script.specs.Answers.{begins_with, is_accepted}
 use Rattle.script.specs.Lines.{newline, is_newline, IsUnbroken, complete_lines_of, onto_line}
 use Rattle.script.specs.Texts.{answer_text}
 use Rattle.script.proofs.AnswerLines.{is_answer_line}
 use Rattle.script.proofs.LineLaws.{complete_lines_of-front, complete_lines_of-begun, complete_lines_of-joined, with_newlines}
-use Rattle.crash_replay.specs.Tally.{is_no_memory, open_line, count_of, IsTallyOf, HadMemory, TellsAnswers, TallyLaw, accepted_count, refused_count, lacking_count}
-use Rattle.crash_replay.specs.declared.tally.Tally.{Tally}
+use Rattle.crash_replay.specs.Tally.{is_no_memory, open_line, count_of, HadMemory, TallyLaw}
 
 abbrev ones : Bool → ℕ
 ones t = cond t 1 0
@@ -67,11 +66,11 @@ lines_ended (b ∷ bytes) = elim (cases_Bool (list_any is_newline (b ∷ bytes))
       | inr not_here ↦ rw not_here (
           ap (onto_line b) later
           ∙ onto_more b (complete_lines_of bytes) (open_line bytes ∷ []) (some_line bytes (sym (ap (λ t. t || list_any is_newline bytes) not_here) ∙ some))
-        )
+          )
     ]
 
 any_more : (b : ℕ) (bytes : List ℕ) → list_any is_newline (bytes ++ b ∷ []) ≡ list_any is_newline bytes || is_newline b
-any_more b [] = elim (cases_Bool (is_newline b)) [ | inl here ↦ rw here refl | inr not_here ↦ rw not_here refl ]
+any_more b [] = elim (cases_Bool (is_newline b)) [ inl here ↦ rw here refl | inr not_here ↦ rw not_here refl ]
 any_more b (c ∷ bytes) = elim (cases_Bool (is_newline c)) [
   | inl here ↦ rw here refl
   | inr not_here ↦ rw not_here (any_more b bytes)

@@ -5,8 +5,8 @@ mod laws;
 mod moment;
 mod place;
 mod tally;
-//#[cfg(test)]
-//mod tests;
+#[cfg(test)]
+mod tests;
 
 pub use laws::{replay_law, tally_law};
 pub use moment::Moment;

@@ -1,5 +1,6 @@
 // Where the moment that is asked for stands in a trail.
-ghost use Rattle.std.specs.Prelude.{◌≡◌, ◌^◌, ◌≤◌, ◌<◌, IfSome, length, drop, take, min};
+ghost use Rattle.std.specs.Prelude.{◌≡◌, ◌+◌, ◌^◌, ◌≤◌, ◌<◌, ◌∷◌, suc, List, IfSome, IfNone, length, drop, take, min};
+ghost use Rattle.pm_trait.specs.declared.event.Event.{Event as EventData};
 ghost use Rattle.pm_trait.specs.Trail.{count_acks};
 ghost use Rattle.crash_replay.specs.Place.{fence_within, place_in, start_of, through_acks};
 
@@ -54,14 +55,13 @@ fn pass_to_call(walk: &mut Walk<'_>, mark: u64, acks: u64) -> u64
 
 // Goes on by so many events, or to the end. Answers how many there were.
 fn pass_events(walk: &mut Walk<'_>, count: u64) -> u64
-    requires countable { length walk.old < 2 ^ 64 }
     ensures passed { result ≡ min count (length walk.old) }
-    ensures left { walk.new ≡ drop count walk.old }
+    ensures left { walk.new ≡ drop result walk.old }
 {
     for passed in 0..count {
-        if walk.next().is_none() {
+        let Some(_event) = walk.next() else {
             return passed;
-        }
+        };
     }
     count
 }
@@ -71,40 +71,66 @@ fn pass_acks(walk: &mut Walk<'_>, acks: u64) -> u64
     requires countable { length walk.old < 2 ^ 64 }
     ensures passed { result ≡ through_acks acks walk.old }
     ensures left { walk.new ≡ drop result walk.old }
-    ensures within { result ≤ length walk.old }
 {
     let mut left = acks;
     let mut passed = 0;
     'events: while left > 0 {
-        match walk.next() {
-            None => return passed,
-            Some(Event::Ack) => left -= 1,
-            Some(_) => {}
-        }
+        let Some(event) = walk.next() else {
+            return passed;
+        };
+        left = acks_behind(event, left);
         passed += 1;
     }
     passed
 }
 
+// How many of so many acknowledgements are still to come behind the event.
+fn acks_behind(event: Event, acks: u64) -> u64
+    requires some { 0 < acks }
+    ensures { (later : List EventData) → through_acks acks (event ∷ later) ≡ suc (through_acks result later) }
+{
+    match event {
+        Event::Ack => acks - 1,
+        Event::Store { .. } | Event::Flush { .. } | Event::Fence | Event::BadFence => acks,
+    }
+}
+
 // Goes on to this fence among the first `limit` events, counted from 1, or to the first acknowledgement, or to their end.
 // Answers how many events come before it.
 fn pass_to_fence(walk: &mut Walk<'_>, fence: u64, limit: u64) -> u64
-    ensures { result ≡ fence_within fence (take limit walk.old) }
+    ensures place { result ≡ fence_within fence (take limit walk.old) }
+    ensures within { result ≤ length walk.old }
 {
     let mut left = fence;
     for passed in 0..limit {
-        match walk.next() {
-            None | Some(Event::Ack) => return passed,
-            Some(Event::Fence | Event::BadFence) => {
-                if left == 1 {
-                    return passed;
-                }
-                left = left.saturating_sub(1);
-            }
-            Some(Event::Store { .. } | Event::Flush { .. }) => {}
+        let Some(event) = walk.next() else {
+            return passed;
+        };
+        match fence_behind(event, left) {
+            None => return passed,
+            Some(fence) => left = fence,
         }
     }
     limit
+}
+
+// Which fence is asked for behind the event; none where the place is before the event.
+fn fence_behind(event: Event, fence: u64) -> Option<u64>
+    ensures here { (later : List EventData) → IfNone result (fence_within fence (event ∷ later) ≡ 0) }
+    ensures behind { (later : List EventData) → IfSome result (λ next.
+        fence_within fence (event ∷ later) ≡ suc (fence_within next later)) }
+{
+    match event {
+        Event::Ack => None,
+        Event::Fence | Event::BadFence => {
+            if fence == 1 {
+                None
+            } else {
+                Some(fence.saturating_sub(1))
+            }
+        }
+        Event::Store { .. } | Event::Flush { .. } => Some(fence),
+    }
 }
 
 // How many acknowledgements are among the first `limit` events.
@@ -112,12 +138,21 @@ fn count_within(walk: &mut Walk<'_>, limit: u64) -> u64
     ensures { result ≡ count_acks (take limit walk.old) }
 {
     let mut acks = 0;
-    for passed in 0..limit {
-        match walk.next() {
-            None => return acks,
-            Some(Event::Ack) => acks += 1,
-            Some(_) => {}
-        }
+    for _passed in 0..limit {
+        let Some(event) = walk.next() else {
+            return acks;
+        };
+        acks += acks_in(event);
     }
     acks
+}
+
+fn acks_in(event: Event) -> u64
+    ensures some { (later : List EventData) → count_acks (event ∷ later) ≡ result + count_acks later }
+    ensures one { result ≤ 1 }
+{
+    match event {
+        Event::Ack => 1,
+        Event::Store { .. } | Event::Flush { .. } | Event::Fence | Event::BadFence => 0,
+    }
 }

@@ -1,5 +1,4 @@
-use Rattle.std.proofs.Common.{◌≡◌, ◌∙◌, codes, sym, arith, ap, take, lit≤}
-use Rattle.std.specs.List.{starts_with}
+use Rattle.std.proofs.Common.{◌≡◌, ◌∙◌, codes, sym, ap, take, lit≤}
 use Rattle.std.specs.Prelude.{bytes_eq}
 use Rattle.crash_replay.specs.Tally.{is_no_memory, open_line}
 use Rattle.script.specs.Answers.{begins_with}

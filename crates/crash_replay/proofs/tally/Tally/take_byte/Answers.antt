@@ -1,4 +1,4 @@
-use Rattle.std.proofs.Common.{◌≡◌, ◌∙◌, codes, false, sym, arith, ap, take, rules}
+use Rattle.std.proofs.Common.{◌≡◌, ◌∙◌, codes, false, sym, ap, take, rules}
 use Rattle.crash_replay.specs.Tally.{is_no_memory, open_line}
 use Rattle.script.specs.Answers.{begins_with}
 use Rattle.script.specs.Lines.{is_newline}
