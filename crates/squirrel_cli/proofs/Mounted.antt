@@ -26,6 +26,9 @@ use Rattle.engine.specs.Quiet.{ActsOnly}
 use Rattle.engine.specs.Run.{command_of, IsBetween, IsStateAfter}
 use Rattle.engine.specs.Script.{RunsScript, ExecutesTold}
 use Rattle.engine.proofs.After.{acked_then}
+use Rattle.script.specs.Texts.{listing_text}
+use Rattle.squirrel_cli.specs.Answers.{ListsTree}
+use Rattle.squirrel_cli.specs.Told.{IsToldOrCut}
 use Rattle.squirrel_cli.specs.Causes.{TellsFaults}
 use Rattle.squirrel_cli.specs.Ends.{end_of, GaveAll}
 use Rattle.squirrel_cli.specs.Mounts.{IsOnlyMounted, ActsAfterMount, MountsAndRuns}
@@ -158,3 +161,14 @@ pub gave_at_limit : (is : Status) (F : RunEnd → Type 0) (script rest : Option 
 gave_at_limit is F script rest runs executes same =
     let (lines, told) = executes (subst (λ (s : Status). IfSome (end_of s) F) same runs) in
     limit_gives script rest lines told
+
+-- ---- a listing
+
+pub lists_tree : {P : ℕ} {before mounted after : DeviceView} {is : Status} {took now : List ℕ → Type 0} → after ≡ mounted → (only : IsOnlyMounted P before mounted)
+    → IsToldOrCut status.Done (listing_text only.start.tree) is took now → ListsTree P is before after took now
+lists_tree refl only told = record { mounted = only; told = told }
+
+pub lists_known : {P : ℕ} {before mounted after : DeviceView} {is : Status} {took now : List ℕ → Type 0} → after ≡ mounted → (only : IsOnlyMounted P before mounted)
+    → (is ≡ status.NoMemory) ⊎ IsToldOrCut status.Done (listing_text only.start.tree) is took now → (is ≡ status.NoMemory) ⊎ ListsTree P is before after took now
+lists_known same only (inl memory) = inl memory
+lists_known same only (inr told) = inr (lists_tree same only told)

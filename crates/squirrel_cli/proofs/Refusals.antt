@@ -17,7 +17,9 @@ use Rattle.mount_scan.specs.declared.error.MountError.{MountError}
 use Rattle.mount_scan.specs.declared.error.MountError.TheVariants as refused
 use Rattle.script.specs.declared.run_end.RunEnd.{RunEnd}
 use Rattle.script.specs.declared.run_end.RunEnd.TheVariants.{Faulted}
-use Rattle.squirrel_cli.specs.declared.job.Job.TheVariants.{Run}
+use Rattle.squirrel_cli.specs.declared.job.Job.{Job}
+use Rattle.squirrel_cli.specs.Asked.{Asks}
+use Rattle.squirrel_cli.specs.Job.{TakesVolume}
 use Rattle.squirrel_cli.specs.declared.status.Status.{Status}
 use Rattle.squirrel_cli.specs.declared.status.Status.TheVariants as status
 use Rattle.squirrel_cli.specs.Answers.{StatusTells, Refuses, IsShortOfMemory}
@@ -72,45 +74,45 @@ why_refused refused.PmFault is not_volume damaged untouched fails volume alone =
 why_refused refused.NoMemory is not_volume damaged untouched fails volume alone = short (volume is) (alone is) untouched
 
 module _ {before after : DeviceView} {is : Status} (took now : List ℕ → Type 0) where
-  pub refused_tells : {error : MountError} → WhyRefused before after error → IsToldOf error is took now → StatusTells is (Some Run) before.words took now
-  refused_tells (no_volume not same) told = record {
-    not_volume = λ answered. (refl, not, told_whole (λ e. cc e) told answered);
+  pub refused_tells : {error : MountError} {job : Option Job} → Asks TakesVolume job → WhyRefused before after error → IsToldOf error is took now → StatusTells is job before.words took now
+  refused_tells asks (no_volume not same) told = record {
+    not_volume = λ answered. (asks, not, told_whole (λ e. cc e) told answered);
     damaged = λ violation answered. absurd (not_told (λ e. cc e) (λ e. cc e) told answered);
     answered = λ job ended. inr (end_is_cut (λ e. cc e) told ended, λ sound. not (sound_volume before.words sound));
   }
-  refused_tells (broken violation holds first same) told = record {
+  refused_tells asks (broken violation holds first same) told = record {
     not_volume = λ answered. absurd (not_told (λ e. cc e) (λ e. cc e) told answered);
     damaged = λ other answered. elim told [
       | inl whole ↦
           let one : violation ≡ other = let wanted = whole.0 in cc (wanted, answered) in
-          subst (λ (v : Violation). (Some Run ≡ Some Run) × HoldsVolume before.words × IsFirstViolation before.words v × Takes took (damaged_text v.rule v.place) now) one (refl, holds, first, whole.1)
+          (asks, subst (λ (v : Violation). HoldsVolume before.words × IsFirstViolation before.words v × Takes took (damaged_text v.rule v.place) now) one (holds, first, whole.1))
       | inr cut ↦ absurd (let written = cut.0 in cc (written, answered))
     ];
     answered = λ job ended. inr (end_is_cut (λ e. cc e) told ended, not_sound first);
   }
-  refused_tells (failed fails) told = record {
+  refused_tells asks (failed fails) told = record {
     not_volume = λ answered. absurd (cc (told, answered));
     damaged = λ violation answered. absurd (cc (told, answered));
     answered = λ job ended. inl fails.sound;
   }
-  refused_tells (short holds alone same) told = record {
+  refused_tells asks (short holds alone same) told = record {
     not_volume = λ answered. absurd (cc (told, answered));
     damaged = λ violation answered. absurd (cc (told, answered));
     answered = λ job ended. absurd (let none = subst (λ (s : Status). IsSome (end_of s)) told ended in cc none);
   }
 
   pub refused_refuses : {error : MountError} → WhyRefused before after error → IsToldOf error is took now → ¬ IsMountable before.words → Refuses is before after took now
-  refused_refuses (no_volume not same) told unsound = record { not_volume = λ n. told; damaged = λ holds. absurd (not holds); alone = same }
+  refused_refuses (no_volume not same) told unsound = record { not_volume = λ n. inr told; damaged = λ holds. absurd (not holds); alone = same }
   refused_refuses (broken violation holds first same) told unsound = record { not_volume = λ not. absurd (not holds); damaged = λ h. inr (violation, first, told); alone = same }
   refused_refuses (failed fails) told unsound = absurd (unsound fails.sound)
   refused_refuses (short holds alone same) told unsound = record { not_volume = λ not. absurd (not holds); damaged = λ h. inl told; alone = same unsound }
 
-  pub refused_short : {error : MountError} {S K : Type 0} {script : S} {old_out new_out : K} → WhyRefused before after error → IsToldOf error is took now → is ≡ status.NoMemory → new_out ≡ old_out
-      → IsShortOfMemory (Some Run) before after script script old_out new_out
+  pub refused_short : {error : MountError} {job : Option Job} {S K : Type 0} {script : S} {old_out new_out : K} → WhyRefused before after error → IsToldOf error is took now → is ≡ status.NoMemory → new_out ≡ old_out
+      → IsShortOfMemory job before after script script old_out new_out
   refused_short (no_volume not same) told answered out = absurd (not_told (λ e. cc e) (λ e. cc e) told answered)
   refused_short (broken violation holds first same) told answered out = absurd (not_told (λ e. cc e) (λ e. cc e) told answered)
   refused_short (failed fails) told answered out = absurd (cc (told, answered))
-  refused_short (short holds alone same) told answered out = record { script = refl; output = out; device = inl alone }
+  refused_short (short holds alone same) told answered out = record { script = λ _. refl; output = out; device = inl alone }
 
   -- a sound volume is refused for want of memory, or its mount failed
   pub refused_taken : {error : MountError} → WhyRefused before after error → IsToldOf error is took now → IsMountable before.words → (is ≡ status.NoMemory) ⊎ IsSome (end_of is)
@@ -118,6 +120,14 @@ module _ {before after : DeviceView} {is : Status} (took now : List ℕ → Type
   refused_taken (broken violation holds first same) told sound = absurd (not_sound first sound)
   refused_taken (failed fails) told sound = inr (subst (λ (s : Status). IsSome (end_of s)) (sym told) refl)
   refused_taken (short holds alone same) told sound = inl told
+
+  -- or more is known of the mount that failed
+  pub refused_but : {error : MountError} {F : Type 0} → WhyRefused before after error → IsToldOf error is took now → (is ≡ status.DeviceFault → FailsToMount (pages_in_image before.words) before after → F)
+      → IsMountable before.words → (is ≡ status.NoMemory) ⊎ F
+  refused_but (no_volume not same) told fault sound = absurd (not (sound_volume before.words sound))
+  refused_but (broken violation holds first same) told fault sound = absurd (not_sound first sound)
+  refused_but (failed fails) told fault sound = inr (fault told fails)
+  refused_but (short holds alone same) told fault sound = inl told
 
   -- and of a mount that failed is said what is said of a fault in a run
   pub refused_runs : {error : MountError} (F : RunEnd → Type 0) → WhyRefused before after error → IsToldOf error is took now → (is ≡ status.DeviceFault → FailsToMount (pages_in_image before.words) before after → F Faulted)

@@ -4,7 +4,7 @@ use Rattle.pm_trait.specs.Device.{LeavesOnly}
 use Rattle.pm_trait.specs.DeviceView.{DeviceView}
 use Rattle.io_edge.specs.Bytes.{Takes, TakesPrefix}
 use Rattle.layout.specs.Format.{IsFormattedFrom}
-use Rattle.script.specs.Texts.{formatted_text, not_a_volume_text, damaged_text}
+use Rattle.script.specs.Texts.{formatted_text, not_a_volume_text, damaged_text, listing_text}
 use Rattle.image_reading.specs.Laws.{IsFresh}
 use Rattle.image_reading.specs.Soundness.{IsFirstViolation, pages_in_image}
 use Rattle.image_reading.specs.declared.Violation.{Violation}
@@ -12,20 +12,21 @@ use Rattle.format_ops.specs.Crashes.{IsOldHiddenOrFormatted}
 use Rattle.mount_scan.specs.Mounting.{HoldsVolume}
 use Rattle.mount_scan.specs.Mounts.{IsLeftAlone}
 use Rattle.squirrel_cli.specs.declared.job.Job.{Job}
-use Rattle.squirrel_cli.specs.declared.job.Job.TheVariants.{Run}
 use Rattle.squirrel_cli.specs.declared.status.Status.{Status}
 use Rattle.squirrel_cli.specs.declared.status.Status.TheVariants.{Done, NoMemory, NotVolume, Damaged, DeviceFault, WriteFault}
 use Rattle.squirrel_cli.specs.Ends.{IsMountable, end_of}
+use Rattle.squirrel_cli.specs.Asked.{Asks, MountsDevice, IsCrash}
+use Rattle.squirrel_cli.specs.Job.{TakesVolume}
 use Rattle.squirrel_cli.specs.Mounts.{IsOnlyMounted}
 use Rattle.squirrel_cli.specs.Told.{IsToldOrCut}
 
--- What a status tells of a device with these words, and what was written of it. Only `run` is answered so.
+-- What a status tells of a device with these words, and what was written of it. Only a job that takes a volume is answered so.
 pub record StatusTells (result : Status) (job : Option Job) (words : List ℕ) (took now : List ℕ → Type 0) : Type 0 where
-  pub not_volume : result ≡ NotVolume → (job ≡ Some Run) × ¬ HoldsVolume words × Takes took not_a_volume_text now
+  pub not_volume : result ≡ NotVolume → Asks TakesVolume job × ¬ HoldsVolume words × Takes took not_a_volume_text now
   pub damaged : (violation : Violation) → result ≡ Damaged violation
-      → (job ≡ Some Run) × HoldsVolume words × IsFirstViolation words violation × Takes took (damaged_text violation.rule violation.place) now
+      → Asks TakesVolume job × HoldsVolume words × IsFirstViolation words violation × Takes took (damaged_text violation.rule violation.place) now
   -- a job has ended on a volume that is mounted, or the text of a refusal was cut
-  pub answered : job ≡ Some Run → IsSome (end_of result) → IsMountable words ⊎ (result ≡ WriteFault) × ¬ IsMountable words
+  pub answered : Asks TakesVolume job → IsSome (end_of result) → IsMountable words ⊎ (result ≡ WriteFault) × ¬ IsMountable words
 
 -- `mkfs` makes the device a fresh volume of so many pages, and tells its numbers. It leaves the root alone, and every word of the
 -- data pages as it was; a crash in it leaves the old words, no volume, or the fresh one. It acknowledges nothing.
@@ -42,16 +43,22 @@ pub record Makes (pages : ℕ) (result : Status) (before after : DeviceView) (to
   pub most_fences : after.fences ≤ before.fences + 3
   pub acks : after.acks ≡ before.acks
 
--- `run` tells that the device is no volume, or which rule it breaks first and where, and leaves it alone.
+-- It is told that the device is no volume, or which rule it breaks first and where, unless memory is short, and it is left alone.
 pub record Refuses (result : Status) (before after : DeviceView) (took now : List ℕ → Type 0) : Type 0 where
-  pub not_volume : ¬ HoldsVolume before.words → IsToldOrCut NotVolume not_a_volume_text result took now
+  pub not_volume : ¬ HoldsVolume before.words → (result ≡ NoMemory) ⊎ IsToldOrCut NotVolume not_a_volume_text result took now
   pub damaged : HoldsVolume before.words → (result ≡ NoMemory)
       ⊎ (violation : Violation) × IsFirstViolation before.words violation × IsToldOrCut (Damaged violation) (damaged_text violation.rule violation.place) result took now
   pub alone : after ≡ before
 
--- Memory was short: nothing was read of the script, written or acknowledged. The device is as before, or `run` had mounted it.
+-- Memory was short: nothing was written or acknowledged, and of the script nothing read but by `crash`. The device is as before, or
+-- the job had mounted it.
 pub record IsShortOfMemory {S K : Type 0} (job : Option Job) (before after : DeviceView) (old_script new_script : S) (old_out new_out : K) : Type 0 where
-  pub script : new_script ≡ old_script
+  pub script : ¬ Asks IsCrash job → new_script ≡ old_script
   pub output : new_out ≡ old_out
   pub device : IsLeftAlone before after
-      ⊎ (job ≡ Some Run) × IsMountable before.words × IsOnlyMounted (pages_in_image before.words) before after
+      ⊎ Asks MountsDevice job × IsMountable before.words × IsOnlyMounted (pages_in_image before.words) before after
+
+-- The volume is mounted, and the listing of its tree is written, or a prefix of it where a write failed.
+pub record ListsTree (P : ℕ) (result : Status) (before after : DeviceView) (took now : List ℕ → Type 0) : Type 0 where
+  pub mounted : IsOnlyMounted P before after
+  pub told : IsToldOrCut Done (listing_text mounted.start.tree) result took now

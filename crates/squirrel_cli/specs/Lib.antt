@@ -6,3 +6,9 @@ pub mod Told
 pub mod Causes
 pub mod Mounts
 pub mod Answers
+pub mod Tasks
+pub mod Replays
+pub mod ReplaySteps
+pub mod CommandLine
+pub mod Asked
+pub mod ReplayLaw

@@ -2,9 +2,13 @@
 #![tactic(auto)]
 
 mod job;
+mod keep;
 mod mkfs;
+mod refused;
 mod scripted;
+mod split;
 mod status;
+mod tasks;
 mod top_call;
 mod wanted;
 mod words;

@@ -1,0 +1,38 @@
+-- What kind of job is asked.
+use Rattle.std.specs.Prelude.{◌≡◌, true, Option, Some, None}
+use Rattle.squirrel_cli.specs.declared.job.Job.{Job}
+use Rattle.squirrel_cli.specs.declared.job.Job.TheVariants.{Mkfs, Run, Tree, Check, Crash}
+use Rattle.squirrel_cli.specs.Job.{stores_of}
+
+-- a job is asked, and it is of this kind
+abbrev pub Asks : (Job → Type 0) → Option Job → Type 0
+Asks F None = ⊥
+Asks F (Some job) = F job
+
+-- it mounts the device
+abbrev pub MountsDevice : Job → Type 0
+MountsDevice (Mkfs pages) = ⊥
+MountsDevice Run = Unit {0}
+MountsDevice Tree = Unit {0}
+MountsDevice Check = ⊥
+MountsDevice (Crash moment keep again) = ⊥
+
+-- it reads the script
+abbrev pub ReadsScript : Job → Type 0
+ReadsScript (Mkfs pages) = ⊥
+ReadsScript Run = Unit {0}
+ReadsScript Tree = ⊥
+ReadsScript Check = ⊥
+ReadsScript (Crash moment keep again) = Unit {0}
+
+-- it replays a crash
+abbrev pub IsCrash : Job → Type 0
+IsCrash (Mkfs pages) = ⊥
+IsCrash Run = ⊥
+IsCrash Tree = ⊥
+IsCrash Check = ⊥
+IsCrash (Crash moment keep again) = Unit {0}
+
+-- it may change the device
+abbrev pub Stores : Job → Type 0
+Stores job = stores_of job ≡ true
