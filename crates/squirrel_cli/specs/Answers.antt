@@ -5,12 +5,16 @@ use Rattle.pm_trait.specs.DeviceView.{DeviceView}
 use Rattle.io_edge.specs.Bytes.{Takes, TakesPrefix}
 use Rattle.layout.specs.Format.{IsFormattedFrom}
 use Rattle.script.specs.Texts.{formatted_text, not_a_volume_text, damaged_text, listing_text}
+use Rattle.tree_model.specs.Tree.{Tree}
 use Rattle.image_reading.specs.Laws.{IsFresh}
+use Rattle.image_reading.specs.Reading.{Reads}
+use Rattle.image_reading.specs.Repairs.{RepairCounts, HasRepairs}
 use Rattle.image_reading.specs.Soundness.{IsFirstViolation, pages_in_image}
 use Rattle.image_reading.specs.declared.Violation.{Violation}
 use Rattle.format_ops.specs.Crashes.{IsOldHiddenOrFormatted}
 use Rattle.mount_scan.specs.Mounting.{HoldsVolume}
 use Rattle.mount_scan.specs.Mounts.{IsLeftAlone}
+use Rattle.mount_scan.specs.Reports.{report_text}
 use Rattle.squirrel_cli.specs.declared.job.Job.{Job}
 use Rattle.squirrel_cli.specs.declared.status.Status.{Status}
 use Rattle.squirrel_cli.specs.declared.status.Status.TheVariants.{Done, NoMemory, NotVolume, Damaged, DeviceFault, WriteFault}
@@ -62,3 +66,11 @@ pub record IsShortOfMemory {S K : Type 0} (job : Option Job) (before after : Dev
 pub record ListsTree (P : ℕ) (result : Status) (before after : DeviceView) (took now : List ℕ → Type 0) : Type 0 where
   pub mounted : IsOnlyMounted P before after
   pub told : IsToldOrCut Done (listing_text mounted.start.tree) result took now
+
+-- What the words hold, and what recovery would repair in them, is written, or a prefix of it where a write failed.
+pub record TellsRepairs (words : List ℕ) (result : Status) (took now : List ℕ → Type 0) : Type 0 where
+  pub tree : Tree
+  pub reads : Reads (pages_in_image words) words tree
+  pub repairs : RepairCounts
+  pub counted : HasRepairs (pages_in_image words) words repairs
+  pub told : IsToldOrCut Done (report_text tree repairs) result took now

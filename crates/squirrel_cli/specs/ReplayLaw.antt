@@ -39,4 +39,4 @@ abbrev pub ReplayLaw : Type 0
 ReplayLaw = (moment : Moment) (keep : List ℕ) (P : ℕ) (before after : DeviceView) (result : Status) (script rest : Option (List ℕ)) (took now : List ℕ → Type 0)
     → IsUnbegun before → (replay : Replays moment keep P before after result script rest took now)
     → ReplayTells P replay.ran.run.start replay.ran.run.states replay.ran.run.lines replay.trail.events (moment_of replay.ran.mounted.trail) moment
-      (acked_before replay.trail (moment_of replay.ran.mounted.trail) moment) replay.tree
+    (acked_before replay.trail (moment_of replay.ran.mounted.trail) moment) replay.tree

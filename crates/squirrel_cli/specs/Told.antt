@@ -1,5 +1,6 @@
 -- What is told of a device that is not mounted.
-use Rattle.std.specs.Prelude.{◌≡◌, ◌⊎◌, ℕ, List, Result, Ok, Err}
+use Rattle.std.specs.Prelude.{◌≡◌, ◌⊎◌, ℕ, ◌==◌, if◌then◌else◌, List, Result, Ok, Err}
+use Rattle.image_reading.specs.declared.Violation.{Violation}
 use Rattle.io_edge.specs.Bytes.{Takes, TakesPrefix}
 use Rattle.io_edge.specs.declared.sink.WriteFault.{WriteFault as Fault}
 use Rattle.mount_scan.specs.declared.error.MountError.{MountError}
@@ -23,3 +24,7 @@ IsToldOf refused.NotVolume result took now = IsToldOrCut NotVolume not_a_volume_
 IsToldOf (refused.Damaged violation) result took now = IsToldOrCut (Damaged violation) (damaged_text violation.rule violation.place) result took now
 IsToldOf refused.PmFault result took now = result ≡ DeviceFault
 IsToldOf refused.NoMemory result took now = result ≡ NoMemory
+
+-- what words are refused with whose first violation this is: the first rule is that of the length and the first words
+abbrev pub refusal_of : Violation → MountError
+refusal_of violation = if violation.rule == 1 then refused.NotVolume else refused.Damaged violation

@@ -284,11 +284,12 @@ fn write_left<P: Pm, K: Sink>(
     sink: &mut K,
     pm: &P,
 ) -> Result<(), WriteFault>
-    requires { IsStanding session.old.volume (P.view pm.now) }
+    requires going { session.old.volume.stopped ≡ false }
+    requires stands { IsStanding session.old.volume (P.view pm.now) }
     ensures { (state : State) → StandsFor session.old.volume (P.view pm.now) state →
         Writes (K.took sink.old) (K.took sink.new) (K.faults sink.old) (K.faults sink.new)
         (acked_text acked ++ listing_text state.tree) result }
 {
     write_acked(acked, sink)?;
-    Ok(())
+    session.listing(sink, pm)
 }

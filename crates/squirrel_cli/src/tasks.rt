@@ -131,5 +131,5 @@ fn list_tree<P: Pm, K: Sink>(alloc: Global, volume: Volume, out: &mut K, pm: &P)
     let Ok(mut session) = Session::start(alloc, volume) else {
         return Status::NoMemory;
     };
-    status_of_write(Ok(()), Status::Done)
+    status_of_write(session.listing(out, pm), Status::Done)
 }
