@@ -4,3 +4,4 @@ pub mod Refusals
 pub mod Mounted
 pub mod TaskJobs
 pub mod Leaving
+pub mod Replayed
