@@ -5,3 +5,5 @@ pub mod Mounted
 pub mod TaskJobs
 pub mod Leaving
 pub mod Replayed
+pub mod CommandLines
+mod CommandLineRows

@@ -1,5 +1,6 @@
 -- The command line as `clap` sees it: the command and its subcommands, and how they split the words.
-use Rattle.std.specs.Prelude.{ℕ, List, [], ◌∷◌, Option, Some, None, codes, true, false, option_and_then}
+use Rattle.std.specs.Prelude.{ℕ, List, [], ◌∷◌, Option, Some, None, codes, true, false, option_map, option_and_then}
+use Rattle.std.specs.Borrow.{Bor}
 use Rattle.clap.specs.Walk.{Row, Rule, first_of}
 use Rattle.clap.specs.Simple.{App, new_rule, new_shape, subcommand_of}
 use Rattle.clap.specs.Kinds.{Kinds}
@@ -69,6 +70,14 @@ if_faultless (kind ∷ more) split = None
 unfoldable pub split_of : List Word → Option (Word × List Row)
 split_of words = if_faultless (fault_of squirrel_app words) (subcommand_of squirrel_app words)
 
+-- the name of the subcommand
+abbrev pub verb_in : Option (Word × List Row) → Option Word
+verb_in split = option_map (λ s. s.0) split
+
 -- the value of an argument or option, if there is one
 abbrev pub value_in : Word → Option (Word × List Row) → Option Word
 value_in id split = option_and_then (λ s. first_of id s.1) split
+
+-- the text behind a reference, where there is one
+abbrev pub given : Option (Bor Word) → Option Word
+given text = option_map (λ t. t.now) text

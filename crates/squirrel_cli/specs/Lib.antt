@@ -1,3 +1,4 @@
+pub mod CommandLine
 pub mod Job
 pub mod Wanted
 pub mod Status
@@ -9,6 +10,5 @@ pub mod Answers
 pub mod Tasks
 pub mod Replays
 pub mod ReplaySteps
-pub mod CommandLine
 pub mod Asked
 pub mod ReplayLaw

@@ -1,6 +1,6 @@
 // What the words of a command line ask for.
-ghost use Rattle.std.specs.Prelude.{◌≡◌, IfOk, option_map, option_and_then};
-ghost use Rattle.squirrel_cli.specs.CommandLine.{value_in};
+ghost use Rattle.std.specs.Prelude.{◌≡◌, IfOk, option_and_then};
+ghost use Rattle.squirrel_cli.specs.CommandLine.{given};
 ghost use Rattle.squirrel_cli.specs.Job.{job_of as job_of_words, job_in, mkfs_of, crash_in, moment_of as moment_of_options, again_of as again_of_options, keep_of as keep_of_hex, stores_of, is_volume_size as has_volume_size};
 
 use crate::keep::Keep;
@@ -77,7 +77,7 @@ pub fn job_of_split(alloc: Global, split: &Split) -> Result<Option<Job>, NoMemor
 }
 
 fn mkfs_of_pages(pages: Option<&str>) -> Option<Job>
-    ensures { result ≡ mkfs_of (option_map (λ text. text.now) pages) }
+    ensures { result ≡ mkfs_of (given pages.entry) }
 {
     let pages = number_of(pages?.as_bytes())?;
     if is_volume_size(pages) {
@@ -111,8 +111,8 @@ fn crash_of_split(alloc: Global, split: &Split) -> Result<Option<Job>, NoMemory>
 
 // The moment by `--at`, or by `--call` and `--fence`, and not by both.
 fn moment_of(at: Option<&str>, call: Option<&str>, fence: Option<&str>) -> Option<Moment>
-    ensures { result ≡ moment_of_options (option_map (λ text. text.now) at)
-        (option_map (λ text. text.now) call) (option_map (λ text. text.now) fence) }
+    ensures { result ≡ moment_of_options (given at.entry)
+        (given call.entry) (given fence.entry) }
 {
     match (at, call, fence) {
         (Some(at), None, None) => Some(Moment::At(number_of(at.as_bytes())?)),
@@ -126,7 +126,7 @@ fn moment_of(at: Option<&str>, call: Option<&str>, fence: Option<&str>) -> Optio
 
 // The bytes of `--keep`.
 fn keep_of(alloc: Global, hex: Option<&str>) -> Result<Option<Keep>, NoMemory>
-    ensures { IfOk result (λ keep. keep ≡ option_and_then keep_of_hex (option_map (λ text. text.now) hex)) }
+    ensures { IfOk result (λ keep. keep ≡ option_and_then keep_of_hex (given hex.entry)) }
 {
     match hex {
         Some(hex) => Keep::of_hex(alloc, hex),
@@ -140,8 +140,8 @@ fn again_of(
     at: Option<&str>,
     hex: Option<&str>,
 ) -> Result<Option<Option<Again>>, NoMemory>
-    ensures { IfOk result (λ again. again ≡ again_of_options (option_map (λ text. text.now) at)
-        (option_map (λ text. text.now) hex)) }
+    ensures { IfOk result (λ again. again ≡ again_of_options (given at.entry)
+        (given hex.entry)) }
 {
     match (at, hex) {
         (None, None) => Ok(Some(None)),

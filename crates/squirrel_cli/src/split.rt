@@ -1,9 +1,9 @@
 // How `clap` splits the words of a command line.
-ghost use Rattle.std.specs.Prelude.{◌≡◌, false, Some, IfOk, option_map};
+ghost use Rattle.std.specs.Prelude.{◌≡◌, false, IfOk};
 ghost use Rattle.clap.specs.Simple.{app_of};
 ghost use Rattle.clap.specs.Walk.{rule_of};
 ghost use Rattle.clap.specs.declared.builder.command.Command.TheViews.{out-Command as fields_of};
-ghost use Rattle.squirrel_cli.specs.CommandLine.{split_of, value_in, argument as argument_rule, option as option_rule, needed_option as needed_rule, mkfs_app, run_app, tree_app, check_app, crash_app, squirrel_app};
+ghost use Rattle.squirrel_cli.specs.CommandLine.{split_of, verb_in, value_in, given, argument as argument_rule, option as option_rule, needed_option as needed_rule, mkfs_app, run_app, tree_app, check_app, crash_app, squirrel_app};
 ghost use Rattle.squirrel_cli.specs.Job.{image_in};
 
 use crate::words::Words;
@@ -47,7 +47,7 @@ impl<'a> Split<'a> {
 
     /// The name of the subcommand.
     pub fn verb(&self) -> Option<&'a str>
-        ensures { option_map (λ verb. verb.now) result ≡ option_map (λ split. split.0) self.now }
+        ensures { given result ≡ verb_in self.now }
     {
         let (verb, _) = self.matches.as_ref()?.subcommand()?;
         Some(verb)
@@ -55,7 +55,7 @@ impl<'a> Split<'a> {
 
     /// The value of an argument or an option, where it is given.
     pub fn value(&self, id: &str) -> Option<&'a str>
-        ensures { option_map (λ value. value.now) result ≡ value_in id.now self.now }
+        ensures { given result ≡ value_in id.now self.now }
     {
         let (_, found) = self.matches.as_ref()?.subcommand()?;
         found.get_str(id)
