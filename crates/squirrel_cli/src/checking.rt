@@ -12,7 +12,7 @@ use crate::refused::refuse;
 use crate::status::Status;
 use image_reading::Violation;
 use io_edge::Sink;
-use mount_scan::{MountError, ReportError, report};
+use mount_scan::{HEAD_RULE, MountError, ReportError, report};
 use pm_trait::Pm;
 use std::alloc::Global;
 
@@ -42,7 +42,7 @@ pub fn check_volume<P: Pm, K: Sink>(alloc: Global, out: &mut K, pm: &P) -> Statu
 fn refusal_of(violation: Violation) -> MountError
     ensures { result ≡ told_refusal violation }
 {
-    if violation.rule == Violation::HEAD {
+    if violation.rule == HEAD_RULE {
         MountError::NotVolume
     } else {
         MountError::Damaged(violation)
