@@ -1,6 +1,8 @@
 -- The status that tells an end of a run.
 use Rattle.std.proofs.Common.{◌≡◌, ◌≢◌, ◌⊎◌, inl, inr, ℕ, List, Option, None, length, ◌+◌, refl, sym, ap, ◌∙◌, arith}
-use Rattle.std.specs.Prelude.{Some, IsSome}
+use Rattle.std.specs.Prelude.{Some, IsSome, Result, Ok, Err}
+use Rattle.io_edge.specs.declared.sink.WriteFault.{WriteFault}
+use Rattle.squirrel_cli.specs.Told.{status_of_write}
 use Rattle.std.proofs.lemmas.List.{length-append}
 use Rattle.script.specs.declared.run_end.RunEnd.{RunEnd}
 use Rattle.script.specs.declared.run_end.RunEnd.TheVariants as run_end
@@ -90,3 +92,8 @@ status_cause is end ended cause leaves = record {
   write = λ same. cause.write (ends_as ended same refl);
   no_write_fault = λ not. cause.no_write_fault (λ e. not (tells_write_fault is (ended ∙ ap Some e)));
 }
+
+-- a text was written, or a write failed
+pub ends_written : {is : Status} (written : Result (Unit {0}) WriteFault) → is ≡ status_of_write written status.Done → (is ≡ status.NoMemory) ⊎ (is ≡ status.Done) ⊎ (is ≡ status.WriteFault)
+ends_written (Ok done) same = inr (inl same)
+ends_written (Err fault) same = inr (inr same)
