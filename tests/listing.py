@@ -1,11 +1,12 @@
-"""The tree that a run of the program lists."""
+"""The tree of a volume: as a run of the program lists it, asked name by name, and as the program writes it at once."""
+import re
 import subprocess
 
 from trees import LONGEST, Tree, parent_of, path_of, written_bytes
 
 
 class NotListed(Exception):
-    """What a run answered, where that is no tree."""
+    """What the program answered, where that is no tree."""
 
 
 class Session:
@@ -98,4 +99,57 @@ def listed(program, image):
         ended, wrote = session.end()
     if ended != 0 or wrote:
         raise NotListed(f"status {ended}, {wrote!r}")
+    return tree
+
+
+def lines_of(program, job, image):
+    """What a job writes that ends as done."""
+    done = subprocess.run([program, job, image], stdin=subprocess.DEVNULL, capture_output=True, text=True)
+    if done.returncode != 0 or done.stderr:
+        raise NotListed(f"{job}: status {done.returncode}: {done.stdout!r} {done.stderr!r}")
+    return done.stdout.splitlines()
+
+
+CHECKED = re.compile(r"sound\ntree directories (\d+) files (\d+) names (\d+)\n"
+                     r"repairs pointers (\d+) slots (\d+) pages (\d+) inodes (\d+) counts (\d+)")
+
+
+def checked(program, image):
+    """How many directories, files and names the program counts in a volume, which is sound, and how many repairs."""
+    lines = lines_of(program, "check", image)
+    match = CHECKED.fullmatch("\n".join(lines))
+    if match is None:
+        raise NotListed(f"check: {lines}")
+    numbers = [int(number) for number in match.groups()]
+    return tuple(numbers[:3]), sum(numbers[3:])
+
+
+def names_on(path):
+    """The names on a path, by which listed paths are in order."""
+    return [] if path == "/" else path[1:].split("/")
+
+
+def written_tree(lines):
+    """The tree of these lines, one for each path; and of each path the words of its status."""
+    directories, status, names, contents = set(), {}, {}, {}
+    for line in lines:
+        kind, inode, links, count, path, *digits = line.split(" ")
+        status[path] = ["dir" if kind == "d" else "file", "inode", inode, "links", links, "amount", count]
+        if kind == "d":
+            directories.add(path)
+        else:
+            names.setdefault(inode, []).append(path)
+            contents.setdefault(inode, set()).update(digits)
+    if list(map(names_on, status)) != sorted(map(names_on, status)) or len(status) != len(lines):
+        raise NotListed("the paths are not in order, or one comes twice")
+    if any(len(digits) != 1 for digits in contents.values()):
+        raise NotListed("a file has other bytes at another name")
+    files = {frozenset(names[inode]): written_bytes(*digits) for inode, digits in contents.items()}
+    return Tree(frozenset(directories), files), status
+
+
+def written(program, image):
+    """The tree that the program writes of a volume."""
+    tree, status = written_tree(lines_of(program, "tree", image))
+    check_status(tree, status)
     return tree

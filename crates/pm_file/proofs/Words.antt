@@ -1,12 +1,11 @@
 -- Words out of bytes.
-use Rattle.std.proofs.Common.{◌≡◌, inl, inr, refl, ℕ, zero, suc, ◌+◌, ◌*◌, ◌-◌, ◌<◌, ◌≤◌, List, [], ◌∷◌, ◌++◌, length, take, drop, sym, ◌∙◌, ap, subst, arith, slice_index}
+use Rattle.std.proofs.Common.{◌≡◌, inl, inr, refl, ℕ, zero, suc, ◌+◌, ◌*◌, ◌-◌, ◌<◌, List, ◌++◌, length, take, drop, ◌∙◌, ap, subst, arith, slice_index}
 use Rattle.std.specs.Prelude.{Option, Some, None, slice_range}
-use Rattle.std.proofs.lemmas.Grind.{common_steps}
 use Rattle.std.proofs.lemmas.Bool.{cases_lt}
 use Rattle.std.proofs.lemmas.List.{get_or-append-add, get_or-take, get_or-drop, length-append, append_assoc}
 use Rattle.std.proofs.Math.ListN.{get_or-append}
 use Rattle.byteorder.specs.Endian.{little_from, IsRead, little_number}
-use Rattle.pm_file.specs.Placed.{AreWords, HasWords, HasBytes, AppendsWords, AppendsFrom}
+use Rattle.pm_file.specs.Placed.{AreWords, HasBytes, AppendsWords, AppendsFrom}
 
 -- equal bytes make equal numbers, wherever they stand
 pub same_number : (xs ys : List ℕ) (p q n : ℕ) → ((j : ℕ) → j < n → slice_index xs (p + j) ≡ slice_index ys (q + j)) → little_from p n xs ≡ little_from q n ys

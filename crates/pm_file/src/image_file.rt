@@ -4,14 +4,17 @@ ghost use Rattle.pm_file.specs.Placed.{HasBytes, TakesBytes};
 
 use std::fs::{File, OpenFile};
 use std::io;
-use std::io::{Seek, SeekFrom};
+use std::io::{ErrorKind, Seek, SeekFrom};
 use std::os::unix::fs::FileExt;
 
-/// A file that can be locked against everybody else who locks it before use, and whose bytes are read and written at
-/// places, wherever an earlier call ended.
+/// A file that can be locked against everybody else who locks it before use, or against those alone who want it alone, and
+/// whose bytes are read and written at places, wherever an earlier call ended.
 pub trait ImageFile {
     /// Whether its lock was taken. A file of the system doesn't show it.
     ghost is_locked: { Self → Bool };
+
+    /// Whether its lock was taken together with others.
+    ghost is_shared: { Self → Bool };
 
     /// What is known of a file whose lock is refused, and from nothing else.
     ghost is_refused: { Self → Type 0 };
@@ -29,7 +32,15 @@ pub trait ImageFile {
         ensures locked { IfOk result (λ file. IsTrue (is_locked file)) }
         ensures refused { OnErr result (is_refused self) };
 
-    /// How many bytes the open file has, whatever its path names by now. What is no file of bytes has none.
+    /// Takes the lock together with others who take it so, or fails at once where another open file has it alone.
+    fn lock_shared(self) -> io::Result<Self>
+    where
+        Self: Sized,
+        ensures shared { IfOk result (λ file. IsTrue (is_shared file)) }
+        ensures refused { OnErr result (is_refused self) };
+
+    /// How many bytes the open file has, whatever its path names by now. What is no file of bytes has none, and for a folder
+    /// it fails.
     fn length(&self) -> io::Result<u64>
         ensures { IfOk result (is_length self.now) };
 
@@ -52,6 +63,8 @@ pub trait ImageFile {
 impl ImageFile for File {
     ghost is_locked = { λ _. true };
 
+    ghost is_shared = { λ _. true };
+
     ghost is_refused = { λ _. Unit {0} };
 
     ghost is_length = { λ _ _. Unit {0} };
@@ -63,8 +76,17 @@ impl ImageFile for File {
         Ok(self)
     }
 
+    fn lock_shared(self) -> io::Result<File> {
+        self.try_lock_shared()?;
+        Ok(self)
+    }
+
     fn length(&self) -> io::Result<u64> {
-        Ok(self.metadata()?.len())
+        let metadata = self.metadata()?;
+        if metadata.is_dir() {
+            return Err(io::Error::from(ErrorKind::IsADirectory));
+        }
+        Ok(metadata.len())
     }
 
     fn end(&mut self) -> io::Result<u64> {

@@ -1,6 +1,7 @@
 //! Persistent memory in a file: its words are read once and kept in memory, and each fence gives it the flushed lines back.
 #![tactic(auto)]
 
+mod access;
 mod bytes;
 mod device;
 mod fault;

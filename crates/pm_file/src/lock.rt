@@ -6,7 +6,7 @@ use crate::image_file::ImageFile;
 use std::fs::OpenFile;
 use std::io;
 
-/// A file whose lock was taken. No other module sees its field, so `new` alone makes one.
+/// A file whose lock was taken. No other module sees its field, so `new` and `shared` alone make one.
 #[derive(Drop)]
 pub struct Locked<F> {
     file: F,
@@ -19,6 +19,16 @@ impl<F: ImageFile + OpenFile + Drop> Locked<F> {
         ensures refused { OnErr result (F.is_refused file) }
     {
         Ok(Locked { file: file.lock()? })
+    }
+
+    /// Locks a file together with others who do just that.
+    pub fn shared(file: F) -> io::Result<Locked<F>>
+        ensures shared { IfOk result (λ locked. IsTrue (F.is_shared locked.file)) }
+        ensures refused { OnErr result (F.is_refused file) }
+    {
+        Ok(Locked {
+            file: file.lock_shared()?,
+        })
     }
 
     /// Cuts it to so many bytes, or lengthens it with zeros, and waits until that is safe.

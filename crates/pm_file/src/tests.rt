@@ -104,6 +104,35 @@ fn a_file_serves_one_device_at_a_time(rt: HostRuntime) -> Result<(), Fail> {
     Ok(fs::remove_file(&rt, path.as_path())?)
 }
 
+#[test]
+fn a_file_is_read_beside_others_who_read_it(rt: HostRuntime) -> Result<(), Fail> {
+    let path = fresh_path(&rt, "read")?;
+    let missing = FilePm::to_read(&rt, rt.alloc(), path.as_str());
+    assert!(rt; matches!(missing, Err(FileFault::Failed)));
+    let folder = FilePm::to_read(&rt, rt.alloc(), ".");
+    assert!(rt; matches!(folder, Err(FileFault::Failed)));
+    let made = FilePm::make(&rt, rt.alloc(), path.as_str(), 16)?;
+    let beside = FilePm::to_read(&rt, rt.alloc(), path.as_str());
+    assert!(rt; matches!(beside, Err(FileFault::Failed)));
+    drop(made);
+    let mut device = FilePm::to_read(&rt, rt.alloc(), path.as_str())?;
+    let other = FilePm::to_read(&rt, rt.alloc(), path.as_str())?;
+    assert!(rt; has_words(&rt, path.as_str(), other.image())?);
+    let opened = FilePm::from_path(&rt, rt.alloc(), path.as_str());
+    assert!(rt; matches!(opened, Err(FileFault::Failed)));
+    assert!(rt; device.fence().is_err());
+    assert_eq!(rt; device.image().len(), 8192);
+    if device.image().len() != 8192 {
+        return Ok(());
+    }
+    device.store(9, 1);
+    device.flush(1);
+    assert!(rt; device.fence().is_err());
+    assert_eq!(rt; device.fences(), 0);
+    assert!(rt; has_words(&rt, path.as_str(), other.image())?);
+    Ok(fs::remove_file(&rt, path.as_path())?)
+}
+
 /// The eight bytes of a word in a file.
 fn word_in(rt: &HostRuntime, path: &str, word: u64) -> Result<u64, Fail>
     requires { word ≤ 33554432 }

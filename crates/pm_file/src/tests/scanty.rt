@@ -20,7 +20,7 @@ pub struct Scanty<R> {
     pub takes_in_all: usize,
 }
 
-/// A file that shows whether its lock was taken.
+/// A file that shows whether its lock was taken, and how.
 #[derive(Drop)]
 pub struct ScantyFile<F> {
     file: F,
@@ -28,6 +28,7 @@ pub struct ScantyFile<F> {
     takes: usize,
     left: Cell<usize>,
     is_taken: bool,
+    is_shared: bool,
 }
 
 impl<F: Read> Read for ScantyFile<F> {
@@ -87,6 +88,8 @@ impl<F: FileExt> FileExt for ScantyFile<F> {
 impl<F: ImageFile + FileExt> ImageFile for ScantyFile<F> {
     ghost is_locked = { λ scanty. scanty.is_taken };
 
+    ghost is_shared = { λ scanty. scanty.is_shared };
+
     ghost is_refused = { λ scanty. F.is_refused scanty.file };
 
     ghost is_length = { λ scanty. F.is_length scanty.file };
@@ -100,6 +103,7 @@ impl<F: ImageFile + FileExt> ImageFile for ScantyFile<F> {
             takes,
             left,
             is_taken: _,
+            is_shared,
         } = self;
         Ok(ScantyFile {
             file: file.lock()?,
@@ -107,6 +111,26 @@ impl<F: ImageFile + FileExt> ImageFile for ScantyFile<F> {
             takes,
             left,
             is_taken: true,
+            is_shared,
+        })
+    }
+
+    fn lock_shared(self) -> io::Result<ScantyFile<F>> {
+        let ScantyFile {
+            file,
+            gives,
+            takes,
+            left,
+            is_taken,
+            is_shared: _,
+        } = self;
+        Ok(ScantyFile {
+            file: file.lock_shared()?,
+            gives,
+            takes,
+            left,
+            is_taken,
+            is_shared: true,
         })
     }
 
@@ -139,6 +163,7 @@ impl<R: Files> Files for Scanty<R> {
             takes: self.takes,
             left: Cell::new(self.takes_in_all),
             is_taken: false,
+            is_shared: false,
         })
     }
 
