@@ -1,10 +1,11 @@
 """A volume that is mounted as a folder, for trials of the adapter: `bin/squirrel-mount` over a given build of the program."""
+import contextlib
 import ctypes
 import errno
 import os
+import random
 import signal
 import subprocess
-import sys
 import time
 from pathlib import Path
 
@@ -12,6 +13,10 @@ ROOT = Path(__file__).resolve().parent.parent
 START = str(ROOT / "bin" / "squirrel-mount")
 RENAME_NOREPLACE, RENAME_EXCHANGE = 1, 2
 LONGEST_WAIT = 120.0
+STAND_IN = str(ROOT / "tests" / "stand_in.py")
+PAGE = 4096
+EACH_CALL_FAILS = "each call is answered EIO until the volume is mounted anew"
+KILLED = (137, "", f"squirrel-mount: the program ended with status 137: {EACH_CALL_FAILS}\n")
 
 
 class Wrong(Exception):
@@ -159,6 +164,67 @@ class Mount:
             self.abandon()
 
 
+class Trial:
+    """What a group works with: the program, a folder of its own, and random numbers."""
+
+    def __init__(self, program, work, seed):
+        self.program, self.work, self.rng = program, Path(work), random.Random(seed)
+        self.image, self.folder, self.host = self.work / "volume", self.work / "folder", self.work / "host"
+        self.folder.mkdir()
+        self.host.mkdir()
+
+    def make(self, pages):
+        make_volume(self.program, self.image, pages)
+
+    def mount(self, *options):
+        return Mount(self.program, self.image, self.folder, options)
+
+    def at(self, *names):
+        return os.path.join(self.folder, *names)
+
+    def free(self):
+        """Free inodes and pages."""
+        room = os.statvfs(self.folder)
+        return room.f_ffree, room.f_bfree
+
+
+def write(path, content):
+    with open(path, "wb", buffering=0) as file:
+        expect_equal(f"a write of {len(content)} bytes to {path}", file.write(content), len(content))
+
+
+def read(path):
+    return Path(path).read_bytes()
+
+
+@contextlib.contextmanager
+def opened(path, flags=os.O_RDWR):
+    file = os.open(path, flags, 0o644)
+    try:
+        yield file
+    finally:
+        os.close(file)
+
+
+def do(*words, folder=None, **environment):
+    """A command that has to succeed. What it wrote."""
+    job = subprocess.run(words, cwd=folder, capture_output=True, text=True, env={**os.environ, **environment})
+    expect(job.returncode == 0, f"{' '.join(map(str, words))}: status {job.returncode}: {job.stdout[-300:]}{job.stderr[-300:]}")
+    return job.stdout
+
+
+@contextlib.contextmanager
+def stand_in(trial, kind, armed):
+    """The program's place is taken. Gives how it is armed."""
+    words = {"STAND_IN": kind, "STAND_IN_PROGRAM": trial.program, "STAND_IN_ARMED": str(armed)}
+    os.environ.update(words)
+    try:
+        yield Mount(STAND_IN, trial.image, trial.folder)
+    finally:
+        for word in words:
+            del os.environ[word]
+
+
 LIBRARY = ctypes.CDLL(None, use_errno=True)
 
 
@@ -212,4 +278,3 @@ def missing():
 
 def tell(text):
     print(text, flush=True)
-    sys.stdout.flush()

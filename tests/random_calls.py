@@ -8,8 +8,11 @@ from mounts import expect
 PAGE = 4096
 LONGEST_NAME = 110
 MOST_OPEN = 8
-NAMES = [b"a", b"b", b"c", b"d", b"e", b"f", b" ", b"two words", b"100%", b"%41", b"new\nline", "\u00e9\u20ac".encode(), b"\xff\xfe",
-         b"-o", b"...", b"~tilde_", b"'quoted\"", b".squirrel-12x", b"n" * LONGEST_NAME, b"%" * LONGEST_NAME, b"n" * (LONGEST_NAME + 1)]
+NAMES = [
+    b"a", b"b", b"c", b"d", b"e", b"f", b" ", b"two words", b"100%", b"%41", b"new\nline", "\u00e9\u20ac".encode(), b"\xff\xfe",
+    b"-o", b"...", b"~tilde_", b"'quoted\"", b".squirrel-12x", b"n" * LONGEST_NAME, b"%" * LONGEST_NAME,
+    b"n" * (LONGEST_NAME + 1),
+]
 PLACES = [0, 1, 100, PAGE - 1, PAGE, PAGE + 1, 2 * PAGE, 16384, 24576, 30000, 3 * PAGE - 7]
 COUNTS = [0, 1, 7, 100, PAGE - 1, PAGE, PAGE + 1, 16384, 24576, 24577, 50000]
 
@@ -245,7 +248,7 @@ def shortened(result):
     return f"{result[:40]!r} and so on, {len(result)} in all" if isinstance(result, bytes) and len(result) > 40 else repr(result)
 
 
-def make_calls(both, count, between, every):
+def make_calls(both, count, every):
     """So many random calls that do something; the trees are compared after so many of them."""
     made = 0
     while made < count:
@@ -257,7 +260,6 @@ def make_calls(both, count, between, every):
         if made % every == 0:
             trees = [tree_of(root) for root in both.roots]
             expect(trees[0] == trees[1], f"after call {made} the trees differ: {difference(*trees)}")
-            between(made)
 
 
 def difference(mounted, host):
