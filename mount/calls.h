@@ -1,0 +1,11 @@
+/* The system's calls, each answered by script lines. */
+#ifndef CALLS_H
+#define CALLS_H
+
+#define FUSE_USE_VERSION 35
+#include <fuse_lowlevel.h>
+
+/* Their user data is a `struct volume`. */
+extern const struct fuse_lowlevel_ops calls;
+
+#endif

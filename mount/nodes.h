@@ -1,0 +1,86 @@
+/* The nodes that the system was handed, by inode number, and the names by which it met them. */
+#ifndef NODES_H
+#define NODES_H
+
+#include <stdbool.h>
+#include <stddef.h>
+#include <stdint.h>
+#include <time.h>
+
+enum { ROOT = 1, NAME_BUCKETS = 65536, HIDDEN_ROOM = 32 };
+
+struct name {
+    struct name *next_of_node;
+    struct name *next_in_bucket;
+    uint64_t node;
+    uint64_t directory;
+    size_t length;
+    char bytes[];
+};
+
+struct times {
+    struct timespec accessed, modified, changed;
+};
+
+struct node {
+    struct name *names;
+    uint64_t lookups;       /* how often it was handed out, less what was forgotten */
+    uint64_t generation;    /* goes up when its number is taken again */
+    uint64_t children;      /* how many names are known in it */
+    uint32_t opens;
+    bool is_hidden;         /* one of its names is the hidden one */
+    bool is_directory;
+    bool has_times;
+    struct times times;
+};
+
+struct nodes {
+    uint64_t last;          /* the greatest inode number */
+    struct node *list;
+    struct name **buckets;
+    uint64_t hidden;        /* how many hidden names there are */
+    struct times mounted;
+};
+
+/* Memory for the inodes 1 to `last`. */
+bool nodes_make(struct nodes *nodes, uint64_t last);
+
+struct node *nodes_at(struct nodes *nodes, uint64_t inode);
+
+/* The name in a directory, or NULL where it isn't known. */
+struct name *nodes_find(struct nodes *nodes, uint64_t directory, const char *bytes);
+
+/* A name is known to name a node, and nothing else. False where memory is out. */
+bool nodes_name(struct nodes *nodes, uint64_t directory, const char *bytes, uint64_t inode);
+
+/* A name is no longer there. */
+void nodes_unname(struct nodes *nodes, uint64_t directory, const char *bytes);
+
+/* An inode number was taken for what has just been made: whatever else had it is gone. */
+void nodes_renew(struct nodes *nodes, uint64_t inode);
+
+/* The system has forgotten a node so many times. Names go of what it doesn't know any more. */
+void nodes_forget(struct nodes *nodes, uint64_t inode, uint64_t count);
+
+/* Names go of a node that is neither known to the system nor open. */
+void nodes_let_go(struct nodes *nodes, uint64_t inode);
+
+/* Whether this is the only name that is known of a node. */
+bool nodes_is_last_name(struct nodes *nodes, const struct name *name);
+
+const struct times *nodes_times(struct nodes *nodes, uint64_t inode);
+
+/* The content of a node has changed now, or only what is known of it. */
+void nodes_touch(struct nodes *nodes, uint64_t inode);
+void nodes_touch_status(struct nodes *nodes, uint64_t inode);
+
+/* Times that were set: those that aren't NULL. */
+void nodes_set_times(struct nodes *nodes, uint64_t inode, const struct timespec *accessed, const struct timespec *modified);
+
+/* The hidden name of a node, in the root. */
+void nodes_hidden_name(uint64_t inode, char bytes[HIDDEN_ROOM]);
+
+/* Whether a name in a directory is a hidden one. */
+bool nodes_is_hidden_name(uint64_t directory, const char *bytes);
+
+#endif

@@ -1,0 +1,322 @@
+#define _GNU_SOURCE
+#include "program.h"
+
+#include <errno.h>
+#include <fcntl.h>
+#include <poll.h>
+#include <signal.h>
+#include <stdio.h>
+#include <stdlib.h>
+#include <string.h>
+#include <sys/wait.h>
+#include <time.h>
+#include <unistd.h>
+
+enum { PIECE = 65536, STATUS_IN_USE = 5, STATUS_NOT_STARTED = 127 };
+
+static const struct timespec one_try = {.tv_nsec = 20 * 1000 * 1000};
+
+static double seconds_now(void)
+{
+    struct timespec now;
+    clock_gettime(CLOCK_MONOTONIC, &now);
+    return (double)now.tv_sec + (double)now.tv_nsec / 1e9;
+}
+
+static bool write_all(int file, const char *bytes, size_t length)
+{
+    while (length > 0) {
+        ssize_t count = write(file, bytes, length);
+        if (count < 0 && errno == EINTR)
+            continue;
+        if (count < 0)
+            return false;
+        bytes += count;
+        length -= (size_t)count;
+    }
+    return true;
+}
+
+static ssize_t read_some(int file, char *bytes, size_t length)
+{
+    ssize_t count;
+    do
+        count = read(file, bytes, length);
+    while (count < 0 && errno == EINTR);
+    return count;
+}
+
+static void close_file(int *file)
+{
+    if (*file >= 0)
+        close(*file);
+    *file = -1;
+}
+
+/* In the new process: streams, a session of its own, and nothing else that the adapter has open. */
+static void become_program(const struct program *program, int script, int replies, int errors)
+{
+    sigset_t none;
+    sigemptyset(&none);
+    sigprocmask(SIG_SETMASK, &none, NULL);
+    signal(SIGPIPE, SIG_DFL);
+    setsid();
+    if (dup2(script, STDIN_FILENO) < 0 || dup2(replies, STDOUT_FILENO) < 0 || dup2(errors, STDERR_FILENO) < 0)
+        _exit(STATUS_NOT_STARTED);
+    close_range(STDERR_FILENO + 1, ~0U, 0);
+    execlp(program->path, program->path, "run", program->image, (char *)NULL);
+    dprintf(STDERR_FILENO, "squirrel-mount: %s can't be started: %s\n", program->path, strerror(errno));
+    _exit(STATUS_NOT_STARTED);
+}
+
+/* Pipes that no other process inherits. */
+static bool make_pipes(int pipes[3][2])
+{
+    for (int index = 0; index < 3; index++) {
+        if (pipe2(pipes[index], O_CLOEXEC) != 0) {
+            while (index-- > 0) {
+                close(pipes[index][0]);
+                close(pipes[index][1]);
+            }
+            return false;
+        }
+    }
+    return true;
+}
+
+static bool start_process(struct program *program)
+{
+    int pipes[3][2];
+    if (!make_pipes(pipes))
+        return false;
+    program->process = fork();
+    if (program->process == 0)
+        become_program(program, pipes[0][0], pipes[1][1], pipes[2][1]);
+    close(pipes[0][0]);
+    close(pipes[1][1]);
+    close(pipes[2][1]);
+    program->script = pipes[0][1];
+    program->replies = pipes[1][0];
+    program->errors = pipes[2][0];
+    program->script_bytes = 0;
+    program->begin = program->end = 0;
+    if (program->process > 0)
+        return true;
+    program->process = 0;
+    close_file(&program->script);
+    close_file(&program->replies);
+    close_file(&program->errors);
+    return false;
+}
+
+/* Room for at least one piece behind what was read. */
+static bool make_room(struct program *program)
+{
+    if (program->begin > 0) {
+        memmove(program->buffer, program->buffer + program->begin, program->end - program->begin);
+        program->end -= program->begin;
+        program->begin = 0;
+    }
+    if (program->room - program->end >= PIECE)
+        return true;
+    size_t room = 2 * program->room + PIECE;
+    char *buffer = realloc(program->buffer, room);
+    if (buffer == NULL)
+        return false;
+    program->buffer = buffer;
+    program->room = room;
+    return true;
+}
+
+/* The next reply without its newline, or NULL at the end of the replies. */
+static const char *next_reply(struct program *program)
+{
+    size_t seen = 0;
+    for (;;) {
+        char *begin = program->buffer + program->begin;
+        size_t length = program->end - program->begin;
+        char *newline = length > seen ? memchr(begin + seen, '\n', length - seen) : NULL;
+        if (newline != NULL) {
+            *newline = '\0';
+            program->begin += (size_t)(newline - begin) + 1;
+            return begin;
+        }
+        seen = length;
+        if (!make_room(program))
+            return NULL;
+        ssize_t count = read_some(program->replies, program->buffer + program->end, program->room - program->end);
+        if (count <= 0)
+            return NULL;
+        program->end += (size_t)count;
+    }
+}
+
+void program_pass_errors(struct program *program)
+{
+    char bytes[4096];
+    struct pollfd errors = {.fd = program->errors, .events = POLLIN};
+    while (program->errors >= 0 && poll(&errors, 1, 0) == 1) {
+        ssize_t count = read_some(program->errors, bytes, sizeof bytes);
+        if (count <= 0)
+            close_file(&program->errors);
+        else if (!write_all(STDERR_FILENO, bytes, (size_t)count))
+            return;
+    }
+}
+
+static int exit_status(int status)
+{
+    return WIFSIGNALED(status) ? 128 + WTERMSIG(status) : WEXITSTATUS(status);
+}
+
+/* Takes the process's end, waiting for it or not. Whether it has ended. */
+static bool reap(struct program *program, int flags)
+{
+    int status;
+    if (program->process == 0)
+        return true;
+    pid_t ended;
+    do
+        ended = waitpid(program->process, &status, flags);
+    while (ended < 0 && errno == EINTR);
+    if (ended == 0)
+        return false;
+    program->process = 0;
+    program->status = ended > 0 ? exit_status(status) : STATUS_NOT_STARTED;
+    return true;
+}
+
+/* What it wrote to standard output behind its last reply. */
+static void pass_replies(struct program *program)
+{
+    write_all(STDOUT_FILENO, program->buffer + program->begin, program->end - program->begin);
+    program->begin = program->end = 0;
+    while (make_room(program)) {
+        ssize_t count = read_some(program->replies, program->buffer, program->room);
+        if (count <= 0 || !write_all(STDOUT_FILENO, program->buffer, (size_t)count))
+            return;
+    }
+}
+
+/* Ends the script and waits for the program's end. What it wrote is passed on where that is wanted. */
+static void end_process(struct program *program, bool is_told)
+{
+    close_file(&program->script);
+    if (program->replies >= 0 && is_told)
+        pass_replies(program);
+    close_file(&program->replies);
+    reap(program, 0);
+    if (is_told)
+        program_pass_errors(program);
+    close_file(&program->errors);
+}
+
+int program_end(struct program *program)
+{
+    end_process(program, true);
+    return program->status;
+}
+
+void program_give_up(struct program *program, const char *cause)
+{
+    if (!program->is_broken)
+        fprintf(stderr, "squirrel-mount: %s: each call is answered EIO until the volume is mounted anew\n", cause);
+    program->is_broken = true;
+}
+
+/* Gives up since the program has ended. */
+static void tell_end(struct program *program)
+{
+    char cause[64];
+    /* the end of its replies may come a moment before its own */
+    reap(program, 0);
+    snprintf(cause, sizeof cause, "the program ended with status %d", program->status);
+    program_give_up(program, cause);
+}
+
+static bool send_line(struct program *program, const char *line, size_t length)
+{
+    program->script_bytes += length;
+    return write_all(program->script, line, length);
+}
+
+/* What stands in place of a reply to `df` is a text of the program, which goes where it would have gone. */
+static bool is_answering(struct program *program)
+{
+    const char *reply = send_line(program, "df\n", 3) ? next_reply(program) : NULL;
+    if (reply != NULL && strncmp(reply, "ok ", 3) == 0)
+        return true;
+    if (reply != NULL)
+        program->buffer[program->begin - 1] = '\n', program->begin = (size_t)(reply - program->buffer);
+    return false;
+}
+
+/* One try. A program that has no job is waited for, and told of where that is wanted. */
+static bool try_start(struct program *program, bool is_told)
+{
+    if (!start_process(program)) {
+        program->status = STATUS_NOT_STARTED;
+        return false;
+    }
+    if (is_answering(program))
+        return true;
+    end_process(program, is_told);
+    return false;
+}
+
+bool program_start(struct program *program)
+{
+    return try_start(program, true);
+}
+
+/* Starts it behind a script that was ended. For a second it may wait for another job that has the image. */
+static bool start_anew(struct program *program)
+{
+    double end = seconds_now() + 1.0;
+    while (!try_start(program, false)) {
+        if (program->status != STATUS_IN_USE) {
+            tell_end(program);
+            return false;
+        }
+        if (seconds_now() >= end)
+            return false;
+        nanosleep(&one_try, NULL);
+    }
+    return true;
+}
+
+/* Before a line would reach the limit, the script is ended and another begun. */
+static bool has_script_for(struct program *program, size_t length)
+{
+    if (program->process != 0 && program->script_bytes + length >= program->script_limit) {
+        end_process(program, true);
+        if (program->status != 0) {
+            tell_end(program);
+            return false;
+        }
+    }
+    return program->process != 0 || start_anew(program);
+}
+
+
+const char *program_ask(struct program *program, const char *line, size_t length)
+{
+    if (program->is_broken || !has_script_for(program, length))
+        return NULL;
+    const char *reply = send_line(program, line, length) ? next_reply(program) : NULL;
+    if (reply == NULL) {
+        close_file(&program->script);
+        program_pass_errors(program);
+        tell_end(program);
+    }
+    return reply;
+}
+
+bool program_is_up(struct program *program)
+{
+    if (!program->is_broken && program->process != 0 && reap(program, WNOHANG)) {
+        program_pass_errors(program);
+        tell_end(program);
+    }
+    return !program->is_broken;
+}

@@ -1,0 +1,312 @@
+/* Mounts a volume as a folder: squirrel-mount IMAGE FOLDER [-f] [-o OPTIONS] */
+#define _GNU_SOURCE
+#include "calls.h"
+#include "volume.h"
+
+#include <errno.h>
+#include <fcntl.h>
+#include <inttypes.h>
+#include <libgen.h>
+#include <poll.h>
+#include <signal.h>
+#include <stddef.h>
+#include <stdio.h>
+#include <stdlib.h>
+#include <string.h>
+#include <sys/stat.h>
+#include <unistd.h>
+
+enum { STATUS_FAILED = 1, STATUS_USAGE = 2 };
+
+struct options {
+    int is_foreground;
+    int is_quiet;
+    unsigned long long script_limit;
+    char *image;
+    char *folder;
+};
+
+static const struct fuse_opt option_words[] = {
+    {"-f", offsetof(struct options, is_foreground), 1},
+    {"quiet", offsetof(struct options, is_quiet), 1},
+    {"script=%llu", offsetof(struct options, script_limit), 0},
+    FUSE_OPT_END,
+};
+
+static int fail(const char *what, const char *cause)
+{
+    fprintf(stderr, "squirrel-mount: %s: %s\n", what, cause);
+    return STATUS_FAILED;
+}
+
+/* The two words that are no options; of the others only mount options are left to libfuse. */
+static int take_word(void *data, const char *word, int kind, struct fuse_args *rest)
+{
+    (void)rest;
+    struct options *options = data;
+    if (kind != FUSE_OPT_KEY_NONOPT)
+        return word[0] == '-' ? -1 : 1;
+    char **place = options->image == NULL ? &options->image : &options->folder;
+    if (*place != NULL)
+        return -1;
+    *place = strdup(word);
+    return 0;
+}
+
+/* The least limit of a script has room for the question at its start and the longest line. */
+static bool is_possible(const struct options *options)
+{
+    return options->image != NULL && options->folder != NULL && options->script_limit > LONGEST_LINE + 16 &&
+           options->script_limit <= SCRIPT_LIMIT;
+}
+
+static bool read_options(struct fuse_args *words, struct options *options)
+{
+    *options = (struct options){.script_limit = SCRIPT_LIMIT};
+    if (fuse_opt_parse(words, options, option_words, take_word) == 0 && is_possible(options))
+        return true;
+    fprintf(stderr, "squirrel-mount: usage: squirrel-mount IMAGE FOLDER [-f] [-o OPTIONS]\n");
+    return false;
+}
+
+/* A path from the root, also of a file that isn't there in a folder that is; NULL where there is no such folder. */
+static char *absolute(const char *path)
+{
+    char *whole = realpath(path, NULL);
+    if (whole != NULL)
+        return whole;
+    char *first = strdup(path), *second = strdup(path);
+    char *folder = realpath(dirname(first), NULL);
+    if (folder == NULL || asprintf(&whole, "%s/%s", folder, basename(second)) < 0)
+        whole = NULL;
+    free(folder);
+    free(first);
+    free(second);
+    return whole;
+}
+
+static bool is_below(const char *path, const char *folder)
+{
+    size_t length = strlen(folder);
+    return strncmp(path, folder, length) == 0 && (path[length] == '/' || path[length] == '\0' || folder[length - 1] == '/');
+}
+
+/* Makes both paths absolute: neither the folder of the caller nor its words are looked at later. */
+static int find_paths(struct options *options)
+{
+    char *folder = realpath(options->folder, NULL);
+    if (folder == NULL)
+        return fail(options->folder, strerror(errno));
+    char *image = absolute(options->image);
+    if (image != NULL) {
+        if (is_below(image, folder))
+            return fail(image, "the image is below the folder");
+        options->image = image;
+    }
+    options->folder = folder;
+    return 0;
+}
+
+/* The program: SQUIRREL_PROGRAM, or `squirrel` by the path. */
+static const char *program_path(void)
+{
+    const char *path = getenv("SQUIRREL_PROGRAM");
+    if (path == NULL || *path == '\0')
+        return "squirrel";
+    char *whole = strchr(path, '/') != NULL ? realpath(path, NULL) : NULL;
+    return whole != NULL ? whole : path;
+}
+
+/* Descriptors 0 to 2 are taken, so that none of the pipes gets one of these numbers. */
+static bool has_streams(void)
+{
+    int file;
+    do
+        file = open("/dev/null", O_RDWR | O_CLOEXEC);
+    while (file >= 0 && file <= STDERR_FILENO);
+    close(file);
+    return file >= 0;
+}
+
+static volatile sig_atomic_t is_stopped;
+
+static void stop(int signal)
+{
+    (void)signal;
+    is_stopped = 1;
+}
+
+/* The signals that end the mount come only where the adapter waits. `waiting` gets the mask for that. */
+static void hold_signals(sigset_t *waiting)
+{
+    static const int ending[] = {SIGINT, SIGTERM, SIGHUP};
+    struct sigaction action = {.sa_handler = stop};
+    sigset_t held;
+    sigemptyset(&held);
+    for (size_t index = 0; index < sizeof ending / sizeof *ending; index++) {
+        sigaddset(&held, ending[index]);
+        sigaction(ending[index], &action, NULL);
+    }
+    sigprocmask(SIG_BLOCK, &held, waiting);
+    for (size_t index = 0; index < sizeof ending / sizeof *ending; index++)
+        sigdelset(waiting, ending[index]);
+}
+
+/* Waits for a call or for what the program writes to standard error, which is passed on. Whether there may be a call. */
+static bool await_call(struct fuse_session *session, struct volume *volume, const sigset_t *waiting)
+{
+    struct pollfd files[] = {
+        {.fd = fuse_session_fd(session), .events = POLLIN},
+        {.fd = volume->program.errors, .events = POLLIN},
+    };
+    if (ppoll(files, 2, NULL, waiting) < 0)
+        return false;
+    if (files[1].revents != 0) {
+        program_pass_errors(&volume->program);
+        program_is_up(&volume->program);
+    }
+    return files[0].revents != 0;
+}
+
+/* Answers calls, one at a time, until the folder is unmounted or a signal comes. */
+static void answer_calls(struct fuse_session *session, struct volume *volume, const sigset_t *waiting)
+{
+    struct fuse_buf call = {0};
+    while (!is_stopped && !fuse_session_exited(session)) {
+        if (!await_call(session, volume, waiting))
+            continue;
+        int length = fuse_session_receive_buf(session, &call);
+        if (length > 0)
+            fuse_session_process_buf(session, &call);
+        else if (length < 0 && length != -EINTR && length != -EAGAIN)
+            break;
+    }
+    free(call.mem);
+}
+
+/* Starts the program, and looks what is in the volume. 0, or the exit status. */
+static int start_volume(struct volume *volume)
+{
+    struct space space;
+    if (!program_start(&volume->program))
+        return volume->program.status != 0 ? volume->program.status : STATUS_FAILED;
+    if (volume_space(volume, &space) == 0 && nodes_make(&volume->nodes, space.inodes) && volume_remove_hidden(volume) == 0)
+        return 0;
+    int status = program_end(&volume->program);
+    return status != 0 ? status : fail(volume->program.image, "the volume can't be used");
+}
+
+/* Ends the script. Files that are still open lose their hidden names before. */
+static int end_volume(struct volume *volume)
+{
+    if (program_is_up(&volume->program) && volume->nodes.hidden > 0)
+        volume_remove_hidden(volume);
+    return program_end(&volume->program);
+}
+
+/* Tells the process that waits in the foreground with which status to end. */
+static void tell_caller(int *waiting, int status)
+{
+    char byte = (char)status;
+    if (*waiting >= 0 && write(*waiting, &byte, 1) != 1)
+        fprintf(stderr, "squirrel-mount: the caller has gone\n");
+    if (*waiting >= 0)
+        close(*waiting);
+    *waiting = -1;
+}
+
+/* Leaves the terminal, the streams and the folder of the caller. */
+static void detach(void)
+{
+    int null = open("/dev/null", O_RDWR | O_CLOEXEC);
+    setsid();
+    if (chdir("/") != 0 || null < 0)
+        return;
+    for (int stream = STDIN_FILENO; stream <= STDERR_FILENO; stream++)
+        dup2(null, stream);
+    close(null);
+}
+
+/* Mounts the folder and answers its calls to the end. `waiting` is where a process in the background is waited for. */
+static int serve(struct fuse_session *session, struct volume *volume, const struct options *options, int *waiting)
+{
+    sigset_t mask;
+    int status = start_volume(volume);
+    if (status != 0)
+        return status;
+    hold_signals(&mask);
+    if (fuse_session_mount(session, options->folder) != 0) {
+        end_volume(volume);
+        return fail(options->folder, "it can't be mounted");
+    }
+    fcntl(fuse_session_fd(session), F_SETFL, fcntl(fuse_session_fd(session), F_GETFL) | O_NONBLOCK);
+    if (*waiting >= 0) {
+        tell_caller(waiting, 0);
+        detach();
+    }
+    answer_calls(session, volume, &mask);
+    fuse_session_unmount(session);
+    return end_volume(volume);
+}
+
+/* Goes on in a process of its own. In it, `waiting` gets where the caller waits; the caller itself ends as that process says. */
+static bool fork_to_background(int *waiting)
+{
+    int pipe[2];
+    if (pipe2(pipe, O_CLOEXEC) != 0)
+        return false;
+    pid_t process = fork();
+    if (process < 0)
+        return false;
+    if (process == 0) {
+        close(pipe[0]);
+        *waiting = pipe[1];
+        return true;
+    }
+    close(pipe[1]);
+    char status = STATUS_FAILED;
+    ssize_t count;
+    do
+        count = read(pipe[0], &status, 1);
+    while (count < 0 && errno == EINTR);
+    _exit((unsigned char)status);
+}
+
+/* The words for libfuse: mount options that always hold before those of the caller. */
+static struct fuse_session *make_session(struct fuse_args *words, struct volume *volume)
+{
+    static const char always[] = "-odefault_permissions,fsname=squirrel,subtype=squirrel";
+    if (fuse_opt_insert_arg(words, 1, always) != 0)
+        return NULL;
+    return fuse_session_new(words, &calls, sizeof calls, volume);
+}
+
+int main(int count, char **arguments)
+{
+    static struct volume volume;
+    struct fuse_args words = FUSE_ARGS_INIT(count, arguments);
+    struct options options;
+    int waiting = -1;
+    signal(SIGPIPE, SIG_IGN);
+    if (!has_streams())
+        return STATUS_FAILED;
+    if (!read_options(&words, &options))
+        return STATUS_USAGE;
+    if (find_paths(&options) != 0)
+        return STATUS_FAILED;
+    volume.program = (struct program){.path = program_path(), .image = options.image, .script_limit = options.script_limit,
+                                      .script = -1, .replies = -1, .errors = -1};
+    volume.is_quiet = options.is_quiet;
+    volume.user = getuid();
+    volume.group = getgid();
+    struct fuse_session *session = make_session(&words, &volume);
+    if (session == NULL)
+        return STATUS_FAILED;
+    if (!options.is_foreground && !fork_to_background(&waiting))
+        return fail("it can't go on in the background", strerror(errno));
+    int status = serve(session, &volume, &options, &waiting);
+    tell_caller(&waiting, status);
+    fuse_session_destroy(session);
+    fuse_opt_free_args(&words);
+    return status;
+}

@@ -1,0 +1,83 @@
+/* A mounted volume: script lines about its nodes, and what their replies say. */
+#ifndef VOLUME_H
+#define VOLUME_H
+
+#include "nodes.h"
+#include "program.h"
+
+#include <stdbool.h>
+#include <stddef.h>
+#include <stdint.h>
+#include <sys/types.h>
+
+enum { READ_PIECE = 16384, WRITE_PIECE = 24576, PAGE = 4096 };
+
+struct volume {
+    struct program program;
+    struct nodes nodes;
+    uid_t user;
+    gid_t group;
+    bool is_quiet;              /* modes and owners that can't be kept are no error */
+    char line[LONGEST_LINE + 1];
+    size_t length;              /* of the line */
+    int line_error;             /* why it can't be asked, or 0 */
+    const char *reply;
+};
+
+struct status {
+    bool is_directory;
+    uint64_t inode;
+    uint64_t links;
+    uint64_t size;              /* bytes of a file, names of a directory */
+};
+
+struct space {
+    uint64_t free_inodes, inodes, free_pages, pages;
+};
+
+/* A line is built word by word, and asked. */
+void line_begin(struct volume *volume, const char *command);
+void line_add_node(struct volume *volume, uint64_t inode);
+void line_add_name(struct volume *volume, uint64_t directory, const char *name);
+void line_add_number(struct volume *volume, uint64_t number);
+
+/* As many bytes as fit into one piece and into the line. Returns their number, 0 where there is room for none. */
+size_t line_add_bytes(struct volume *volume, const char *bytes, size_t length);
+
+/* Asks the line. 0 where it is done, or the error that stands for the refusal. */
+int line_ask(struct volume *volume);
+
+/* A reply that is none of those that were to come: EIO from now on. */
+int volume_bad_reply(struct volume *volume);
+
+/* A line about one node, or about one name in a directory. */
+int volume_ask_node(struct volume *volume, const char *command, uint64_t inode);
+int volume_ask_name(struct volume *volume, const char *command, uint64_t directory, const char *name);
+
+int volume_stat_node(struct volume *volume, uint64_t inode, struct status *status);
+int volume_stat_name(struct volume *volume, uint64_t directory, const char *name, struct status *status);
+int volume_rename(struct volume *volume, uint64_t directory, const char *name, uint64_t new_directory, const char *new_name);
+int volume_link(struct volume *volume, uint64_t inode, uint64_t directory, const char *name);
+int volume_truncate(struct volume *volume, uint64_t inode, uint64_t size);
+int volume_space(struct volume *volume, struct space *space);
+
+/* At most so many bytes from an offset on. `count` gets how many there are. */
+int volume_read(struct volume *volume, uint64_t inode, uint64_t offset, char *bytes, size_t length, size_t *count);
+
+/* The bytes from an offset on. `count` gets how many were written: fewer only where a later piece is refused. */
+int volume_write(struct volume *volume, uint64_t inode, uint64_t offset, const char *bytes, size_t length, size_t *count);
+
+/* The names of a directory, decoded, each behind the last one's zero byte, in memory to be freed. */
+int volume_list(struct volume *volume, uint64_t inode, char **names, size_t *length);
+
+/* Removes all hidden names: at a mount, and at its end. */
+int volume_remove_hidden(struct volume *volume);
+
+/* The last name of an open file is to go: it gets a hidden one in its place, or beside it. */
+int volume_hide(struct volume *volume, const struct name *name);
+int volume_link_hidden(struct volume *volume, uint64_t inode);
+
+/* The hidden name of a file goes, and the file with it where it has no other. */
+void volume_unhide(struct volume *volume, uint64_t inode);
+
+#endif

@@ -1,0 +1,116 @@
+"""Files that are open without a name, and programs that are killed behind each line of what takes it."""
+import contextlib
+import os
+
+from mounts import (
+    KILLED, PAGE, await_so, error_of, expect_equal, expect_error, listed, opened, read, replies, stand_in, write,
+)
+
+
+def hidden_unlink(trial, mount):
+    free = trial.free()
+    os.mkdir(trial.at("d"))
+    with opened(trial.at("d", "a"), os.O_CREAT | os.O_RDWR) as file:
+        os.write(file, b"still here")
+        os.unlink(trial.at("d", "a"))
+        os.rmdir(trial.at("d"))
+        expect_equal("the names", os.listdir(trial.folder), [])
+        expect_equal("the root's size", os.stat(trial.folder).st_size, 0)
+        expect_equal("links", os.fstat(file).st_nlink, 0)
+        os.pwrite(file, b"S", 0)
+        os.ftruncate(file, 8)
+        expect_equal("the bytes", os.pread(file, 99, 0), b"Still he")
+        for name in os.listdir(trial.folder) + [f".squirrel-{os.fstat(file).st_ino}"]:
+            expect_error("ENOENT", os.stat, trial.at(name))
+            expect_error("ENOENT", os.unlink, trial.at(name))
+    await_so(lambda: trial.free()[0] == free[0], "the inode of a closed file")
+
+
+def hidden_over(trial, mount):
+    free = trial.free()[0]
+    write(trial.at("N"), b"old")
+    with opened(trial.at("N")) as file:
+        write(trial.at("O"), b"new")
+        os.rename(trial.at("O"), trial.at("N"))
+        expect_equal("the bytes", (os.pread(file, 9, 0), read(trial.at("N"))), (b"old", b"new"))
+        expect_equal("links and names", (os.fstat(file).st_nlink, os.listdir(trial.folder)), (0, ["N"]))
+        write(trial.at("O"), b"newer")
+        os.rename(trial.at("O"), trial.at("N"))
+        expect_equal("the bytes", (os.pread(file, 9, 0), read(trial.at("N"))), (b"old", b"newer"))
+    await_so(lambda: trial.free()[0] == free - 1, "the inode of a closed file")
+    os.unlink(trial.at("N"))
+
+
+def unknown_name(trial):
+    """The last name that is known goes of a file that has another."""
+    replies(trial.program, trial.image, "create /a", "link /a /b", "write /a 0 6162")
+    with trial.mount() as mount:
+        with opened(trial.at("a")) as file:
+            os.unlink(trial.at("a"))
+            expect_equal("links", os.fstat(file).st_nlink, 1)
+            os.pwrite(file, b"A", 0)
+            expect_equal("what the other name reads", (read(trial.at("b")), os.stat(trial.at("b")).st_nlink), (b"Ab", 1))
+            os.unlink(trial.at("b"))
+            expect_equal("links", os.fstat(file).st_nlink, 0)
+            expect_equal("the bytes", os.pread(file, 9, 0), b"Ab")
+        mount.end()
+    expect_equal("the names", listed(trial.program, trial.image), [])
+
+
+def no_page_for_hidden(trial):
+    trial.make(16)
+    lines = ["create /n0", *(f"link /n0 /n{number}" for number in range(1, 32)), f"truncate /n0 {12 * PAGE}", "df"]
+    expect_equal("df", replies(trial.program, trial.image, *lines)[-1], "ok inodes 2 4 pages 0 13")
+    with trial.mount() as mount:
+        with opened(trial.at("n0")) as file:
+            expect_error("ENOSPC", os.unlink, trial.at("n0"))
+            expect_equal("links", os.fstat(file).st_nlink, 32)
+        await_so(lambda: error_of(os.unlink, trial.at("n0")) is None, "an unlink of a file that isn't open")
+        mount.end()
+
+
+def killed_behind(trial, lines, act):
+    """The program is killed behind so many lines of what is done, and the volume mounted anew."""
+    armed = trial.work / "armed"
+    armed.unlink(missing_ok=True)
+    with stand_in(trial, "killed", armed) as mount, mount:
+        with contextlib.suppress(OSError), opened(trial.at("N")):
+            armed.write_text(str(lines))
+            act()
+        if error_of(os.mkdir, trial.at("more")) is None:
+            await_so(lambda: error_of(os.mkdir, trial.at("more")) == "EIO", "a program that is killed")
+        mount.end(KILLED)
+
+
+def after_kill(trial, wanted):
+    """Names and bytes after the next mount, and that no hidden name is left."""
+    with trial.mount() as mount:
+        found = {name: read(trial.at(name)) for name in os.listdir(trial.folder) if name != "more"}
+        expect_equal("what is there", found, wanted)
+        expect_equal("inodes in use", 64 - trial.free()[0], 1 + len(os.listdir(trial.folder)))
+        mount.end()
+    expect_equal("the names", sorted(set(listed(trial.program, trial.image)) - {"more"}), sorted(wanted))
+
+
+def hidden_killed(trial):
+    for lines in range(3):
+        trial.make(256)
+        replies(trial.program, trial.image, "create /N", "write /N 0 61")
+        killed_behind(trial, lines, lambda: os.unlink(trial.at("N")))
+        after_kill(trial, {} if lines > 0 else {"N": b"a"})
+    for lines in range(4):
+        trial.make(256)
+        replies(trial.program, trial.image, "create /N", "write /N 0 61", "create /O", "write /O 0 62")
+        killed_behind(trial, lines, lambda: os.rename(trial.at("O"), trial.at("N")))
+        after_kill(trial, {"N": b"b"} if lines > 1 else {"N": b"a", "O": b"b"})
+
+
+def hidden(trial):
+    trial.make(256)
+    with trial.mount() as mount:
+        hidden_unlink(trial, mount)
+        hidden_over(trial, mount)
+        mount.end()
+    unknown_name(trial)
+    no_page_for_hidden(trial)
+    hidden_killed(trial)
