@@ -3,7 +3,9 @@ use pm_memory::RamPm;
 use squirrel_cli::Status;
 use std::alloc::Global;
 use std::test::Fail;
-use worked_drivers::jobs::{Left, do_job, is_done, same, sink_of, source_of, text_of};
+use worked_drivers::jobs::{
+    Left, do_job, is_done, job_between, job_with_fault, same, sink_of, source_of, text_of,
+};
 use worked_drivers::rows::compare_replies;
 use worked_drivers::volumes::small_volume;
 
@@ -31,10 +33,9 @@ fn lines_in(text: &[u8]) -> usize {
 fn cut(alloc: Global, script: &[u8], replies: &[u8]) -> Result<(), Fail> {
     let volume = small_volume(alloc)?;
     for place in 0..=script.len() {
-        let mut pm = RamPm::new(alloc, volume.as_slice())?;
         let source = source_of(alloc, script, 1, (place as u64).saturating_add(1))?;
         let sink = sink_of(alloc, 4_096, 0)?;
-        let left = do_job(alloc, "squirrel run v", &mut pm, source, sink)?;
+        let left = job_between(alloc, "squirrel run v", volume.as_slice(), source, sink)?;
         let lines = lines_in(script.get(..place).unwrap_or(script));
         let wanted = first_lines(replies, lines);
         same(
@@ -66,20 +67,24 @@ fn the_script_is_cut_at_each_byte(rt: HostRuntime) -> Result<(), Fail> {
 #[test]
 fn a_read_fails_within_the_second_line(rt: HostRuntime) -> Result<(), Fail> {
     let volume = small_volume(rt.alloc())?;
-    let mut pm = RamPm::new(rt.alloc(), volume.as_slice())?;
     let source = source_of(rt.alloc(), b"list /\nlist /\n", 2, 5)?;
     let sink = sink_of(rt.alloc(), 4_096, 0)?;
-    let left = do_job(rt.alloc(), "squirrel run v", &mut pm, source, sink)?;
+    let left = job_between(
+        rt.alloc(),
+        "squirrel run v",
+        volume.as_slice(),
+        source,
+        sink,
+    )?;
     same(text_of(&left.told), "ok 0\n", "two lines")?;
     same(left.status, Status::ReadFault, "two lines")
 }
 
 // Runs two lines that make files and one that lists them, with an output that is full or fails.
 fn told_to(alloc: Global, volume: &[u64], room: usize, failing: u64) -> Result<Left, Fail> {
-    let mut pm = RamPm::new(alloc, volume)?;
     let source = source_of(alloc, b"create /a\ncreate /b\nlist /\n", 4_096, 0)?;
     let sink = sink_of(alloc, room, failing)?;
-    do_job(alloc, "squirrel run v", &mut pm, source, sink)
+    job_between(alloc, "squirrel run v", volume, source, sink)
 }
 
 const WHOLE: &[u8] = b"ok\nok\nok 2 a b\n";
@@ -144,41 +149,31 @@ fn a_reply_that_is_cut(rt: HostRuntime) -> Result<(), Fail> {
     )
 }
 
-// The messages of a volume that can't be taken, of `mkfs` and of `run`, to an output without room.
+// The message of `mkfs`, and of every other job that the words are no volume, to an output without room.
 #[test]
 fn a_job_tells_no_one(rt: HostRuntime) -> Result<(), Fail> {
-    for line in ["squirrel mkfs v 16", "squirrel run v"] {
-        let words = vec![in rt.alloc(); 0; 8_192]?;
-        let mut pm = RamPm::new(rt.alloc(), words.as_slice())?;
+    let words = vec![in rt.alloc(); 0; 8_192]?;
+    for line in [
+        "squirrel mkfs v 16",
+        "squirrel run v",
+        "squirrel tree v",
+        "squirrel check v",
+        "squirrel crash v --at 0 --keep 00",
+    ] {
         let source = source_of(rt.alloc(), b"", 1, 0)?;
         let sink = sink_of(rt.alloc(), 6, 0)?;
-        let left = do_job(rt.alloc(), line, &mut pm, source, sink)?;
+        let left = job_between(rt.alloc(), line, words.as_slice(), source, sink)?;
         same(left.status, Status::WriteFault, line)?;
         same(left.told.len(), 6, line)?;
     }
     Ok(())
 }
 
-// Does a job on a device of which one call of fence fails.
-fn with_fault(
-    alloc: Global,
-    line: &str,
-    image: &[u64],
-    script: &[u8],
-    fence: u64,
-) -> Result<Left, Fail> {
-    let failing = [fence].to_vec(alloc)?;
-    let mut pm = RamPm::with_failing(alloc, image, failing)?;
-    let source = source_of(alloc, script, 4_096, 0)?;
-    let sink = sink_of(alloc, 4_096, 0)?;
-    do_job(alloc, line, &mut pm, source, sink)
-}
-
 #[test]
 fn a_fence_of_mkfs_fails(rt: HostRuntime) -> Result<(), Fail> {
     let old = vec![in rt.alloc(); 7; 8_192]?;
     for fence in 1u64..4 {
-        let left = with_fault(rt.alloc(), "squirrel mkfs v 16", old.as_slice(), b"", fence)?;
+        let left = job_with_fault(rt.alloc(), "squirrel mkfs v 16", old.as_slice(), b"", fence)?;
         same((fence, left.status), (fence, Status::DeviceFault), "mkfs")?;
         same(left.status.number(), 5, "mkfs")?;
         same(text_of(&left.told), "", "mkfs")?;
@@ -201,7 +196,7 @@ fn a_fence_of_a_line_fails(rt: HostRuntime) -> Result<(), Fail> {
         (4, second, 2, "ok 1 a\n"),
         (5, second, 2, "ok 2 a b\n"),
     ] {
-        let left = with_fault(
+        let left = job_with_fault(
             rt.alloc(),
             "squirrel run v",
             volume.as_slice(),
@@ -221,7 +216,7 @@ fn a_fence_of_a_line_fails(rt: HostRuntime) -> Result<(), Fail> {
 #[test]
 fn a_fence_fails_that_is_not_made(rt: HostRuntime) -> Result<(), Fail> {
     let volume = small_volume(rt.alloc())?;
-    let left = with_fault(
+    let left = job_with_fault(
         rt.alloc(),
         "squirrel run v",
         volume.as_slice(),

@@ -10,24 +10,7 @@ use worked_drivers::jobs::{
     crash_at, do_job, events_of, is_done, run_on, same, sink_of, source_of, text_of,
 };
 use worked_drivers::rows::compare_run;
-use worked_drivers::volumes::{small_volume, volume_with_a, with_words};
-
-// With the file `/a` it is renamed to `/b`, as far as the commit. Besides a dead slot has a name, inode 2 has too many links,
-// inode 3 isn't named, page 1 is past the end of the file, and page 2 has an owner that no volume of this size has.
-const LITTERED: [(usize, u64); 12] = [
-    (529, 7),
-    (544, 1),
-    (547, 3),
-    (1_032, 2),
-    (1_033, 1),
-    (1_040, 5),
-    (1_041, 3),
-    (1_042, 9),
-    (1_552, 2),
-    (1_553, 1),
-    (1_554, 0x62_0001),
-    (1_570, 0x63_0001),
-];
+use worked_drivers::volumes::{LITTERED, littered, small_volume, volume_with_a, with_words};
 
 // The number of each step's fence.
 const FENCES: [u64; 4] = [1, 2, 3, 4];
@@ -46,10 +29,6 @@ pub(crate) struct Row<'a> {
     pub(crate) script: &'a str,
     pub(crate) told: &'a str,
     pub(crate) free: (u64, u64),
-}
-
-fn littered(alloc: Global) -> Result<Vec<u64>, Fail> {
-    with_words(alloc, volume_with_a(alloc)?.as_slice(), &LITTERED)
 }
 
 // Runs the script on the volume with the words set, and again on what the first run left, which takes no fence.

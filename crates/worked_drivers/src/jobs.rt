@@ -13,8 +13,11 @@ use std::test::Fail;
 // Events can be counted where there are no more acknowledgements.
 const MOST_ACKS: u64 = 1 << 62;
 
-// How many bytes of a script a read gives, and how many the output takes.
-const WIDE: usize = 4_096;
+// How many bytes of a script a read gives.
+const STEP: usize = 4_096;
+
+// How many bytes the output takes: the listing of a file of several pages has room in it.
+const ROOM: usize = 65_536;
 
 /// How a job ended, what the output took, the device's words, and how many fences and acknowledgements it made.
 #[derive(Drop)]
@@ -91,8 +94,8 @@ pub fn run_on<P: Pm>(alloc: Global, pm: &mut P, script: &str) -> Result<Left, Fa
     requires fences { (P.view pm.old).fences ≡ 0 }
     requires acks { (P.view pm.old).acks ≡ 0 }
 {
-    let source = source_of(alloc, script.as_bytes(), WIDE, 0)?;
-    let sink = sink_of(alloc, WIDE, 0)?;
+    let source = whole_script(alloc, script.as_bytes())?;
+    let sink = sink_of(alloc, ROOM, 0)?;
     do_job(alloc, "squirrel run v", pm, source, sink)
 }
 
@@ -111,11 +114,49 @@ pub fn sink_of(alloc: Global, room: usize, failing: u64) -> Result<MemSink, Fail
     Ok(MemSink::new(alloc, room, failing)?)
 }
 
+// A script of which no read fails.
+fn whole_script(alloc: Global, script: &[u8]) -> Result<MemSource, Fail> {
+    source_of(alloc, script, STEP, 0)
+}
+
 /// A job on these words, with this script, where nothing fails.
 pub fn job_on(alloc: Global, line: &str, image: &[u64], script: &[u8]) -> Result<Left, Fail> {
+    let source = whole_script(alloc, script)?;
+    let sink = sink_of(alloc, ROOM, 0)?;
+    job_between(alloc, line, image, source, sink)
+}
+
+/// A job on these words that is to read no script: the first read would fail.
+pub fn job_without_script(alloc: Global, line: &str, image: &[u64]) -> Result<Left, Fail> {
+    let source = source_of(alloc, b"create /unread\n", STEP, 1)?;
+    let sink = sink_of(alloc, ROOM, 0)?;
+    job_between(alloc, line, image, source, sink)
+}
+
+/// A job on these words, between this script and this output.
+pub fn job_between(
+    alloc: Global,
+    line: &str,
+    image: &[u64],
+    source: MemSource,
+    sink: MemSink,
+) -> Result<Left, Fail> {
     let mut pm = RamPm::new(alloc, image)?;
-    let source = source_of(alloc, script, WIDE, 0)?;
-    let sink = sink_of(alloc, WIDE, 0)?;
+    do_job(alloc, line, &mut pm, source, sink)
+}
+
+/// A job on these words, with this script, where one call of the device's fence fails.
+pub fn job_with_fault(
+    alloc: Global,
+    line: &str,
+    image: &[u64],
+    script: &[u8],
+    fence: u64,
+) -> Result<Left, Fail> {
+    let failing = [fence].to_vec(alloc)?;
+    let mut pm = RamPm::with_failing(alloc, image, failing)?;
+    let source = whole_script(alloc, script)?;
+    let sink = sink_of(alloc, ROOM, 0)?;
     do_job(alloc, line, &mut pm, source, sink)
 }
 

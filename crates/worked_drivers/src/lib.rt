@@ -3,6 +3,7 @@
 
 pub mod crashes;
 pub mod jobs;
+pub mod replays;
 pub mod rows;
 pub mod texts;
 pub mod volumes;

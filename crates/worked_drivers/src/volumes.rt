@@ -29,6 +29,29 @@ pub fn volume_with_a(alloc: Global) -> Result<Vec<u64>, Fail> {
     volume_after(alloc, 16, "create /a\n")
 }
 
+/// Words that are set in the volume of 16 pages with the file `/a`: it is renamed to `/b`, as far as the commit. Besides a dead slot
+/// has a name, inode 2 has too many links, inode 3 isn't named, page 1 is past the end of the file, and page 2 has an owner that no
+/// volume of this size has. A mount mends them in 59 events with 4 fences.
+pub const LITTERED: [(usize, u64); 12] = [
+    (529, 7),
+    (544, 1),
+    (547, 3),
+    (1_032, 2),
+    (1_033, 1),
+    (1_040, 5),
+    (1_041, 3),
+    (1_042, 9),
+    (1_552, 2),
+    (1_553, 1),
+    (1_554, 0x62_0001),
+    (1_570, 0x63_0001),
+];
+
+/// The words of that volume.
+pub fn littered(alloc: Global) -> Result<Vec<u64>, Fail> {
+    with_words(alloc, volume_with_a(alloc)?.as_slice(), &LITTERED)
+}
+
 /// Sets some words.
 pub fn set_words(image: &mut Vec<u64>, changes: &[(usize, u64)]) -> Result<(), Fail> {
     for (word, value) in changes {

@@ -1,0 +1,178 @@
+// What a volume holds, what a mount would repair, and the tree that is listed.
+use std::alloc::Global;
+use std::test::Fail;
+use worked_drivers::jobs::{Left, is_done, job_without_script, same};
+use worked_drivers::volumes::{LITTERED, small_volume, volume_after, volume_with_a, with_words};
+
+// How many directories, files and names a tree has.
+type Held = (u64, u64, u64);
+
+// How many pointers, slots, pages, inodes and counts are to be repaired.
+type Repairs = (u64, u64, u64, u64, u64);
+
+const NO_REPAIRS: Repairs = (0, 0, 0, 0, 0);
+
+// The root alone; the root and one file.
+const BARE: Held = (1, 0, 0);
+
+const ONE_FILE: Held = (1, 1, 1);
+
+const EMPTY: &str = "d 1 2 0 /\n";
+
+const FILE_A: &str = "d 1 2 1 /\nf 2 1 0 /a -\n";
+
+const FILE_B: &str = "d 1 2 1 /\nf 2 1 0 /b -\n";
+
+// Words that are set in a volume, what `check` counts of them, and the listing of the tree.
+#[derive(Clone, Copy)]
+struct Row<'a> {
+    words: &'a [(usize, u64)],
+    held: Held,
+    repairs: Repairs,
+    tree: &'a str,
+}
+
+// Checks a volume, which is left alone.
+fn compare_check(alloc: Global, image: &[u64], held: Held, repairs: Repairs) -> Result<(), Fail> {
+    let (directories, files, names) = held;
+    let (pointers, slots, pages, inodes, counts) = repairs;
+    let holds = format!(in alloc; "tree directories {directories} files {files} names {names}")?;
+    let told = format!(in alloc;
+        "sound\n{holds}\nrepairs pointers {pointers} slots {slots} pages {pages} inodes {inodes} counts {counts}\n"
+    )?;
+    let left = job_without_script(alloc, "squirrel check v", image)?;
+    is_done(&left, told.as_str(), "check")?;
+    same(left.image.as_slice(), image, "check")?;
+    same((left.fences, left.acks), (0, 0), "check")
+}
+
+// Lists the tree of a volume, which is mended for it.
+fn compare_tree(alloc: Global, image: &[u64], tree: &str) -> Result<Left, Fail> {
+    let left = job_without_script(alloc, "squirrel tree v", image)?;
+    is_done(&left, tree, "tree")?;
+    same(left.acks, 0, "tree")?;
+    Ok(left)
+}
+
+// Checks each volume, lists its tree, and checks what that left: the same tree, and nothing to repair.
+fn compare_rows(alloc: Global, volume: &[u64], rows: &[Row<'_>]) -> Result<(), Fail> {
+    for row in rows {
+        let image = with_words(alloc, volume, row.words)?;
+        compare_check(alloc, image.as_slice(), row.held, row.repairs)?;
+        let left = compare_tree(alloc, image.as_slice(), row.tree)?;
+        compare_check(alloc, left.image.as_slice(), row.held, NO_REPAIRS)?;
+    }
+    Ok(())
+}
+
+// Nothing; an inode that nothing names; a page's rest without an owner; an inode's size alone.
+#[test]
+fn a_fresh_volume_is_checked(rt: HostRuntime) -> Result<(), Fail> {
+    compare_rows(
+        rt.alloc(),
+        small_volume(rt.alloc())?.as_slice(),
+        &[
+            Row {
+                words: &[],
+                held: BARE,
+                repairs: NO_REPAIRS,
+                tree: EMPTY,
+            },
+            Row {
+                words: &[(528, 1), (529, 1), (530, 0), (531, 2)],
+                held: BARE,
+                repairs: (0, 0, 0, 1, 0),
+                tree: EMPTY,
+            },
+            Row {
+                words: &[(1_025, 2), (1_026, 7)],
+                held: BARE,
+                repairs: (0, 0, 1, 0, 0),
+                tree: EMPTY,
+            },
+            Row {
+                words: &[(530, 5)],
+                held: BARE,
+                repairs: (0, 0, 0, 1, 0),
+                tree: EMPTY,
+            },
+        ],
+    )
+}
+
+// A rename to `/b` after its commit; a pointer in a slot without a number, and a name in it; a page past the end of the file; links
+// that are too high; all of this and more; and a file whose slot a slot of a directory hides that nothing names.
+#[test]
+fn a_volume_with_a_file_is_checked(rt: HostRuntime) -> Result<(), Fail> {
+    compare_rows(
+        rt.alloc(),
+        volume_with_a(rt.alloc())?.as_slice(),
+        &[
+            Row {
+                words: &[(1_552, 2), (1_553, 1), (1_554, 0x62_0001)],
+                held: ONE_FILE,
+                repairs: (1, 1, 0, 0, 0),
+                tree: FILE_B,
+            },
+            Row {
+                words: &[(1_553, 1)],
+                held: ONE_FILE,
+                repairs: (1, 1, 0, 0, 0),
+                tree: FILE_A,
+            },
+            Row {
+                words: &[(1_554, 0x62_0001)],
+                held: ONE_FILE,
+                repairs: (0, 1, 0, 0, 0),
+                tree: FILE_A,
+            },
+            Row {
+                words: &[(1_032, 2), (1_033, 1)],
+                held: ONE_FILE,
+                repairs: (0, 0, 1, 0, 0),
+                tree: FILE_A,
+            },
+            Row {
+                words: &[(513, 9), (529, 7)],
+                held: ONE_FILE,
+                repairs: (0, 0, 0, 0, 2),
+                tree: FILE_A,
+            },
+            Row {
+                words: &LITTERED,
+                held: ONE_FILE,
+                repairs: (1, 2, 2, 1, 1),
+                tree: FILE_B,
+            },
+            Row {
+                words: &[
+                    (544, 2),
+                    (545, 2),
+                    (547, 3),
+                    (1_032, 3),
+                    (1_033, 2),
+                    (2_048, 2),
+                    (2_049, 1),
+                    (2_050, 0x78_0001),
+                ],
+                held: BARE,
+                repairs: (1, 0, 2, 2, 0),
+                tree: EMPTY,
+            },
+        ],
+    )
+}
+
+// Names stand in the order of their bytes, below their directory, and a file with two names at both. Some bytes are written by two digits.
+#[test]
+fn a_tree_is_listed(rt: HostRuntime) -> Result<(), Fail> {
+    let script =
+        "mkdir /a\ncreate /a/x\ncreate /a-b\ncreate /a.b\ncreate /9\ncreate /:\nmkdir /a/y\ncreate /a/y/z\nlink /a/x /zz\nwrite /zz 0 00ff10\ncreate /%20\n";
+    let tree =
+        "d 1 3 7 /\nf 10 1 0 /%20 -\nf 6 1 0 /9 -\nf 7 1 0 /%3A -\nd 2 3 2 /a\nf 3 2 3 /a/x 00ff10\nd 8 2 1 /a/y\nf 9 1 0 /a/y/z -\nf 4 1 0 /a-b -\nf 5 1 0 /a.b -\nf 3 2 3 /zz 00ff10\n";
+    let volume = volume_after(rt.alloc(), 64, script)?;
+    compare_check(rt.alloc(), volume.as_slice(), (3, 7, 10), NO_REPAIRS)?;
+    let left = compare_tree(rt.alloc(), volume.as_slice(), tree)?;
+    same(left.fences, 0, "tree")?;
+    same(left.image.as_slice(), volume.as_slice(), "tree")
+}

@@ -1,0 +1,15 @@
+//! Worked rows of crashes that are replayed, of listings, of what a check tells, and of the words of a command line.
+#![tactic(auto)]
+
+#[cfg(test)]
+mod checks;
+#[cfg(test)]
+mod command_lines;
+#[cfg(test)]
+mod cuts;
+#[cfg(test)]
+mod failures;
+#[cfg(test)]
+mod moments;
+#[cfg(test)]
+mod torn;
