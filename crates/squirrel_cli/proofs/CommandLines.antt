@@ -1,5 +1,5 @@
 -- The command as it is built, and what a parse by it gives.
-use Rattle.std.proofs.Common.{◌≡◌, ◌∙◌, sym, ap, ap₂, refl, false, true, List, [], ◌∷◌, Option, Some, None, ◌++◌, option_map, inl, inr}
+use Rattle.std.proofs.Common.{◌≡◌, ◌∙◌, sym, ap, ap₂, refl, false, true, List, [], ◌∷◌, Option, Some, None, option_map, inl, inr}
 use Rattle.clap.specs.Built.{AddsArg, AddsSubcommand}
 use Rattle.clap.specs.Kinds.{Kinds, HasKind}
 use Rattle.clap.specs.Faults.{fault_of, is_simple_and_free}

@@ -32,10 +32,8 @@ pub fn device_of(alloc: Global, words: &Words) -> Result<Wanted, NoMemory>
         }
         Some(job) => {
             let path = ImagePath::new(alloc, split.image())?;
-            Ok(Wanted::Existing {
-                path,
-                stores: job.stores(),
-            })
+            let stores = job.stores();
+            Ok(Wanted::Existing { path, stores })
         }
     }
 }

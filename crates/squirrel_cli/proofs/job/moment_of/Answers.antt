@@ -1,7 +1,5 @@
-use Rattle.std.proofs.Common.{rules, ◌≡◌, ◌∙◌, ap₂, sym, Some, None}
+use Rattle.std.proofs.Common.{rules, ◌≡◌, Some, None}
 use Rattle.script.specs.Lines.{number_of}
-use Rattle.crash_replay.specs.declared.moment.Moment.TheVariants.{Before}
-use Rattle.squirrel_cli.specs.Job.{both}
 use Rattle.squirrel_cli.proofs.job.moment_of.Goals as goal
 
 pub returns-in_err-number_of-in-None-Some-Some-2 : goal.returns-in_err-number_of-in-None-Some-Some-2

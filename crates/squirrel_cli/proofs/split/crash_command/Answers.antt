@@ -1,4 +1,3 @@
-use Rattle.std.proofs.Common.{◌≡◌, false}
 use Rattle.std.proofs.lemmas.Result.{IfOk-weaker}
 use Rattle.squirrel_cli.proofs.CommandLines.{more_rules, still_local}
 use Rattle.squirrel_cli.proofs.split.crash_command.Goals as goal

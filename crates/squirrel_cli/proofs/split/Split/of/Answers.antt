@@ -1,9 +1,8 @@
-use Rattle.std.proofs.Common.{rules, ◌≡◌, ◌∙◌, ap, ap₂, map, subst, sym, List, []}
-use Rattle.std.specs.String.{string_bytes}
+use Rattle.std.proofs.Common.{rules, ◌≡◌, ◌∙◌, ap, ap₂, subst, sym, []}
 use Rattle.clap.specs.Faults.{fault_of, is_simple_and_free}
 use Rattle.clap.specs.Kinds.{HasKind, Kinds}
-use Rattle.clap.specs.Simple.{App, app_of, is_simple, subcommand_of}
-use Rattle.squirrel_cli.specs.CommandLine.{Word, squirrel_app}
+use Rattle.clap.specs.Simple.{is_simple, subcommand_of}
+use Rattle.squirrel_cli.specs.CommandLine.{squirrel_app}
 use Rattle.squirrel_cli.proofs.CommandLines.{is_simple-squirrel_app, is_simple_and_free-squirrel_app, split_taken, split_refused}
 use Rattle.squirrel_cli.proofs.split.Split.of.Goals as goal
 
