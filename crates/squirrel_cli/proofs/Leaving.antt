@@ -14,10 +14,14 @@ use Rattle.image_reading.specs.Soundness.Rule.{head}
 use Rattle.image_reading.proofs.Violations.{pages_law}
 use Rattle.image_reading.proofs.Readings.{one_tree}
 use Rattle.mount_scan.specs.Mounting.{IsSound}
+use Rattle.tree_model.specs.Step.{Answer}
+use Rattle.script.specs.declared.run_end.RunEnd.{RunEnd}
+use Rattle.script.specs.declared.run_end.RunEnd.TheVariants as run_end
 use Rattle.engine.specs.Run.{IsBetween}
+use Rattle.engine.specs.Script.{RunsScript, WritesAnswers}
 use Rattle.squirrel_cli.specs.Mounts.{IsOnlyMounted}
-use Rattle.squirrel_cli.specs.Replays.{IsUnbegun}
-use Rattle.squirrel_cli.specs.ReplaySteps.{LeavesSound, LeavesSoundSoFar}
+use Rattle.squirrel_cli.specs.Replays.{Anything, IsUnbegun}
+use Rattle.squirrel_cli.specs.ReplaySteps.{LeavesSound, LeavesSoundSoFar, RunsMounted}
 
 -- a sound image has as many pages as its length says
 pub own_pages : {P : ℕ} (W : List ℕ) → Sound P W → pages_in_image W ≡ P
@@ -46,3 +50,45 @@ mount_leaves_sound {before = before} unbegun only place image within may =
     let first : moment_of before.trail ≤ place = subst (λ (t : Option Trail). moment_of t ≤ place) (sym unbegun.recorded) (omega arith) in
     let (none, means) = only.mount.any_moment.each place image first within may in
     means.sound
+
+-- ---- of what a run's own sink took nothing is asked
+
+any_writes : {took now : List ℕ → Type 0} {answers : List Answer} (end : RunEnd) → WritesAnswers end took answers now → WritesAnswers end Anything answers Anything
+any_writes run_end.Done writes = λ bytes any. tt
+any_writes run_end.Faulted writes = λ bytes any. tt
+any_writes run_end.ReadFault writes = λ bytes any. tt
+any_writes run_end.Limit writes = λ bytes any. tt
+any_writes run_end.WriteFault writes = record {
+  whole = writes.whole;
+  last = writes.last;
+  split = writes.split;
+  count = writes.count;
+  short = writes.short;
+  takes = λ bytes any. tt;
+}
+
+pub any_run : {P : ℕ} {before after : DeviceView} {end : RunEnd} {script rest : Option (List ℕ)} {took now : List ℕ → Type 0} → RunsScript P before after end script rest took now → RunsMounted P before after end script rest
+any_run {end = end} run = record {
+  start = run.start;
+  reads = run.reads;
+  lines = run.lines;
+  answers = run.answers;
+  states = run.states;
+  run = run.run;
+  ends = run.ends;
+  cause = run.cause;
+  no_fault = run.no_fault;
+  executes = run.executes;
+  writes = any_writes end run.writes;
+  acks = run.acks;
+  acked = run.acked;
+  ack_count = run.ack_count;
+  settled = run.settled;
+  last = run.last;
+  fences = run.fences;
+  no_memory = run.no_memory;
+  refused = run.refused;
+  any_moment = run.any_moment;
+  quiet = run.quiet;
+  halts = run.halts;
+}

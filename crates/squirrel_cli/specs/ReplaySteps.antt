@@ -14,7 +14,7 @@ use Rattle.script.specs.declared.run_end.RunEnd.TheVariants as ends
 use Rattle.engine.specs.Script.{RunsScript}
 use Rattle.crash_replay.specs.declared.moment.Moment.{Moment}
 use Rattle.squirrel_cli.specs.declared.status.Status.{Status}
-use Rattle.squirrel_cli.specs.Replays.{ListsLeft}
+use Rattle.squirrel_cli.specs.Replays.{Anything, ListsLeft}
 
 -- whatever a crash at any moment leaves is sound
 abbrev pub LeavesSound : Trail → Type 0
@@ -25,15 +25,12 @@ abbrev pub LeavesSoundSoFar : ℕ → Option Trail → Type 0
 LeavesSoundSoFar P trail = (moment : ℕ) (image : List ℕ) → moment ≤ moment_of trail → MayLeave trail moment image → Sound P image
 
 -- the script was run through on the mounted device to this end; of what the run's own sink took nothing is asked
-pub record RunsMounted (P : ℕ) (before after : DeviceView) (end : RunEnd) (script rest : Option (List ℕ)) : Type 0 where
-  pub tally : List ℕ → Type 0
-  pub tallied : List ℕ → Type 0
-  pub run : RunsScript P before after end script rest tally tallied
+abbrev pub RunsMounted : ℕ → DeviceView → DeviceView → RunEnd → Option (List ℕ) → Option (List ℕ) → Type 0
+RunsMounted P before after end script rest = RunsScript P before after end script rest Anything Anything
 
 -- it was run to its end, and what a crash at the moment leaves was listed
 pub record ReplaysMounted (moment : Moment) (keep : List ℕ) (P : ℕ) (before after : DeviceView) (result : Status) (script rest : Option (List ℕ)) (took now : List ℕ → Type 0) : Type 0 where
-  pub mounted : RunsMounted P before after ends.Done script rest
-  pub open mounted use *
+  pub run : RunsMounted P before after ends.Done script rest
   pub unfailed : length run.states ≡ length run.answers
   pub ample : (k : ℕ) → slice_get run.answers k ≢ Some (Refused OutOfMemory)
   pub trail : Trail

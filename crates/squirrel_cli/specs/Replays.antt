@@ -26,11 +26,13 @@ pub record IsUnbegun (device : DeviceView) : Type 0 where
   pub base : List ℕ
   pub recorded : device.trail ≡ Some (record { base = base; events = [] })
 
+-- a sink of which nothing is known may be said to have taken any bytes
+abbrev pub Anything : List ℕ → Type 0
+Anything bytes = Unit {0}
+
 -- The device was mounted, and the script run through on it to this end. Of what the run's own sink took nothing is asked.
-pub record RunsThrough (P : ℕ) (before after : DeviceView) (end : RunEnd) (script rest : Option (List ℕ)) : Type 0 where
-  pub tally : List ℕ → Type 0
-  pub tallied : List ℕ → Type 0
-  pub ran : MountsAndRuns P before after end script rest tally tallied
+abbrev pub RunsThrough : ℕ → DeviceView → DeviceView → RunEnd → Option (List ℕ) → Option (List ℕ) → Type 0
+RunsThrough P before after end script rest = MountsAndRuns P before after end script rest Anything Anything
 
 -- how the run of the script ended that a replay's status tells; what follows it may be short of memory, or cut
 abbrev pub replayed_end : Status → Option RunEnd
@@ -71,8 +73,7 @@ pub record ListsLeft (moment : Moment) (keep : List ℕ) (mark : ℕ) (trail : T
 
 -- The whole script was run through, no line of it was answered NoMemory, and what a crash at the moment leaves was listed.
 pub record Replays (moment : Moment) (keep : List ℕ) (P : ℕ) (before after : DeviceView) (result : Status) (script rest : Option (List ℕ)) (took now : List ℕ → Type 0) : Type 0 where
-  pub through : RunsThrough P before after ends.Done script rest
-  pub open through use *
+  pub ran : RunsThrough P before after ends.Done script rest
   pub unfailed : length ran.run.states ≡ length ran.run.answers
   pub ample : (k : ℕ) → slice_get ran.run.answers k ≢ Some (Refused OutOfMemory)
   pub trail : Trail
