@@ -1,2 +1,2 @@
-mod Remounted
+mod Followed
 mod Turns

@@ -1,24 +1,31 @@
 -- What a crash in a mount leaves, and crashes one after the other.
-use Rattle.std.proofs.Common.{◌≡◌, ◌⊎◌, inl, inr, ℕ, zero, suc, ◌+◌, ◌<◌, List, [], ◌∷◌, ◌++◌, length, take, refl, sym, ap, subst, ◌∙◌, arith}
+use Rattle.std.proofs.Common.{◌≡◌, ◌⊎◌, inl, inr, ℕ, suc, ◌+◌, ◌<◌, ◌≤◌, List, [], ◌∷◌, ◌++◌, length, take, refl, sym, ap, subst, ◌∙◌, arith}
 use Rattle.std.proofs.Math.Seq.{take-suc}
+use Rattle.std.proofs.lemmas.List.{take_all}
 use Rattle.std.proofs.lemmas.Option.{get_or_from_slice_get}
-use Rattle.std.specs.Prelude.{Option, Some, None, IfSome, min, slice_get}
-use Rattle.pm_trait.specs.Trail.{Trail, trail_at}
-use Rattle.pm_trait.specs.Device.{Continues}
+use Rattle.std.specs.Prelude.{Option, Some, None, IfSome, Result, Ok, Err, IsOk, min, slice_get}
+use Rattle.pm_trait.specs.Trail.{Trail, IsCrashImage, trail_at}
+use Rattle.pm_trait.specs.Device.{Continues, HasRisen, MayLeave, moment_of}
 use Rattle.pm_trait.specs.DeviceView.{DeviceView}
 use Rattle.pm_memory.specs.Chosen.{IsChosenImage}
 use Rattle.pm_memory.specs.Fresh.{IsNew}
 use Rattle.tree_model.specs.Run.{State}
 use Rattle.image_reading.specs.Reading.{ReadsAs}
-use Rattle.image_reading.specs.Soundness.{IsFirstViolation, pages_in_image}
+use Rattle.image_reading.specs.Soundness.{IsFirstViolation, Rule, Sound, pages_in_image}
+use Rattle.image_reading.proofs.Violations.{pages_law}
 use Rattle.image_reading.specs.declared.Violation.{Violation}
+use Rattle.image_laws.specs.Frame.{SameMeaning}
 use Rattle.mount_scan.specs.Mounting.{HoldsVolume, IsSound}
 use Rattle.mount_scan.specs.Mounts.{FailsToMount, Mounts}
 use Rattle.mount_scan.specs.declared.error.MountError.{MountError}
 use Rattle.mount_scan.specs.declared.error.MountError.TheVariants.{NotVolume, Damaged, PmFault, NoMemory}
 use Rattle.mount_scan.proofs.States.{some_state}
-use Rattle.remounts.specs.InTurn.{keep_of, LeavesImage, LeaveInTurn, FailsOnNew, IsRefusedAs, IsRefusedInTurn}
+use Rattle.remounts.specs.Follow.{CrashLeaves, MayFollow}
+use Rattle.remounts.specs.Follow.WasMounted.{mounted}
+use Rattle.remounts.specs.Follow.MayFollow.{itself, crashed}
+use Rattle.remounts.specs.InTurn.{keep_of, LeavesImage, LeaveInTurn, IsRefusedAs}
 use Rattle.remounts.specs.declared.Crash.{Crash}
+use Rattle.remounts.proofs.Followed.{crash_keeps, follow_law}
 
 pub keep_none : (keep : List ℕ) → length keep ≡ 0 → keep_of keep ≡ 0 ∷ []
 keep_none [] none = refl
@@ -28,22 +35,38 @@ pub keep_some : (keep : List ℕ) → 0 < length keep → keep_of keep ≡ keep
 keep_some [] some = absurd (omega (arith, some))
 keep_some (byte ∷ bytes) some = refl
 
-recorded : {first : Trail} (moment events chosen_at : ℕ) (keep image : List ℕ) (trail : Option Trail) → Continues (Some first) trail → IfSome trail (λ told. events ≡ length told.events)
-    → chosen_at ≡ min moment events → IfSome trail (λ told. IsChosenImage (trail_at told chosen_at) keep image)
-    → (told : Trail) × (trail ≡ Some told) × IsChosenImage (trail_at told (min moment (length told.events))) keep image
-recorded moment events chosen_at keep image None continues counted at chosen = absurd (cc continues.appended)
-recorded moment events chosen_at keep image (Some told) continues counted at chosen =
-    (told, refl, subst (λ (n : ℕ). IsChosenImage (trail_at told n) keep image) (at ∙ ap (λ n. min moment n) counted) chosen)
+-- the trail of the device, and what was taken of it at the crash
+record Recorded (moment : ℕ) (keep image : List ℕ) (trail : Option Trail) : Type 0 where
+  told : Trail
+  is : trail ≡ Some told
+  left : IsCrashImage (trail_at told (min moment (length told.events))) image
+  chosen : IsChosenImage (trail_at told (min moment (length told.events))) keep image
 
-pub leaves_image : {crash : Crash} {before mounted : DeviceView} {words keep image : List ℕ} (events chosen_at : ℕ) → IsNew before words → IsSound before.words
+recorded : {first : Trail} (moment events chosen_at : ℕ) (keep image : List ℕ) (trail : Option Trail) → Continues (Some first) trail → IfSome trail (λ told. events ≡ length told.events)
+    → chosen_at ≡ min moment events → IfSome trail (λ told. IsCrashImage (trail_at told chosen_at) image) → IfSome trail (λ told. IsChosenImage (trail_at told chosen_at) keep image)
+    → Recorded moment keep image trail
+recorded moment events chosen_at keep image None continues counted at left chosen = absurd (cc continues.appended)
+recorded moment events chosen_at keep image (Some told) continues counted at left chosen =
+    let there = at ∙ ap (λ (n : ℕ). min moment n) counted in
+    record {
+      told = told;
+      is = refl;
+      left = subst (λ (n : ℕ). IsCrashImage (trail_at told n) image) there left;
+      chosen = subst (λ (n : ℕ). IsChosenImage (trail_at told n) keep image) there chosen;
+    }
+
+pub leaves_image : {crash : Crash} {before mounted : DeviceView} {words keep image : List ℕ} {trail : Option Trail} (events chosen_at : ℕ) → IsNew before words → IsSound before.words
     → ((state : State) → ReadsAs (pages_in_image before.words) before.words state → Mounts (pages_in_image before.words) state before mounted)
-    → IfSome mounted.trail (λ told. events ≡ length told.events) → keep ≡ keep_of crash.keep.now
-    → chosen_at ≡ min crash.moment events → IfSome mounted.trail (λ told. IsChosenImage (trail_at told chosen_at) keep image) → LeavesImage crash words image
-leaves_image {crash} {before} {mounted} {words} {keep} {image} events chosen_at new sound mounts counted kept at chosen =
+    → trail ≡ mounted.trail → IfSome trail (λ told. events ≡ length told.events) → keep ≡ keep_of crash.keep.now
+    → chosen_at ≡ min crash.moment events → IfSome trail (λ told. IsCrashImage (trail_at told chosen_at) image)
+    → IfSome trail (λ told. IsChosenImage (trail_at told chosen_at) keep image) → LeavesImage crash words image
+leaves_image {crash} {before} {mounted} {words} {keep} {image} {trail} events chosen_at new sound mounts same counted kept at left chosen =
     let sound_words = subst IsSound new.words sound in
     let (state, reads) = some_state (pages_in_image words) words sound_words in
     let mount = subst (λ (w : List ℕ). (state : State) → ReadsAs (pages_in_image w) w state → Mounts (pages_in_image w) state before mounted) new.words mounts state reads in
-    let (told, is, has) = recorded crash.moment events chosen_at keep image mounted.trail (subst (λ (t : Option Trail). Continues t mounted.trail) new.trail mount.any_moment.continues) counted at chosen in
+    let onwards = subst (λ (t : Option Trail). Continues t mounted.trail) new.trail mount.any_moment.continues in
+    let continues = subst (λ (t : Option Trail). Continues (Some (record { base = words; events = [] })) t) (sym same) onwards in
+    let told = recorded crash.moment events chosen_at keep image trail continues counted at left chosen in
     record {
       before = before;
       new = new;
@@ -52,24 +75,36 @@ leaves_image {crash} {before} {mounted} {words} {keep} {image} events chosen_at 
       reads = reads;
       mounted = mounted;
       mount = mount;
-      trail = told;
-      recorded = is;
-      chosen = subst (λ (bytes : List ℕ). IsChosenImage (trail_at told (min crash.moment (length told.events))) bytes image) kept has;
+      trail = told.told;
+      recorded = sym same ∙ told.is;
+      left = told.left;
+      chosen = subst (λ (bytes : List ℕ). IsChosenImage (trail_at told.told (min crash.moment (length told.told.events))) bytes image) kept told.chosen;
     }
 
-pub refused_as : {before after : DeviceView} {words : List ℕ} (error : MountError) → IsNew before words → (error ≡ NotVolume → ¬ HoldsVolume before.words)
+-- a device whose count of faults stays 0 had no fault
+pub never_fails : {P : ℕ} {before after : DeviceView} → before.faults ≡ 0 → after.faults ≡ 0 → FailsToMount P before after → ⊥
+never_fails {P} {before} {after} was is fails = risen fails.cause
+  where
+    risen : HasRisen before.faults after.faults → ⊥
+    risen (inl more) = absurd (omega (arith, more, was, is))
+    risen (inr full) = absurd (omega (arith, full, is))
+
+pub refused_as : {before : DeviceView} {words : List ℕ} (error : MountError) → IsNew before words → (error ≡ NotVolume → ¬ HoldsVolume before.words)
     → ((violation : Violation) → error ≡ Damaged violation → HoldsVolume before.words × IsFirstViolation before.words violation)
-    → (error ≡ PmFault → FailsToMount (pages_in_image before.words) before after) → IsRefusedAs words error
-refused_as {before} {after} {words} NotVolume new none damaged failed = subst (λ (w : List ℕ). ¬ HoldsVolume w) new.words (none refl)
-refused_as {before} {after} {words} (Damaged violation) new none damaged failed =
+    → (error ≡ PmFault → ⊥) → IsRefusedAs words error
+refused_as NotVolume new none damaged never = subst (λ (w : List ℕ). ¬ HoldsVolume w) new.words (none refl)
+refused_as (Damaged violation) new none damaged never =
     subst (λ (w : List ℕ). HoldsVolume w × IsFirstViolation w violation) new.words (damaged violation refl)
-refused_as {before} {after} {words} PmFault new none damaged failed = record {
-  before = before;
-  new = new;
-  after = after;
-  fails = subst (λ (w : List ℕ). FailsToMount (pages_in_image w) before after) new.words (failed refl);
-}
-refused_as {before} {after} {words} NoMemory new none damaged failed = tt
+refused_as PmFault new none damaged never = never refl
+refused_as NoMemory new none damaged never = tt
+
+-- a mount that can't fail is refused on sound words for want of memory alone
+pub only_memory : {T : Type 0} (result : Result T MountError) (error : MountError) → result ≡ Err error → (result ≡ Err NoMemory) ⊎ ((result ≡ Err PmFault) ⊎ IsOk result)
+    → (error ≡ PmFault → ⊥) → error ≡ NoMemory
+only_memory result error is (inl memory) never = cc
+only_memory result error is (inr (inl fault)) never = absurd (never (cc))
+only_memory (Ok volume) error is (inr (inr ok)) never = absurd (cc is)
+only_memory (Err other) error is (inr (inr ok)) never = absurd (cc ok)
 
 -- ---- one after the other
 
@@ -91,18 +126,57 @@ same_or_sound : (crashes : List Crash) (words left : List ℕ) → LeaveInTurn c
 same_or_sound [] words left same = inl (refl, same)
 same_or_sound (crash ∷ later) words left (image, leaves, in_turn) = inr leaves.sound
 
-split_at : (crashes : List Crash) (k : ℕ) → k < length crashes → (crash : Crash) × (later : List Crash) × (crashes ≡ take k crashes ++ crash ∷ later)
-split_at [] k below = absurd (omega (arith, below))
-split_at (first ∷ crashes) zero below = (first, crashes, refl)
-split_at (first ∷ crashes) (suc k) below =
-    let (crash, later, is) = split_at crashes k (omega (arith, below)) in
-    (crash, later, ap (λ l. first ∷ l) is)
+-- the crashes so far are all of them
+pub all_turns : (crashes : List Crash) (k : ℕ) (words left : List ℕ) → length crashes ≤ k → LeaveInTurn (take k crashes) words left → LeaveInTurn crashes words left
+all_turns crashes k words left all in_turn = subst (λ (l : List Crash). LeaveInTurn l words left) (take_all k crashes all) in_turn
 
-pub refused_in_turn : (crashes : List Crash) (k : ℕ) (words left : List ℕ) (error : MountError) → k < length crashes → LeaveInTurn (take k crashes) words left → IsRefusedAs left error
-    → IsRefusedInTurn crashes words error
-refused_in_turn crashes k words left error below in_turn refused =
-    let (crash, later, is) = split_at crashes k below in
-    record { earlier = take k crashes; crash = crash; later = later; split = is; image = left; in_turn = in_turn; refused = refused }
+pub sound_where_mounted : (crashes : List Crash) (words left : List ℕ) → LeaveInTurn crashes words left → 0 < length crashes → IsSound words
+sound_where_mounted crashes words left in_turn some = elim (same_or_sound crashes words left in_turn) [
+  | inl none ↦ let empty = ap length none.0 in absurd (omega (arith, some, empty))
+  | inr sound ↦ sound
+]
+
+-- ---- what the last one leaves may follow the words
+
+crash_leaves : {crash : Crash} {words image : List ℕ} → LeavesImage crash words image → CrashLeaves (pages_in_image words) words image
+crash_leaves {crash} {words} {image} left =
+    let moment = min crash.moment (length left.trail.events) in
+    let start : moment_of left.before.trail ≡ 0 = ap moment_of left.new.trail in
+    let end : moment_of left.mounted.trail ≡ length left.trail.events = ap moment_of left.recorded in
+    record {
+      before = left.before;
+      same = left.new.words;
+      settled = left.new.settled;
+      after = left.mounted;
+      mount = mounted left.state (subst (λ (w : List ℕ). ReadsAs (pages_in_image words) w left.state) (sym left.new.words) left.reads) left.mount;
+      moment = moment;
+      from = omega (arith, start);
+      upto = omega (arith, end);
+      leaves = subst (λ (t : Option Trail). MayLeave t moment image) (sym left.recorded) left.left;
+    }
+
+same_pages : {crash : Crash} {words image : List ℕ} → LeavesImage crash words image → pages_in_image image ≡ pages_in_image words
+same_pages {words = words} {image = image} left =
+    pages_law (pages_in_image words) image ((crash_keeps (pages_in_image words) words image left.sound (crash_leaves left)).coherent Rule.head)
+
+follow_on : (P : ℕ) (W : List ℕ) (crashes : List Crash) (words last : List ℕ) → P ≡ pages_in_image words → MayFollow P W words → LeaveInTurn crashes words last → MayFollow P W last
+follow_on P W [] words last pages follows same = subst (MayFollow P W) (sym same) follows
+follow_on P W (crash ∷ later) words last pages follows (image, left, in_turn) =
+    follow_on P W later image last (pages ∙ sym (same_pages left))
+    (crashed words image follows (subst (λ (n : ℕ). CrashLeaves n words image) (sym pages) (crash_leaves left))) in_turn
+
+pub turns_follow : (crashes : List Crash) (words last : List ℕ) → LeaveInTurn crashes words last → MayFollow (pages_in_image words) words last
+turns_follow crashes words last in_turn = follow_on (pages_in_image words) words crashes words last refl itself in_turn
+
+pub turns_mean : (crashes : List Crash) (words last : List ℕ) → LeaveInTurn crashes words last → IsSound words → SameMeaning (pages_in_image words) words last
+turns_mean crashes words last in_turn sound = follow_law (pages_in_image words) words last sound (turns_follow crashes words last in_turn)
+
+pub turns_sound : (crashes : List Crash) (words last : List ℕ) → LeaveInTurn crashes words last → IsSound words → IsSound last
+turns_sound crashes words last in_turn sound =
+    let means = turns_mean crashes words last in_turn sound in
+    subst (λ (n : ℕ). Sound n last) (sym (pages_law (pages_in_image words) last (means.coherent Rule.head))) means.coherent
+
+-- ---- how one of them is refused
 
 pub refused_unsound : (crashes : List Crash) (words left : List ℕ) (error : MountError) → LeaveInTurn crashes words left → ¬ IsSound words → IsRefusedAs left error → IsRefusedAs words error
 refused_unsound crashes words left error in_turn unsound refused = elim (same_or_sound crashes words left in_turn) [
@@ -110,8 +184,9 @@ refused_unsound crashes words left error in_turn unsound refused = elim (same_or
   | inr sound ↦ absurd (unsound sound)
 ]
 
-pub sound_where_mounted : (crashes : List Crash) (words left : List ℕ) → LeaveInTurn crashes words left → 0 < length crashes → IsSound words
-sound_where_mounted crashes words left in_turn some = elim (same_or_sound crashes words left in_turn) [
-  | inl none ↦ let empty = ap length none.0 in absurd (omega (arith, some, empty))
-  | inr sound ↦ sound
+pub refused_first : (crashes : List Crash) (k : ℕ) (words left : List ℕ) (error : MountError) → k < length crashes → LeaveInTurn (take k crashes) words left → IsRefusedAs left error
+    → (IsSound left → error ≡ NoMemory) → (error ≡ NoMemory) ⊎ (0 < length crashes) × IsRefusedAs words error
+refused_first crashes k words left error below in_turn refused memory = elim (same_or_sound (take k crashes) words left in_turn) [
+  | inl none ↦ let some : 0 < length crashes = omega arith in inr (some, subst (λ (w : List ℕ). IsRefusedAs w error) none.1 refused)
+  | inr sound ↦ inl (memory (turns_sound (take k crashes) words left in_turn sound))
 ]

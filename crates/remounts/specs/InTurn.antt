@@ -1,6 +1,6 @@
--- Crashes in mounts, one after the other: what each of them leaves, and how a mount between them is refused.
-use Rattle.std.specs.Prelude.{◌≡◌, ◌⊎◌, ℕ, ◌<◌, min, List, [], ◌∷◌, ◌++◌, length, Some}
-use Rattle.pm_trait.specs.Trail.{Trail, trail_at}
+-- Crashes in mounts, one after the other: what each of them leaves, and how a mount is refused.
+use Rattle.std.specs.Prelude.{◌≡◌, ℕ, min, List, [], ◌∷◌, length, Some}
+use Rattle.pm_trait.specs.Trail.{Trail, IsCrashImage, trail_at}
 use Rattle.pm_trait.specs.DeviceView.{DeviceView}
 use Rattle.pm_memory.specs.Chosen.{IsChosenImage}
 use Rattle.pm_memory.specs.Fresh.{IsNew}
@@ -8,7 +8,7 @@ use Rattle.tree_model.specs.Run.{State}
 use Rattle.image_reading.specs.Reading.{ReadsAs}
 use Rattle.image_reading.specs.Soundness.{IsFirstViolation, pages_in_image}
 use Rattle.mount_scan.specs.Mounting.{HoldsVolume, IsSound}
-use Rattle.mount_scan.specs.Mounts.{FailsToMount, Mounts}
+use Rattle.mount_scan.specs.Mounts.{Mounts}
 use Rattle.mount_scan.specs.declared.error.MountError.{MountError}
 use Rattle.mount_scan.specs.declared.error.MountError.TheVariants.{NotVolume, Damaged, PmFault, NoMemory}
 use Rattle.remounts.specs.declared.Crash.{Crash}
@@ -30,6 +30,7 @@ pub record LeavesImage (crash : Crash) (words image : List ℕ) : Type 0 where
   pub mount : Mounts (pages_in_image words) state before mounted
   pub trail : Trail
   pub recorded : mounted.trail ≡ Some trail
+  pub left : IsCrashImage (trail_at trail (min crash.moment (length trail.events))) image
   pub chosen : IsChosenImage (trail_at trail (min crash.moment (length trail.events))) (keep_of crash.keep.now) image
 
 -- the words of each mount but the first are those that the crash in the one before left
@@ -37,26 +38,9 @@ abbrev pub LeaveInTurn : List Crash → List ℕ → List ℕ → Type 0
 LeaveInTurn [] words last = last ≡ words
 LeaveInTurn (crash ∷ later) words last = (image : List ℕ) × LeavesImage crash words image × LeaveInTurn later image last
 
--- a fence failed in the mount of a new device of these words
-pub record FailsOnNew (words : List ℕ) : Type 0 where
-  pub before : DeviceView
-  pub new : IsNew before words
-  pub after : DeviceView
-  pub fails : FailsToMount (pages_in_image words) before after
-
--- the mount of a new device of these words may be refused so
+-- The mount of a new device of these words may be refused so. None of its fences fails.
 abbrev pub IsRefusedAs : List ℕ → MountError → Type 0
 IsRefusedAs words NotVolume = ¬ HoldsVolume words
 IsRefusedAs words (Damaged violation) = HoldsVolume words × IsFirstViolation words violation
-IsRefusedAs words PmFault = FailsOnNew words
+IsRefusedAs words PmFault = ⊥
 IsRefusedAs words NoMemory = Unit {0}
-
--- So was the mount of what some of the crashes left, before the next one.
-pub record IsRefusedInTurn (crashes : List Crash) (words : List ℕ) (error : MountError) : Type 0 where
-  pub earlier : List Crash
-  pub crash : Crash
-  pub later : List Crash
-  pub split : crashes ≡ earlier ++ crash ∷ later
-  pub image : List ℕ
-  pub in_turn : LeaveInTurn earlier words image
-  pub refused : IsRefusedAs image error

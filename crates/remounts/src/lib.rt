@@ -6,10 +6,11 @@ ghost use Rattle.image_reading.specs.Soundness.{pages_in_image};
 ghost use Rattle.image_laws.specs.Frame.{SameMeaning};
 ghost use Rattle.mount_scan.specs.Mounting.{IsSound};
 ghost use Rattle.mount_scan.specs.declared.error.MountError.{MountError};
-ghost use Rattle.remounts.specs.InTurn.{IsRefusedAs, IsRefusedInTurn, LeaveInTurn, LeavesImage};
+ghost use Rattle.remounts.specs.Follow.{FollowLaw, MayFollow};
+ghost use Rattle.remounts.specs.InTurn.{IsRefusedAs, LeaveInTurn, LeavesImage};
 
 use mount_scan::{MountError, mount};
-use pm_memory::RamPm;
+use pm_memory::{Recorded, SteadyPm};
 use pm_trait::NoMemory;
 use std::alloc::Global;
 
@@ -23,9 +24,15 @@ pub struct Crash<'a> {
     pub keep: &'a [u8],
 }
 
+/// What may follow sound words, by mounts and crashes at any moments of them, means what they mean.
+pub fn follow_law()
+    ensures { FollowLaw }
+{}
+
 /// A device of these words is mounted, and a crash comes; a device of the words that it leaves is mounted, and the next
 /// crash comes. Answers what the last one leaves: of sound words what means the same, however many crashes there were. Of
 /// others the first mount is refused, and that is the answer. Without a crash nothing is mounted, and it is the words.
+/// The devices are in memory and never fail: of sound words nothing but memory can be short.
 pub fn words_after(
     alloc: Global,
     words: &[u64],
@@ -33,13 +40,13 @@ pub fn words_after(
 ) -> Result<Vec<u64>, MountError>
     ensures in_turn { IfOk result (λ after. LeaveInTurn crashes.now words.now after.items) }
     ensures refused { IfErr result (λ error.
-        (error ≡ MountError.NoMemory) ⊎ IsRefusedInTurn crashes.now words.now error) }
+        (error ≡ MountError.NoMemory) ⊎ (0 < length crashes.now) × IsRefusedAs words.now error) }
     ensures unsound { ¬ IsSound words.now → 0 < length crashes.now →
         (error : MountError) × (result ≡ Err error) × IsRefusedAs words.now error }
+    ensures follows { IfOk result (λ after. MayFollow (pages_in_image words.now) words.now after.items) }
     ensures means { IsSound words.now → IfOk result (λ after.
         SameMeaning (pages_in_image words.now) words.now after.items) }
-    ensures fails { IsSound words.now → IfErr result (λ error.
-        (error ≡ MountError.NoMemory) ⊎ (error ≡ MountError.PmFault)) }
+    ensures fails { IsSound words.now → IfErr result (λ error. error ≡ MountError.NoMemory) }
 {
     let mut left = copy_of(alloc, words)?;
     for crash in crashes {
@@ -52,12 +59,9 @@ pub fn words_after(
 fn words_after_one(alloc: Global, words: &[u64], crash: &Crash<'_>) -> Result<Vec<u64>, MountError>
     ensures leaves { IfOk result (λ image. LeavesImage crash.now words.now image.items) }
     ensures refused { IfErr result (λ error. IsRefusedAs words.now error) }
-    ensures means { IsSound words.now → IfOk result (λ after.
-        SameMeaning (pages_in_image words.now) words.now after.items) }
-    ensures fails { IsSound words.now → IfErr result (λ error.
-        (error ≡ MountError.NoMemory) ⊎ (error ≡ MountError.PmFault)) }
+    ensures fails { IsSound words.now → IfErr result (λ error. error ≡ MountError.NoMemory) }
 {
-    let mut pm = RamPm::new(alloc, words)?;
+    let mut pm = SteadyPm::new(alloc, words)?;
     let _volume = mount(alloc, &mut pm)?;
     let oldest = [0];
     let keep = if crash.keep.is_empty() {
@@ -65,7 +69,8 @@ fn words_after_one(alloc: Global, words: &[u64], crash: &Crash<'_>) -> Result<Ve
     } else {
         crash.keep
     };
-    let left = pm.image_at(alloc, crash.moment.min(pm.events()), keep)?;
+    let ram = pm.ram();
+    let left = ram.image_at(alloc, crash.moment.min(ram.events()), keep)?;
     Ok(left)
 }
 
