@@ -10,3 +10,5 @@ mod Refusals
 pub mod States
 mod Still
 mod Repairing
+mod Counted
+mod Told

@@ -3,7 +3,7 @@ ghost use Rattle.std.specs.Prelude.{◌≡◌, ◌≢◌, ◌↔◌, ℕ, ◌+�
 ghost use Rattle.layout.specs.Geometry.{inodes_of, data_pages_of, page_of_slot, slot_word_of, slots_of};
 ghost use Rattle.layout.specs.Fields.{word, inode_kind};
 ghost use Rattle.image_reading.specs.Images.{In};
-ghost use Rattle.image_reading.specs.Litter.{IsInode};
+ghost use Rattle.recovery.specs.Parts.{IsInode};
 ghost use Rattle.image_reading.specs.Reading.{Reached};
 ghost use Rattle.image_reading.specs.Repairs.{IsKeptDirectoryPage, IsLitterPage, IsLitterSlot};
 ghost use Rattle.image_reading.specs.Scanned.{IsScanned};
