@@ -1,5 +1,5 @@
 -- Counts as loops make them: of the numbers below the loop's.
-use Rattle.std.proofs.Common.{◌≡◌, ◌↔◌, ◌⊎◌, inl, inr, ℕ, ◌+◌, ◌*◌, ◌<◌, ◌≤◌, Bool, true, false, List, [], ◌∷◌, Option, Some, None, is_some, refl, sym, subst, arith}
+use Rattle.std.proofs.Common.{◌≡◌, ◌↔◌, ◌⊎◌, inl, inr, ℕ, ◌+◌, ◌*◌, ◌^◌, ◌<◌, ◌≤◌, Bool, true, false, List, [], ◌∷◌, Option, Some, None, is_some, refl, sym, subst, arith}
 use Rattle.std.proofs.lemmas.Bool.{cases_eq, cases_lt}
 use mir.Val.{bool_byte}
 use Rattle.image_reading.specs.Counts.{Count}
@@ -14,6 +14,10 @@ single n = (
   (λ x. ((λ among. elim among [ inl same ↦ same | inr nowhere ↦ absurd nowhere ]), (λ same. inl same))),
   refl,
 )
+
+byte_small : (b : Bool) → bool_byte b ≤ 1
+byte_small true = omega arith
+byte_small false = omega arith
 
 module _ (Q : ℕ → Type 0) where
   pub count_begun : (limit : ℕ) → ((x : ℕ) → x < limit → ¬ Q x) → CountBelow Q limit 0
@@ -45,9 +49,16 @@ module _ (Q : ℕ → Type 0) where
   count_step n k true is count = one_more n k (is.0 refl) count
   count_step n k false is count = none_more n k (λ q. (let clash : false ≡ true = is.1 q in cc)) count
 
-  pub count_small : (limit k : ℕ) → CountBelow Q limit k → k ≤ limit
+  -- one that adds what a test tells
+  pub count_told : (n k r : ℕ) (b : Bool) → r ≡ bool_byte b → (b ≡ true) ↔ Q n → CountBelow Q n k → CountBelow Q (n + 1) (k + r)
+  count_told n k r b told is count = subst (λ m. CountBelow Q (n + 1) (k + m)) (sym told) (count_step n k b is count)
+
+  count_small : (limit k : ℕ) → CountBelow Q limit k → k ≤ limit
   count_small limit k count = count_fewer (λ x. (x < limit) × Q x) (λ x. (0 ≤ x) × (x < 0 + limit)) k limit
       (λ x below. (omega arith, let lt = below.0 in omega (arith, lt))) count (count_run 0 limit)
+
+  pub count_fits : (limit k r : ℕ) (b : Bool) → r ≡ bool_byte b → limit ≤ 2 ^ 22 → CountBelow Q limit k → k + r ≤ 2 ^ 22 + 1
+  count_fits limit k r b told few count = let small = count_small limit k count in let one = byte_small b in omega (arith, small, one, few, told)
 
   pub count_all : (limit k : ℕ) → ((x : ℕ) → Q x → x < limit) → CountBelow Q limit k → Count Q k
   count_all limit k within count = count_alike (λ x. (x < limit) × Q x) Q k (λ x below. below.1) (λ x q. (within x q, q)) count

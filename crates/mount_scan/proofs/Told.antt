@@ -1,15 +1,18 @@
 -- What is counted in the words is what is counted in the tree that they read as.
-use Rattle.std.proofs.Common.{◌≡◌, ◌⊎◌, inl, inr, ℕ, ◌+◌, ◌<◌, ◌≤◌, Bool, true, false, not, List, length, filter, count_by, Option, Some, None, is_some, reverse, nat_cmp, refl, sym, ap, subst, ◌∙◌, arith}
+use Rattle.std.proofs.Common.{◌≡◌, ◌≢◌, ◌⊎◌, inl, inr, ℕ, zero, suc, ◌+◌, ◌*◌, ◌^◌, ◌<◌, ◌≤◌, Bool, true, false, not, List, length, filter, count_by, Option, Some, None, is_some, reverse, nat_cmp, refl, sym, ap, subst, ◌∙◌, arith}
 use Rattle.std.specs.Cmp.{nat_cmp_total}
 use Rattle.std.specs.FinMap.{nat_cmp-IsAntisymmetric}
 use Rattle.std.proofs.lemmas.List.{reverse-reverse}
 use Rattle.std.proofs.lemmas.List.Sums.{length-filter}
-use Rattle.layout.specs.Geometry.{inodes_of, data_pages_of, slots_of, page_of_slot}
+use Rattle.layout.specs.declared.geometry.Geometry.{Geometry}
+use Rattle.layout.proofs.GeometryLaws.{data_pages_below, inodes_below}
+use Rattle.layout.specs.Geometry.{inodes_of, data_pages_of, slots_of, page_of_slot, descriptor_word_of}
+use Rattle.layout.specs.Fields.{word, page_owner, page_kind, page_offset}
 use Rattle.tree_model.specs.PathText.{Route}
 use Rattle.tree_model.specs.Tree.{Tree, Node, node_at, is_root, is_directory, is_file, is_directory_node, is_file_node}
 use Rattle.image_reading.specs.Counts.{Count}
 use Rattle.image_reading.specs.Reading.{IsLive, Reached, IsReachedSlot, slot_owner, Reads}
-use Rattle.image_reading.specs.Repairs.{RepairCounts, HasRepairs, IsKeptDirectoryPage, IsLitterSlot, IsLitterPage, IsLitterInode, IsLitterCount, IsPointer}
+use Rattle.image_reading.specs.Repairs.{RepairCounts, HasRepairs, IsKept, IsKeptDirectoryPage, IsLitterSlot, IsLitterPage, IsLitterInode, IsLitterCount, IsPointer}
 use Rattle.image_reading.specs.Soundness.{Sound}
 use Rattle.image_reading.proofs.Counts.{count_one}
 use Rattle.image_counts.proofs.Counting.{Among, IsMatching, IsMatched, count_matched, count_alike, among_filter, filter_among, filter_apart}
@@ -54,10 +57,10 @@ module _ (T : Tree) (t : ℕ → Bool) (nodes : (i : ℕ) → t i ≡ true → i
   to i (e, among, is) = ap t is ∙ (among_filter passes T.nodes.entries e among).1
 
   from : (i : ℕ) → t i ≡ true → IsMatched IsKey passing i
-  from i yes =
-      let (x, is) = some_of (node_at T i) (nodes i yes) in
+  from i passed =
+      let (x, is) = some_of (node_at T i) (nodes i passed) in
       let among = among_find nat_cmp nat_cmp_total nat_cmp-IsAntisymmetric T.nodes.entries i x is in
-      ((i, x), filter_among passes T.nodes.entries (i, x) among yes, refl)
+      ((i, x), filter_among passes T.nodes.entries (i, x) among passed, refl)
 
   pub count_nodes : Count (λ i. t i ≡ true) (count_by passes T.nodes.entries)
   count_nodes = subst (Count (λ i. t i ≡ true)) (length-filter passes T.nodes.entries)
@@ -115,10 +118,10 @@ module _ (P : ℕ) (I : List ℕ) (sound : Sound P I) (inodes : InodeCounts) (pa
   counts = record {
     directories = inodes.directories;
     files = inodes.files;
-    names = pages.names;
+    names = pages.slots.names;
     pointers = pointers;
-    slots = pages.slots;
-    pages = pages.pages;
+    slots = pages.slots.litter;
+    pages = pages.litter;
     inodes = inodes.litter;
     counts = inodes.links;
   }
@@ -127,13 +130,13 @@ module _ (P : ℕ) (I : List ℕ) (sound : Sound P I) (inodes : InodeCounts) (pa
   within i reached = let most = (in_range P I sound i reached).1 in omega (arith, most)
 
   abbrev repairs : RepairCounts
-  repairs = record { pointers = pointers; slots = pages.slots; pages = pages.pages; inodes = inodes.litter; counts = inodes.links }
+  repairs = record { pointers = pointers; slots = pages.slots.litter; pages = pages.litter; inodes = inodes.litter; counts = inodes.links }
 
   has_repairs : HasRepairs P I repairs
   has_repairs = record {
     of_pointers = of_pointers;
-    of_slots = count_all (IsLitterSlot P I) (slots_of P) pages.slots (λ s litter. (kept_held P I sound s litter.page).in_range) of_pages.in_slots.litter;
-    of_pages = count_all (IsLitterPage P I) (data_pages_of P) pages.pages (λ j litter. litter.in_range) of_pages.litter;
+    of_slots = count_all (IsLitterSlot P I) (slots_of P) pages.slots.litter (λ s litter. (kept_held P I sound s litter.page).in_range) of_pages.in_slots.litter;
+    of_pages = count_all (IsLitterPage P I) (data_pages_of P) pages.litter (λ j litter. litter.in_range) of_pages.litter;
     of_inodes = count_all (IsLitterInode P I) (inodes_of P + 1) inodes.litter (λ i litter. (let most = litter.most in omega (arith, most))) of_inodes.litter;
     of_counts = count_all (IsLitterCount P I) (inodes_of P + 1) inodes.links (λ i litter. within i litter.reached) of_inodes.links;
   }
@@ -145,8 +148,8 @@ module _ (P : ℕ) (I : List ℕ) (sound : Sound P I) (inodes : InodeCounts) (pa
       (count_all (IsReachedDirectory P I) (inodes_of P + 1) inodes.directories (λ i is. within i is.0) of_inodes.directories) (count_directories P I T sound reads) in
       let files = count_one (IsReachedFile P I) inodes.files (file_count T)
       (count_all (IsReachedFile P I) (inodes_of P + 1) inodes.files (λ i is. within i is.0) of_inodes.files) (count_files P I T sound reads) in
-      let names = count_one (IsReachedSlot P I) pages.names (below_root T)
-      (count_all (IsReachedSlot P I) (slots_of P) pages.names (λ s slot. slot.live.held.in_range) of_pages.names) (count_names P I T sound reads) in
+      let names = count_one (IsReachedSlot P I) pages.slots.names (below_root T)
+      (count_all (IsReachedSlot P I) (slots_of P) pages.slots.names (λ s slot. slot.live.held.in_range) of_pages.in_slots.names) (count_names P I T sound reads) in
       record {
         tree = T;
         reads = reads;
@@ -157,9 +160,50 @@ module _ (P : ℕ) (I : List ℕ) (sound : Sound P I) (inodes : InodeCounts) (pa
           files = files k;
           names = names k;
           pointers = pointers;
-          slots = pages.slots;
-          pages = pages.pages;
+          slots = pages.slots.litter;
+          pages = pages.litter;
           inodes = inodes.litter;
           counts = inodes.links;
         };
       }
+
+-- ---- a descriptor's words
+
+module _ (P : ℕ) (I : List ℕ) (j : ℕ) where
+  word_of : (page_owner P I j ≢ 0) ⊎ ((page_kind P I j ≢ 0) ⊎ (page_offset P I j ≢ 0)) → (f : ℕ) × (f < 3) × (word I (descriptor_word_of P j f) ≢ 0)
+  unfolding page_owner page_kind page_offset
+  word_of (inl owner) = (0, omega arith, owner)
+  word_of (inr (inl kind)) = (1, omega arith, kind)
+  word_of (inr (inr offset)) = (2, omega arith, offset)
+
+  pub litter_page : j < data_pages_of P → ¬ IsKept P I j → (page_owner P I j ≢ 0) ⊎ ((page_kind P I j ≢ 0) ⊎ (page_offset P I j ≢ 0)) → IsLitterPage P I j
+  litter_page within free some = record { in_range = within; free = free; nonzero = word_of some }
+
+  offset_left : (f : ℕ) → f < 3 → word I (descriptor_word_of P j f) ≢ 0 → page_owner P I j ≡ 0 → page_kind P I j ≡ 0 → page_offset P I j ≢ 0
+  unfolding page_owner page_kind page_offset
+  offset_left zero lt other owner kind = absurd (other owner)
+  offset_left (suc zero) lt other owner kind = absurd (other kind)
+  offset_left (suc (suc zero)) lt other owner kind = other
+  offset_left (suc (suc (suc f))) lt other owner kind = absurd (omega arith)
+
+  pub litter_offset : IsLitterPage P I j → page_owner P I j ≡ 0 → page_kind P I j ≡ 0 → page_offset P I j ≢ 0
+  litter_offset litter = let (f, lt, other) = litter.nonzero in offset_left f lt other
+
+-- ---- loops end before a count is too great
+
+pub inode_limit : (g : Geometry) (n : ℕ) → n < g.inodes → n + 1 ≤ 2 ^ 22
+inode_limit g n lt = let few = inodes_below g.pages g.volume_size in let most = g.volume_size.1 in omega (arith, lt, few, most, g.inodes_exact)
+
+pub page_limit : (g : Geometry) (j : ℕ) → j < g.data_pages → j ≤ 2 ^ 16
+page_limit g j lt = let few = data_pages_below g.pages g.volume_size in let most = g.volume_size.1 in omega (arith, lt, few, most, g.data_pages_exact)
+
+pub slot_limit : (g : Geometry) (j place : ℕ) → j < data_pages_of g.pages → place < 32 → 32 * j + place ≤ 2 ^ 22
+slot_limit g j place lt inside = let few = data_pages_below g.pages g.volume_size in let most = g.volume_size.1 in omega (arith, lt, inside, few, most)
+
+-- ---- a page that isn't a directory's kept one
+
+pub none_of_page : (P : ℕ) (I : List ℕ) (j : ℕ) → ¬ IsKeptDirectoryPage P I j → (s : ℕ) → 32 * j ≤ s → s < 32 * (j + 1) → ¬ IsKeptDirectoryPage P I (page_of_slot s)
+unfolding page_of_slot
+none_of_page P I j other s low high kept =
+    let at : page_of_slot s ≡ j = omega (arith, low, high) in
+    other (subst (IsKeptDirectoryPage P I) at kept)
