@@ -12,3 +12,4 @@ mod Still
 mod Repairing
 mod Counted
 mod Told
+mod Written

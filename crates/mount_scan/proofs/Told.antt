@@ -15,15 +15,15 @@ use Rattle.image_reading.specs.Reading.{IsLive, Reached, IsReachedSlot, slot_own
 use Rattle.image_reading.specs.Repairs.{RepairCounts, HasRepairs, IsKept, IsKeptDirectoryPage, IsLitterSlot, IsLitterPage, IsLitterInode, IsLitterCount, IsPointer}
 use Rattle.image_reading.specs.Soundness.{Sound}
 use Rattle.image_reading.proofs.Counts.{count_one}
-use Rattle.image_counts.proofs.Counting.{Among, IsMatching, IsMatched, count_matched, count_alike, among_filter, filter_among, filter_apart}
-use Rattle.image_counts.proofs.Entries.{find_among, same_entry, entries_apart, among_find}
+use Rattle.image_counts.proofs.Counting.{IsMatching, IsMatched, count_matched, count_alike, among_filter, filter_among, filter_apart}
+use Rattle.image_counts.proofs.Entries.{same_entry, entries_apart, among_find}
 use Rattle.image_counts.proofs.Nodes.{has_sizes}
 use Rattle.image_counts.proofs.Paths.{reached_slot, in_range}
 use Rattle.image_counts.proofs.Slots.{all_names, some_names, count_slots, owner_of}
 use Rattle.image_laws.proofs.Trees.{tree_law}
 use Rattle.repair_laws.proofs.Kept.{kept_held}
 use Rattle.script.specs.declared.check.CheckCounts.{CheckCounts}
-use Rattle.mount_scan.specs.Counting.{directory_count, file_count, below_root, counts_of, AreCountsOf, IsReachedDirectory, IsReachedFile, CountsInodes, CountsPages}
+use Rattle.mount_scan.specs.Counting.{directory_count, file_count, below_root, AreCountsOf, IsReachedDirectory, IsReachedFile, CountsInodes, CountsPages}
 use Rattle.mount_scan.specs.declared.counting.InodeCounts.{InodeCounts}
 use Rattle.mount_scan.specs.declared.counting.PageCounts.{PageCounts}
 use Rattle.mount_scan.proofs.Counted.{count_all}

@@ -1,4 +1,4 @@
-use Rattle.std.proofs.Common.{◌≡◌, ℕ, ◌+◌, ◌≤◌, sym, subst, arith}
+use Rattle.std.proofs.Common.{◌≡◌, ℕ, ◌+◌, ◌≤◌, subst, arith}
 use Rattle.layout.specs.Geometry.{inodes_of}
 use Rattle.image_reading.specs.Reading.{Reached}
 use Rattle.image_reading.specs.Repairs.{IsLitterInode, IsLitterCount}

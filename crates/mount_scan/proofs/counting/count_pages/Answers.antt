@@ -1,4 +1,4 @@
-use Rattle.std.proofs.Common.{◌≡◌, ℕ, ◌+◌, ◌*◌, subst, arith}
+use Rattle.std.proofs.Common.{◌≡◌, ℕ, ◌*◌, subst, arith}
 use Rattle.layout.specs.Geometry.{data_pages_of, slots_of}
 use Rattle.layout.proofs.GeometryLaws.{slots_in_pages}
 use Rattle.image_reading.specs.Repairs.{IsLitterPage}

@@ -1,6 +1,5 @@
 use Rattle.std.proofs.Common.{◌≡◌, ℕ, ◌+◌, ◌*◌, sym, subst, arith}
 use Rattle.std.proofs.lemmas.Bool.{iff_false}
-use Rattle.layout.specs.Geometry.{page_of_slot}
 use Rattle.image_reading.specs.Reading.{IsReachedSlot}
 use Rattle.image_reading.specs.Repairs.{IsKeptDirectoryPage, IsLitterSlot}
 use Rattle.mount_scan.specs.Counting.{CountBelow, CountsSlots}

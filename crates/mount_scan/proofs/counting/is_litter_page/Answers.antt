@@ -1,5 +1,5 @@
 use Rattle.std.proofs.Common.{inl, inr, sym, ◌∙◌, rules}
-use Rattle.std.proofs.lemmas.Bool.{false≢true, iff_false}
+use Rattle.std.proofs.lemmas.Bool.{iff_false}
 use Rattle.image_reading.proofs.Places.{not_zero, is_not_zero}
 use Rattle.mount_scan.proofs.Told.{litter_page, litter_offset}
 use Rattle.mount_scan.proofs.counting.is_litter_page.Goals as goal
