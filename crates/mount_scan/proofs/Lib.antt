@@ -10,3 +10,6 @@ mod Refusals
 pub mod States
 mod Still
 mod Repairing
+mod Counted
+mod Told
+mod Written

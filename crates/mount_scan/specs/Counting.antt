@@ -7,6 +7,7 @@ use Rattle.image_reading.specs.Reading.{IsFile, IsDirectory, Reached, IsReachedS
 use Rattle.image_reading.specs.Repairs.{RepairCounts, HasRepairs, IsLitterSlot, IsLitterPage, IsLitterInode, IsLitterCount}
 use Rattle.mount_scan.specs.declared.counting.InodeCounts.{InodeCounts}
 use Rattle.mount_scan.specs.declared.counting.PageCounts.{PageCounts}
+use Rattle.mount_scan.specs.declared.counting.SlotCounts.{SlotCounts}
 
 -- ---- of a tree, and of what recovery would repair
 
@@ -62,12 +63,11 @@ pub record CountsInodes (P : ℕ) (I : List ℕ) (limit : ℕ) (counts : InodeCo
   pub links : CountBelow (IsLitterCount P I) limit counts.links
 
 -- of the slots below the limit
-pub record CountsSlots (P : ℕ) (I : List ℕ) (limit : ℕ) (counts : PageCounts) : Type 0 where
+pub record CountsSlots (P : ℕ) (I : List ℕ) (limit : ℕ) (counts : SlotCounts) : Type 0 where
   pub names : CountBelow (IsReachedSlot P I) limit counts.names
-  pub litter : CountBelow (IsLitterSlot P I) limit counts.slots
+  pub litter : CountBelow (IsLitterSlot P I) limit counts.litter
 
 -- of the data pages below the limit, and of their slots
 pub record CountsPages (P : ℕ) (I : List ℕ) (limit slots : ℕ) (counts : PageCounts) : Type 0 where
-  pub litter : CountBelow (IsLitterPage P I) limit counts.pages
-  pub in_slots : CountsSlots P I slots counts
-  pub open in_slots use {names}
+  pub litter : CountBelow (IsLitterPage P I) limit counts.litter
+  pub in_slots : CountsSlots P I slots counts.slots

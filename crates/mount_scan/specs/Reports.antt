@@ -12,8 +12,8 @@ use Rattle.mount_scan.specs.Counting.{AreCountsOf, counts_of}
 use Rattle.mount_scan.specs.Mounting.{HoldsVolume, IsSound}
 use Rattle.mount_scan.specs.declared.error.ReportError.{ReportError}
 use Rattle.mount_scan.specs.declared.error.ReportError.TheVariants as error
-use Rattle.mount_scan.specs.declared.report.Checked.{Checked}
-use Rattle.mount_scan.specs.declared.report.Checked.TheVariants.{Sound, Broken}
+use Rattle.mount_scan.specs.declared.reporting.Checked.{Checked}
+use Rattle.mount_scan.specs.declared.reporting.Checked.TheVariants.{Sound, Broken}
 
 -- what a check writes of this tree, and of what recovery would repair
 abbrev pub report_text : Tree → RepairCounts → List ℕ

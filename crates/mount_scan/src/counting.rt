@@ -3,7 +3,7 @@ ghost use Rattle.std.specs.Prelude.{◌≡◌, ◌≢◌, ◌↔◌, ℕ, ◌+�
 ghost use Rattle.layout.specs.Geometry.{inodes_of, data_pages_of, page_of_slot, slot_word_of, slots_of};
 ghost use Rattle.layout.specs.Fields.{word, inode_kind};
 ghost use Rattle.image_reading.specs.Images.{In};
-ghost use Rattle.image_reading.specs.Litter.{IsInode};
+ghost use Rattle.recovery.specs.Parts.{IsInode};
 ghost use Rattle.image_reading.specs.Reading.{Reached};
 ghost use Rattle.image_reading.specs.Repairs.{IsKeptDirectoryPage, IsLitterPage, IsLitterSlot};
 ghost use Rattle.image_reading.specs.Scanned.{IsScanned};
@@ -26,15 +26,21 @@ struct InodeCounts {
     links: u64,
 }
 
-// What is counted of data pages and their slots.
+// What is counted of the slots of kept directory pages.
+#[derive(Clone, Copy)]
+struct SlotCounts {
+    // The live ones.
+    names: u64,
+    // Those that aren't live and aren't zero.
+    litter: u64,
+}
+
+// What is counted of data pages.
 #[derive(Clone, Copy)]
 struct PageCounts {
-    // The live slots of kept directory pages.
-    names: u64,
-    // The others there that aren't zero.
-    slots: u64,
-    // The pages that aren't kept and whose descriptor isn't zero.
-    pages: u64,
+    // Those that aren't kept and whose descriptor isn't zero.
+    litter: u64,
+    slots: SlotCounts,
 }
 
 /// The counts of the tree that the image reads as, and of what recovery would repair.
@@ -47,10 +53,10 @@ pub(crate) fn check_counts(scanned: &Scanned<'_>) -> CheckCounts
     CheckCounts {
         directories: inodes.directories,
         files: inodes.files,
-        names: pages.names,
+        names: pages.slots.names,
         pointers: u64::from(scanned.pointer().is_some()),
-        slots: pages.slots,
-        pages: pages.pages,
+        slots: pages.slots.litter,
+        pages: pages.litter,
         inodes: inodes.litter,
         counts: inodes.links,
     }
@@ -98,16 +104,16 @@ fn count_pages(scanned: &Scanned<'_>) -> PageCounts
     ensures { CountsPages scanned.now.image.geometry.pages scanned.now.image.words.now
         (data_pages_of scanned.now.image.geometry.pages) (slots_of scanned.now.image.geometry.pages) result }
 {
-    let mut counts = PageCounts {
+    let mut litter = 0;
+    let mut slots = SlotCounts {
         names: 0,
-        slots: 0,
-        pages: 0,
+        litter: 0,
     };
     for page in 0..scanned.image.geometry.data_pages {
-        counts.pages += u64::from(is_litter_page(scanned, page));
-        counts = count_slots(scanned, page, counts);
+        litter += u64::from(is_litter_page(scanned, page));
+        slots = count_slots(scanned, page, slots);
     }
-    counts
+    PageCounts { litter, slots }
 }
 
 // Whether the page isn't kept and its descriptor isn't zero.
@@ -125,12 +131,11 @@ fn is_litter_page(scanned: &Scanned<'_>, page: u64) -> bool
 }
 
 // Counts over the slots of the page, besides those of the pages before it, if it is a kept directory page.
-fn count_slots(scanned: &Scanned<'_>, page: u64, before: PageCounts) -> PageCounts
+fn count_slots(scanned: &Scanned<'_>, page: u64, before: SlotCounts) -> SlotCounts
     requires scanned { IsScanned scanned.now }
     requires in_range { page < data_pages_of scanned.now.image.geometry.pages }
     requires before { CountsSlots scanned.now.image.geometry.pages scanned.now.image.words.now (32 * page) before }
-    ensures slots { CountsSlots scanned.now.image.geometry.pages scanned.now.image.words.now (32 * (page + 1)) result }
-    ensures pages { result.pages ≡ before.pages }
+    ensures { CountsSlots scanned.now.image.geometry.pages scanned.now.image.words.now (32 * (page + 1)) result }
 {
     if !is_kept_directory_page(scanned, page) {
         return before;
@@ -139,7 +144,7 @@ fn count_slots(scanned: &Scanned<'_>, page: u64, before: PageCounts) -> PageCoun
     for place in 0..PAGE_SLOTS {
         let slot = scanned.image.geometry.slot_in(page, place);
         counts.names += u64::from(scanned.is_live(slot));
-        counts.slots += u64::from(is_litter_slot(scanned, slot));
+        counts.litter += u64::from(is_litter_slot(scanned, slot));
     }
     counts
 }

@@ -52,6 +52,8 @@ pub enum ReportError {
 }
 
 impl From<NoMemory> for ReportError {
+    ghost use Rattle.mount_scan.specs.declared.error.ReportError.{ReportError};
+
     ghost from_gives = { λ _ error. error ≡ ReportError.NoMemory };
 
     fn from(_refused: NoMemory) -> ReportError {
@@ -60,6 +62,8 @@ impl From<NoMemory> for ReportError {
 }
 
 impl From<WriteFault> for ReportError {
+    ghost use Rattle.mount_scan.specs.declared.error.ReportError.{ReportError};
+
     ghost from_gives = { λ _ error. error ≡ ReportError.WriteFault };
 
     fn from(_fault: WriteFault) -> ReportError {

@@ -8,11 +8,11 @@ mod head;
 mod index;
 mod look;
 mod mounting;
-mod report;
+mod reporting;
 
 pub use error::{MountError, ReportError};
 pub use mounting::mount;
-pub use report::report;
+pub use reporting::report;
 
 #[cfg(test)]
 mod tests;

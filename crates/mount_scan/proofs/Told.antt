@@ -1,0 +1,209 @@
+-- What is counted in the words is what is counted in the tree that they read as.
+use Rattle.std.proofs.Common.{◌≡◌, ◌≢◌, ◌⊎◌, inl, inr, ℕ, zero, suc, ◌+◌, ◌*◌, ◌^◌, ◌<◌, ◌≤◌, Bool, true, false, not, List, length, filter, count_by, Option, Some, None, is_some, reverse, nat_cmp, refl, sym, ap, subst, ◌∙◌, arith}
+use Rattle.std.specs.Cmp.{nat_cmp_total}
+use Rattle.std.specs.FinMap.{nat_cmp-IsAntisymmetric}
+use Rattle.std.proofs.lemmas.List.{reverse-reverse}
+use Rattle.std.proofs.lemmas.List.Sums.{length-filter}
+use Rattle.layout.specs.declared.geometry.Geometry.{Geometry}
+use Rattle.layout.proofs.GeometryLaws.{data_pages_below, inodes_below}
+use Rattle.layout.specs.Geometry.{inodes_of, data_pages_of, slots_of, page_of_slot, descriptor_word_of}
+use Rattle.layout.specs.Fields.{word, page_owner, page_kind, page_offset}
+use Rattle.tree_model.specs.PathText.{Route}
+use Rattle.tree_model.specs.Tree.{Tree, Node, node_at, is_root, is_directory, is_file, is_directory_node, is_file_node}
+use Rattle.image_reading.specs.Counts.{Count}
+use Rattle.image_reading.specs.Reading.{IsLive, Reached, IsReachedSlot, slot_owner, Reads}
+use Rattle.image_reading.specs.Repairs.{RepairCounts, HasRepairs, IsKept, IsKeptDirectoryPage, IsLitterSlot, IsLitterPage, IsLitterInode, IsLitterCount, IsPointer}
+use Rattle.image_reading.specs.Soundness.{Sound}
+use Rattle.image_reading.proofs.Counts.{count_one}
+use Rattle.image_counts.proofs.Counting.{IsMatching, IsMatched, count_matched, count_alike, among_filter, filter_among, filter_apart}
+use Rattle.image_counts.proofs.Entries.{same_entry, entries_apart, among_find}
+use Rattle.image_counts.proofs.Nodes.{has_sizes}
+use Rattle.image_counts.proofs.Paths.{reached_slot, in_range}
+use Rattle.image_counts.proofs.Slots.{all_names, some_names, count_slots, owner_of}
+use Rattle.image_laws.proofs.Trees.{tree_law}
+use Rattle.repair_laws.proofs.Kept.{kept_held}
+use Rattle.script.specs.declared.check.CheckCounts.{CheckCounts}
+use Rattle.mount_scan.specs.Counting.{directory_count, file_count, below_root, AreCountsOf, IsReachedDirectory, IsReachedFile, CountsInodes, CountsPages}
+use Rattle.mount_scan.specs.declared.counting.InodeCounts.{InodeCounts}
+use Rattle.mount_scan.specs.declared.counting.PageCounts.{PageCounts}
+use Rattle.mount_scan.proofs.Counted.{count_all}
+
+-- ---- nodes that pass a test
+
+some_of : (o : Option Node) → is_some o ≡ true → (x : Node) × (o ≡ Some x)
+some_of None e = cc
+some_of (Some x) e = (x, refl)
+
+module _ (T : Tree) (t : ℕ → Bool) (nodes : (i : ℕ) → t i ≡ true → is_some (node_at T i) ≡ true) where
+  abbrev passes : ℕ × Node → Bool
+  passes e = t e.0
+
+  abbrev passing : List (ℕ × Node)
+  passing = filter passes T.nodes.entries
+
+  abbrev IsKey : ℕ × Node → ℕ → Type 0
+  IsKey e i = i ≡ e.0
+
+  matching : IsMatching IsKey passing
+  matching = record {
+    apart = filter_apart passes T.nodes.entries (entries_apart nat_cmp nat_cmp_total T.nodes.entries T.nodes.sorted);
+    each = λ e among. (e.0, refl);
+    one = λ e s t among a b. a ∙ sym b;
+    own = λ e f s among there a b. same_entry nat_cmp nat_cmp_total T.nodes.entries e f T.nodes.sorted
+        (among_filter passes T.nodes.entries e among).0 (among_filter passes T.nodes.entries f there).0 (sym a ∙ b);
+  }
+
+  to : (i : ℕ) → IsMatched IsKey passing i → t i ≡ true
+  to i (e, among, is) = ap t is ∙ (among_filter passes T.nodes.entries e among).1
+
+  from : (i : ℕ) → t i ≡ true → IsMatched IsKey passing i
+  from i passed =
+      let (x, is) = some_of (node_at T i) (nodes i passed) in
+      let among = among_find nat_cmp nat_cmp_total nat_cmp-IsAntisymmetric T.nodes.entries i x is in
+      ((i, x), filter_among passes T.nodes.entries (i, x) among passed, refl)
+
+  pub count_nodes : Count (λ i. t i ≡ true) (count_by passes T.nodes.entries)
+  count_nodes = subst (Count (λ i. t i ≡ true)) (length-filter passes T.nodes.entries)
+      (count_alike (IsMatched IsKey passing) (λ i. t i ≡ true) (length passing) to from (count_matched IsKey passing matching))
+
+directory_there : (o : Option Node) → is_directory_node o ≡ true → is_some o ≡ true
+directory_there None e = cc
+directory_there (Some x) e = refl
+
+file_there : (o : Option Node) → is_file_node o ≡ true → is_some o ≡ true
+file_there None e = cc
+file_there (Some x) e = refl
+
+-- ---- directories, files and names
+
+module _ (P : ℕ) (I : List ℕ) (T : Tree) (sound : Sound P I) (reads : Reads P I T) where
+  count_directories : Count (IsReachedDirectory P I) (directory_count T)
+  count_directories = count_alike (λ i. is_directory T i ≡ true) (IsReachedDirectory P I) (directory_count T)
+      (λ i is. ((has_sizes P I T sound reads).directories i).0 is) (λ i is. ((has_sizes P I T sound reads).directories i).1 is)
+      (count_nodes T (is_directory T) (λ i is. directory_there (node_at T i) is))
+
+  count_files : Count (IsReachedFile P I) (file_count T)
+  count_files = count_alike (λ i. is_file T i ≡ true) (IsReachedFile P I) (file_count T)
+      (λ i is. ((has_sizes P I T sound reads).files i).0 is) (λ i is. ((has_sizes P I T sound reads).files i).1 is)
+      (count_nodes T (is_file T) (λ i is. file_there (node_at T i) is))
+
+  abbrev IsBelowRoot : Route × ℕ → Type 0
+  IsBelowRoot e = Unit {0} × (not (is_root e.0) ≡ true)
+
+  count_names : Count (IsReachedSlot P I) (below_root T)
+  count_names = subst (Count (IsReachedSlot P I)) (length-filter (λ e. not (is_root e.0)) T.names.entries)
+      (count_slots P I T sound reads IsBelowRoot (IsReachedSlot P I) (filter (λ e. not (is_root e.0)) T.names.entries)
+      (some_names T (λ e. Unit {0}) T.names.entries (λ e. not (is_root e.0)) (all_names T))
+      (λ i is below. (let clash : false ≡ true = below.1 in cc))
+      (λ p i s last below. reached_slot P I (reverse p) i s last)
+      (λ s slot. slot)
+      (λ p i s last slot. (tt, ap (λ b. not b) (ap is_root (sym (reverse-reverse p)) ∙ (owner_of P I T sound reads (reverse p) i s last).1))))
+
+-- ---- all counts
+
+-- a reached slot stands in a kept directory page
+pub reached_kept : (P : ℕ) (I : List ℕ) (s : ℕ) → IsReachedSlot P I s → IsKeptDirectoryPage P I (page_of_slot s)
+unfolding slot_owner
+reached_kept P I s slot = record { reached = slot.owner; directory = slot.directory; slot = (s, refl, refl, slot.live) }
+
+-- and a live slot of one is reached
+pub kept_reached : (P : ℕ) (I : List ℕ) (s : ℕ) → IsKeptDirectoryPage P I (page_of_slot s) → IsLive P I s → IsReachedSlot P I s
+unfolding slot_owner
+kept_reached P I s page live = record { owner = page.reached; directory = page.directory; live = live }
+
+module _ (P : ℕ) (I : List ℕ) (sound : Sound P I) (inodes : InodeCounts) (pages : PageCounts) (pointers : ℕ)
+    (of_inodes : CountsInodes P I (inodes_of P + 1) inodes) (of_pages : CountsPages P I (data_pages_of P) (slots_of P) pages)
+    (of_pointers : Count (IsPointer P I) pointers) where
+  abbrev counts : CheckCounts
+  counts = record {
+    directories = inodes.directories;
+    files = inodes.files;
+    names = pages.slots.names;
+    pointers = pointers;
+    slots = pages.slots.litter;
+    pages = pages.litter;
+    inodes = inodes.litter;
+    counts = inodes.links;
+  }
+
+  within : (i : ℕ) → Reached P I i → i < inodes_of P + 1
+  within i reached = let most = (in_range P I sound i reached).1 in omega (arith, most)
+
+  abbrev repairs : RepairCounts
+  repairs = record { pointers = pointers; slots = pages.slots.litter; pages = pages.litter; inodes = inodes.litter; counts = inodes.links }
+
+  has_repairs : HasRepairs P I repairs
+  has_repairs = record {
+    of_pointers = of_pointers;
+    of_slots = count_all (IsLitterSlot P I) (slots_of P) pages.slots.litter (λ s litter. (kept_held P I sound s litter.page).in_range) of_pages.in_slots.litter;
+    of_pages = count_all (IsLitterPage P I) (data_pages_of P) pages.litter (λ j litter. litter.in_range) of_pages.litter;
+    of_inodes = count_all (IsLitterInode P I) (inodes_of P + 1) inodes.litter (λ i litter. (let most = litter.most in omega (arith, most))) of_inodes.litter;
+    of_counts = count_all (IsLitterCount P I) (inodes_of P + 1) inodes.links (λ i litter. within i litter.reached) of_inodes.links;
+  }
+
+  pub counted : AreCountsOf P I counts
+  counted =
+      let (T, reads, form) = tree_law P I sound in
+      let directories = count_one (IsReachedDirectory P I) inodes.directories (directory_count T)
+      (count_all (IsReachedDirectory P I) (inodes_of P + 1) inodes.directories (λ i is. within i is.0) of_inodes.directories) (count_directories P I T sound reads) in
+      let files = count_one (IsReachedFile P I) inodes.files (file_count T)
+      (count_all (IsReachedFile P I) (inodes_of P + 1) inodes.files (λ i is. within i is.0) of_inodes.files) (count_files P I T sound reads) in
+      let names = count_one (IsReachedSlot P I) pages.slots.names (below_root T)
+      (count_all (IsReachedSlot P I) (slots_of P) pages.slots.names (λ s slot. slot.live.held.in_range) of_pages.in_slots.names) (count_names P I T sound reads) in
+      record {
+        tree = T;
+        reads = reads;
+        repairs = repairs;
+        counted = has_repairs;
+        are = λ k. record {
+          directories = directories k;
+          files = files k;
+          names = names k;
+          pointers = pointers;
+          slots = pages.slots.litter;
+          pages = pages.litter;
+          inodes = inodes.litter;
+          counts = inodes.links;
+        };
+      }
+
+-- ---- a descriptor's words
+
+module _ (P : ℕ) (I : List ℕ) (j : ℕ) where
+  word_of : (page_owner P I j ≢ 0) ⊎ ((page_kind P I j ≢ 0) ⊎ (page_offset P I j ≢ 0)) → (f : ℕ) × (f < 3) × (word I (descriptor_word_of P j f) ≢ 0)
+  unfolding page_owner page_kind page_offset
+  word_of (inl owner) = (0, omega arith, owner)
+  word_of (inr (inl kind)) = (1, omega arith, kind)
+  word_of (inr (inr offset)) = (2, omega arith, offset)
+
+  pub litter_page : j < data_pages_of P → ¬ IsKept P I j → (page_owner P I j ≢ 0) ⊎ ((page_kind P I j ≢ 0) ⊎ (page_offset P I j ≢ 0)) → IsLitterPage P I j
+  litter_page within free some = record { in_range = within; free = free; nonzero = word_of some }
+
+  offset_left : (f : ℕ) → f < 3 → word I (descriptor_word_of P j f) ≢ 0 → page_owner P I j ≡ 0 → page_kind P I j ≡ 0 → page_offset P I j ≢ 0
+  unfolding page_owner page_kind page_offset
+  offset_left zero lt other owner kind = absurd (other owner)
+  offset_left (suc zero) lt other owner kind = absurd (other kind)
+  offset_left (suc (suc zero)) lt other owner kind = other
+  offset_left (suc (suc (suc f))) lt other owner kind = absurd (omega arith)
+
+  pub litter_offset : IsLitterPage P I j → page_owner P I j ≡ 0 → page_kind P I j ≡ 0 → page_offset P I j ≢ 0
+  litter_offset litter = let (f, lt, other) = litter.nonzero in offset_left f lt other
+
+-- ---- loops end before a count is too great
+
+pub inode_limit : (g : Geometry) (n : ℕ) → n < g.inodes → n + 1 ≤ 2 ^ 22
+inode_limit g n lt = let few = inodes_below g.pages g.volume_size in let most = g.volume_size.1 in omega (arith, lt, few, most, g.inodes_exact)
+
+pub page_limit : (g : Geometry) (j : ℕ) → j < g.data_pages → j ≤ 2 ^ 16
+page_limit g j lt = let few = data_pages_below g.pages g.volume_size in let most = g.volume_size.1 in omega (arith, lt, few, most, g.data_pages_exact)
+
+pub slot_limit : (g : Geometry) (j place : ℕ) → j < data_pages_of g.pages → place < 32 → 32 * j + place ≤ 2 ^ 22
+slot_limit g j place lt inside = let few = data_pages_below g.pages g.volume_size in let most = g.volume_size.1 in omega (arith, lt, inside, few, most)
+
+-- ---- a page that isn't a directory's kept one
+
+pub none_of_page : (P : ℕ) (I : List ℕ) (j : ℕ) → ¬ IsKeptDirectoryPage P I j → (s : ℕ) → 32 * j ≤ s → s < 32 * (j + 1) → ¬ IsKeptDirectoryPage P I (page_of_slot s)
+unfolding page_of_slot
+none_of_page P I j other s low high kept =
+    let at : page_of_slot s ≡ j = omega (arith, low, high) in
+    other (subst (IsKeptDirectoryPage P I) at kept)
