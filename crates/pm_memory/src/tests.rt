@@ -1,5 +1,7 @@
 // What no clause says: that these calls succeed, and that the definitions mean what was meant.
-use crate::RamPm;
+ghost use Rattle.std.specs.Prelude.{◌<◌, length};
+
+use crate::{RamPm, Recorded, SteadyPm};
 use pm_trait::{Event, Pm, PmFault};
 use std::test::Fail;
 
@@ -21,6 +23,37 @@ fn tells_its_events(rt: HostRuntime) -> Result<(), Fail> {
     assert_eq!(rt; pm.event(2), Event::Flush { line: 0 });
     assert_eq!(rt; pm.event(3), Event::Fence);
     assert_eq!(rt; pm.event(4), Event::Ack);
+    let mut walk = pm.walk();
+    assert_eq!(rt; walk.next(), Some(Event::Store { word: 2, value: 30 }));
+    assert_eq!(rt; walk.next(), Some(Event::Ack));
+    assert_eq!(rt; walk.next(), Some(Event::Flush { line: 0 }));
+    assert_eq!(rt; walk.next(), Some(Event::Fence));
+    assert_eq!(rt; walk.next(), Some(Event::Ack));
+    assert_eq!(rt; (walk.next(), walk.next()), (None, None));
+    Ok(())
+}
+
+// The first event of the trail, once word 0 has a value.
+fn first_event<P: Recorded>(pm: &mut P) -> Result<Option<Event>, Fail>
+    requires { 0 < length (P.view pm.old).words }
+{
+    pm.reserve(1)?;
+    pm.store(0, 8);
+    Ok(pm.ram().walk().next())
+}
+
+#[test]
+fn lends_what_it_recorded(rt: HostRuntime) -> Result<(), Fail> {
+    let mut ram = RamPm::new(rt.alloc(), &[7])?;
+    let stored = Some(Event::Store { word: 0, value: 8 });
+    assert_eq!(rt; first_event(&mut ram)?, stored);
+    let mut steady = SteadyPm::new(rt.alloc(), &[7])?;
+    steady.reserve(2)?;
+    steady.flush(0);
+    assert_eq!(rt; steady.fence(), Ok(()));
+    steady.ack();
+    assert_eq!(rt; (steady.load(0), steady.fences(), steady.acks()), (7, 1, 1));
+    assert_eq!(rt; first_event(&mut steady)?, Some(Event::Flush { line: 0 }));
     Ok(())
 }
 

@@ -2,7 +2,7 @@
 use Rattle.std.specs.Prelude.{◌≡◌, ℕ, ◌*◌, ◌^◌, ◌<◌, ◌≤◌, ◌++◌, List, length, Option, Some, None}
 use Rattle.pm_trait.specs.DeviceView.{DeviceView, IsSettledView}
 use Rattle.squirrel_cli.specs.declared.job.Job.{Job}
-use Rattle.squirrel_cli.specs.declared.job.Job.TheVariants.{Mkfs, Run}
+use Rattle.squirrel_cli.specs.declared.job.Job.TheVariants.{Mkfs, Run, Tree, Check, Crash}
 use Rattle.script.specs.declared.run_end.RunEnd.{RunEnd}
 use Rattle.script.specs.declared.run_end.RunEnd.TheVariants as ends
 use Rattle.squirrel_cli.specs.declared.status.Status.{Status}
@@ -48,3 +48,6 @@ abbrev pub IsReadyFor : Option Job → List ℕ → Type 0
 IsReadyFor None words = ⊥
 IsReadyFor (Some (Mkfs pages)) words = length words ≡ 512 * pages
 IsReadyFor (Some Run) words = IsMountable words
+IsReadyFor (Some Tree) words = IsMountable words
+IsReadyFor (Some Check) words = IsMountable words
+IsReadyFor (Some (Crash moment keep again)) words = IsMountable words

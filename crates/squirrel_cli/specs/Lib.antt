@@ -1,3 +1,4 @@
+pub mod CommandLine
 pub mod Job
 pub mod Wanted
 pub mod Status

@@ -2,8 +2,10 @@
 #![tactic(auto)]
 
 mod job;
+mod keep;
 mod mkfs;
 mod scripted;
+mod split;
 mod status;
 mod top_call;
 mod wanted;

@@ -1,9 +1,9 @@
 // The device that the words of a command line need.
-ghost use Rattle.std.specs.Prelude.{◌≡◌, IfOk, OnErr, IsSome};
-ghost use Rattle.squirrel_cli.specs.Job.{job_of as job_of_words};
+ghost use Rattle.std.specs.Prelude.{◌≡◌, IfOk};
 ghost use Rattle.squirrel_cli.specs.Wanted.{Wants};
 
-use crate::job::{Job, job_of};
+use crate::job::{Job, job_of_split};
+use crate::split::Split;
 use crate::words::{ImagePath, Words};
 use pm_trait::NoMemory;
 use std::alloc::Global;
@@ -15,25 +15,25 @@ pub enum Wanted {
     Nothing,
     /// A file that is given this many pages, and made where it isn't there.
     Make { path: ImagePath, pages: u64 },
-    /// A file that is there.
-    Existing { path: ImagePath },
+    /// A file that is there, and whether the job may change it.
+    Existing { path: ImagePath, stores: bool },
 }
 
-/// The device that the words need: none exactly where they ask for no job. `NoMemory` comes where there is none for the
-/// path.
+/// The device that the words need: none exactly where they ask for no job. `NoMemory` may come for any words.
 pub fn device_of(alloc: Global, words: &Words) -> Result<Wanted, NoMemory>
-    ensures ok { IfOk result (λ wanted. Wants words.now wanted) }
-    ensures err { OnErr result (IsSome (job_of_words words.now)) }
+    ensures { IfOk result (λ wanted. Wants words.now wanted) }
 {
-    match job_of(words) {
+    let split = Split::of(alloc, words)?;
+    match job_of_split(alloc, &split)? {
         None => Ok(Wanted::Nothing),
         Some(Job::Mkfs { pages }) => {
-            let path = ImagePath::new(alloc, words.word(2))?;
+            let path = ImagePath::new(alloc, split.image())?;
             Ok(Wanted::Make { path, pages })
         }
-        Some(Job::Run) => {
-            let path = ImagePath::new(alloc, words.word(2))?;
-            Ok(Wanted::Existing { path })
+        Some(job) => {
+            let path = ImagePath::new(alloc, split.image())?;
+            let stores = job.stores();
+            Ok(Wanted::Existing { path, stores })
         }
     }
 }

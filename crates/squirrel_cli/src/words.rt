@@ -1,5 +1,5 @@
 // The words of a command line, and the path of an image.
-ghost use Rattle.std.specs.Prelude.{◌≡◌, ◌++◌, ◌<◌, length, Some, [], ◌∷◌, OnOk, OnErr, IfOk, IfSome, slice_get, option_copied};
+ghost use Rattle.std.specs.Prelude.{◌≡◌, ◌++◌, [], ◌∷◌, map, OnOk, OnErr, IfOk};
 ghost use Rattle.std.specs.String.{string_bytes};
 
 use pm_trait::NoMemory;
@@ -43,19 +43,11 @@ impl Words {
         Ok(())
     }
 
-    /// How many words there are.
-    pub(crate) fn len(&self) -> usize
-        ensures { result ≡ length self.now }
+    /// The words as texts.
+    pub(crate) fn as_slice(&self) -> &[String]
+        ensures { map string_bytes result.now ≡ self.now }
     {
-        self.words.len()
-    }
-
-    /// One word, counted from 0.
-    pub(crate) fn word(&self, k: usize) -> &str
-        requires { k < length self.now }
-        ensures { slice_get self.now k ≡ Some result.now }
-    {
-        self.words[k].as_str()
+        self.words.as_slice()
     }
 }
 
