@@ -1,5 +1,5 @@
 // What the ends of a job are told as.
-ghost use Rattle.std.specs.Prelude.{◌≡◌};
+ghost use Rattle.std.specs.Prelude.{◌≡◌, ◌≢◌, [], false};
 ghost use Rattle.std.specs.Process.{exit_status};
 ghost use Rattle.squirrel_cli.specs.Status.{number_of_status};
 ghost use Rattle.squirrel.specs.Faults.{fault_text};
@@ -7,6 +7,16 @@ ghost use Rattle.squirrel.specs.Faults.{fault_text};
 use pm_file::FileFault;
 use squirrel_cli::Status;
 use std::process::ExitCode;
+
+// Each command's words, and what it does.
+const COMMANDS: &str = "\
+mkfs IMAGE PAGES  makes IMAGE an empty volume of 16 to 65536 pages
+run IMAGE         answers the script on standard input
+tree IMAGE        lists the volume, with the bytes of its files
+check IMAGE       tells what the next mount will repair, and stores nothing
+crash IMAGE --keep HEX (--at K | --call I --fence F) [--again J --keep2 HEX]  \
+lists what a crash in the script on standard input would leave, and stores nothing
+";
 
 /// The program's exit status.
 pub fn exit_of(status: Status) -> ExitCode
@@ -27,6 +37,17 @@ pub fn fault_line(status: Status) -> &'static str
         Status::ReadFault => "squirrel: read fault",
         Status::WriteFault => "squirrel: write fault",
         Status::ScriptLimit => "squirrel: script too long",
+    }
+}
+
+/// What standard error is told behind that line: where it is a terminal and no job was asked for, a line for each command.
+pub fn lines_behind(status: Status, is_terminal: bool) -> &'static str
+    ensures elsewhere { is_terminal ≡ false → result.now ≡ [] }
+    ensures others { status ≢ Status.Usage → result.now ≡ [] }
+{
+    match status {
+        Status::Usage if is_terminal => COMMANDS,
+        _ => "",
     }
 }
 

@@ -1,7 +1,7 @@
 //! The program: the words of the command line, the device in a file, standard input and output, and the exit status.
 #![tactic(auto)]
 
-ghost use Rattle.std.specs.Prelude.{◌≡◌, ◌↔◌, None};
+ghost use Rattle.std.specs.Prelude.{◌≡◌, ◌⊎◌, None};
 ghost use Rattle.squirrel_cli.specs.Job.{job_of};
 
 mod device;
@@ -9,19 +9,20 @@ mod faults;
 mod words;
 
 use device::{Images, device_for};
-use faults::{exit_of, fault_line, status_of_file_fault};
+use faults::{exit_of, fault_line, lines_behind, status_of_file_fault};
 use io_edge::{StdSink, StdSource};
 use pm_file::ImageFile;
 use squirrel_cli::{Status, Words, squirrel};
 use std::alloc::Global;
 use std::io;
+use std::io::IsTerminal;
 use std::process::ExitCode;
 use std::rt::Files;
 use words::words_of;
 
 fn main(rt: HostRuntime) -> ExitCode {
     let status = status_of_run(&rt);
-    tell(&rt, status);
+    tell(&rt.stderr(), status);
     exit_of(status)
 }
 
@@ -37,7 +38,8 @@ fn status_of_run(rt: &HostRuntime) -> Status {
 fn do_job<R: Files + Input + Print>(rt: &R, alloc: Global, words: &Words) -> Status
 where
     R::File: ImageFile,
-    ensures usage { (result ≡ Status.Usage) ↔ (job_of words.now ≡ None) }
+    ensures usage { result ≡ Status.Usage → job_of words.now ≡ None }
+    ensures no_job { job_of words.now ≡ None → (result ≡ Status.Usage) ⊎ (result ≡ Status.NoMemory) }
 {
     match device_for(&Images { rt, alloc }, alloc, words) {
         Ok(mut pm) => {
@@ -49,10 +51,12 @@ where
     }
 }
 
-// Tells a fault on standard error. A failure to do so changes nothing.
-fn tell<R: Eprint>(rt: &R, status: Status) {
+// Tells a fault on standard error, and who asks for no job at a terminal what can be asked for. A failure to do so changes
+// nothing.
+fn tell<E: Eprint + IsTerminal>(error: &E, status: Status) {
     let line = fault_line(status);
     if !line.is_empty() {
-        let _ = eprintln!(rt; "{line}");
+        let behind = lines_behind(status, error.is_terminal());
+        let _ = eprint!(error; "{line}\n{behind}");
     }
 }
