@@ -6,8 +6,8 @@ use image_reading::Violation;
 use layout::Geometry;
 use layout::superblock::HEAD_WORDS;
 
-// The rule of the length and the first words.
-const HEAD_RULE: u64 = 1;
+/// The number of the rule of the length and the first words.
+pub const HEAD_RULE: u64 = 1;
 
 /// The geometry of a device whose length and first words are a volume's.
 pub fn geometry_of(words: &[u64]) -> Option<Geometry>

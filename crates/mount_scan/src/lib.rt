@@ -11,6 +11,7 @@ mod mounting;
 mod reporting;
 
 pub use error::{MountError, ReportError};
+pub use head::HEAD_RULE;
 pub use mounting::mount;
 pub use reporting::report;
 
