@@ -4,6 +4,6 @@ pub mod Refusals
 pub mod Mounted
 pub mod TaskJobs
 pub mod Leaving
-pub mod Replayed
+pub mod ReplayTells
 pub mod CommandLines
 mod CommandLineRows

@@ -10,8 +10,7 @@ use Rattle.engine.specs.Run.{command_of, state_after}
 use Rattle.crash_replay.specs.Replay.{fences_of_call}
 use Rattle.crash_replay.specs.declared.moment.Moment.{Moment}
 use Rattle.crash_replay.specs.declared.moment.Moment.TheVariants.{At, Before}
-use Rattle.squirrel_cli.specs.declared.status.Status.{Status}
-use Rattle.squirrel_cli.specs.Replays.{IsUnbegun, Replays, acked_before}
+use Rattle.squirrel_cli.specs.Replays.{IsUnbegun, Replayed, acked_before}
 
 -- it is the tree after so many lines
 abbrev pub IsTreeAfter : State → List State → ℕ → Tree → Type 0
@@ -36,7 +35,7 @@ pub record ReplayTells (P : ℕ) (start : State) (states : List State) (lines : 
   pub no_call : (call fence : ℕ) → moment ≡ Before call fence → length states < call → (acked ≡ length states) × IsTreeAfter start states (length states) tree
 
 abbrev pub ReplayLaw : Type 0
-ReplayLaw = (moment : Moment) (keep : List ℕ) (P : ℕ) (before after : DeviceView) (result : Status) (script rest : Option (List ℕ)) (took now : List ℕ → Type 0)
-    → IsUnbegun before → (replay : Replays moment keep P before after result script rest took now)
+ReplayLaw = (moment : Moment) (keep : List ℕ) (P : ℕ) (before after : DeviceView) (script rest : Option (List ℕ))
+    → IsUnbegun before → (replay : Replayed moment keep P before after script rest)
     → ReplayTells P replay.ran.run.start replay.ran.run.states replay.ran.run.lines replay.trail.events (moment_of replay.ran.mounted.trail) moment
-    (acked_before replay.trail (moment_of replay.ran.mounted.trail) moment) replay.tree
+      (acked_before replay.trail (moment_of replay.ran.mounted.trail) moment) replay.tree

@@ -35,7 +35,7 @@ pub record ReplaysMounted (moment : Moment) (keep : List ℕ) (P : ℕ) (before 
   pub ample : (k : ℕ) → slice_get run.answers k ≢ Some (Refused OutOfMemory)
   pub trail : Trail
   pub recorded : after.trail ≡ Some trail
-  pub left : ListsLeft moment keep (moment_of before.trail) trail result took now
+  pub listed : ListsLeft moment keep (moment_of before.trail) trail result took now
 
 -- what a crash left, and after it maybe another one in the mount of that: it is sound, and means what the chosen image means
 pub record HasLeft (keep : List ℕ) (trail : Trail) (words : List ℕ) : Type 0 where

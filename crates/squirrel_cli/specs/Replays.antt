@@ -62,24 +62,33 @@ IsSilent ScriptLimit = Unit {0}
 abbrev pub acked_before : Trail → ℕ → Moment → ℕ
 acked_before trail mark moment = count_acks (take (place_in trail.events mark moment) trail.events)
 
--- The image that the bytes choose at the moment was read, and the number of acknowledgements before that moment and the listing of its
--- tree were written, or a prefix of them where a write failed.
-pub record ListsLeft (moment : Moment) (keep : List ℕ) (mark : ℕ) (trail : Trail) (result : Status) (took now : List ℕ → Type 0) : Type 0 where
+-- the image that the bytes choose at the moment, and the tree that it reads as
+pub record ReadsLeft (moment : Moment) (keep : List ℕ) (mark : ℕ) (trail : Trail) : Type 0 where
   pub image : List ℕ
   pub chosen : IsChosenImage (trail_at trail (place_in trail.events mark moment)) keep image
   pub tree : Tree
   pub reads : Reads (pages_in_image image) image tree
-  pub told : IsToldOrCut Done (acked_text (acked_before trail mark moment) ++ listing_text tree) result took now
 
--- The whole script was run through, no line of it was answered NoMemory, and what a crash at the moment leaves was listed.
-pub record Replays (moment : Moment) (keep : List ℕ) (P : ℕ) (before after : DeviceView) (result : Status) (script rest : Option (List ℕ)) (took now : List ℕ → Type 0) : Type 0 where
+-- The number of acknowledgements before the moment and the listing of that tree were written, or a prefix of them where a write failed.
+pub record ListsLeft (moment : Moment) (keep : List ℕ) (mark : ℕ) (trail : Trail) (result : Status) (took now : List ℕ → Type 0) : Type 0 where
+  pub left : ReadsLeft moment keep mark trail
+  pub told : IsToldOrCut Done (acked_text (acked_before trail mark moment) ++ listing_text left.tree) result took now
+
+-- The whole script was run through, no line of it was answered NoMemory or Fault, and what a crash at the moment leaves was read.
+pub record Replayed (moment : Moment) (keep : List ℕ) (P : ℕ) (before after : DeviceView) (script rest : Option (List ℕ)) : Type 0 where
   pub ran : RunsThrough P before after ends.Done script rest
   pub unfailed : length ran.run.states ≡ length ran.run.answers
   pub ample : (k : ℕ) → slice_get ran.run.answers k ≢ Some (Refused OutOfMemory)
   pub trail : Trail
   pub recorded : after.trail ≡ Some trail
-  pub left : ListsLeft moment keep (moment_of ran.mounted.trail) trail result took now
+  pub left : ReadsLeft moment keep (moment_of ran.mounted.trail) trail
   pub open left use *
+
+-- And it was listed, with the number of acknowledgements before the moment.
+pub record Replays (moment : Moment) (keep : List ℕ) (P : ℕ) (before after : DeviceView) (result : Status) (script rest : Option (List ℕ)) (took now : List ℕ → Type 0) : Type 0 where
+  pub replayed : Replayed moment keep P before after script rest
+  pub open replayed use *
+  pub told : IsToldOrCut Done (acked_text (acked_before trail (moment_of ran.mounted.trail) moment) ++ listing_text tree) result took now
 
 -- The script was run through to this end, or left alone: a fence failed in the mount, or memory was short.
 abbrev pub RunsOrUnread : ℕ → Status → DeviceView → DeviceView → RunEnd → Option (List ℕ) → Option (List ℕ) → Type 0 → Type 0

@@ -1,4 +1,4 @@
-use Rattle.squirrel_cli.proofs.Replayed.{replay_law-holds}
+use Rattle.squirrel_cli.proofs.ReplayTells.{replay_law-holds}
 use Rattle.squirrel_cli.proofs.laws.replay_law.Goals as goal
 
 pub returns : goal.returns

@@ -26,9 +26,8 @@ use Rattle.crash_replay.specs.Replay.{PlacesTell, acked_at, acked_in_all, fences
 use Rattle.crash_replay.specs.declared.moment.Moment.{Moment}
 use Rattle.crash_replay.specs.declared.moment.Moment.TheVariants.{At, Before}
 use Rattle.crash_replay.proofs.Replays.{replay_law-holds}
-use Rattle.squirrel_cli.specs.declared.status.Status.{Status}
 use Rattle.squirrel_cli.specs.ReplayLaw.{IsTreeAfter, MayBeLeftAfter, ReplayLaw, ReplayTells}
-use Rattle.squirrel_cli.specs.Replays.{IsUnbegun, Replays, acked_before}
+use Rattle.squirrel_cli.specs.Replays.{IsUnbegun, Replayed, acked_before}
 use Rattle.squirrel_cli.proofs.Leaving.{own_pages}
 
 -- ---- states, and fences of lines that are not there
@@ -101,7 +100,7 @@ from_mark {mounted} {after} {trail} refl = ap (λ (events : List Event). count_a
 
 -- ---- a replay
 
-module _ {moment : Moment} {keep : List ℕ} {P : ℕ} {before after : DeviceView} {result : Status} {script rest : Option (List ℕ)} {took now : List ℕ → Type 0} (unbegun : IsUnbegun before) (replay : Replays moment keep P before after result script rest took now) where
+module _ {moment : Moment} {keep : List ℕ} {P : ℕ} {before after : DeviceView} {script rest : Option (List ℕ)} (unbegun : IsUnbegun before) (replay : Replayed moment keep P before after script rest) where
   mark_within : moment_of replay.ran.mounted.trail ≤ length replay.trail.events
   mark_within = subst (λ (t : Option Trail). moment_of replay.ran.mounted.trail ≤ moment_of t) replay.recorded (moment_of-continues replay.ran.run.any_moment.continues)
 
@@ -248,7 +247,7 @@ module _ {moment : Moment} {keep : List ℕ} {P : ℕ} {before after : DeviceVie
   all_before asked placed all = tells.counted place ∙ ap (acked_at replay.trail.events (moment_of replay.ran.mounted.trail)) placed ∙ all ∙ all_acked
 
 pub replay_law-holds : ReplayLaw
-replay_law-holds moment keep P before after result script rest took now unbegun replay = record {
+replay_law-holds moment keep P before after script rest unbegun replay = record {
   allowed = allowed unbegun replay;
   at_entry = λ is.
       let here = (tells unbegun replay).at_mark 0 (omega arith) in
