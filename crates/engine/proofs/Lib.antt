@@ -23,3 +23,8 @@ pub mod RunEnds
 pub mod Turned
 pub mod InputEnds
 pub mod ListingLaws
+pub mod Subtrees
+pub mod PlaceLaws
+pub mod PlacesLeft
+pub mod NextPlaces
+pub mod PathTexts

@@ -5,6 +5,7 @@ pub mod Memory
 pub mod Replies
 pub mod Exec
 pub mod Listing
+pub mod Places
 pub mod Script
 pub mod Turns
 pub mod Laws

@@ -5,7 +5,9 @@ mod command;
 mod last_read;
 mod laws;
 mod listing;
+mod places;
 mod session;
+mod tree;
 mod turns;
 
 pub use laws::plain_runs_are_runs;

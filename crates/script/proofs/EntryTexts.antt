@@ -1,9 +1,10 @@
 -- The lines of a tree's listing in pieces.
-use Rattle.std.proofs.Common.{◌≡◌, ℕ, Bool, true, false, cond, List, [], ◌∷◌, ◌++◌, length, codes, decimal, sym, ap, ◌∙◌, append_assoc}
+use Rattle.std.proofs.Common.{◌≡◌, ℕ, ◌/◌, ◌%◌, ◌≤◌, refl, arith, Bool, true, false, cond, slice_index, List, [], ◌∷◌, ◌++◌, length, codes, decimal, sym, ap, ◌∙◌, append_assoc}
 use Rattle.tree_model.specs.PathText.{Route}
 use Rattle.tree_model.specs.Tree.{Tree, is_directory, bytes_of, link_count, name_count}
 use Rattle.tree_model.specs.Step.{status_of}
-use Rattle.script.specs.Entries.{entry_front}
+use Rattle.hex.specs.Hex.{encode_with, lower_digits}
+use Rattle.script.specs.Entries.{digits_text, entry_front}
 use Rattle.script.specs.Lines.{newline, space}
 use Rattle.script.specs.Texts.{entry_words, line_text, path_text, bytes_text}
 
@@ -48,3 +49,19 @@ module _ (T : Tree) (path : Route) (id : ℕ) where
       ap (λ b. line_text (words_of_kind b)) is
       ∙ file_pieces (codes "f") (decimal id) (decimal links) (decimal (length bytes)) (path_text path) (bytes_text bytes)
       ∙ ap (λ b. ((front_of b id links names (length bytes) ++ path_text path) ++ space ∷ bytes_text bytes) ++ newline ∷ []) (sym is)
+
+-- ---- a file's bytes in pieces
+
+pub digits_none : digits_text [] ≡ []
+unfolding encode_with
+digits_none = refl
+
+pub digits_more : (xs ys : List ℕ) → digits_text (xs ++ ys) ≡ digits_text xs ++ digits_text ys
+unfolding encode_with
+digits_more [] ys = refl
+digits_more (x ∷ xs) ys = ap (λ (t : List ℕ). slice_index lower_digits (x / 16) ∷ slice_index lower_digits (x % 16) ∷ t) (digits_more xs ys)
+
+-- of at least one byte
+pub bytes_in_digits : (bytes : List ℕ) → 1 ≤ length bytes → bytes_text bytes ≡ digits_text bytes
+bytes_in_digits [] some = absurd (omega (arith, some))
+bytes_in_digits (b ∷ bytes) some = refl

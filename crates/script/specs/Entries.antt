@@ -1,6 +1,7 @@
 -- The line of a path in the listing of a tree, piece by piece.
 use Rattle.std.specs.Prelude.{ℕ, if◌then◌else◌, List, [], ◌∷◌, ◌++◌, codes, decimal}
 use Rattle.std.specs.List.{join_with_byte}
+use Rattle.hex.specs.Hex.{encode_lower}
 use Rattle.tree_model.specs.PathText.{slash}
 use Rattle.tree_model.specs.declared.reply.Stat.{Stat}
 use Rattle.script.specs.Lines.{space}
@@ -14,6 +15,10 @@ entry_front s =
 -- a name of the path, after its slash
 abbrev pub below_text : List ℕ → List ℕ
 below_text name = slash ∷ name_text name
+
+-- two hexadecimal digits in lower case for each byte
+abbrev pub digits_text : List ℕ → List ℕ
+digits_text bytes = encode_lower bytes
 
 -- what stands behind the path of a file without bytes
 abbrev pub no_bytes_text : List ℕ

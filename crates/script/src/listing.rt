@@ -1,8 +1,7 @@
 // The pieces of a line in the listing of a tree.
 ghost use Rattle.std.specs.Prelude.{◌≡◌, ◌≤◌, [], ◌∷◌, ◌++◌, length, codes, if◌then◌else◌};
-ghost use Rattle.hex.specs.Hex.{encode_lower};
 ghost use Rattle.io_edge.specs.Bytes.{Writes};
-ghost use Rattle.script.specs.Entries.{entry_front, below_text, no_bytes_text};
+ghost use Rattle.script.specs.Entries.{entry_front, below_text, digits_text, no_bytes_text};
 ghost use Rattle.script.specs.declared.listing.TheConstants.{LONGEST_PIECE};
 
 use crate::digits::encode;
@@ -44,7 +43,7 @@ pub fn write_below<K: Sink>(name: &Name, sink: &mut K) -> Result<(), WriteFault>
 pub fn write_piece<K: Sink>(bytes: &[u8], sink: &mut K) -> Result<(), WriteFault>
     requires short { length bytes.now ≤ LONGEST_PIECE }
     ensures { Writes (K.took sink.old) (K.took sink.new) (K.faults sink.old) (K.faults sink.new)
-        (encode_lower bytes.now) result }
+        (digits_text bytes.now) result }
 {
     let mut text = [0; 2 * LONGEST_PIECE];
     let digits = &mut text[..2 * bytes.len()];

@@ -1,0 +1,110 @@
+-- The deepest place, as it stands in the list; and what a volume says of the places of a listing.
+use Rattle.std.proofs.Common.{◌≡◌, inl, inr, ℕ, zero, suc, ◌+◌, ◌-◌, ◌<◌, ◌≤◌, true, false, IsTrue, List, [], ◌∷◌, ◌++◌, length, take, Option, Some, None, is_some, Contains, refl, sym, ap, subst, ◌∙◌, arith, take_all}
+use Rattle.std.specs.Prelude.{slice_get, slice_index_or, slice_set}
+use Rattle.std.proofs.lemmas.List.{take_more, take_more_set, length-set}
+use Rattle.std.proofs.lemmas.List.Elements.{Contains-get_or}
+use Rattle.std.proofs.lemmas.Option.{slice_get_within, get_or_from_slice_get}
+use Rattle.pm_trait.specs.DeviceView.{DeviceView}
+use Rattle.layout.specs.Geometry.{inodes_of}
+use Rattle.tree_model.specs.Tree.{Tree, Node, Directory, File, IsTree, root_id, id_at, node_at, is_directory, is_file, is_directory_node, is_file_node}
+use Rattle.tree_model.specs.Run.{State}
+use Rattle.tree_model.specs.Step.{names_in}
+use Rattle.volatile_index.specs.Index.{NodeView, entries_of, inodes_of_index}
+use Rattle.volume.specs.Volume.{VolumeView}
+use Rattle.volume.specs.Stands.{StandsFor, HasNode}
+use Rattle.engine.specs.declared.places.Place.{Place}
+use Rattle.engine.specs.Places.{place_at, route_through, IsPlaceAt, IsWayFrom, IsWay, LeadsTo, AreWithin, IsPassed, IsLeft, IsSameOrEntered, entries_from, lines_text}
+use Rattle.engine.proofs.PlaceLaws.{way_but_one}
+use Rattle.engine.proofs.Told.{state_is, directory_within}
+
+pub contains_got : {X : Type 0} (xs : List X) (k : ℕ) (x : X) → slice_get xs k ≡ Some x → Contains xs x
+contains_got xs k x is = subst (Contains xs) (get_or_from_slice_get xs k x x is) (Contains-get_or xs k x (slice_get_within xs k x is))
+
+-- what is read at a place is one element
+pub one_element : {X : Type 0} (xs : List X) (k : ℕ) (a b : X) → k < length xs → a ≡ slice_index_or xs k a → b ≡ slice_index_or xs k b → a ≡ b
+one_element [] k a b within is too = absurd (omega (arith, within))
+one_element (x ∷ xs) zero a b within is too = is ∙ sym too
+one_element (x ∷ xs) (suc k) a b within is too = one_element xs k a b (omega (arith, within)) is too
+
+-- ---- the deepest place
+
+module _ (places : List Place) (k : ℕ) (last : k + 1 ≡ length places) where
+  pub split_last : (place : Place) → place ≡ slice_index_or places k place → places ≡ take k places ++ place ∷ []
+  split_last place is =
+      sym (take_all (k + 1) places (omega (arith, last))) ∙ take_more places k place (omega (arith, last)) ∙ ap (λ (p : Place). take k places ++ p ∷ []) (sym is)
+
+  pub set_last : (new : Place) → slice_set places k new ≡ take k places ++ new ∷ []
+  set_last new =
+      sym (take_all (k + 1) (slice_set places k new) (omega (arith, last, length-set places k new))) ∙ take_more_set places k new (omega (arith, last))
+
+  pub deepest : (tree : Tree) (place : Place) → place ≡ slice_index_or places k place → IsWay tree places → IsPlaceAt tree (route_through tree (take k places)) place
+  deepest tree place is way = (way_but_one tree [] (take k places) place (subst (λ (ps : List Place). IsWayFrom tree [] ps) (split_last place is) way.way)).1
+
+-- ---- the index has the names of each place
+
+module _ (index : List NodeView) where
+  pub within_at : (places : List Place) (k : ℕ) (place : Place) → AreWithin index places → slice_get places k ≡ Some place → place.next ≤ length (entries_of index place.directory)
+  within_at [] k place within is = absurd (cc is)
+  within_at (first ∷ places) zero place within is =
+      let same : first ≡ place = cc is in subst (λ (p : Place). p.next ≤ length (entries_of index p.directory)) same within.0
+  within_at (first ∷ places) (suc k) place within is = within_at places k place within.1 is
+
+  within_one : (places : List Place) (place : Place) → AreWithin index places → place.next ≤ length (entries_of index place.directory) → AreWithin index (places ++ place ∷ [])
+  within_one [] place within one = (one, tt)
+  within_one (first ∷ places) place within one = (within.0, within_one places place within.1 one)
+
+  within_but_one : (places : List Place) (place : Place) → AreWithin index (places ++ place ∷ []) → AreWithin index places
+  within_but_one [] place within = tt
+  within_but_one (first ∷ places) place within = (within.0, within_but_one places place within.1)
+
+  pub within_up : (old new : List Place) → AreWithin index old → IsLeft old new → AreWithin index new
+  within_up old new within gone = within_but_one new gone.deepest (subst (λ (ps : List Place). AreWithin index ps) gone.old_is within)
+
+  pub within_by : (old new : List Place) → AreWithin index old → IsPassed index old new → AreWithin index new
+  within_by old new within passed =
+      let low = passed.within in
+      let front = within_but_one passed.front (place_at passed.directory passed.next) (subst (λ (ps : List Place). AreWithin index ps) passed.old_is within) in
+      subst (λ (ps : List Place). AreWithin index ps) (sym passed.new_is)
+      (within_one passed.front (place_at passed.directory (passed.next + 1)) front (omega (arith, low)))
+
+  pub within_into : (inode : ℕ) (old new : List Place) → AreWithin index old → IsSameOrEntered inode old new → AreWithin index new
+  within_into inode old new within entered = elim entered [
+    | inl same ↦ subst (λ (ps : List Place). AreWithin index ps) (sym same) within
+    | inr one ↦ subst (λ (ps : List Place). AreWithin index ps) (sym one) (within_one old (place_at inode 0) within (omega arith))
+  ]
+
+-- ---- what a volume says
+
+module _ (volume : VolumeView) (device : DeviceView) (state : State) (stands : StandsFor volume device state) where
+  pub is_tree : IsTree state.tree
+  is_tree = (state_is volume device stands).tree
+
+  -- each directory is one of the inodes
+  pub numbered : (d : ℕ) → is_directory state.tree d ≡ true → (1 ≤ d) × (d ≤ inodes_of volume.size)
+  numbered d directory =
+      let within = directory_within volume device d stands directory in
+      let as_many = stands.knows.nodes.each_inode in
+      (within.0, omega (arith, within.1, as_many))
+
+  pub node_led_to : (places : List Place) (inode : ℕ) → LeadsTo state.tree places inode → HasNode volume device inode
+  node_led_to places inode leads = (state, stands, is_tree.present (route_through state.tree places) inode leads.named)
+
+  -- the place that is deepest: its directory is in the index, and it has a next name where it hasn't passed as many as there are
+  module _ (places : List Place) (k : ℕ) (last : k + 1 ≡ length places) (place : Place) (is : place ≡ slice_index_or places k place) (way : IsWay state.tree places) where
+    pub in_index : (1 ≤ place.directory) × (place.directory ≤ inodes_of_index volume.index)
+    in_index = directory_within volume device place.directory stands (deepest places k last state.tree place is way).directory
+
+    pub has_next : (count : ℕ) → count ≡ length (names_in state.tree place.directory) → (place.next ≡ count → ⊥) → place.next < count
+    has_next count counted differ = less place.next count (deepest places k last state.tree place is way).within counted differ
+      where
+        less : (a b : ℕ) {c : ℕ} → a ≤ c → b ≡ c → (a ≡ b → ⊥) → a < b
+        less a b within same differ = omega (arith, within, same, differ)
+
+-- a node that is no directory is a file
+pub file_or_directory : (tree : Tree) (inode : ℕ) → IsTrue (is_some (node_at tree inode)) → is_directory tree inode ≡ false → IsTrue (is_file tree inode)
+file_or_directory tree inode there not = by_node (node_at tree inode) there not
+  where
+    by_node : (o : Option Node) → IsTrue (is_some o) → is_directory_node o ≡ false → IsTrue (is_file_node o)
+    by_node None there not = there
+    by_node (Some Directory) there not = absurd (cc not)
+    by_node (Some (File bytes)) there not = refl
