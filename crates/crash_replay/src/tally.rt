@@ -2,6 +2,7 @@
 ghost use Rattle.std.specs.Prelude.{◌≡◌, ◌∷◌, [], ℕ, length, Ok, if◌then◌else◌};
 ghost use Rattle.io_edge.specs.Bytes.{Takes, WritesSome};
 ghost use Rattle.io_edge.specs.Count.{one_more};
+ghost use Rattle.script.specs.Answers.{begins_with as begins_with_word};
 ghost use Rattle.script.specs.Lines.{newline};
 ghost use Rattle.crash_replay.specs.Tally.{IsTallyOf, accepted_count, refused_count, lacking_count};
 
@@ -70,14 +71,20 @@ impl Tally {
         ensures { Takes (IsTallyOf self.old) (newline ∷ []) (IsTallyOf self.new) }
     {
         let line = self.begun.as_slice();
-        let accepted = line.starts_with(b"ok");
-        let refused = line.starts_with(b"error");
+        let accepted = begins_with(line, b"ok");
+        let refused = begins_with(line, b"error");
         let lacking = line == b"error NoMemory".as_slice();
         self.accepted = counted(self.accepted, accepted);
         self.refused = counted(self.refused, refused);
         self.lacking = counted(self.lacking, lacking);
         self.begun.clear();
     }
+}
+
+fn begins_with(line: &[u8], word: &[u8]) -> bool
+    ensures { result ≡ begins_with_word word.now line.now }
+{
+    line.starts_with(word)
 }
 
 // A count after one that counts or doesn't.
