@@ -529,8 +529,10 @@ static uint64_t directory_above(struct volume *volume, uint64_t inode)
 /* Goes to the name of this number. */
 static void seek_listing(struct listing *listing, off_t number)
 {
-    if (number < listing->number)
-        listing->at = 0, listing->number = 0;
+    if (number < listing->number) {
+        listing->at = 0;
+        listing->number = 0;
+    }
     for (; listing->number < number && listing->at < listing->length; listing->number++)
         listing->at += strlen(listing->names + listing->at) + 1;
 }

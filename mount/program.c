@@ -246,8 +246,10 @@ static bool is_answering(struct program *program)
     const char *reply = send_line(program, "df\n", 3) ? next_reply(program) : NULL;
     if (reply != NULL && strncmp(reply, "ok ", 3) == 0)
         return true;
-    if (reply != NULL)
-        program->buffer[program->begin - 1] = '\n', program->begin = (size_t)(reply - program->buffer);
+    if (reply != NULL) {
+        program->buffer[program->begin - 1] = '\n';
+        program->begin = (size_t)(reply - program->buffer);
+    }
     return false;
 }
 

@@ -101,8 +101,10 @@ static int find_paths(struct options *options)
     if (image != NULL) {
         if (is_below(image, folder))
             return fail(image, "the image is below the folder");
+        free(options->image);
         options->image = image;
     }
+    free(options->folder);
     options->folder = folder;
     return 0;
 }
