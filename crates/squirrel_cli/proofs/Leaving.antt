@@ -1,8 +1,11 @@
 -- What a crash leaves of a device on which a script was run.
-use Rattle.std.proofs.Common.{◌≡◌, ◌⊎◌, inl, inr, ℕ, ◌≤◌, ◌<◌, List, length, refl, sym, subst, ◌∙◌, arith}
+use Rattle.std.proofs.Common.{◌≡◌, ◌⊎◌, inl, inr, ℕ, ◌≤◌, ◌<◌, List, length, refl, sym, ap, subst, ◌∙◌, arith}
 use Rattle.std.proofs.lemmas.Bool.{cases_lt}
-use Rattle.std.specs.Prelude.{Option, Some}
-use Rattle.pm_trait.specs.Trail.{Trail}
+use Rattle.std.specs.Prelude.{Option, Some, ◌++◌, take}
+use Rattle.pm_trait.specs.Trail.{Trail, IsCrashImage, trail_at, count_acks}
+use Rattle.pm_memory.specs.Chosen.{IsChosenImage}
+use Rattle.image_laws.specs.Frame.{SameMeaning}
+use Rattle.image_laws.proofs.Meaning.{meanings_chain}
 use Rattle.pm_trait.specs.Device.{LeavesOnly, MayLeave, acks_from, moment_of}
 use Rattle.pm_trait.specs.DeviceView.{DeviceView}
 use Rattle.pm_trait.proofs.ContinuesLaws.{may_leave-more}
@@ -17,11 +20,18 @@ use Rattle.mount_scan.specs.Mounting.{IsSound}
 use Rattle.tree_model.specs.Step.{Answer}
 use Rattle.script.specs.declared.run_end.RunEnd.{RunEnd}
 use Rattle.script.specs.declared.run_end.RunEnd.TheVariants as run_end
+use Rattle.image_laws.proofs.Trees.{tree_law}
+use Rattle.script.specs.Texts.{acked_text, listing_text}
+use Rattle.crash_replay.specs.Place.{place_in}
+use Rattle.crash_replay.specs.declared.moment.Moment.{Moment}
+use Rattle.squirrel_cli.specs.declared.status.Status.{Status}
+use Rattle.squirrel_cli.specs.declared.status.Status.TheVariants as status
+use Rattle.squirrel_cli.specs.Told.{IsToldOrCut}
 use Rattle.engine.specs.Run.{IsBetween}
 use Rattle.engine.specs.Script.{RunsScript, WritesAnswers}
 use Rattle.squirrel_cli.specs.Mounts.{IsOnlyMounted}
-use Rattle.squirrel_cli.specs.Replays.{Anything, IsUnbegun}
-use Rattle.squirrel_cli.specs.ReplaySteps.{LeavesSound, LeavesSoundSoFar, RunsMounted}
+use Rattle.squirrel_cli.specs.Replays.{Anything, IsUnbegun, ListsLeft, acked_before}
+use Rattle.squirrel_cli.specs.ReplaySteps.{HasLeft, LeavesSound, LeavesSoundSoFar, RunsMounted}
 
 -- a sound image has as many pages as its length says
 pub own_pages : {P : ℕ} (W : List ℕ) → Sound P W → pages_in_image W ≡ P
@@ -31,9 +41,9 @@ pub sound_image : {P : ℕ} (W : List ℕ) → Sound P W → IsSound W
 sound_image W sound = subst (λ (pages : ℕ). Sound pages W) (sym (own_pages W sound)) sound
 
 -- whatever a crash leaves is sound, where it was so far, and is one of a running line from there on
-pub leaves_sound : {P : ℕ} {old new : Option Trail} {start : State} {states : List State} {lines : List Line} {trail : Trail}
+pub leaves_sound : {P : ℕ} {old new : Option Trail} {trail : Trail} (start : State) (states : List State) (lines : List Line)
     → LeavesSoundSoFar P old → LeavesOnly old new (IsBetween P start states lines) → new ≡ Some trail → LeavesSound trail
-leaves_sound {P} {old} {new} so_far leaves told place image within crash =
+leaves_sound {P} {old} {new} start states lines so_far leaves told place image within crash =
     let there : MayLeave new place image = subst (λ (t : Option Trail). MayLeave t place image) (sym told) crash in
     let upto : place ≤ moment_of new = subst (λ (t : Option Trail). place ≤ moment_of t) (sym told) within in
     elim (cases_lt place (moment_of old)) [
@@ -53,12 +63,12 @@ mount_leaves_sound {before = before} unbegun only place image within may =
 
 -- ---- of what a run's own sink took nothing is asked
 
-any_writes : {took now : List ℕ → Type 0} {answers : List Answer} (end : RunEnd) → WritesAnswers end took answers now → WritesAnswers end Anything answers Anything
-any_writes run_end.Done writes = λ bytes any. tt
-any_writes run_end.Faulted writes = λ bytes any. tt
-any_writes run_end.ReadFault writes = λ bytes any. tt
-any_writes run_end.Limit writes = λ bytes any. tt
-any_writes run_end.WriteFault writes = record {
+any_writes : (took now : List ℕ → Type 0) (answers : List Answer) (end : RunEnd) → WritesAnswers end took answers now → WritesAnswers end Anything answers Anything
+any_writes took now answers run_end.Done writes = λ bytes any. tt
+any_writes took now answers run_end.Faulted writes = λ bytes any. tt
+any_writes took now answers run_end.ReadFault writes = λ bytes any. tt
+any_writes took now answers run_end.Limit writes = λ bytes any. tt
+any_writes took now answers run_end.WriteFault writes = record {
   whole = writes.whole;
   last = writes.last;
   split = writes.split;
@@ -68,7 +78,7 @@ any_writes run_end.WriteFault writes = record {
 }
 
 pub any_run : {P : ℕ} {before after : DeviceView} {end : RunEnd} {script rest : Option (List ℕ)} {took now : List ℕ → Type 0} → RunsScript P before after end script rest took now → RunsMounted P before after end script rest
-any_run {end = end} run = record {
+any_run {end = end} {took = took} {now = now} run = record {
   start = run.start;
   reads = run.reads;
   lines = run.lines;
@@ -79,7 +89,7 @@ any_run {end = end} run = record {
   cause = run.cause;
   no_fault = run.no_fault;
   executes = run.executes;
-  writes = any_writes end run.writes;
+  writes = any_writes took now run.answers end run.writes;
   acks = run.acks;
   acked = run.acked;
   ack_count = run.ack_count;
@@ -92,3 +102,53 @@ any_run {end = end} run = record {
   quiet = run.quiet;
   halts = run.halts;
 }
+
+-- ---- the words that a crash left
+
+pub left_alone : {keep : List ℕ} {trail : Trail} {image : List ℕ} → IsChosenImage trail keep image → IsCrashImage trail image → IsSound image → HasLeft keep trail image
+left_alone {image = image} chosen crash whole = record {
+  image = image;
+  chosen = chosen;
+  crash = crash;
+  whole = whole;
+  sound = whole;
+  means = meanings_chain.itself (pages_in_image image) image whole;
+}
+
+pub left_again : {keep : List ℕ} {trail : Trail} {image lent words : List ℕ} → lent ≡ image → IsChosenImage trail keep image → IsCrashImage trail image → IsSound image
+    → (IsSound lent → SameMeaning (pages_in_image lent) lent words) → HasLeft keep trail words
+left_again {image = image} {words = words} same chosen crash whole means =
+    let there : SameMeaning (pages_in_image image) image words =
+    subst (λ (I : List ℕ). SameMeaning (pages_in_image I) I words) same (means (subst IsSound (sym same) whole)) in
+    record {
+      image = image;
+      chosen = chosen;
+      crash = crash;
+      whole = whole;
+      sound = sound_image words there.coherent;
+      means = there;
+    }
+
+-- what is listed of them is the tree of the image
+pub lists_left : {moment : Moment} {keep : List ℕ} {mark place acked : ℕ} {trail : Trail} {words : List ℕ} {result : Status} {took now : List ℕ → Type 0} → place ≡ place_in trail.events mark moment
+    → acked ≡ count_acks (take place trail.events) → HasLeft keep (trail_at trail place) words
+    → ((tree : Tree) → Reads (pages_in_image words) words tree → (result ≡ status.NoMemory) ⊎ IsToldOrCut status.Done (acked_text acked ++ listing_text tree) result took now)
+    → (result ≡ status.NoMemory) ⊎ ListsLeft moment keep mark trail result took now
+lists_left {moment} {keep} {mark} {place} {acked} {trail} {words} {result} {took} {now} placed counted left lists =
+    let (tree, reads, form) = tree_law (pages_in_image left.image) left.image left.whole in
+    let there : Reads (pages_in_image left.image) words tree = left.means.reads tree reads in
+    let own : pages_in_image words ≡ pages_in_image left.image = own_pages words left.means.coherent in
+    let number : acked ≡ acked_before trail mark moment = counted ∙ ap (λ (k : ℕ). count_acks (take k trail.events)) placed in
+    elim (lists tree (subst (λ (pages : ℕ). Reads pages words tree) (sym own) there)) [
+      | inl memory ↦ inl memory
+      | inr told ↦ inr (record {
+        left = record {
+          image = left.image;
+          chosen = subst (λ (k : ℕ). IsChosenImage (trail_at trail k) keep left.image) placed left.chosen;
+          crash = subst (λ (k : ℕ). IsCrashImage (trail_at trail k) left.image) placed left.crash;
+          tree = tree;
+          reads = reads;
+        };
+        told = subst (λ (n : ℕ). IsToldOrCut status.Done (acked_text n ++ listing_text tree) result took now) number told;
+      })
+    ]

@@ -7,3 +7,4 @@ pub mod Leaving
 pub mod ReplayTells
 pub mod CommandLines
 mod CommandLineRows
+pub mod ReplayRuns

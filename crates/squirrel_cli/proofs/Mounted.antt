@@ -106,7 +106,7 @@ only_mounted {P} {before} sound mounts =
     record { start = start; reads = there; mount = mounts start there }
 
 -- What runs on the mounted device starts with the state that the words at entry read as.
-mounted_state : {P : ℕ} {before mounted : DeviceView} (start : State) → IsOnlyMounted P before mounted → ReadsAs P mounted.words start → ReadsAs P before.words start × Mounts P start before mounted
+pub mounted_state : {P : ℕ} {before mounted : DeviceView} (start : State) → IsOnlyMounted P before mounted → ReadsAs P mounted.words start → ReadsAs P before.words start × Mounts P start before mounted
 mounted_state {P} {before} {mounted} start only reads =
     subst (λ (state : State). ReadsAs P before.words state × Mounts P state before mounted)
     (one_state only.start start only.mount.reads reads) (only.reads, only.mount)
@@ -151,7 +151,7 @@ tidy_pages {P = P} W (inr tidy) = inr (subst (λ (pages : ℕ). Tidy pages W) (s
 
 -- ---- the limit of a script
 
-limit_gives : (before after : Option (List ℕ)) (lines : List Line) → ExecutesTold run_end.Limit before after lines → GaveAll before after
+pub limit_gives : (before after : Option (List ℕ)) (lines : List Line) → ExecutesTold run_end.Limit before after lines → GaveAll before after
 limit_gives None after lines executes = tt
 limit_gives (Some before) None lines executes = executes
 limit_gives (Some before) (Some after) lines (bytes, split, long, called) = (bytes, split, long)
@@ -166,7 +166,7 @@ gave_at_limit is F script rest runs executes same =
 
 pub lists_tree : {P : ℕ} {before mounted after : DeviceView} {is : Status} {took now : List ℕ → Type 0} → after ≡ mounted → (only : IsOnlyMounted P before mounted)
     → IsToldOrCut status.Done (listing_text only.start.tree) is took now → ListsTree P is before after took now
-lists_tree refl only told = record { mounted = only; told = told }
+lists_tree {P} {before = before} {is = is} {took = took} {now = now} same only told = subst (λ (device : DeviceView). ListsTree P is before device took now) (sym same) (record { mounted = only; told = told })
 
 pub lists_known : {P : ℕ} {before mounted after : DeviceView} {is : Status} {took now : List ℕ → Type 0} → after ≡ mounted → (only : IsOnlyMounted P before mounted)
     → (is ≡ status.NoMemory) ⊎ IsToldOrCut status.Done (listing_text only.start.tree) is took now → (is ≡ status.NoMemory) ⊎ ListsTree P is before after took now

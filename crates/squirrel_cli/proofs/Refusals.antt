@@ -1,16 +1,17 @@
 -- What is told of a device that was not mounted.
-use Rattle.std.proofs.Common.{◌≡◌, ◌≢◌, ◌⊎◌, inl, inr, ℕ, List, refl, sym, subst, ◌∙◌}
-use Rattle.std.specs.Prelude.{Option, Result, Ok, Err, Some, IfSome, IsSome}
+use Rattle.std.proofs.Common.{◌≡◌, ◌≢◌, ◌⊎◌, inl, inr, ℕ, ◌<◌, ◌≤◌, List, refl, sym, ap, subst, ◌∙◌, arith}
+use Rattle.std.specs.Prelude.{Option, Result, Ok, Err, Some, IfSome, IsSome, Bool, true, false, ◌==◌, if◌then◌else◌}
+use Rattle.std.proofs.lemmas.Bool.{cases_lt, eqb-true}
 use Rattle.pm_trait.specs.Trail.{Trail}
 use Rattle.pm_trait.specs.Device.{HasRisen, IsSettledAt}
 use Rattle.pm_trait.specs.DeviceView.{DeviceView, IsSettledView}
 use Rattle.io_edge.specs.declared.sink.WriteFault.{WriteFault}
 use Rattle.io_edge.specs.Bytes.{Takes, TakesPrefix, Writes}
 use Rattle.script.specs.Texts.{damaged_text}
-use Rattle.image_reading.specs.Soundness.{IsFirstViolation, pages_in_image}
-use Rattle.image_reading.specs.Soundness.Rule.{head}
+use Rattle.image_reading.specs.Soundness.{IsFirstViolation, Obeys, Rule, number, pages_in_image}
+use Rattle.image_reading.specs.Soundness.Rule.{head, root, pointers, one_pointer, inodes, names, kinds, own_names, own_directories, page_kinds, sizes, all_pages, own_offsets, links}
 use Rattle.image_reading.specs.declared.Violation.{Violation}
-use Rattle.image_reading.proofs.Violations.{head_law, no_fault}
+use Rattle.image_reading.proofs.Violations.{head_law, no_fault, same_rule}
 use Rattle.mount_scan.specs.Mounting.{HoldsVolume, IsSound, IsTidy}
 use Rattle.mount_scan.specs.Mounts.{FailsToMount, IsLeftAlone}
 use Rattle.mount_scan.specs.declared.error.MountError.{MountError}
@@ -24,7 +25,7 @@ use Rattle.squirrel_cli.specs.declared.status.Status.{Status}
 use Rattle.squirrel_cli.specs.declared.status.Status.TheVariants as status
 use Rattle.squirrel_cli.specs.Answers.{StatusTells, Refuses, IsShortOfMemory}
 use Rattle.squirrel_cli.specs.Ends.{IsMountable, end_of}
-use Rattle.squirrel_cli.specs.Told.{IsToldOrCut, IsToldOf, status_of_write}
+use Rattle.squirrel_cli.specs.Told.{IsToldOrCut, IsToldOf, refusal_of, status_of_write}
 
 -- ---- what was told
 
@@ -80,12 +81,12 @@ module _ {before after : DeviceView} {is : Status} (took now : List ℕ → Type
     damaged = λ violation answered. absurd (not_told (λ e. cc e) (λ e. cc e) told answered);
     answered = λ job ended. inr (end_is_cut (λ e. cc e) told ended, λ sound. not (sound_volume before.words sound));
   }
-  refused_tells asks (broken violation holds first same) told = record {
+  refused_tells {job = job} asks (broken violation holds first same) told = record {
     not_volume = λ answered. absurd (not_told (λ e. cc e) (λ e. cc e) told answered);
     damaged = λ other answered. elim told [
       | inl whole ↦
           let one : violation ≡ other = let wanted = whole.0 in cc (wanted, answered) in
-          (asks, subst (λ (v : Violation). HoldsVolume before.words × IsFirstViolation before.words v × Takes took (damaged_text v.rule v.place) now) one (holds, first, whole.1))
+          subst (λ (v : Violation). Asks TakesVolume job × HoldsVolume before.words × IsFirstViolation before.words v × Takes took (damaged_text v.rule v.place) now) one (asks, holds, first, whole.1)
       | inr cut ↦ absurd (let written = cut.0 in cc (written, answered))
     ];
     answered = λ job ended. inr (end_is_cut (λ e. cc e) told ended, not_sound first);
@@ -195,3 +196,45 @@ module _ {took now : List ℕ → Type 0} {faults_before faults_after : ℕ} {te
       by_write : (written : Result (Unit {0}) WriteFault) → Writes took now faults_before faults_after text written → status_of_write written wanted ≢ status.WriteFault → faults_after ≡ faults_before
       by_write (Ok done) whole other = whole.no_fault
       by_write (Err fault) cut other = absurd (other refl)
+
+-- ---- by a first violation
+
+number_least : (rule : Rule) → 1 ≤ number rule
+number_least head = omega arith
+number_least root = omega arith
+number_least pointers = omega arith
+number_least one_pointer = omega arith
+number_least inodes = omega arith
+number_least names = omega arith
+number_least kinds = omega arith
+number_least own_names = omega arith
+number_least own_directories = omega arith
+number_least page_kinds = omega arith
+number_least sizes = omega arith
+number_least all_pages = omega arith
+number_least own_offsets = omega arith
+number_least links = omega arith
+
+first_rule : (W : List ℕ) (violation : Violation) → (is : IsFirstViolation W violation) → violation.rule ≡ 1 → ¬ HoldsVolume W
+first_rule W violation is one holds =
+    let at_head : is.rule ≡ head = same_rule is.rule head (is.numbered ∙ one) in
+    is.first.broken (subst (λ (rule : Rule). Obeys (pages_in_image W) W rule violation.place) (sym at_head) ((head_law (pages_in_image W) W).1 holds violation.place))
+
+later_rule : (W : List ℕ) (violation : Violation) → (is : IsFirstViolation W violation) → (violation.rule == 1) ≡ false → HoldsVolume W
+later_rule W violation is other = elim (cases_lt 1 (number is.rule)) [
+  | inl more ↦ (head_law (pages_in_image W) W).0 (λ place. is.first.earlier_rules head place more)
+  | inr most ↦
+      let least = number_least is.rule in
+      let numbered = is.numbered in
+      let one : violation.rule ≡ 1 = omega (arith, most, least, numbered) in
+      let same : (violation.rule == 1) ≡ true = ap (λ (n : ℕ). n == 1) one in
+      absurd (cc (same, other))
+]
+
+-- what a mount refuses such words with tells why
+pub why_broken : {device : DeviceView} (violation : Violation) → IsFirstViolation device.words violation → WhyRefused device device (refusal_of violation)
+why_broken {device} violation first =
+    elim (violation.rule == 1) as (λ (b : Bool). (violation.rule == 1) ≡ b → WhyRefused device device (if b then refused.NotVolume else refused.Damaged violation)) [
+      | true ↦ λ is. no_volume (first_rule device.words violation first (eqb-true violation.rule 1 is)) refl
+      | false ↦ λ is. broken violation (later_rule device.words violation first is) first refl
+    ] refl

@@ -11,7 +11,6 @@ use Rattle.pm_trait.specs.Device.{MayLeave, IsAckAt, IsSettledAt, acks_from, at_
 use Rattle.pm_trait.specs.DeviceView.{DeviceView}
 use Rattle.pm_trait.proofs.ContinuesLaws.{moment_of-continues, may_leave-more, acks_from-earlier}
 use Rattle.pm_trait.proofs.DeviceLaws.{settled_leaves}
-use Rattle.pm_memory.proofs.ChosenImages.{chosen_is_crash_image}
 use Rattle.tree_model.specs.Step.{Answer, Fault}
 use Rattle.tree_model.specs.Run.{Line, State}
 use Rattle.tree_model.specs.Tree.{Tree}
@@ -92,11 +91,14 @@ dropped_none (suc place) (suc mark) (event ∷ later) within = dropped_none plac
 
 -- counted from an empty trail
 from_nothing : {before after : Option Trail} {base : List ℕ} {trail : Trail} (k : ℕ) → before ≡ Some (record { base = base; events = [] }) → after ≡ Some trail → acks_from before after k ≡ count_acks (take k trail.events)
-from_nothing k refl refl = refl
+from_nothing {before} {after} {base} {trail} k none told =
+    ap (λ (t : Option Trail). acks_from t after k) none ∙ ap (λ (t : Option Trail). acks_from (Some (record { base = base; events = [] })) t k) told
 
 -- counted from a trail of so many events
 from_mark : {mounted after : Option Trail} {trail : Trail} → after ≡ Some trail → acks_from mounted after (moment_of after) ≡ count_acks (drop (moment_of mounted) trail.events)
-from_mark {mounted} {after} {trail} refl = ap (λ (events : List Event). count_acks (drop (moment_of mounted) events)) (take_all (length trail.events) trail.events (omega arith))
+from_mark {mounted} {after} {trail} told =
+    ap (λ (t : Option Trail). acks_from mounted t (moment_of t)) told
+    ∙ ap (λ (events : List Event). count_acks (drop (moment_of mounted) events)) (take_all (length trail.events) trail.events (omega arith))
 
 -- ---- a replay
 
@@ -134,11 +136,8 @@ module _ {moment : Moment} {keep : List ℕ} {P : ℕ} {before after : DeviceVie
   upto : {k : ℕ} → k ≤ length replay.trail.events → k ≤ moment_of after.trail
   upto {k} within = subst (λ (t : Option Trail). k ≤ moment_of t) (sym replay.recorded) within
 
-  crash : IsCrashImage (trail_at replay.trail place) replay.image
-  crash = chosen_is_crash_image (trail_at replay.trail place) keep replay.image replay.chosen
-
   there : MayLeave after.trail place replay.image
-  there = subst (λ (t : Option Trail). MayLeave t place replay.image) (sym replay.recorded) crash
+  there = subst (λ (t : Option Trail). MayLeave t place replay.image) (sym replay.recorded) replay.crash
 
   between : IsBetween P replay.ran.run.start replay.ran.run.states replay.ran.run.lines acked replay.image
   between = subst (λ (n : ℕ). IsBetween P replay.ran.run.start replay.ran.run.states replay.ran.run.lines n replay.image) (from_entry place)
@@ -229,7 +228,7 @@ module _ {moment : Moment} {keep : List ℕ} {P : ℕ} {before after : DeviceVie
           let every : take (length (take place replay.trail.events)) (take place replay.trail.events) ≡ take place replay.trail.events =
           take_all (length (take place replay.trail.events)) (take place replay.trail.events) (omega arith) in
           let may : MayLeave (Some (trail_at replay.trail place)) (length (take place replay.trail.events)) replay.image =
-          subst (λ (events : List Event). IsCrashImage (record { base = replay.trail.base; events = events }) replay.image) (sym every) crash in
+          subst (λ (events : List Event). IsCrashImage (record { base = replay.trail.base; events = events }) replay.image) (sym every) replay.crash in
           settled_leaves image (Some (trail_at replay.trail place)) (length (take place replay.trail.events)) replay.image here refl may
 
   in_call : (call fence : ℕ) → moment ≡ Before call fence → 1 ≤ call → call ≤ length replay.ran.run.states → acked + 1 ≡ call

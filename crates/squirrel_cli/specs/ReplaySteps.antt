@@ -41,5 +41,7 @@ pub record ReplaysMounted (moment : Moment) (keep : List ℕ) (P : ℕ) (before 
 pub record HasLeft (keep : List ℕ) (trail : Trail) (words : List ℕ) : Type 0 where
   pub image : List ℕ
   pub chosen : IsChosenImage trail keep image
+  pub crash : IsCrashImage trail image
+  pub whole : IsSound image
   pub sound : IsSound words
   pub means : SameMeaning (pages_in_image image) image words

@@ -1,6 +1,6 @@
 -- What a replay of a crash runs, what it lists, and what another end leaves.
 use Rattle.std.specs.Prelude.{◌≡◌, ◌≢◌, ◌⊎◌, ℕ, ◌++◌, List, [], length, take, slice_get, Option, Some, None, IsSome, IfSome}
-use Rattle.pm_trait.specs.Trail.{Trail, trail_at, count_acks}
+use Rattle.pm_trait.specs.Trail.{Trail, trail_at, IsCrashImage, count_acks}
 use Rattle.pm_trait.specs.Device.{moment_of}
 use Rattle.pm_trait.specs.DeviceView.{DeviceView}
 use Rattle.pm_memory.specs.Chosen.{IsChosenImage}
@@ -66,6 +66,8 @@ acked_before trail mark moment = count_acks (take (place_in trail.events mark mo
 pub record ReadsLeft (moment : Moment) (keep : List ℕ) (mark : ℕ) (trail : Trail) : Type 0 where
   pub image : List ℕ
   pub chosen : IsChosenImage (trail_at trail (place_in trail.events mark moment)) keep image
+  -- it is one that a crash may leave
+  pub crash : IsCrashImage (trail_at trail (place_in trail.events mark moment)) image
   pub tree : Tree
   pub reads : Reads (pages_in_image image) image tree
 

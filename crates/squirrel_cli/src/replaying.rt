@@ -248,8 +248,19 @@ fn words_left(
     let crash = Crash { moment, keep };
     match words_after(alloc, image.as_slice(), &[crash]) {
         Ok(words) => Ok(words),
-        Err(MountError::NoMemory) => Err(NoMemory),
-        Err(_) => unreachable!(),
+        Err(error) => Err(memory_alone(error)),
+    }
+}
+
+// The want of memory that this is: a device that never fails refuses sound words for nothing else.
+fn memory_alone(error: MountError) -> NoMemory
+    requires { error ≡ MountError.NoMemory }
+{
+    match error {
+        MountError::NoMemory => NoMemory,
+        MountError::NotVolume => unreachable!(),
+        MountError::Damaged(_) => unreachable!(),
+        MountError::PmFault => unreachable!(),
     }
 }
 

@@ -1,0 +1,42 @@
+use Rattle.std.proofs.Common.{rules, ◌≡◌, ◌⊎◌, inl, inr, ℕ, ◌+◌, ◌≤◌, ◌^◌, [], refl, sym, ap, subst, ◌∙◌, arith}
+use Rattle.std.specs.Prelude.{Option, Some}
+use Rattle.pm_trait.specs.Trail.{Trail}
+use Rattle.pm_trait.specs.Device.{moment_of}
+use Rattle.crash_replay.proofs.Tallies.{tally_law-holds}
+use Rattle.squirrel_cli.specs.declared.status.Status.TheVariants as status
+use Rattle.squirrel_cli.proofs.Leaving.{any_run, leaves_sound}
+use Rattle.squirrel_cli.proofs.ReplayRuns.{cause_beside, left_ended, never_risen, other_end, replays_mounted, run_of_done}
+use Rattle.squirrel_cli.proofs.replaying.replay_mounted.Goals as goal
+
+pub list_left-requires-clause-countable : goal.list_left-requires-clause-countable
+list_left-requires-clause-countable g c =
+    let lent = c.ram-2.ensures.acks in
+    let more = c.answer_lines.ensures.acks in
+    let few = c.requires.acks in
+    omega (arith, lent, more, few)
+
+pub list_left-requires-clause-sound : goal.list_left-requires-clause-sound
+list_left-requires-clause-sound g c =
+    let run = run_of_done c.in-Done.is c.answer_lines.ensures.runs in
+    leaves_sound run.start run.states run.lines c.requires.sound run.any_moment (sym c.ram-2.ensures.trail)
+
+pub returns-in-Done-clause-runs : goal.returns-in-Done-clause-runs
+returns-in-Done-clause-runs g c =
+    let run = run_of_done c.in-Done.is c.answer_lines.ensures.runs in
+    left_ended c.list_left.result c.list_left.ensures.ends (inl (any_run run))
+
+pub returns-in-Done-clause-replays : goal.returns-in-Done-clause-replays
+returns-in-Done-clause-replays g c asked =
+    let run = run_of_done c.in-Done.is c.answer_lines.ensures.runs in
+    let tells = tally_law-holds c.answer_lines.new.out run.answers (run.writes [] c.new.ensures) in
+    let none = sym c.lacking.ensures ∙ ? in
+    let marked = c.events.ensures ∙ ap moment_of c.ram.ensures.trail in
+    replays_mounted (any_run run) (tells.lacking.0 none) (sym c.ram-2.ensures.trail) marked asked c.list_left.ensures.lists
+
+pub returns-in-Done-2-clause-runs : goal.returns-in-Done-2-clause-runs
+returns-in-Done-2-clause-runs g c =
+    let run = run_of_done c.in-Done-2.is c.answer_lines.ensures.runs in
+    inl (any_run run)
+
+pub returns-in_default : goal.returns-in_default
+returns-in_default g c = ?
