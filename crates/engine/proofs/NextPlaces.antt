@@ -1,19 +1,19 @@
 -- The deepest place, as it stands in the list; and what a volume says of the places of a listing.
-use Rattle.std.proofs.Common.{◌≡◌, inl, inr, ℕ, zero, suc, ◌+◌, ◌-◌, ◌<◌, ◌≤◌, true, false, IsTrue, List, [], ◌∷◌, ◌++◌, length, take, Option, Some, None, is_some, Contains, refl, sym, ap, subst, ◌∙◌, arith, take_all}
+use Rattle.std.proofs.Common.{◌≡◌, inl, inr, ℕ, zero, suc, ◌+◌, ◌<◌, ◌≤◌, true, false, IsTrue, List, [], ◌∷◌, ◌++◌, length, take, Option, Some, None, is_some, Contains, refl, sym, ap, subst, ◌∙◌, arith, take_all}
 use Rattle.std.specs.Prelude.{slice_get, slice_index_or, slice_set}
 use Rattle.std.proofs.lemmas.List.{take_more, take_more_set, length-set}
 use Rattle.std.proofs.lemmas.List.Elements.{Contains-get_or}
 use Rattle.std.proofs.lemmas.Option.{slice_get_within, get_or_from_slice_get}
 use Rattle.pm_trait.specs.DeviceView.{DeviceView}
 use Rattle.layout.specs.Geometry.{inodes_of}
-use Rattle.tree_model.specs.Tree.{Tree, Node, Directory, File, IsTree, root_id, id_at, node_at, is_directory, is_file, is_directory_node, is_file_node}
+use Rattle.tree_model.specs.Tree.{Tree, Node, Directory, File, IsTree, node_at, is_directory, is_file, is_directory_node, is_file_node}
 use Rattle.tree_model.specs.Run.{State}
 use Rattle.tree_model.specs.Step.{names_in}
 use Rattle.volatile_index.specs.Index.{NodeView, entries_of, inodes_of_index}
 use Rattle.volume.specs.Volume.{VolumeView}
 use Rattle.volume.specs.Stands.{StandsFor, HasNode}
 use Rattle.engine.specs.declared.places.Place.{Place}
-use Rattle.engine.specs.Places.{place_at, route_through, IsPlaceAt, IsWayFrom, IsWay, LeadsTo, AreWithin, IsPassed, IsLeft, IsSameOrEntered, entries_from, lines_text}
+use Rattle.engine.specs.Places.{place_at, route_through, IsPlaceAt, IsWayFrom, IsWay, LeadsTo, AreWithin, IsPassed, IsLeft, IsSameOrEntered}
 use Rattle.engine.proofs.PlaceLaws.{way_but_one}
 use Rattle.engine.proofs.Told.{state_is, directory_within}
 

@@ -1,5 +1,5 @@
 -- The places of a listing, one step after another.
-use Rattle.std.proofs.Common.{◌≡◌, ◌⊎◌, inl, inr, ℕ, zero, suc, ◌+◌, ◌-◌, ◌<◌, ◌≤◌, true, false, List, [], ◌∷◌, ◌++◌, length, map, take, drop, Some, refl, sym, ap, subst, ◌∙◌, arith, append-nil, append_assoc}
+use Rattle.std.proofs.Common.{◌≡◌, inl, inr, ℕ, zero, suc, ◌+◌, ◌-◌, ◌<◌, ◌≤◌, true, false, List, [], ◌∷◌, ◌++◌, length, map, take, drop, Some, refl, sym, ap, subst, ◌∙◌, arith, append-nil, append_assoc}
 use Rattle.std.specs.Prelude.{flat_map, slice_get, slice_index_or}
 use Rattle.std.proofs.lemmas.Bool.{cases_Bool}
 use Rattle.std.proofs.lemmas.List.{drop_more, drop_all, length-map, length-append}
@@ -180,9 +180,9 @@ module _ (tree : Tree) where
     few_places n places numbered way =
         let few = fewer (directories_of places) (run 1 n) (distinct_places [] places way)
         (λ d among.
-            let (q, named, directory, long) = has_path [] places d way among in
-            let within = numbered d directory in
-            in_run d 1 n within.0 (omega (arith, within.1))) in
+        let (q, named, directory, long) = has_path [] places d way among in
+        let within = numbered d directory in
+        in_run d 1 n within.0 (omega (arith, within.1))) in
         omega (arith, few, length-run 1 n, length-map places (λ (place : Place). place.directory))
 
     -- ---- what was written so far
@@ -219,8 +219,8 @@ module _ (tree : Tree) where
       let (below, first) = first_entry is_tree middle inode onto.leads in
       let rest = below ++ entries_after tree [] middle in
       let whole : tree.names.entries ≡ (entries ++ e ∷ []) ++ rest =
-          before.whole ∙ ap (λ es. entries ++ es) (onto.entries ∙ ap (λ es. es ++ entries_after tree [] middle) first)
-          ∙ sym (append_assoc entries (e ∷ []) rest) in
+      before.whole ∙ ap (λ es. entries ++ es) (onto.entries ∙ ap (λ es. es ++ entries_after tree [] middle) first)
+      ∙ sym (append_assoc entries (e ∷ []) rest) in
       (lines_text tree rest, ap (lines_text tree) whole ∙ flat_map-append line_of (entries ++ e ∷ []) rest ∙ ap (λ (t : List ℕ). t ++ lines_text tree rest) (lines_one entries e))
 
   -- and after the first

@@ -1,5 +1,5 @@
 -- How far a listing is from its end: each step of its places brings it nearer.
-use Rattle.std.proofs.Common.{◌≡◌, inl, inr, ℕ, zero, suc, ◌+◌, ◌-◌, ◌*◌, ◌<◌, ◌≤◌, List, [], ◌∷◌, ◌++◌, length, sum_by, refl, sym, ap, subst, ◌∙◌, arith}
+use Rattle.std.proofs.Common.{◌≡◌, inl, inr, ℕ, zero, suc, ◌+◌, ◌-◌, ◌*◌, ◌<◌, ◌≤◌, List, [], ◌∷◌, ◌++◌, length, sum_by, sym, ap, subst, ◌∙◌, arith}
 use Rattle.std.proofs.Math.Nat.{mul-le-mul_left, mul-suc}
 use Rattle.std.proofs.lemmas.List.{length-append}
 use Rattle.std.proofs.lemmas.List.Sums.{sum_by-cons}
@@ -52,8 +52,8 @@ module _ (index : List NodeView) where
       let depth : (n - 1) - length places ≡ n - suc (length places) = omega arith in
       let same = ap (λ (k : ℕ). weight k * (names_of place.directory - place.next + 1)) depth in
       let all : weight n * (names_of first.directory - first.next + 1) + steps_left (n - 1) (places ++ place ∷ [])
-          ≡ (weight n * (names_of first.directory - first.next + 1) + steps_left (n - 1) places) + weight (n - suc (length places)) * (names_of place.directory - place.next + 1)
-          = omega (arith, rest, same) in all
+      ≡ (weight n * (names_of first.directory - first.next + 1) + steps_left (n - 1) places) + weight (n - suc (length places)) * (names_of place.directory - place.next + 1)
+      = omega (arith, rest, same) in all
 
   times_more : (w a b : ℕ) → a ≡ suc b → w * a ≡ w * b + w
   times_more w a b e = ap (λ (n : ℕ). w * n) e ∙ mul-suc w b

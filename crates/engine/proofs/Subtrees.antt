@@ -1,5 +1,5 @@
 -- The entries of a path and of the paths below it: the path's own comes first, then what is below each of its names, in their order.
-use Rattle.std.proofs.Common.{◌≡◌, ◌⊎◌, inl, inr, ℕ, Bool, true, false, cond, T, ◌&&◌, ◌==◌, List, [], ◌∷◌, ◌++◌, map, filter, Option, Some, None, is_some, refl, sym, ap, subst, ◌∙◌, append-nil, append_assoc, Ordering, Less, Equal, Greater, is_lt, eq-eqb, eqb-true}
+use Rattle.std.proofs.Common.{◌≡◌, ◌⊎◌, inl, inr, ℕ, Bool, true, false, T, List, [], ◌∷◌, ◌++◌, map, filter, Option, Some, None, is_some, refl, sym, ap, subst, ◌∙◌, append-nil, append_assoc, Ordering, Less, Equal, Greater, is_lt, eq-eqb, eqb-true}
 use Rattle.std.specs.Prelude.{flat_map}
 use Rattle.std.specs.Ordering.{ordering_then}
 use Rattle.std.specs.Cmp.{tied_itself}
@@ -216,9 +216,9 @@ module _ (tree : Tree) (is_tree : IsTree tree) where
   sorted_names path (name ∷ names) ascends =
       sorted_both (entries_from tree (path ++ name ∷ [])) (below_all_names path names) (sorted_from (path ++ name ∷ [])) (sorted_names path names ascends.1)
       (λ x y ahead behind.
-          let (is, (rest, x_is)) = of_path (path ++ name ∷ []) x ahead in
-          let (other, later, (more, y_is), named) = of_names path names y behind in
-          (λ i. route_cmp ((x_is ∙ append_assoc path (name ∷ []) rest) i) (y_is i)) ∙ below_names path name other rest more (ascends.0 other later))
+      let (is, (rest, x_is)) = of_path (path ++ name ∷ []) x ahead in
+      let (other, later, (more, y_is), named) = of_names path names y behind in
+      (λ i. route_cmp ((x_is ∙ append_assoc path (name ∷ []) rest) i) (y_is i)) ∙ below_names path name other rest more (ascends.0 other later))
 
   module _ (path : Route) (id : ℕ) (named : id_at tree path ≡ Some id) where
     -- what is at or below a path is the path, or below one of its names
@@ -249,8 +249,8 @@ module _ (tree : Tree) (is_tree : IsTree tree) where
     entries_of_file file =
         same_sorted (entries_from tree path) ((path, id) ∷ []) (sorted_from path) tt
         (λ e among.
-            let (is, (rest, same)) = of_path path e among in
-            split_rest e rest [] same is (λ name more below. absurd (neither (is_directory tree id) (directory_above name more e.1 (ap (id_at tree) (sym below) ∙ is)) file)))
+        let (is, (rest, same)) = of_path path e among in
+        split_rest e rest [] same is (λ name more below. absurd (neither (is_directory tree id) (directory_above name more e.1 (ap (id_at tree) (sym below) ∙ is)) file)))
         (λ e among. elim among [ inl is ↦ own_entry e is | inr none ↦ absurd none ])
       where
         neither : (b : Bool) → b ≡ true → b ≡ false → ⊥
@@ -285,11 +285,11 @@ module _ (tree : Tree) (is_tree : IsTree tree) where
           (each_below path (below_all_names path names) (λ e among. let (name, there, (rest, is), at) = of_names path names e among in ap (route_cmp path) is ∙ below_path path name rest))
           (sorted_names path names names_ascend))
           (λ e among.
-              let (is, (rest, same)) = of_path path e among in
-              split_rest e rest (below_all_names path names) same is
-              (λ name more below.
-                  flat_among (λ name. entries_from tree (path ++ name ∷ [])) names name e (name_there name more e.1 (ap (id_at tree) (sym below) ∙ is))
-                  (has_path (path ++ name ∷ []) more e (below ∙ sym (append_assoc path (name ∷ []) more)) is)))
+          let (is, (rest, same)) = of_path path e among in
+          split_rest e rest (below_all_names path names) same is
+          (λ name more below.
+          flat_among (λ name. entries_from tree (path ++ name ∷ [])) names name e (name_there name more e.1 (ap (id_at tree) (sym below) ∙ is))
+          (has_path (path ++ name ∷ []) more e (below ∙ sym (append_assoc path (name ∷ []) more)) is)))
           (λ e among. elim among [
             | inl is ↦ own_entry e is
             | inr below ↦ let (name, there, (rest, is), at) = of_names path names e below in has_path path (name ∷ rest) e is at

@@ -1,4 +1,4 @@
-use Rattle.std.proofs.Common.{◌≡◌, ◌+◌, ◌-◌, ◌<◌, ◌≤◌, [], ◌∷◌, ◌++◌, ℕ, List, length, take, Some, sym, ap, subst, ◌∙◌, arith}
+use Rattle.std.proofs.Common.{◌≡◌, ◌+◌, ◌-◌, ◌<◌, [], ◌∷◌, ◌++◌, ℕ, List, length, take, Some, sym, ap, subst, ◌∙◌, arith}
 use Rattle.layout.specs.Geometry.{slots_of}
 use Rattle.layout.specs.Fields.{slot_inode}
 use Rattle.volatile_index.specs.Index.{entries_of}
@@ -176,8 +176,8 @@ returns-clause-steps g c = λ state stands way.
     let split = split_last items k is_last place c.index-place.ensures in
     let same = one_element items k c.index_mut.result.now place (omega (arith, is_last)) c.index_mut.ensures.value c.index-place.ensures in
     let new =
-        set_last items k is_last (record { directory = c.index_mut.result.now.directory; next = place.next + 1 })
-        ∙ ap (λ (p : Place). take k items ++ place_at p.directory (place.next + 1) ∷ []) same in
+    set_last items k is_last (record { directory = c.index_mut.result.now.directory; next = place.next + 1 })
+    ∙ ap (λ (p : Place). take k items ++ place_at p.directory (place.next + 1) ∷ []) same in
     let entry = c.nth.result.now in
     let there = contains_got (entries_of c.args.volume.now.index place.directory) place.next entry c.nth.ensures.entry in
     let inode = c.slot_at.ensures.inode ∙ (λ i. slot_inode (c.geometry.ensures i) (c.image.ensures i) entry.slot) in

@@ -1,4 +1,4 @@
-use Rattle.std.proofs.Common.{◌≡◌, ◌<◌, ◌≤◌, ◌+◌, ◌*◌, ◌++◌, [], ℕ, List, length, take, drop, Ok, refl, sym, ap, ◌∙◌, arith, take_all}
+use Rattle.std.proofs.Common.{◌+◌, ◌*◌, ◌++◌, [], ℕ, take, drop, refl, sym, ap, ◌∙◌, arith}
 use Rattle.io_edge.proofs.BytesLaws.{writes_none, writes_then, writes_as, writes_broken}
 use Rattle.script.specs.Entries.{digits_text}
 use Rattle.script.specs.Texts.{bytes_text}

@@ -1,4 +1,4 @@
-use Rattle.std.proofs.Common.{◌≡◌, ◌++◌, ◌∷◌, [], cond, List, ℕ, length, refl, sym, ap, ◌∙◌, false}
+use Rattle.std.proofs.Common.{◌≡◌, ◌∷◌, [], cond, length, sym, ap, ◌∙◌, false}
 use Rattle.io_edge.proofs.BytesLaws.{writes_then, writes_as}
 use Rattle.script.specs.Lines.{space}
 use Rattle.script.specs.Texts.{bytes_text}

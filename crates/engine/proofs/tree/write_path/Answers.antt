@@ -1,12 +1,11 @@
-use Rattle.std.proofs.Common.{◌≡◌, ◌<◌, ◌≤◌, ◌+◌, ◌-◌, ◌++◌, ◌∷◌, [], ℕ, List, length, take, drop, Some, Ok, sym, ap, ◌∙◌, arith, take_all}
-use Rattle.std.specs.Prelude.{flat_map, slice_get, slice_index_or}
+use Rattle.std.proofs.Common.{◌+◌, ◌++◌, [], take, sym, arith}
+use Rattle.std.specs.Prelude.{flat_map, slice_index_or}
 use Rattle.io_edge.proofs.BytesLaws.{writes_then, writes_as, writes_broken}
 use Rattle.script.specs.Entries.{below_text}
 use Rattle.script.specs.Texts.{path_text}
 use Rattle.engine.specs.Places.{route_through}
-use Rattle.engine.specs.declared.places.Place.{Place}
 use Rattle.engine.proofs.NextPlaces.{within_at}
-use Rattle.engine.proofs.PathTexts.{element, path_more, path_split, path_whole}
+use Rattle.engine.proofs.PathTexts.{element, path_more, path_split}
 use Rattle.engine.proofs.PlaceLaws.{way_at, passed_at}
 use Rattle.engine.proofs.Told.{directory_within}
 use Rattle.engine.proofs.tree.write_path.Goals as goal
