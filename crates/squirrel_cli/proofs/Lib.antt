@@ -8,3 +8,4 @@ pub mod ReplayTells
 pub mod CommandLines
 mod CommandLineRows
 pub mod ReplayRuns
+pub mod Checks

@@ -20,6 +20,8 @@ use Rattle.image_laws.proofs.Rooms.{room_law}
 use Rattle.script.specs.declared.run_end.RunEnd.{RunEnd}
 use Rattle.script.specs.declared.run_end.RunEnd.TheVariants as run_end
 use Rattle.volume.specs.Crashes.{MayReadAs, MeansState}
+use Rattle.volume.specs.Stands.{IsStanding, StandsFor}
+use Rattle.volume.specs.Volume.{VolumeView}
 use Rattle.mount_scan.specs.Mounting.{IsTidy}
 use Rattle.mount_scan.specs.Mounts.{Mounts}
 use Rattle.engine.specs.Quiet.{ActsOnly}
@@ -64,7 +66,7 @@ acts_after_mount {F} {a} {b} {c} one none two acts = record {
 }
 
 -- The run of a whole job: what a run says from the mount on is said from the entry on.
-pub mounts_and_runs : {P : ℕ} {before mounted after : DeviceView} {end : RunEnd} {script rest : Option (List ℕ)} {took now : List ℕ → Type 0} → (run : RunsScript P mounted after end script rest took now)
+unfoldable pub mounts_and_runs : {P : ℕ} {before mounted after : DeviceView} {end : RunEnd} {script rest : Option (List ℕ)} {took now : List ℕ → Type 0} → (run : RunsScript P mounted after end script rest took now)
     → ReadsAs P before.words run.start → Mounts P run.start before mounted → MountsAndRuns P before after end script rest took now
 mounts_and_runs {P} {before} {mounted} {after} run reads mount = record {
   mounted = mounted;
@@ -172,3 +174,11 @@ pub lists_known : {P : ℕ} {before mounted after : DeviceView} {is : Status} {t
     → (is ≡ status.NoMemory) ⊎ IsToldOrCut status.Done (listing_text only.start.tree) is took now → (is ≡ status.NoMemory) ⊎ ListsTree P is before after took now
 lists_known same only (inl memory) = inl memory
 lists_known same only (inr told) = inr (lists_tree same only told)
+
+-- ---- a session's volume
+
+pub stands_on : {session volume : VolumeView} {device : DeviceView} → session ≡ volume → IsStanding volume device → IsStanding session device
+stands_on {device = device} same stands = subst (λ (v : VolumeView). IsStanding v device) (sym same) stands
+
+pub stands_for : {session volume : VolumeView} {device : DeviceView} {state : State} → session ≡ volume → StandsFor volume device state → StandsFor session device state
+stands_for {device = device} {state = state} same stands = subst (λ (v : VolumeView). StandsFor v device state) (sym same) stands

@@ -62,7 +62,7 @@ pub data WhyRefused (before after : DeviceView) : MountError → Type 0 where
   short : HoldsVolume before.words → IsLeftAlone before after → (¬ IsSound before.words → after ≡ before) → WhyRefused before after refused.NoMemory
 
 -- a first violation is none of a sound volume
-not_sound : {W : List ℕ} {violation : Violation} → IsFirstViolation W violation → ¬ IsSound W
+pub not_sound : {W : List ℕ} {violation : Violation} → IsFirstViolation W violation → ¬ IsSound W
 not_sound {W} {violation} is sound = no_fault (pages_in_image W) W is.rule violation.place sound is.first
 
 pub why_refused : (error : MountError) {A : Type 0} {before after : DeviceView} {mounted : Result A MountError} → mounted ≡ Err error → (mounted ≡ Err refused.NotVolume → ¬ HoldsVolume before.words)
@@ -238,3 +238,8 @@ why_broken {device} violation first =
       | true ↦ λ is. no_volume (first_rule device.words violation first (eqb-true violation.rule 1 is)) refl
       | false ↦ λ is. broken violation (later_rule device.words violation first is) first refl
     ] refl
+
+-- what was told of it was told by the sink as it was
+pub told_as_refused : {error wanted : MountError} {is : Status} {took before now : List ℕ → Type 0} → error ≡ wanted → took ≡ before → IsToldOf error is took now → IsToldOf wanted is before now
+told_as_refused {wanted = wanted} {is = is} {took = took} {now = now} same sink told =
+    subst (λ (t : List ℕ → Type 0). IsToldOf wanted is t now) sink (subst (λ (e : MountError). IsToldOf e is took now) same told)

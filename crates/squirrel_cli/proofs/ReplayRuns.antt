@@ -15,6 +15,8 @@ use Rattle.squirrel_cli.specs.Told.{IsToldOrCut}
 use Rattle.mount_scan.specs.Mounting.{HoldsVolume}
 use Rattle.script.specs.declared.run_end.RunEnd.{RunEnd}
 use Rattle.script.specs.declared.run_end.RunEnd.TheVariants as run_end
+use Rattle.engine.specs.Script.{RunsScript}
+use Rattle.squirrel_cli.proofs.Leaving.{any_run}
 use Rattle.crash_replay.specs.declared.moment.Moment.{Moment}
 use Rattle.squirrel_cli.specs.declared.status.Status.{Status}
 use Rattle.squirrel_cli.specs.declared.status.Status.TheVariants as status
@@ -28,27 +30,27 @@ use Rattle.squirrel_cli.proofs.Mounted.{limit_gives, mounted_state, mounts_and_r
 
 -- ---- ends
 
-pub run_of_done : {F : RunEnd → Type 0} {is : Status} → is ≡ status.Done → IfSome (end_of is) F → F run_end.Done
-run_of_done {F = F} same runs = subst (λ (s : Status). IfSome (end_of s) F) same runs
+pub run_of_done : (F : RunEnd → Type 0) {is : Status} → is ≡ status.Done → IfSome (end_of is) F → F run_end.Done
+run_of_done F same runs = subst (λ (s : Status). IfSome (end_of s) F) same runs
 
 -- what a listing ends with tells that the script was run through
-pub left_ended : {F : RunEnd → Type 0} (is : Status) → (is ≡ status.NoMemory) ⊎ (is ≡ status.Done) ⊎ (is ≡ status.WriteFault) → F run_end.Done → IfSome (replayed_end is) F
-left_ended {F = F} is (inl memory) holds = subst (λ (s : Status). IfSome (replayed_end s) F) (sym memory) holds
-left_ended {F = F} is (inr (inl done)) holds = subst (λ (s : Status). IfSome (replayed_end s) F) (sym done) holds
-left_ended {F = F} is (inr (inr cut)) holds = subst (λ (s : Status). IfSome (replayed_end s) F) (sym cut) holds
+pub left_ended : (F : RunEnd → Type 0) (is : Status) → (is ≡ status.NoMemory) ⊎ (is ≡ status.Done) ⊎ (is ≡ status.WriteFault) → F run_end.Done → IfSome (replayed_end is) F
+left_ended F is (inl memory) holds = subst (λ (s : Status). IfSome (replayed_end s) F) (sym memory) holds
+left_ended F is (inr (inl done)) holds = subst (λ (s : Status). IfSome (replayed_end s) F) (sym done) holds
+left_ended F is (inr (inr cut)) holds = subst (λ (s : Status). IfSome (replayed_end s) F) (sym cut) holds
 
 -- a run that wasn't done, into a sink that never fails
-pub other_end : {F : RunEnd → Type 0} {same : Type 0} (is : Status) → is ≢ status.Done → is ≢ status.WriteFault → (is ≡ status.NoMemory → same) → IfSome (end_of is) F
+pub other_end : (F : RunEnd → Type 0) {same : Type 0} (is : Status) → is ≢ status.Done → is ≢ status.WriteFault → (is ≡ status.NoMemory → same) → IfSome (end_of is) F
     → IfSome (replayed_end is) (λ end. F end ⊎ (is ≡ status.NoMemory) × same)
-other_end status.Done not cut memory runs = absurd (not refl)
-other_end status.Usage not cut memory runs = tt
-other_end status.NoMemory not cut memory runs = inr (refl, memory refl)
-other_end status.NotVolume not cut memory runs = tt
-other_end (status.Damaged violation) not cut memory runs = tt
-other_end status.DeviceFault not cut memory runs = inl runs
-other_end status.ReadFault not cut memory runs = inl runs
-other_end status.WriteFault not cut memory runs = absurd (cut refl)
-other_end status.ScriptLimit not cut memory runs = inl runs
+other_end F status.Done not cut memory runs = absurd (not refl)
+other_end F status.Usage not cut memory runs = tt
+other_end F status.NoMemory not cut memory runs = inr (refl, memory refl)
+other_end F status.NotVolume not cut memory runs = tt
+other_end F (status.Damaged violation) not cut memory runs = tt
+other_end F status.DeviceFault not cut memory runs = inl runs
+other_end F status.ReadFault not cut memory runs = inl runs
+other_end F status.WriteFault not cut memory runs = absurd (cut refl)
+other_end F status.ScriptLimit not cut memory runs = inl runs
 
 pub ends_map : {F G : RunEnd → Type 0} (told : Option RunEnd) → ((end : RunEnd) → F end → G end) → IfSome told F → IfSome told G
 ends_map None more holds = tt
@@ -90,6 +92,7 @@ replays_mounted {moment} {keep} {result = result} {took = took} {now = now} {tra
 
 pub replays_entry : {moment : Moment} {keep : List ℕ} {size P : ℕ} {before mounted after : DeviceView} {result : Status} {script rest : Option (List ℕ)} {took now : List ℕ → Type 0}
     → size ≡ P → IsOnlyMounted P before mounted → ReplaysMounted moment keep size mounted after result script rest took now → Replays moment keep P before after result script rest took now
+  unfolding mounts_and_runs
 replays_entry {moment} {keep} {mounted = mounted} {after = after} {result} {script} {rest} {took} {now} pages only replays =
     let here = subst (λ (p : ℕ). ReplaysMounted moment keep p mounted after result script rest took now) pages replays in
     let (reads, mount) = mounted_state here.run.start only here.run.reads in
@@ -110,14 +113,14 @@ pub runs_entry : {size P : ℕ} {before mounted after : DeviceView} {end : RunEn
 runs_entry pages only (inl run) = inl (runs_mounted pages only run)
 runs_entry pages only (inr (memory, same)) = inr (same, inl memory)
 
-limit_of : {P : ℕ} {mounted after : DeviceView} {script rest : Option (List ℕ)} {same : Type 0} → RunsMounted P mounted after run_end.Limit script rest ⊎ (status.ScriptLimit ≡ status.NoMemory) × same → GaveAll script rest
-limit_of {script = script} {rest = rest} (inl run) = limit_gives script rest run.lines run.executes
-limit_of (inr (memory, same)) = absurd (cc memory)
+limit_of : (P : ℕ) (mounted after : DeviceView) (script rest : Option (List ℕ)) (same : Type 0) → RunsMounted P mounted after run_end.Limit script rest ⊎ (status.ScriptLimit ≡ status.NoMemory) × same → GaveAll script rest
+limit_of P mounted after script rest same (inl run) = limit_gives script rest run.lines run.executes
+limit_of P mounted after script rest same (inr (memory, unread)) = absurd (cc memory)
 
-pub replay_limit : {P : ℕ} {mounted after : DeviceView} {script rest : Option (List ℕ)} {same : Type 0} {is : Status}
+pub replay_limit : (P : ℕ) (mounted after : DeviceView) (script rest : Option (List ℕ)) (same : Type 0) {is : Status}
     → IfSome (replayed_end is) (λ end. RunsMounted P mounted after end script rest ⊎ (is ≡ status.NoMemory) × same) → is ≡ status.ScriptLimit → GaveAll script rest
-replay_limit {P} {mounted} {after} {script} {rest} {same} runs is =
-    limit_of {P = P} {mounted = mounted} {after = after} {same = same}
+replay_limit P mounted after script rest same runs is =
+    limit_of P mounted after script rest same
     (subst (λ (s : Status). IfSome (replayed_end s) (λ (end : RunEnd). RunsMounted P mounted after end script rest ⊎ (s ≡ status.NoMemory) × same)) is runs)
 
 -- where nothing hindered it the replay is done
@@ -180,3 +183,15 @@ not_replayed (inl done) (inl memory) = cc (done, memory)
 not_replayed (inl done) (inr device) = cc (done, device)
 not_replayed (inr cut) (inl memory) = cc (cut, memory)
 not_replayed (inr cut) (inr device) = cc (cut, device)
+
+pub new_of : {device : DeviceView} {words other : List ℕ} → words ≡ other → IsNew device words → IsNew device other
+new_of {device} same new = subst (IsNew device) same new
+
+pub any_or_unread : {P : ℕ} {before after : DeviceView} {end : RunEnd} {script rest : Option (List ℕ)} {took now : List ℕ → Type 0} {other : Type 0}
+    → RunsScript P before after end script rest took now ⊎ other → RunsMounted P before after end script rest ⊎ other
+any_or_unread (inl run) = inl (any_run run)
+any_or_unread (inr unread) = inr unread
+
+pub neither : {is : Status} → is ≢ status.Done → is ≢ status.WriteFault → (is ≡ status.Done) ⊎ (is ≡ status.WriteFault) → ⊥
+neither not uncut (inl done) = not done
+neither not uncut (inr cut) = uncut cut

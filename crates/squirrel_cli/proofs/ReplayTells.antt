@@ -24,7 +24,7 @@ use Rattle.crash_replay.specs.Place.{place_in}
 use Rattle.crash_replay.specs.Replay.{PlacesTell, acked_at, acked_in_all, fences_of_call}
 use Rattle.crash_replay.specs.declared.moment.Moment.{Moment}
 use Rattle.crash_replay.specs.declared.moment.Moment.TheVariants.{At, Before}
-use Rattle.crash_replay.proofs.Replays.{replay_law-holds}
+use Rattle.crash_replay.proofs.Replays.{replay_law-holds as places_law}
 use Rattle.squirrel_cli.specs.ReplayLaw.{IsTreeAfter, MayBeLeftAfter, ReplayLaw, ReplayTells}
 use Rattle.squirrel_cli.specs.Replays.{IsUnbegun, Replayed, acked_before}
 use Rattle.squirrel_cli.proofs.Leaving.{own_pages}
@@ -62,18 +62,23 @@ acks_at_most (suc k) (Fence ∷ later) = acks_at_most k later
 acks_at_most (suc k) (BadFence ∷ later) = acks_at_most k later
 acks_at_most (suc k) (Ack ∷ later) = let fewer = acks_at_most k later in omega (arith, fewer)
 
+one_ack : (k : ℕ) (events : List Event) → slice_get events k ≡ Some Ack → count_acks (take (suc k) events) ≡ count_acks (take k events) + 1
+one_ack k [] is = absurd (cc is)
+one_ack zero (Store word value ∷ later) is = absurd (cc is)
+one_ack zero (Flush line ∷ later) is = absurd (cc is)
+one_ack zero (Fence ∷ later) is = absurd (cc is)
+one_ack zero (BadFence ∷ later) is = absurd (cc is)
+one_ack zero (Ack ∷ later) is = refl
+one_ack (suc k) (Store word value ∷ later) is = one_ack k later is
+one_ack (suc k) (Flush line ∷ later) is = one_ack k later is
+one_ack (suc k) (Fence ∷ later) is = one_ack k later is
+one_ack (suc k) (BadFence ∷ later) is = one_ack k later is
+one_ack (suc k) (Ack ∷ later) is = let more = one_ack k later is in omega (arith, more)
+
 one_more_ack : (k : ℕ) (events : List Event) → slice_get events k ≡ Some Ack → count_acks (take (k + 1) events) ≡ count_acks (take k events) + 1
-one_more_ack k [] is = absurd (cc is)
-one_more_ack zero (Store word value ∷ later) is = absurd (cc is)
-one_more_ack zero (Flush line ∷ later) is = absurd (cc is)
-one_more_ack zero (Fence ∷ later) is = absurd (cc is)
-one_more_ack zero (BadFence ∷ later) is = absurd (cc is)
-one_more_ack zero (Ack ∷ later) is = refl
-one_more_ack (suc k) (Store word value ∷ later) is = one_more_ack k later is
-one_more_ack (suc k) (Flush line ∷ later) is = one_more_ack k later is
-one_more_ack (suc k) (Fence ∷ later) is = one_more_ack k later is
-one_more_ack (suc k) (BadFence ∷ later) is = one_more_ack k later is
-one_more_ack (suc k) (Ack ∷ later) is = let more = one_more_ack k later is in omega (arith, more)
+one_more_ack k events is =
+    let next : k + 1 ≡ suc k = omega arith in
+    ap (λ (n : ℕ). count_acks (take n events)) next ∙ one_ack k events is
 
 ack_or_not : (found : Option Event) → (found ≡ Some Ack) ⊎ (found ≢ Some Ack)
 ack_or_not None = inr (λ e. cc e)
@@ -84,9 +89,10 @@ ack_or_not (Some BadFence) = inr (λ e. cc e)
 ack_or_not (Some Ack) = inl refl
 
 dropped_none : (place mark : ℕ) (events : List Event) → place ≤ mark → count_acks (drop mark (take place events)) ≡ 0
-dropped_none zero mark events within = omega arith
+dropped_none zero zero events within = refl
+dropped_none zero (suc mark) events within = refl
 dropped_none (suc place) zero events within = absurd (omega (arith, within))
-dropped_none (suc place) (suc mark) [] within = omega arith
+dropped_none (suc place) (suc mark) [] within = refl
 dropped_none (suc place) (suc mark) (event ∷ later) within = dropped_none place mark later (omega (arith, within))
 
 -- counted from an empty trail
@@ -95,8 +101,8 @@ from_nothing {before} {after} {base} {trail} k none told =
     ap (λ (t : Option Trail). acks_from t after k) none ∙ ap (λ (t : Option Trail). acks_from (Some (record { base = base; events = [] })) t k) told
 
 -- counted from a trail of so many events
-from_mark : {mounted after : Option Trail} {trail : Trail} → after ≡ Some trail → acks_from mounted after (moment_of after) ≡ count_acks (drop (moment_of mounted) trail.events)
-from_mark {mounted} {after} {trail} told =
+from_mark : (mounted : Option Trail) {after : Option Trail} {trail : Trail} → after ≡ Some trail → acks_from mounted after (moment_of after) ≡ count_acks (drop (moment_of mounted) trail.events)
+from_mark mounted {after} {trail} told =
     ap (λ (t : Option Trail). acks_from mounted t (moment_of t)) told
     ∙ ap (λ (events : List Event). count_acks (drop (moment_of mounted) events)) (take_all (length trail.events) trail.events (omega arith))
 
@@ -113,19 +119,19 @@ module _ {moment : Moment} {keep : List ℕ} {P : ℕ} {before after : DeviceVie
       ∙ replay.ran.mount.no_ack
 
   tells : PlacesTell replay.trail.events (moment_of replay.ran.mounted.trail)
-  tells = replay_law-holds replay.trail.events (moment_of replay.ran.mounted.trail) mark_within none_in_mount
+  tells = places_law replay.trail.events (moment_of replay.ran.mounted.trail) mark_within none_in_mount
 
-  place : ℕ
+  abbrev place : ℕ
   place = place_in replay.trail.events (moment_of replay.ran.mounted.trail) moment
 
-  acked : ℕ
+  abbrev acked : ℕ
   acked = acked_before replay.trail (moment_of replay.ran.mounted.trail) moment
 
   place_within : place ≤ length replay.trail.events
   place_within = tells.within moment
 
   all_acked : acked_in_all replay.trail.events (moment_of replay.ran.mounted.trail) ≡ length replay.ran.run.states
-  all_acked = sym (from_mark replay.recorded) ∙ replay.ran.run.acked replay.trail replay.recorded
+  all_acked = sym (from_mark replay.ran.mounted.trail replay.recorded) ∙ replay.ran.run.acked replay.trail replay.recorded
 
   from_entry : (k : ℕ) → acks_from before.trail after.trail k ≡ count_acks (take k replay.trail.events)
   from_entry k = from_nothing k unbegun.recorded replay.recorded

@@ -17,7 +17,7 @@ returns-in-Ok-clause-cause g c =
     cause_from_entry only.mount.faults c.replay_mounted.ensures.cause
 
 pub returns-in-Ok-clause-limit : goal.returns-in-Ok-clause-limit
-returns-in-Ok-clause-limit g c is = replay_limit c.replay_mounted.ensures.runs is
+returns-in-Ok-clause-limit g c is = replay_limit _ _ _ _ _ _ c.replay_mounted.ensures.runs is
 
 pub returns-in-Ok-clause-runs : goal.returns-in-Ok-clause-runs
 returns-in-Ok-clause-runs g c sound =
