@@ -1,5 +1,5 @@
 // The places on the way to a path of a listing.
-ghost use Rattle.std.specs.Prelude.{◌≡◌, ◌<◌, ◌≤◌, [], ◌∷◌, ◌++◌, false, vec_len, MatchOption};
+ghost use Rattle.std.specs.Prelude.{◌≡◌, ◌<◌, ◌≤◌, [], ◌∷◌, ◌++◌, vec_len, MatchOption};
 ghost use Rattle.std.specs.Vec.{vec_capacity};
 ghost use Rattle.tree_model.specs.Run.{State};
 ghost use Rattle.volume.specs.Stands.{StandsFor};
@@ -28,7 +28,6 @@ pub fn enter(places: &mut Vec<Place>, directory: u64)
 
 // Passes the next name of the deepest place, and gives the inode that it names. A place that has no next name is left.
 pub fn next_inode<P: Pm>(volume: &Volume, places: &mut Vec<Place>, pm: &P) -> Option<u64>
-    requires going { volume.now.stopped ≡ false }
     requires some { 1 ≤ vec_len places.old }
     requires way { (state : State) × StandsFor volume.now (P.view pm.now) state
         × IsWay state.tree places.old.items }
