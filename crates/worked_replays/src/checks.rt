@@ -2,7 +2,7 @@
 use std::alloc::Global;
 use std::test::Fail;
 use worked_drivers::jobs::{Left, is_done, job_without_script, same};
-use worked_drivers::volumes::{LITTERED, small_volume, volume_after, volume_with_a, with_words};
+use worked_drivers::volumes::{LITTERED, volume_after, with_words};
 
 // How many directories, files and names a tree has.
 type Held = (u64, u64, u64);
@@ -23,9 +23,10 @@ const FILE_A: &str = "d 1 2 1 /\nf 2 1 0 /a -\n";
 
 const FILE_B: &str = "d 1 2 1 /\nf 2 1 0 /b -\n";
 
-// Words that are set in a volume, what `check` counts of them, and the listing of the tree.
+// Words that are set in what a script left of 16 pages, what `check` counts of them, and the listing of the tree.
 #[derive(Clone, Copy)]
 struct Row<'a> {
+    script: &'a str,
     words: &'a [(usize, u64)],
     held: Held,
     repairs: Repairs,
@@ -54,113 +55,110 @@ fn compare_tree(alloc: Global, image: &[u64], tree: &str) -> Result<Left, Fail> 
     Ok(left)
 }
 
+// Nothing; an inode that nothing names; an inode's size alone; a page's rest without an owner. Then, with a file: a rename to `/b` after
+// its commit; a pointer in a slot without a number, and a name in it; a page past the end of the file; links that are too high; all of
+// this and more; and a slot of a directory that nothing names, which hides the file's.
+const ROWS: [Row<'static>; 11] = [
+    Row {
+        script: "",
+        words: &[],
+        held: BARE,
+        repairs: NO_REPAIRS,
+        tree: EMPTY,
+    },
+    Row {
+        script: "",
+        words: &[(528, 1), (529, 1), (530, 0), (531, 2)],
+        held: BARE,
+        repairs: (0, 0, 0, 1, 0),
+        tree: EMPTY,
+    },
+    Row {
+        script: "",
+        words: &[(530, 5)],
+        held: BARE,
+        repairs: (0, 0, 0, 1, 0),
+        tree: EMPTY,
+    },
+    Row {
+        script: "",
+        words: &[(1_025, 2), (1_026, 7)],
+        held: BARE,
+        repairs: (0, 0, 1, 0, 0),
+        tree: EMPTY,
+    },
+    Row {
+        script: "create /a\n",
+        words: &[(1_552, 2), (1_553, 1), (1_554, 0x62_0001)],
+        held: ONE_FILE,
+        repairs: (1, 1, 0, 0, 0),
+        tree: FILE_B,
+    },
+    Row {
+        script: "create /a\n",
+        words: &[(1_553, 1)],
+        held: ONE_FILE,
+        repairs: (1, 1, 0, 0, 0),
+        tree: FILE_A,
+    },
+    Row {
+        script: "create /a\n",
+        words: &[(1_554, 0x62_0001)],
+        held: ONE_FILE,
+        repairs: (0, 1, 0, 0, 0),
+        tree: FILE_A,
+    },
+    Row {
+        script: "create /a\n",
+        words: &[(1_032, 2), (1_033, 1)],
+        held: ONE_FILE,
+        repairs: (0, 0, 1, 0, 0),
+        tree: FILE_A,
+    },
+    Row {
+        script: "create /a\n",
+        words: &[(513, 9), (529, 7)],
+        held: ONE_FILE,
+        repairs: (0, 0, 0, 0, 2),
+        tree: FILE_A,
+    },
+    Row {
+        script: "create /a\n",
+        words: &LITTERED,
+        held: ONE_FILE,
+        repairs: (1, 2, 2, 1, 1),
+        tree: FILE_B,
+    },
+    Row {
+        script: "create /a\n",
+        words: &[
+            (544, 2),
+            (545, 2),
+            (547, 3),
+            (1_032, 3),
+            (1_033, 2),
+            (2_048, 2),
+            (2_049, 1),
+            (2_050, 0x78_0001),
+        ],
+        held: BARE,
+        repairs: (1, 0, 2, 2, 0),
+        tree: EMPTY,
+    },
+];
+
 // Checks each volume, lists its tree, and checks what that left: the same tree, and nothing to repair.
-fn compare_rows(alloc: Global, volume: &[u64], rows: &[Row<'_>]) -> Result<(), Fail> {
-    for row in rows {
-        let image = with_words(alloc, volume, row.words)?;
+#[test]
+fn volumes_are_checked(rt: HostRuntime) -> Result<(), Fail> {
+    let alloc = rt.alloc();
+    for row in ROWS {
+        let volume = volume_after(alloc, 16, row.script)?;
+        let image = with_words(alloc, volume.as_slice(), row.words)?;
         compare_check(alloc, image.as_slice(), row.held, row.repairs)?;
         let left = compare_tree(alloc, image.as_slice(), row.tree)?;
         compare_check(alloc, left.image.as_slice(), row.held, NO_REPAIRS)?;
     }
     Ok(())
-}
-
-// Nothing; an inode that nothing names; a page's rest without an owner; an inode's size alone.
-#[test]
-fn a_fresh_volume_is_checked(rt: HostRuntime) -> Result<(), Fail> {
-    compare_rows(
-        rt.alloc(),
-        small_volume(rt.alloc())?.as_slice(),
-        &[
-            Row {
-                words: &[],
-                held: BARE,
-                repairs: NO_REPAIRS,
-                tree: EMPTY,
-            },
-            Row {
-                words: &[(528, 1), (529, 1), (530, 0), (531, 2)],
-                held: BARE,
-                repairs: (0, 0, 0, 1, 0),
-                tree: EMPTY,
-            },
-            Row {
-                words: &[(1_025, 2), (1_026, 7)],
-                held: BARE,
-                repairs: (0, 0, 1, 0, 0),
-                tree: EMPTY,
-            },
-            Row {
-                words: &[(530, 5)],
-                held: BARE,
-                repairs: (0, 0, 0, 1, 0),
-                tree: EMPTY,
-            },
-        ],
-    )
-}
-
-// A rename to `/b` after its commit; a pointer in a slot without a number, and a name in it; a page past the end of the file; links
-// that are too high; all of this and more; and a file whose slot a slot of a directory hides that nothing names.
-#[test]
-fn a_volume_with_a_file_is_checked(rt: HostRuntime) -> Result<(), Fail> {
-    compare_rows(
-        rt.alloc(),
-        volume_with_a(rt.alloc())?.as_slice(),
-        &[
-            Row {
-                words: &[(1_552, 2), (1_553, 1), (1_554, 0x62_0001)],
-                held: ONE_FILE,
-                repairs: (1, 1, 0, 0, 0),
-                tree: FILE_B,
-            },
-            Row {
-                words: &[(1_553, 1)],
-                held: ONE_FILE,
-                repairs: (1, 1, 0, 0, 0),
-                tree: FILE_A,
-            },
-            Row {
-                words: &[(1_554, 0x62_0001)],
-                held: ONE_FILE,
-                repairs: (0, 1, 0, 0, 0),
-                tree: FILE_A,
-            },
-            Row {
-                words: &[(1_032, 2), (1_033, 1)],
-                held: ONE_FILE,
-                repairs: (0, 0, 1, 0, 0),
-                tree: FILE_A,
-            },
-            Row {
-                words: &[(513, 9), (529, 7)],
-                held: ONE_FILE,
-                repairs: (0, 0, 0, 0, 2),
-                tree: FILE_A,
-            },
-            Row {
-                words: &LITTERED,
-                held: ONE_FILE,
-                repairs: (1, 2, 2, 1, 1),
-                tree: FILE_B,
-            },
-            Row {
-                words: &[
-                    (544, 2),
-                    (545, 2),
-                    (547, 3),
-                    (1_032, 3),
-                    (1_033, 2),
-                    (2_048, 2),
-                    (2_049, 1),
-                    (2_050, 0x78_0001),
-                ],
-                held: BARE,
-                repairs: (1, 0, 2, 2, 0),
-                tree: EMPTY,
-            },
-        ],
-    )
 }
 
 // Names stand in the order of their bytes, below their directory, and a file with two names at both. Some bytes are written by two digits.

@@ -13,7 +13,7 @@ enum Device<'a> {
     Read(&'a str),
 }
 
-fn device<'a>(wanted: &'a Wanted) -> Device<'a> {
+fn needed_by<'a>(wanted: &'a Wanted) -> Device<'a> {
     match wanted {
         Wanted::Nothing => Device::Nothing,
         Wanted::Make { path, pages } => Device::Made(path.as_str(), *pages),
@@ -35,7 +35,7 @@ fn compare_words(
         words.push(word)?;
     }
     let found = device_of(alloc, &words)?;
-    same(device(&found), wanted, place)
+    same(needed_by(&found), wanted, place)
 }
 
 // A line, each space of which stands between two words, of which either may be empty.

@@ -1,4 +1,5 @@
 // Scripts that are cut in their last line, before each of its fences.
+use std::alloc::Global;
 use std::test::Fail;
 use worked_drivers::replays::{Cut, compare_cuts};
 use worked_drivers::texts::{joined, repeated};
@@ -106,27 +107,29 @@ fn a_directory_moves_or_not(rt: HostRuntime) -> Result<(), Fail> {
     )
 }
 
-// The file has two pages, some bytes of which are no zeros; or it is cut to one byte.
+// A listing of 5,000 bytes that are zero between these parts.
+fn with_zeros(alloc: Global, start: &str, end: &str) -> Result<String, Fail> {
+    let zeros = repeated(alloc, "00", 5_000)?;
+    joined(alloc, &[start, zeros.as_str(), end])
+}
+
+// The file gets two pages and a byte that isn't zero, or goes back to one byte.
 #[test]
 fn a_file_grows_or_is_cut_or_not(rt: HostRuntime) -> Result<(), Fail> {
     let alloc = rt.alloc();
-    let zeros = repeated(alloc, "00", 5_000)?;
-    let empty = "d 1 2 1 /\nf 2 1 0 /a -\n";
-    let written = joined(
-        alloc,
-        &["d 1 2 1 /\nf 2 1 5001 /a ", zeros.as_str(), "ff\n"],
-    )?;
-    let grown = joined(alloc, &["d 1 2 1 /\nf 2 1 5000 /a ", zeros.as_str(), "\n"])?;
+    let volume = small_volume(alloc)?;
+    let written = with_zeros(alloc, "d 1 2 1 /\nf 2 1 5001 /a ", "ff\n")?;
+    let grown = with_zeros(alloc, "d 1 2 1 /\nf 2 1 5000 /a ", "\n")?;
     compare_cuts(
         alloc,
-        small_volume(alloc)?.as_slice(),
+        volume.as_slice(),
         &[
             Cut {
                 script: "create /a\nwrite /a 5000 ff\n",
                 call: 2,
                 fences: 3,
                 commit: 3,
-                before: empty,
+                before: "d 1 2 1 /\nf 2 1 0 /a -\n",
                 after: written.as_str(),
             },
             Cut {
