@@ -63,7 +63,7 @@ mount_leaves_sound {before = before} unbegun only place image within may =
 
 -- ---- of what a run's own sink took nothing is asked
 
-any_writes : (took now : List ℕ → Type 0) (answers : List Answer) (end : RunEnd) → WritesAnswers end took answers now → WritesAnswers end Anything answers Anything
+pub any_writes : (took now : List ℕ → Type 0) (answers : List Answer) (end : RunEnd) → WritesAnswers end took answers now → WritesAnswers end Anything answers Anything
 any_writes took now answers run_end.Done writes = λ bytes any. tt
 any_writes took now answers run_end.Faulted writes = λ bytes any. tt
 any_writes took now answers run_end.ReadFault writes = λ bytes any. tt
@@ -77,7 +77,7 @@ any_writes took now answers run_end.WriteFault writes = record {
   takes = λ bytes any. tt;
 }
 
-pub any_run : {P : ℕ} {before after : DeviceView} {end : RunEnd} {script rest : Option (List ℕ)} {took now : List ℕ → Type 0} → RunsScript P before after end script rest took now → RunsMounted P before after end script rest
+unfoldable pub any_run : {P : ℕ} {before after : DeviceView} {end : RunEnd} {script rest : Option (List ℕ)} {took now : List ℕ → Type 0} → RunsScript P before after end script rest took now → RunsMounted P before after end script rest
 any_run {end = end} {took = took} {now = now} run = record {
   start = run.start;
   reads = run.reads;
@@ -130,16 +130,17 @@ left_again {image = image} {words = words} same chosen crash whole means =
     }
 
 -- what is listed of them is the tree of the image
-pub lists_left : {moment : Moment} {keep : List ℕ} {mark place acked : ℕ} {trail : Trail} {words : List ℕ} {result : Status} {took now : List ℕ → Type 0} → place ≡ place_in trail.events mark moment
+pub lists_left : {moment : Moment} {keep : List ℕ} {mark place acked : ℕ} {trail : Trail} {lent words : List ℕ} {result : Status} {took now : List ℕ → Type 0} → lent ≡ words → place ≡ place_in trail.events mark moment
     → acked ≡ count_acks (take place trail.events) → HasLeft keep (trail_at trail place) words
-    → ((tree : Tree) → Reads (pages_in_image words) words tree → (result ≡ status.NoMemory) ⊎ IsToldOrCut status.Done (acked_text acked ++ listing_text tree) result took now)
+    → ((tree : Tree) → Reads (pages_in_image lent) lent tree → (result ≡ status.NoMemory) ⊎ IsToldOrCut status.Done (acked_text acked ++ listing_text tree) result took now)
     → (result ≡ status.NoMemory) ⊎ ListsLeft moment keep mark trail result took now
-lists_left {moment} {keep} {mark} {place} {acked} {trail} {words} {result} {took} {now} placed counted left lists =
+lists_left {moment} {keep} {mark} {place} {acked} {trail} {lent} {words} {result} {took} {now} same placed counted left lists =
     let (tree, reads, form) = tree_law (pages_in_image left.image) left.image left.whole in
     let there : Reads (pages_in_image left.image) words tree = left.means.reads tree reads in
     let own : pages_in_image words ≡ pages_in_image left.image = own_pages words left.means.coherent in
     let number : acked ≡ acked_before trail mark moment = counted ∙ ap (λ (k : ℕ). count_acks (take k trail.events)) placed in
-    elim (lists tree (subst (λ (pages : ℕ). Reads pages words tree) (sym own) there)) [
+    let here : Reads (pages_in_image lent) lent tree = subst (λ (W : List ℕ). Reads (pages_in_image W) W tree) (sym same) (subst (λ (pages : ℕ). Reads pages words tree) (sym own) there) in
+    elim (lists tree here) [
       | inl memory ↦ inl memory
       | inr told ↦ inr (record {
         left = record {

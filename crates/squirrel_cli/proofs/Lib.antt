@@ -9,3 +9,4 @@ pub mod CommandLines
 mod CommandLineRows
 pub mod ReplayRuns
 pub mod Checks
+pub mod Jobs

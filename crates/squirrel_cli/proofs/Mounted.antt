@@ -49,12 +49,12 @@ may_start {start = start} (Some (Ok command)) means = record { sound = means.sou
 may_start {start = start} (Some (Err fault)) means = record { sound = means.sound; tree = start.tree; reads = means.reads.tree; allowed = refl }
 
 -- before the first acknowledgement the first line runs
-starts_between : {P : ℕ} (start : State) (states : List State) (lines : List Line) (k : ℕ) (image : List ℕ) → (k ≡ 0) × MeansState P start image → IsBetween P start states lines k image
+pub starts_between : {P : ℕ} (start : State) (states : List State) (lines : List Line) (k : ℕ) (image : List ℕ) → (k ≡ 0) × MeansState P start image → IsBetween P start states lines k image
 starts_between {P} start states lines k image (none, means) =
     subst (λ (n : ℕ). IsBetween P start states lines n image) (sym none) (start, refl, may_start (slice_get lines 0) means)
 
 -- what a call does after a mount
-acts_after_mount : {F : ℕ → Type 0} {a b c : Option Trail} → Continues a b → acks_from a b (moment_of b) ≡ 0 → Continues b c → ActsOnly b c F → ActsAfterMount a b c F
+pub acts_after_mount : {F : ℕ → Type 0} {a b c : Option Trail} → Continues a b → acks_from a b (moment_of b) ≡ 0 → Continues b c → ActsOnly b c F → ActsAfterMount a b c F
 acts_after_mount {F} {a} {b} {c} one none two acts = record {
   each = λ moment from upto no_ack. elim (cases_lt moment (moment_of b)) [
     | inl earlier ↦ inl earlier

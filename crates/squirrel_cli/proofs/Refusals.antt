@@ -240,6 +240,6 @@ why_broken {device} violation first =
     ] refl
 
 -- what was told of it was told by the sink as it was
-pub told_as_refused : {error wanted : MountError} {is : Status} {took before now : List ℕ → Type 0} → error ≡ wanted → took ≡ before → IsToldOf error is took now → IsToldOf wanted is before now
-told_as_refused {wanted = wanted} {is = is} {took = took} {now = now} same sink told =
+pub told_as_refused : {error wanted : MountError} {took before : List ℕ → Type 0} (is : Status) (now : List ℕ → Type 0) → error ≡ wanted → took ≡ before → IsToldOf error is took now → IsToldOf wanted is before now
+told_as_refused {wanted = wanted} {took = took} is now same sink told =
     subst (λ (t : List ℕ → Type 0). IsToldOf wanted is t now) sink (subst (λ (e : MountError). IsToldOf e is took now) same told)

@@ -74,13 +74,14 @@ cause_beside writes cause = record {
 
 -- ---- from the mount on
 
-pub replays_mounted : {moment : Moment} {keep : List ℕ} {P mark : ℕ} {before after : DeviceView} {result : Status} {script rest : Option (List ℕ)} {took now : List ℕ → Type 0} {trail : Trail}
-    → (run : RunsMounted P before after run_end.Done script rest) → ((k : ℕ) → slice_get run.answers k ≢ Some (Refused OutOfMemory)) → after.trail ≡ Some trail → mark ≡ moment_of before.trail
+pub replays_mounted : {moment : Moment} {keep : List ℕ} {P mark : ℕ} {before after : DeviceView} {result : Status} {script rest : Option (List ℕ)} {tally tallied took now : List ℕ → Type 0} {trail : Trail}
+    → (run : RunsScript P before after run_end.Done script rest tally tallied) → ((k : ℕ) → slice_get run.answers k ≢ Some (Refused OutOfMemory)) → after.trail ≡ Some trail → mark ≡ moment_of before.trail
     → (result ≡ status.Done) ⊎ (result ≡ status.WriteFault) → (result ≡ status.NoMemory) ⊎ ListsLeft moment keep mark trail result took now → ReplaysMounted moment keep P before after result script rest took now
+unfolding any_run
 replays_mounted run ample recorded marked (inl done) (inl memory) = absurd (cc (done, memory))
 replays_mounted run ample recorded marked (inr cut) (inl memory) = absurd (cc (cut, memory))
 replays_mounted {moment} {keep} {result = result} {took = took} {now = now} {trail = trail} run ample recorded marked asked (inr lists) = record {
-  run = run;
+  run = any_run run;
   unfailed = run.ends;
   ample = ample;
   trail = trail;
@@ -92,7 +93,7 @@ replays_mounted {moment} {keep} {result = result} {took = took} {now = now} {tra
 
 pub replays_entry : {moment : Moment} {keep : List ℕ} {size P : ℕ} {before mounted after : DeviceView} {result : Status} {script rest : Option (List ℕ)} {took now : List ℕ → Type 0}
     → size ≡ P → IsOnlyMounted P before mounted → ReplaysMounted moment keep size mounted after result script rest took now → Replays moment keep P before after result script rest took now
-  unfolding mounts_and_runs
+unfolding mounts_and_runs
 replays_entry {moment} {keep} {mounted = mounted} {after = after} {result} {script} {rest} {took} {now} pages only replays =
     let here = subst (λ (p : ℕ). ReplaysMounted moment keep p mounted after result script rest took now) pages replays in
     let (reads, mount) = mounted_state here.run.start only here.run.reads in

@@ -12,6 +12,7 @@ use Rattle.engine.specs.Session.{Mounted}
 use Rattle.engine.specs.Script.{HasCause, LeavesRun}
 use Rattle.squirrel_cli.specs.Causes.{TellsFaults}
 use Rattle.squirrel_cli.specs.Ends.{end_of, GaveAll, IsShortScript}
+use Rattle.squirrel_cli.specs.Replays.{replayed_end}
 
 pub ends_as : {is other : Status} {end wanted : RunEnd} → end_of is ≡ Some end → is ≡ other → end_of other ≡ Some wanted → end ≡ wanted
 ends_as ended same other_ends = let e = sym ended ∙ ap end_of same ∙ other_ends in cc e
@@ -97,3 +98,15 @@ status_cause is end ended cause leaves = record {
 pub ends_written : {is : Status} (written : Result (Unit {0}) WriteFault) → is ≡ status_of_write written status.Done → (is ≡ status.NoMemory) ⊎ (is ≡ status.Done) ⊎ (is ≡ status.WriteFault)
 ends_written (Ok done) same = inr (inl same)
 ends_written (Err fault) same = inr (inr same)
+
+-- where nothing hindered it a replay on a device that never fails is done
+pub crash_done : (is : Status) → IsSome (replayed_end is) → is ≢ status.DeviceFault → is ≢ status.ReadFault → is ≢ status.WriteFault → (is ≡ status.Done) ⊎ (is ≡ status.NoMemory) ⊎ (is ≡ status.ScriptLimit)
+crash_done status.Done ended device read write = inl refl
+crash_done status.Usage ended device read write = absurd (cc ended)
+crash_done status.NoMemory ended device read write = inr (inl refl)
+crash_done status.NotVolume ended device read write = absurd (cc ended)
+crash_done (status.Damaged violation) ended device read write = absurd (cc ended)
+crash_done status.DeviceFault ended device read write = absurd (device refl)
+crash_done status.ReadFault ended device read write = absurd (read refl)
+crash_done status.WriteFault ended device read write = absurd (write refl)
+crash_done status.ScriptLimit ended device read write = inr (inr refl)

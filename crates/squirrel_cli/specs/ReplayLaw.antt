@@ -38,4 +38,4 @@ abbrev pub ReplayLaw : Type 0
 ReplayLaw = (moment : Moment) (keep : List ℕ) (P : ℕ) (before after : DeviceView) (script rest : Option (List ℕ))
     → IsUnbegun before → (replay : Replayed moment keep P before after script rest)
     → ReplayTells P replay.ran.run.start replay.ran.run.states replay.ran.run.lines replay.trail.events (moment_of replay.ran.mounted.trail) moment
-      (acked_before replay.trail (moment_of replay.ran.mounted.trail) moment) replay.tree
+    (acked_before replay.trail (moment_of replay.ran.mounted.trail) moment) replay.tree

@@ -19,16 +19,16 @@ returns-in-Err-WriteFault-clause-checks g c sound =
 pub returns-in-Ok-Some-clause-tells : goal.returns-in-Ok-Some-clause-tells
 returns-in-Ok-Some-clause-tells g c job asks =
     let is = c.in-Ok-Some.is ∙ ap Ok (c.in-Ok-Some.field-0-is ∙ ap Some c.in-Ok-Some.violation-is) in
-    let why = why_broken c.in-Ok-Some.violation (c.report.ensures.broken c.in-Ok-Some.violation is) in
+    let why = why_broken {device = g.P.Pm.view c.args.pm.now} c.in-Ok-Some.violation (c.report.ensures.broken c.in-Ok-Some.violation is) in
     let same = ap g.K.Sink.took (c.report.ensures.unwritten (inl (c.in-Ok-Some.violation, is))) in
-    refused_tells (g.K.Sink.took c.args.out.now) (g.K.Sink.took c.refuse.new.out) asks why (told_as_refused c.refusal_of.ensures same c.refuse.ensures.told)
+    refused_tells (g.K.Sink.took c.args.out.now) (g.K.Sink.took c.refuse.new.out) asks why (told_as_refused c.refuse.result (g.K.Sink.took c.refuse.new.out) c.refusal_of.ensures same c.refuse.ensures.told)
 
 pub returns-in-Ok-Some-clause-refuses : goal.returns-in-Ok-Some-clause-refuses
 returns-in-Ok-Some-clause-refuses g c unsound =
     let is = c.in-Ok-Some.is ∙ ap Ok (c.in-Ok-Some.field-0-is ∙ ap Some c.in-Ok-Some.violation-is) in
-    let why = why_broken c.in-Ok-Some.violation (c.report.ensures.broken c.in-Ok-Some.violation is) in
+    let why = why_broken {device = g.P.Pm.view c.args.pm.now} c.in-Ok-Some.violation (c.report.ensures.broken c.in-Ok-Some.violation is) in
     let same = ap g.K.Sink.took (c.report.ensures.unwritten (inl (c.in-Ok-Some.violation, is))) in
-    refused_refuses (g.K.Sink.took c.args.out.now) (g.K.Sink.took c.refuse.new.out) why (told_as_refused c.refusal_of.ensures same c.refuse.ensures.told) unsound
+    refused_refuses (g.K.Sink.took c.args.out.now) (g.K.Sink.took c.refuse.new.out) why (told_as_refused c.refuse.result (g.K.Sink.took c.refuse.new.out) c.refusal_of.ensures same c.refuse.ensures.told) unsound
 
 pub returns-in-Ok-Some-clause-checks : goal.returns-in-Ok-Some-clause-checks
 returns-in-Ok-Some-clause-checks g c sound =

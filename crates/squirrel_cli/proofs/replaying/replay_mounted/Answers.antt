@@ -1,5 +1,4 @@
 use Rattle.std.proofs.Common.{rules, ◌≡◌, ◌≢◌, ◌⊎◌, inl, inr, ℕ, ◌+◌, ◌≤◌, ◌^◌, [], refl, sym, ap, subst, ◌∙◌, arith}
-use Rattle.std.proofs.lemmas.Bool.{eqb-true}
 use Rattle.std.specs.Prelude.{Option, Some}
 use Rattle.pm_trait.specs.Trail.{Trail}
 use Rattle.pm_trait.specs.Device.{moment_of}
@@ -31,9 +30,9 @@ pub returns-in-Done-clause-replays : goal.returns-in-Done-clause-replays
 returns-in-Done-clause-replays g c asked =
     let run = run_of_done _ c.in-Done.is c.answer_lines.ensures.runs in
     let tells = tally_law-holds c.answer_lines.new.out run.answers (run.writes [] c.new-tally.ensures) in
-    let none = sym c.lacking.ensures ∙ eqb-true c.lacking.result 0 c.if-lacking-eq0.true in
+    let none = sym c.lacking.ensures ∙ c.if-lacking-eq0.true in
     let marked = c.events-mark.ensures ∙ ap moment_of c.ram.ensures.trail in
-    replays_mounted (any_run run) (tells.lacking.0 none) (sym c.ram-in-Done.ensures.trail) marked asked c.list_left.ensures.lists
+    replays_mounted run (tells.lacking.0 none) (sym c.ram-in-Done.ensures.trail) marked asked c.list_left.ensures.lists
 
 pub returns-in-Done-2-clause-runs : goal.returns-in-Done-2-clause-runs
 returns-in-Done-2-clause-runs g c =
@@ -48,6 +47,6 @@ returns-in_default g c =
       cause = cause_beside (g.K.Sink.faults c.args.sink.now) c.answer_lines.ensures.cause;
       unwritten = λ silent. refl;
       runs = ends_map (replayed_end c.answer_lines.result) (λ end told. any_or_unread told)
-      (other_end _ c.answer_lines.result c.in_default.not-Done cut (λ is. (c.answer_lines.ensures.no_memory is).1) c.answer_lines.ensures.runs);
+          (other_end _ c.answer_lines.result c.in_default.not-Done cut (λ is. (c.answer_lines.ensures.no_memory is).1) c.answer_lines.ensures.runs);
       replays = λ asked. absurd (neither c.in_default.not-Done cut asked);
     }
