@@ -1,6 +1,6 @@
 -- What a job asks for, and what is left where the words took no memory.
-use Rattle.std.proofs.Common.{rules, ◌≡◌, ◌⊎◌, inl, inr, ℕ, ◌*◌, ◌≤◌, List, [], ◌∷◌, refl, sym, subst, ◌∙◌, arith}
-use Rattle.std.specs.Prelude.{Bool, true, false, ◌&&◌, nat_le, if◌then◌else◌, Option, Some, None, codes, option_and_then}
+use Rattle.std.proofs.Common.{rules, ◌≡◌, ◌⊎◌, inl, inr, ℕ, List, refl, subst, arith}
+use Rattle.std.specs.Prelude.{Bool, true, false, if◌then◌else◌, Option, Some, None, codes, option_and_then}
 use Rattle.clap.specs.Walk.{Row}
 use Rattle.pm_trait.specs.DeviceView.{DeviceView, IsSettledView}
 use Rattle.pm_trait.proofs.DeviceLaws.{leaves_here}
@@ -8,8 +8,7 @@ use Rattle.layout.specs.Geometry.{IsVolumeSize}
 use Rattle.format_ops.specs.Crashes.{IsOldHiddenOrFormatted}
 use Rattle.crash_replay.specs.declared.moment.Moment.{Moment}
 use Rattle.squirrel_cli.specs.declared.job.Again.{Again}
-use Rattle.squirrel_cli.specs.declared.job.Job.{Job}
-use Rattle.squirrel_cli.specs.declared.job.Job.TheVariants.{Mkfs, Run, Tree, Check, Crash}
+use Rattle.squirrel_cli.specs.declared.job.Job.TheVariants.{Mkfs, Run, Tree, Check}
 use Rattle.squirrel_cli.specs.declared.status.Status.TheVariants.{Done, NoMemory, WriteFault}
 use Rattle.squirrel_cli.specs.Answers.{Makes}
 use Rattle.squirrel_cli.specs.CommandLine.{Word, split_of, value_in}

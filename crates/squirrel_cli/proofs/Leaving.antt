@@ -1,12 +1,12 @@
 -- What a crash leaves of a device on which a script was run.
-use Rattle.std.proofs.Common.{◌≡◌, ◌⊎◌, inl, inr, ℕ, ◌≤◌, ◌<◌, List, length, refl, sym, ap, subst, ◌∙◌, arith}
+use Rattle.std.proofs.Common.{◌≡◌, ◌⊎◌, inl, inr, ℕ, ◌≤◌, List, sym, ap, subst, ◌∙◌, arith}
 use Rattle.std.proofs.lemmas.Bool.{cases_lt}
 use Rattle.std.specs.Prelude.{Option, Some, ◌++◌, take}
 use Rattle.pm_trait.specs.Trail.{Trail, IsCrashImage, trail_at, count_acks}
 use Rattle.pm_memory.specs.Chosen.{IsChosenImage}
 use Rattle.image_laws.specs.Frame.{SameMeaning}
 use Rattle.image_laws.proofs.Meaning.{meanings_chain}
-use Rattle.pm_trait.specs.Device.{LeavesOnly, MayLeave, acks_from, moment_of}
+use Rattle.pm_trait.specs.Device.{LeavesOnly, MayLeave, moment_of}
 use Rattle.pm_trait.specs.DeviceView.{DeviceView}
 use Rattle.pm_trait.proofs.ContinuesLaws.{may_leave-more}
 use Rattle.tree_model.specs.Run.{Line, State}
@@ -15,7 +15,6 @@ use Rattle.image_reading.specs.Reading.{Reads}
 use Rattle.image_reading.specs.Soundness.{Sound, pages_in_image}
 use Rattle.image_reading.specs.Soundness.Rule.{head}
 use Rattle.image_reading.proofs.Violations.{pages_law}
-use Rattle.image_reading.proofs.Readings.{one_tree}
 use Rattle.mount_scan.specs.Mounting.{IsSound}
 use Rattle.tree_model.specs.Step.{Answer}
 use Rattle.script.specs.declared.run_end.RunEnd.{RunEnd}

@@ -1,11 +1,10 @@
 -- The run of a script that a replay makes, from the mount and from the entry on.
-use Rattle.std.proofs.Common.{◌≡◌, ◌≢◌, ◌⊎◌, inl, inr, ℕ, ◌<◌, ◌≤◌, ◌^◌, ◌-◌, List, length, refl, sym, subst, ◌∙◌, arith}
+use Rattle.std.proofs.Common.{◌≡◌, ◌≢◌, ◌⊎◌, inl, inr, ℕ, List, refl, sym, subst, arith}
 use Rattle.std.specs.Prelude.{Option, Some, None, IfSome, IsSome, slice_get}
 use Rattle.pm_trait.specs.Trail.{Trail}
 use Rattle.pm_trait.specs.Device.{HasRisen, moment_of}
 use Rattle.pm_trait.specs.DeviceView.{DeviceView}
 use Rattle.pm_memory.specs.Fresh.{IsNew}
-use Rattle.tree_model.specs.Run.{Line}
 use Rattle.tree_model.specs.Step.{Refused}
 use Rattle.tree_model.specs.declared.reply.Refusal.TheVariants.{NoMemory as OutOfMemory}
 use Rattle.image_reading.specs.Soundness.{IsFirstViolation, pages_in_image}
@@ -24,7 +23,7 @@ use Rattle.squirrel_cli.specs.Answers.{Refuses}
 use Rattle.squirrel_cli.specs.Causes.{TellsFaults}
 use Rattle.squirrel_cli.specs.Ends.{end_of, GaveAll}
 use Rattle.squirrel_cli.specs.Mounts.{IsOnlyMounted}
-use Rattle.squirrel_cli.specs.Replays.{CrashTells, IsSilent, ListsLeft, Replays, ReplaysCopy, RunsCopy, RunsOrUnread, replayed_end}
+use Rattle.squirrel_cli.specs.Replays.{CrashTells, IsSilent, ListsLeft, Replays, RunsCopy, RunsOrUnread, replayed_end}
 use Rattle.squirrel_cli.specs.ReplaySteps.{ReplaysMounted, RunsMounted}
 use Rattle.squirrel_cli.proofs.Mounted.{limit_gives, mounted_state, mounts_and_runs, runs_mounted}
 

@@ -3,7 +3,7 @@ use Rattle.std.proofs.Common.{◌≡◌, ◌≢◌, ◌⊎◌, inl, inr, ℕ, ze
 use Rattle.std.proofs.lemmas.Bool.{cases_lt}
 use Rattle.std.proofs.lemmas.List.{take_all}
 use Rattle.std.proofs.lemmas.Option.{slice_get_within, slice_get_past}
-use Rattle.std.specs.Prelude.{Option, Some, None, take, drop, slice_get, IsTrue}
+use Rattle.std.specs.Prelude.{Option, Some, None, take, drop, slice_get}
 use Rattle.pm_trait.specs.declared.event.Event.{Event}
 use Rattle.pm_trait.specs.declared.event.Event.TheVariants.{Store, Flush, Fence, BadFence, Ack}
 use Rattle.pm_trait.specs.Trail.{Trail, trail_at, count_acks, IsCrashImage}
@@ -11,21 +11,20 @@ use Rattle.pm_trait.specs.Device.{MayLeave, IsAckAt, IsSettledAt, acks_from, at_
 use Rattle.pm_trait.specs.DeviceView.{DeviceView}
 use Rattle.pm_trait.proofs.ContinuesLaws.{moment_of-continues, may_leave-more, acks_from-earlier}
 use Rattle.pm_trait.proofs.DeviceLaws.{settled_leaves}
-use Rattle.tree_model.specs.Step.{Answer, Fault}
+use Rattle.tree_model.specs.Step.{Answer}
 use Rattle.tree_model.specs.Run.{Line, State}
 use Rattle.tree_model.specs.Tree.{Tree}
 use Rattle.tree_model.specs.Allowed.{Allowed}
 use Rattle.image_reading.specs.Reading.{Reads}
-use Rattle.image_reading.specs.Soundness.{Sound}
 use Rattle.image_reading.proofs.Readings.{one_tree}
 use Rattle.engine.specs.Quiet.{MayStore, fences_at}
 use Rattle.engine.specs.Run.{IsBetween, command_of, last_state, state_after}
 use Rattle.crash_replay.specs.Place.{place_in}
-use Rattle.crash_replay.specs.Replay.{PlacesTell, acked_at, acked_in_all, fences_of_call}
+use Rattle.crash_replay.specs.Replay.{PlacesTell, acked_at, acked_in_all}
 use Rattle.crash_replay.specs.declared.moment.Moment.{Moment}
 use Rattle.crash_replay.specs.declared.moment.Moment.TheVariants.{At, Before}
 use Rattle.crash_replay.proofs.Replays.{replay_law-holds as places_law}
-use Rattle.squirrel_cli.specs.ReplayLaw.{IsTreeAfter, MayBeLeftAfter, ReplayLaw, ReplayTells}
+use Rattle.squirrel_cli.specs.ReplayLaw.{IsTreeAfter, MayBeLeftAfter, ReplayLaw}
 use Rattle.squirrel_cli.specs.Replays.{IsUnbegun, Replayed, acked_before}
 use Rattle.squirrel_cli.proofs.Leaving.{own_pages}
 

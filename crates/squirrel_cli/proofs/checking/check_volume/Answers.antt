@@ -1,7 +1,5 @@
-use Rattle.std.proofs.Common.{◌≡◌, inl, inr, ap, sym, subst, ◌∙◌}
-use Rattle.std.specs.Prelude.{Ok, Err, Some, None}
-use Rattle.mount_scan.specs.declared.error.MountError.{MountError}
-use Rattle.squirrel_cli.specs.Told.{IsToldOf}
+use Rattle.std.proofs.Common.{inl, inr, ap, ◌∙◌}
+use Rattle.std.specs.Prelude.{Ok, Err, Some}
 use Rattle.squirrel_cli.proofs.Checks.{checks_done, checks_cut}
 use Rattle.squirrel_cli.proofs.Refusals.{not_sound, refused_refuses, refused_tells, told_as_refused, why_broken}
 use Rattle.squirrel_cli.proofs.checking.check_volume.Goals as goal

@@ -1,4 +1,3 @@
-use Rattle.std.proofs.Common.{◌≡◌, inl, inr, ℕ, sym, subst, ap, ◌∙◌}
 use Rattle.squirrel_cli.proofs.Leaving.{lists_left}
 use Rattle.squirrel_cli.proofs.replaying.list_left.Goals as goal
 

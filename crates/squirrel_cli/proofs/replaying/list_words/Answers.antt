@@ -1,4 +1,4 @@
-use Rattle.std.proofs.Common.{◌≡◌, inr, ℕ, List, sym, subst}
+use Rattle.std.proofs.Common.{inr, ℕ, List, sym, subst}
 use Rattle.tree_model.specs.Run.{State}
 use Rattle.image_reading.specs.Reading.{ReadsAs}
 use Rattle.image_reading.specs.Soundness.{pages_in_image}

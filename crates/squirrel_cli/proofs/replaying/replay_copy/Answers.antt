@@ -1,4 +1,4 @@
-use Rattle.std.proofs.Common.{◌≡◌, sym, subst, ◌∙◌}
+use Rattle.std.proofs.Common.{sym, subst, ◌∙◌}
 use Rattle.mount_scan.specs.Mounting.{IsSound}
 use Rattle.squirrel_cli.proofs.ReplayRuns.{crash_tells, never_risen, new_of, refuses_beside}
 use Rattle.squirrel_cli.proofs.replaying.replay_copy.Goals as goal

@@ -1,6 +1,4 @@
-use Rattle.std.proofs.Common.{rules, ◌≡◌, ◌≢◌, ◌⊎◌, inl, inr, ℕ, ◌+◌, ◌≤◌, ◌^◌, [], refl, sym, ap, subst, ◌∙◌, arith}
-use Rattle.std.specs.Prelude.{Option, Some}
-use Rattle.pm_trait.specs.Trail.{Trail}
+use Rattle.std.proofs.Common.{◌≢◌, inl, [], refl, sym, ap, ◌∙◌, arith}
 use Rattle.pm_trait.specs.Device.{moment_of}
 use Rattle.crash_replay.proofs.Tallies.{tally_law-holds}
 use Rattle.squirrel_cli.specs.declared.status.Status.TheVariants as status

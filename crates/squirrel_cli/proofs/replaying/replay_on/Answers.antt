@@ -1,5 +1,4 @@
-use Rattle.std.proofs.Common.{◌≡◌, ◌⊎◌, inl, inr, refl, sym, ap, subst}
-use Rattle.squirrel_cli.specs.Ends.{end_of}
+use Rattle.std.proofs.Common.{refl}
 use Rattle.squirrel_cli.specs.Replays.{replayed_end}
 use Rattle.squirrel_cli.proofs.Mounted.{only_mounted, cause_from_entry, few_fences}
 use Rattle.squirrel_cli.proofs.Refusals.{why_refused, refused_tells, refused_refuses, refused_but}

@@ -1,4 +1,4 @@
-use Rattle.std.proofs.Common.{◌≡◌, sym, subst, ap, ◌∙◌}
+use Rattle.std.proofs.Common.{sym, subst}
 use Rattle.mount_scan.specs.Mounting.{IsSound}
 use Rattle.squirrel_cli.proofs.Leaving.{left_alone, left_again}
 use Rattle.squirrel_cli.proofs.replaying.words_left.Goals as goal
