@@ -128,6 +128,7 @@ pub cause_from_entry : {is : Status} {before mounted after : DeviceView} {reads_
 cause_from_entry {after = after} same cause = record {
   device = λ is. subst (λ (faults : ℕ). HasRisen faults after.faults) same (cause.device is);
   done = λ is. cause.done is ∙ same;
+  no_memory = λ is. cause.no_memory is ∙ same;
   read = cause.read;
   no_read_fault = cause.no_read_fault;
   write = cause.write;

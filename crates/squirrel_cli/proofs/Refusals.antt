@@ -145,6 +145,13 @@ module _ {before after : DeviceView} {is : Status} (took now : List ℕ → Type
   refused_fault (failed fails) told answered = fails.cause
   refused_fault (short holds alone same) told answered = absurd (cc (told, answered))
 
+  -- and memory is short of no such mount
+  pub refused_memory : {error : MountError} → WhyRefused before after error → IsToldOf error is took now → is ≡ status.NoMemory → after.faults ≡ before.faults
+  refused_memory (no_volume not same) told answered = ap (λ (device : DeviceView). device.faults) same
+  refused_memory (broken violation holds first same) told answered = ap (λ (device : DeviceView). device.faults) same
+  refused_memory (failed fails) told answered = absurd (cc (told, answered))
+  refused_memory (short holds alone same) told answered = alone.faults
+
   pub refused_tidy : {error : MountError} → WhyRefused before after error → IsToldOf error is took now → IsMountable before.words → is ≢ status.NoMemory → HasRisen before.faults after.faults ⊎ IsTidy after.words
   refused_tidy (no_volume not same) told sound memory = absurd (not (sound_volume before.words sound))
   refused_tidy (broken violation holds first same) told sound memory = absurd (not_sound first sound)

@@ -65,6 +65,7 @@ pub cause_beside : {is : Status} {before after : DeviceView} {reads_before reads
 cause_beside writes cause = record {
   device = cause.device;
   done = cause.done;
+  no_memory = cause.no_memory;
   read = cause.read;
   no_read_fault = cause.no_read_fault;
   write = λ is. absurd (never_risen (cause.write is));

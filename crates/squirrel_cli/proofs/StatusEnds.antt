@@ -88,6 +88,7 @@ pub status_cause : (is : Status) (end : RunEnd) {old new : Mounted} {reads_befor
 status_cause is end ended cause leaves = record {
   device = λ same. leaves.faulted (ends_as ended same refl);
   done = λ same. (leaves.done (ends_as ended same refl)).0;
+  no_memory = λ same. absurd (let told = sym (ap end_of same) ∙ ended in cc told);
   read = λ same. cause.read (ends_as ended same refl);
   no_read_fault = λ not. cause.no_read_fault (λ e. not (tells_read_fault is (ended ∙ ap Some e)));
   write = λ same. cause.write (ends_as ended same refl);

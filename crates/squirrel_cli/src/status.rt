@@ -8,7 +8,7 @@ use io_edge::WriteFault;
 /// How a job ended.
 #[derive(Clone, Copy, Debug, PartialEq, Eq)]
 pub enum Status {
-    /// The work is done. For `run` the script was read to its end.
+    /// The work is done. A script was read to its end.
     Done,
     /// The words ask for no job, or for a volume of another size than the device.
     Usage,

@@ -1,7 +1,7 @@
-use Rattle.std.proofs.Common.{refl}
+use Rattle.std.proofs.Common.{rules, refl}
 use Rattle.squirrel_cli.specs.Replays.{replayed_end}
 use Rattle.squirrel_cli.proofs.Mounted.{only_mounted, cause_from_entry, few_fences}
-use Rattle.squirrel_cli.proofs.Refusals.{why_refused, refused_tells, refused_refuses, refused_but}
+use Rattle.squirrel_cli.proofs.Refusals.{why_refused, refused_tells, refused_refuses, refused_but, refused_done, refused_fault, refused_memory}
 use Rattle.squirrel_cli.proofs.ReplayRuns.{ends_map, not_replayed, replay_limit, replays_entry, runs_entry}
 use Rattle.squirrel_cli.proofs.replaying.replay_on.Goals as goal
 
@@ -39,6 +39,19 @@ pub returns-in-Err-clause-refuses : goal.returns-in-Err-clause-refuses
 returns-in-Err-clause-refuses g c unsound =
     let why = why_refused c.in-Err.error c.in-Err.is (c.mount.ensures.not_volume).0 c.mount.ensures.damaged c.mount.ensures.untouched c.mount.ensures.failed c.mount.ensures.no_memory c.mount.ensures.alone in
     (refused_refuses (g.K.Sink.took c.args.sink.now) (g.K.Sink.took c.refuse.new.out) why c.refuse.ensures.told unsound, refl)
+
+pub returns-in-Err-clause-cause : goal.returns-in-Err-clause-cause
+returns-in-Err-clause-cause g c =
+    let why = why_refused c.in-Err.error c.in-Err.is (c.mount.ensures.not_volume).0 c.mount.ensures.damaged c.mount.ensures.untouched c.mount.ensures.failed c.mount.ensures.no_memory c.mount.ensures.alone in
+    record {
+      device = refused_fault (g.K.Sink.took c.args.sink.now) (g.K.Sink.took c.refuse.new.out) why c.refuse.ensures.told;
+      done = λ is. absurd (refused_done c.in-Err.error (g.K.Sink.took c.args.sink.now) (g.K.Sink.took c.refuse.new.out) c.refuse.ensures.told is);
+      no_memory = refused_memory (g.K.Sink.took c.args.sink.now) (g.K.Sink.took c.refuse.new.out) why c.refuse.ensures.told;
+      read = search rules;
+      no_read_fault = search rules;
+      write = search rules;
+      no_write_fault = search rules;
+    }
 
 pub returns-in-Err-clause-replays : goal.returns-in-Err-clause-replays
 returns-in-Err-clause-replays g c sound asked =
