@@ -290,6 +290,7 @@ int main(int count, char **arguments)
     struct options options;
     int waiting = -1;
     signal(SIGPIPE, SIG_IGN);
+    signal(SIGCHLD, SIG_DFL);
     if (!has_streams())
         return STATUS_FAILED;
     if (!read_options(&words, &options))
