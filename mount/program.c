@@ -53,7 +53,7 @@ static void close_file(int *file)
     *file = -1;
 }
 
-/* In the new process: streams, a session of its own, and nothing else that the adapter has open. */
+/* In the new process: streams, a session of its own, no folder of the caller, and nothing else that the adapter has open. */
 static void become_program(const struct program *program, int script, int replies, int errors)
 {
     sigset_t none;
@@ -61,7 +61,7 @@ static void become_program(const struct program *program, int script, int replie
     sigprocmask(SIG_SETMASK, &none, NULL);
     signal(SIGPIPE, SIG_DFL);
     setsid();
-    if (dup2(script, STDIN_FILENO) < 0 || dup2(replies, STDOUT_FILENO) < 0 || dup2(errors, STDERR_FILENO) < 0)
+    if (dup2(script, STDIN_FILENO) < 0 || dup2(replies, STDOUT_FILENO) < 0 || dup2(errors, STDERR_FILENO) < 0 || chdir("/") != 0)
         _exit(STATUS_NOT_STARTED);
     close_range(STDERR_FILENO + 1, ~0U, 0);
     execlp(program->path, program->path, "run", program->image, (char *)NULL);

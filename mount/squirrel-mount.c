@@ -69,20 +69,21 @@ static bool read_options(struct fuse_args *words, struct options *options)
     return false;
 }
 
-/* A path from the root, also of a file that isn't there in a folder that is; NULL where there is no such folder. */
+/* A path from the root, also of a file that isn't there, or whose folder isn't. NULL where memory is out. */
 static char *absolute(const char *path)
 {
     char *whole = realpath(path, NULL);
     if (whole != NULL)
         return whole;
-    char *first = strdup(path), *second = strdup(path);
+    char *first = strdup(path), *second = strdup(path), *here = realpath(".", NULL);
     char *folder = realpath(dirname(first), NULL);
-    if (folder == NULL || asprintf(&whole, "%s/%s", folder, basename(second)) < 0)
-        whole = NULL;
+    int length = folder != NULL ? asprintf(&whole, "%s/%s", folder, basename(second))
+                                : asprintf(&whole, "%s/%s", path[0] == '/' || here == NULL ? "" : here, path);
     free(folder);
+    free(here);
     free(first);
     free(second);
-    return whole;
+    return length < 0 ? NULL : whole;
 }
 
 static bool is_below(const char *path, const char *folder)
@@ -98,13 +99,13 @@ static int find_paths(struct options *options)
     if (folder == NULL)
         return fail(options->folder, strerror(errno));
     char *image = absolute(options->image);
-    if (image != NULL) {
-        if (is_below(image, folder))
-            return fail(image, "the image is below the folder");
-        free(options->image);
-        options->image = image;
-    }
+    if (image == NULL)
+        return fail(options->image, strerror(ENOMEM));
+    if (is_below(image, folder))
+        return fail(image, "the image is below the folder");
+    free(options->image);
     free(options->folder);
+    options->image = image;
     options->folder = folder;
     return 0;
 }
@@ -290,6 +291,7 @@ int main(int count, char **arguments)
     struct options options;
     int waiting = -1;
     signal(SIGPIPE, SIG_IGN);
+    signal(SIGCHLD, SIG_DFL);
     if (!has_streams())
         return STATUS_FAILED;
     if (!read_options(&words, &options))

@@ -293,28 +293,31 @@ int volume_space(struct volume *volume, struct space *space)
     return is_read ? 0 : volume_bad_reply(volume);
 }
 
-static int digit_value(char digit)
+/* Of each digit its value and one more, and nothing of all other bytes. */
+static const signed char digit_values[256] = {
+    ['0'] = 1,  ['1'] = 2,  ['2'] = 3,  ['3'] = 4,  ['4'] = 5,  ['5'] = 6,  ['6'] = 7,  ['7'] = 8,
+    ['8'] = 9,  ['9'] = 10, ['a'] = 11, ['b'] = 12, ['c'] = 13, ['d'] = 14, ['e'] = 15, ['f'] = 16,
+    ['A'] = 11, ['B'] = 12, ['C'] = 13, ['D'] = 14, ['E'] = 15, ['F'] = 16,
+};
+
+/* The byte that two digits stand for, or less than 0. */
+static int byte_of(const char *digits)
 {
-    if (digit >= '0' && digit <= '9')
-        return digit - '0';
-    if (digit >= 'a' && digit <= 'f')
-        return digit - 'a' + 10;
-    if (digit >= 'A' && digit <= 'F')
-        return digit - 'A' + 10;
-    return -1;
+    return (digit_values[(unsigned char)digits[0]] - 1) * 16 | (digit_values[(unsigned char)digits[1]] - 1);
 }
 
 /* So many bytes of two digits each, and nothing behind them. */
 static bool take_bytes(const char *at, char *bytes, size_t count)
 {
+    int all = 0;
+    if (strlen(at) != 2 * count)
+        return false;
     for (size_t index = 0; index < count; index++) {
-        int high = digit_value(at[2 * index]);
-        int low = high < 0 ? -1 : digit_value(at[2 * index + 1]);
-        if (low < 0)
-            return false;
-        bytes[index] = (char)(high << 4 | low);
+        int byte = byte_of(at + 2 * index);
+        all |= byte;
+        bytes[index] = (char)byte;
     }
-    return at[2 * count] == '\0';
+    return all >= 0;
 }
 
 static int read_piece(struct volume *volume, uint64_t inode, uint64_t offset, char *bytes, size_t length, size_t *count)
@@ -391,11 +394,10 @@ static char *decode_names(const char *at, uint64_t number, char *names)
                 *names++ = *at++;
                 continue;
             }
-            int high = digit_value(at[1]);
-            int low = high < 0 ? -1 : digit_value(at[2]);
-            if (low < 0 || (high | low) == 0)
+            int byte = at[1] == '\0' ? -1 : byte_of(at + 1);
+            if (byte <= 0)
                 return NULL;
-            *names++ = (char)(high << 4 | low);
+            *names++ = (char)byte;
             at += 3;
         }
         *names++ = '\0';

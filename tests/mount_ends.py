@@ -76,6 +76,7 @@ def refusals(trial):
     refused(trial, NO_VOLUME)
     trial.image.unlink()
     refused(trial, DEVICE_FAULT)
+    refused(trial, DEVICE_FAULT, image="no folder/v")
     trial.make(16)
     refused(trial, (1, "", f"squirrel-mount: {trial.folder}/v: the image is below the folder\n"), image=trial.folder / "v")
     missing_folder = trial.work / "missing"
