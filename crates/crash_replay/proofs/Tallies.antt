@@ -14,7 +14,7 @@ use Rattle.script.specs.Lines.{newline, is_newline, IsUnbroken, complete_lines_o
 use Rattle.script.specs.Texts.{answer_text}
 use Rattle.script.proofs.AnswerLines.{is_answer_line}
 use Rattle.script.proofs.LineLaws.{complete_lines_of-front, complete_lines_of-begun, complete_lines_of-joined, with_newlines}
-use Rattle.crash_replay.specs.Tally.{is_no_memory, open_line, count_of, HadMemory, TallyLaw}
+use Rattle.crash_replay.specs.Tally.{is_no_memory, open_line, count_of, accepted_in, refused_in, HadMemory, TallyLaw}
 
 abbrev ones : Bool → ℕ
 ones t = cond t 1 0
@@ -22,6 +22,14 @@ ones t = cond t 1 0
 -- one element more at the front
 one_counted : {X : Type 0} (passes : X → Bool) (x : X) (xs : List X) → count_by passes (x ∷ xs) ≡ ones (passes x) + count_by passes xs
 one_counted passes x xs = sum_by-cons (λ y. cond (passes y) 1 0) x xs
+
+count_within : {X : Type 0} (passes : X → Bool) (xs : List X) → count_by passes xs ≤ length xs
+count_within passes [] = omega arith
+count_within passes (x ∷ xs) = omega (arith, one_counted passes x xs, one_at_most (passes x), count_within passes xs)
+  where
+    one_at_most : (t : Bool) → ones t ≤ 1
+    one_at_most true = omega arith
+    one_at_most false = omega arith
 
 -- ---- one byte more
 
@@ -192,6 +200,20 @@ one_each (answer ∷ answers) =
     one true = refl
     one false = refl
 
+accepted_each : (answers : List Answer) → count_by (begins_with (codes "ok")) (answer_lines answers) ≡ accepted_in answers
+accepted_each [] = refl
+accepted_each (answer ∷ answers) =
+    let told = is_answer_line answer in
+    let more = one_counted (begins_with (codes "ok")) told.line (answer_lines answers) in
+    omega (arith, ap ones told.ok, more, one_counted is_accepted answer answers, accepted_each answers)
+
+refused_each : (answers : List Answer) → count_by (begins_with (codes "error")) (answer_lines answers) ≡ refused_in answers
+refused_each [] = refl
+refused_each (answer ∷ answers) =
+    let told = is_answer_line answer in
+    let more = one_counted (begins_with (codes "error")) told.line (answer_lines answers) in
+    omega (arith, ap ones told.error, more, one_counted (λ a. not (is_accepted a)) answer answers, refused_each answers)
+
 found : (answers : List Answer) (k : ℕ) → slice_get answers k ≡ Some (Refused NoMemory) → 0 < count_by is_no_memory (answer_lines answers)
 found [] k is = cc is
 found (answer ∷ answers) zero is =
@@ -231,5 +253,7 @@ tally_law-holds tally answers is =
         λ none k here. absurd (omega (arith, none, is.lacking, lacking, found answers k here)),
         λ had. omega (arith, is.lacking, lacking, none_found answers had),
       );
+      accepted = λ few. omega (arith, few, is.accepted, ok, accepted_each answers, count_within is_accepted answers);
+      refused = λ few. omega (arith, few, is.refused, error, refused_each answers, count_within (λ a. not (is_accepted a)) answers);
       all = λ few. omega (arith, few, is.accepted, is.refused, ok, error, one_each answers);
     }

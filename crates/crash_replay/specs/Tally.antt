@@ -1,9 +1,9 @@
 -- What a tally counts of the bytes that it took.
-use Rattle.std.specs.Prelude.{◌≡◌, ◌≢◌, ◌↔◌, ℕ, ◌+◌, ◌-◌, ◌^◌, ◌<◌, min, Bool, if◌then◌else◌, List, [], ◌∷◌, length, take, Some, bytes_eq, codes, flat_map, slice_get, count_by}
+use Rattle.std.specs.Prelude.{◌≡◌, ◌≢◌, ◌↔◌, ℕ, ◌+◌, ◌-◌, ◌^◌, ◌<◌, min, Bool, if◌then◌else◌, List, [], ◌∷◌, length, take, Some, not, bytes_eq, codes, flat_map, slice_get, count_by}
 use Rattle.std.specs.List.{list_any}
 use Rattle.tree_model.specs.Step.{Answer, Refused}
 use Rattle.tree_model.specs.declared.reply.Refusal.TheVariants.{NoMemory}
-use Rattle.script.specs.Answers.{begins_with}
+use Rattle.script.specs.Answers.{begins_with, is_accepted}
 use Rattle.script.specs.Lines.{is_newline, complete_lines_of}
 use Rattle.script.specs.Texts.{answer_text}
 use Rattle.crash_replay.specs.declared.tally.Tally.{Tally}
@@ -50,9 +50,18 @@ pub record IsTallyOf (tally : Tally) (bytes : List ℕ) : Type 0 where
 abbrev pub HadMemory : List Answer → Type 0
 HadMemory answers = (k : ℕ) → slice_get answers k ≢ Some (Refused NoMemory)
 
+-- how many answers are accepted, and how many are not
+abbrev pub accepted_in : List Answer → ℕ
+accepted_in answers = count_by is_accepted answers
+
+abbrev pub refused_in : List Answer → ℕ
+refused_in answers = count_by (λ answer. not (is_accepted answer)) answers
+
 -- what the counts tell of answers whose texts it took
 pub record TellsAnswers (tally : Tally) (answers : List Answer) : Type 0 where
   pub lacking : (lacking_count tally ≡ 0) ↔ HadMemory answers
+  pub accepted : length answers < 2 ^ 64 → accepted_count tally ≡ accepted_in answers
+  pub refused : length answers < 2 ^ 64 → refused_count tally ≡ refused_in answers
   pub all : length answers < 2 ^ 64 → accepted_count tally + refused_count tally ≡ length answers
 
 abbrev pub TallyLaw : Type 0

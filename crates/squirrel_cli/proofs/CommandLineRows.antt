@@ -8,7 +8,7 @@ use Rattle.clap.proofs.OnLiterals.{clap_on_literals}
 use Rattle.script.specs.Lines.{is_space}
 use Rattle.crash_replay.specs.declared.moment.Moment.TheVariants.{At, Before}
 use Rattle.squirrel_cli.specs.declared.job.Job.{Job}
-use Rattle.squirrel_cli.specs.declared.job.Job.TheVariants.{Mkfs, Run, Tree, Check, Crash}
+use Rattle.squirrel_cli.specs.declared.job.Job.TheVariants.{Mkfs, Run, Tree, Check, Crash, Work}
 use Rattle.squirrel_cli.specs.CommandLine.{Word, split_of}
 use Rattle.squirrel_cli.specs.Job.{again_at, image_of, job_of}
 
@@ -36,8 +36,8 @@ no_words : job_of (codes "squirrel" ∷ []) ≡ None
 unfolding split_of clap_on_literals
 no_words = refl
 
--- no such verb; there is no help, no version, and no `work` yet
-no_such_verb : ask_nothing (codes "frob" ∷ codes "ru v" ∷ codes "Run v" ∷ codes "help" ∷ codes "help run" ∷ codes "--help" ∷ codes "-h" ∷ codes "--version" ∷ codes "-V" ∷ codes "run --help" ∷ codes "run v --help" ∷ codes "run -h" ∷ codes "run v --version" ∷ codes "run -V" ∷ codes "crash --help" ∷ codes "work" ∷ codes "work v 1 2" ∷ []) ≡ true
+-- no such verb; there is no help and no version
+no_such_verb : ask_nothing (codes "frob" ∷ codes "ru v" ∷ codes "Run v" ∷ codes "help" ∷ codes "help run" ∷ codes "--help" ∷ codes "-h" ∷ codes "--version" ∷ codes "-V" ∷ codes "run --help" ∷ codes "run v --help" ∷ codes "run -h" ∷ codes "run v --version" ∷ codes "run -V" ∷ codes "crash --help" ∷ []) ≡ true
 unfolding split_of clap_on_literals hex_on_literals
 no_such_verb = refl
 
@@ -55,6 +55,16 @@ images = refl
 other_jobs : map asked (codes "tree v" ∷ codes "check v" ∷ codes "mkfs v 65536" ∷ []) ≡ on Tree (codes "v") ∷ on Check (codes "v") ∷ on (Mkfs 65536) (codes "v") ∷ []
 unfolding split_of clap_on_literals hex_on_literals
 other_jobs = refl
+
+-- seeds and counts to the ends of their ranges, with zeros before them and behind `--`
+works : map asked (codes "work v 1 100" ∷ codes "work v 01 0001" ∷ codes "work -- v 01 0001" ∷ codes "work v 18446744073709551615 1000000" ∷ codes "work v 0 1" ∷ []) ≡ on (Work 1 100) (codes "v") ∷ on (Work 1 1) (codes "v") ∷ on (Work 1 1) (codes "v") ∷ on (Work 18446744073709551615 1000000) (codes "v") ∷ on (Work 0 1) (codes "v") ∷ []
+unfolding split_of clap_on_literals hex_on_literals
+works = refl
+
+-- no number of lines or none in its range, no seed, too few or too many words, an option
+no_work : ask_nothing (codes "work" ∷ codes "work v" ∷ codes "work v 1" ∷ codes "work v 1 0" ∷ codes "work v 1 1000001" ∷ codes "work v -1 2" ∷ codes "work v +1 2" ∷ codes "work v 1 2 3" ∷ codes "work v 18446744073709551616 1" ∷ codes "work v --seed 1" ∷ codes "work v 1 2 --keep 00" ∷ codes "work v 1 " ∷ []) ≡ true
+unfolding split_of clap_on_literals hex_on_literals
+no_work = refl
 
 -- 16 pages
 sixteen_pages : map asked (codes "mkfs v 16" ∷ codes "mkfs v 0016" ∷ codes "mkfs v 00000000000000000016" ∷ codes "mkfs -- v 16" ∷ codes "mkfs v -- 16" ∷ []) ≡ on (Mkfs 16) (codes "v") ∷ on (Mkfs 16) (codes "v") ∷ on (Mkfs 16) (codes "v") ∷ on (Mkfs 16) (codes "v") ∷ on (Mkfs 16) (codes "v") ∷ []

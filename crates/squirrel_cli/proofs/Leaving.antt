@@ -1,7 +1,8 @@
 -- What a crash leaves of a device on which a script was run.
-use Rattle.std.proofs.Common.{◌≡◌, ◌⊎◌, inl, inr, ℕ, ◌≤◌, List, sym, ap, subst, ◌∙◌, arith}
+use Rattle.std.proofs.Common.{◌≡◌, ◌⊎◌, inl, inr, ℕ, ◌≤◌, List, refl, sym, ap, subst, ◌∙◌, arith}
 use Rattle.std.proofs.lemmas.Bool.{cases_lt}
-use Rattle.std.specs.Prelude.{Option, Some, ◌++◌, take}
+use Rattle.std.specs.Borrow.{Bor}
+use Rattle.std.specs.Prelude.{Option, Some, None, ◌++◌, take}
 use Rattle.pm_trait.specs.Trail.{Trail, IsCrashImage, trail_at, count_acks}
 use Rattle.pm_memory.specs.Chosen.{IsChosenImage}
 use Rattle.image_laws.specs.Frame.{SameMeaning}
@@ -16,6 +17,7 @@ use Rattle.image_reading.specs.Soundness.{Sound, pages_in_image}
 use Rattle.image_reading.specs.Soundness.Rule.{head}
 use Rattle.image_reading.proofs.Violations.{pages_law}
 use Rattle.mount_scan.specs.Mounting.{IsSound}
+use Rattle.remounts.specs.InTurn.{LeaveInTurn}
 use Rattle.tree_model.specs.Step.{Answer}
 use Rattle.script.specs.declared.run_end.RunEnd.{RunEnd}
 use Rattle.script.specs.declared.run_end.RunEnd.TheVariants as run_end
@@ -30,7 +32,7 @@ use Rattle.engine.specs.Run.{IsBetween}
 use Rattle.engine.specs.Script.{RunsScript, WritesAnswers}
 use Rattle.squirrel_cli.specs.Mounts.{IsOnlyMounted}
 use Rattle.squirrel_cli.specs.Replays.{Anything, IsUnbegun, ListsLeft, acked_before}
-use Rattle.squirrel_cli.specs.ReplaySteps.{HasLeft, LeavesSound, LeavesSoundSoFar, RunsMounted}
+use Rattle.squirrel_cli.specs.ReplaySteps.{HasLeft, LeavesSound, LeavesSoundSoFar, RunsMounted, crashes_of}
 
 -- a sound image has as many pages as its length says
 pub own_pages : {P : ℕ} (W : List ℕ) → Sound P W → pages_in_image W ≡ P
@@ -104,19 +106,20 @@ any_run {end = end} {took = took} {now = now} run = record {
 
 -- ---- the words that a crash left
 
-pub left_alone : {keep : List ℕ} {trail : Trail} {image : List ℕ} → IsChosenImage trail keep image → IsCrashImage trail image → IsSound image → HasLeft keep trail image
+pub left_alone : {keep : List ℕ} {trail : Trail} {image : List ℕ} → IsChosenImage trail keep image → IsCrashImage trail image → IsSound image → HasLeft keep None trail image
 left_alone {image = image} chosen crash whole = record {
   image = image;
   chosen = chosen;
   crash = crash;
   whole = whole;
+  in_turn = refl;
   sound = whole;
   means = meanings_chain.itself (pages_in_image image) image whole;
 }
 
-pub left_again : {keep : List ℕ} {trail : Trail} {image lent words : List ℕ} → lent ≡ image → IsChosenImage trail keep image → IsCrashImage trail image → IsSound image
-    → (IsSound lent → SameMeaning (pages_in_image lent) lent words) → HasLeft keep trail words
-left_again {image = image} {words = words} same chosen crash whole means =
+pub left_again : {keep : List ℕ} {again : Option (ℕ × Bor (List ℕ))} {trail : Trail} {image lent words : List ℕ} → lent ≡ image → IsChosenImage trail keep image → IsCrashImage trail image → IsSound image
+    → LeaveInTurn (crashes_of again) lent words → (IsSound lent → SameMeaning (pages_in_image lent) lent words) → HasLeft keep again trail words
+left_again {again = again} {image = image} {words = words} same chosen crash whole in_turn means =
     let there : SameMeaning (pages_in_image image) image words =
     subst (λ (I : List ℕ). SameMeaning (pages_in_image I) I words) same (means (subst IsSound (sym same) whole)) in
     record {
@@ -124,13 +127,14 @@ left_again {image = image} {words = words} same chosen crash whole means =
       chosen = chosen;
       crash = crash;
       whole = whole;
+      in_turn = subst (λ (I : List ℕ). LeaveInTurn (crashes_of again) I words) same in_turn;
       sound = sound_image words there.coherent;
       means = there;
     }
 
 -- what is listed of them is the tree of the image
-pub lists_left : {moment : Moment} {keep : List ℕ} {mark place acked : ℕ} {trail : Trail} {lent words : List ℕ} {result : Status} {took now : List ℕ → Type 0} → lent ≡ words → place ≡ place_in trail.events mark moment
-    → acked ≡ count_acks (take place trail.events) → HasLeft keep (trail_at trail place) words
+pub lists_left : {moment : Moment} {keep : List ℕ} {again : Option (ℕ × Bor (List ℕ))} {mark place acked : ℕ} {trail : Trail} {lent words : List ℕ} {result : Status} {took now : List ℕ → Type 0} → lent ≡ words → place ≡ place_in trail.events mark moment
+    → acked ≡ count_acks (take place trail.events) → HasLeft keep again (trail_at trail place) words
     → ((tree : Tree) → Reads (pages_in_image lent) lent tree → (result ≡ status.NoMemory) ⊎ IsToldOrCut status.Done (acked_text acked ++ listing_text tree) result took now)
     → (result ≡ status.NoMemory) ⊎ ListsLeft moment keep mark trail result took now
 lists_left {moment} {keep} {mark} {place} {acked} {trail} {lent} {words} {result} {took} {now} same placed counted left lists =

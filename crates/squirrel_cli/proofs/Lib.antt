@@ -10,3 +10,4 @@ mod CommandLineRows
 pub mod ReplayRuns
 pub mod Checks
 pub mod Jobs
+pub mod Works

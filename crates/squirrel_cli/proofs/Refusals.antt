@@ -52,7 +52,7 @@ end_is_cut no_end (inr cut) ended = cut.0
 -- ---- why it was refused, and what the mount left
 
 -- what is sound is a volume
-sound_volume : (W : List ℕ) → IsSound W → HoldsVolume W
+pub sound_volume : (W : List ℕ) → IsSound W → HoldsVolume W
 sound_volume W sound = (head_law (pages_in_image W) W).0 (λ place. sound head place)
 
 pub data WhyRefused (before after : DeviceView) : MountError → Type 0 where

@@ -10,8 +10,9 @@ use Rattle.tree_model.specs.declared.reply.Refusal.TheVariants.{NoMemory as OutO
 use Rattle.image_reading.specs.Soundness.{IsFirstViolation, pages_in_image}
 use Rattle.image_reading.specs.declared.Violation.{Violation}
 use Rattle.script.specs.Texts.{damaged_text}
-use Rattle.squirrel_cli.specs.Told.{IsToldOrCut}
-use Rattle.mount_scan.specs.Mounting.{HoldsVolume}
+use Rattle.squirrel_cli.specs.Told.{IsToldOf, IsToldOrCut}
+use Rattle.mount_scan.specs.Mounting.{HoldsVolume, IsSound}
+use Rattle.mount_scan.specs.declared.error.MountError.{MountError}
 use Rattle.script.specs.declared.run_end.RunEnd.{RunEnd}
 use Rattle.script.specs.declared.run_end.RunEnd.TheVariants as run_end
 use Rattle.engine.specs.Script.{RunsScript}
@@ -25,6 +26,7 @@ use Rattle.squirrel_cli.specs.Ends.{end_of, GaveAll}
 use Rattle.squirrel_cli.specs.Mounts.{IsOnlyMounted}
 use Rattle.squirrel_cli.specs.Replays.{CrashTells, IsSilent, ListsLeft, Replays, RunsCopy, RunsOrUnread, replayed_end}
 use Rattle.squirrel_cli.specs.ReplaySteps.{ReplaysMounted, RunsMounted}
+use Rattle.squirrel_cli.proofs.Refusals.{WhyRefused, no_volume, broken, failed, short, not_sound, sound_volume}
 use Rattle.squirrel_cli.proofs.Mounted.{limit_gives, mounted_state, mounts_and_runs, runs_mounted}
 
 -- ---- ends
@@ -109,10 +111,23 @@ replays_entry {moment} {keep} {mounted = mounted} {after = after} {result} {scri
       told = here.listed.told;
     }
 
-pub runs_entry : {size P : ℕ} {before mounted after : DeviceView} {end : RunEnd} {script rest : Option (List ℕ)} {is : Status} {same : Type 0} → size ≡ P → IsOnlyMounted P before mounted
-    → RunsMounted size mounted after end script rest ⊎ (is ≡ status.NoMemory) × same → RunsOrUnread P is before after end script rest same
-runs_entry pages only (inl run) = inl (runs_mounted pages only run)
-runs_entry pages only (inr (memory, same)) = inr (same, inl memory)
+pub runs_entry : {size P : ℕ} {before mounted after : DeviceView} {end : RunEnd} {script rest : Option (List ℕ)} {is : Status} {kept same : Type 0} → size ≡ P → IsOnlyMounted P before mounted → (kept → after ≡ mounted)
+    → RunsMounted size mounted after end script rest ⊎ (is ≡ status.NoMemory) × kept × same → RunsOrUnread P is before after end script rest same
+runs_entry pages only alone (inl run) = inl (runs_mounted pages only run)
+runs_entry {P = P} {before = before} pages only alone (inr (memory, kept, same)) = inr (same, inl (memory, inr (subst (IsOnlyMounted P before) (sym (alone kept)) only)))
+
+-- where the mount was refused, no line was executed
+pub refused_unread : {before after : DeviceView} {error : MountError} {is : Status} (script rest : Option (List ℕ)) (took now : List ℕ → Type 0) {unread : Type 0}
+    → WhyRefused before after error → IsToldOf error is took now → unread → IsSound before.words
+    → IfSome (replayed_end is) (λ end. RunsOrUnread (pages_in_image before.words) is before after end script rest unread)
+refused_unread {before = before} script rest took now (no_volume not same) told unread sound = absurd (not (sound_volume before.words sound))
+refused_unread script rest took now (broken violation holds first same) told unread sound = absurd (not_sound first sound)
+refused_unread {before} {after} script rest took now {unread} (failed fails) told same sound =
+    subst (λ (s : Status). IfSome (replayed_end s) (λ (end : RunEnd). RunsOrUnread (pages_in_image before.words) s before after end script rest unread)) (sym told)
+    (inr (same, inr (refl, fails)))
+refused_unread {before} {after} script rest took now {unread} (short holds alone unsound) told same sound =
+    subst (λ (s : Status). IfSome (replayed_end s) (λ (end : RunEnd). RunsOrUnread (pages_in_image before.words) s before after end script rest unread)) (sym told)
+    (inr (same, inl (refl, inl alone)))
 
 limit_of : (P : ℕ) (mounted after : DeviceView) (script rest : Option (List ℕ)) (same : Type 0) → RunsMounted P mounted after run_end.Limit script rest ⊎ (status.ScriptLimit ≡ status.NoMemory) × same → GaveAll script rest
 limit_of P mounted after script rest same (inl run) = limit_gives script rest run.lines run.executes
@@ -158,7 +173,7 @@ refuses_beside {is} {copy} {after} {device} {took} {now} same refuses = record {
 runs_copy : {words : List ℕ} {before after : DeviceView} {is : Status} {end : RunEnd} {script rest : Option (List ℕ)} {same : Type 0} → IsNew before words → is ≢ status.DeviceFault
     → RunsOrUnread (pages_in_image words) is before after end script rest same → RunsCopy words end script rest ⊎ (is ≡ status.NoMemory) × same
 runs_copy {before = before} {after = after} new never (inl through) = inl (record { before = before; new = new; after = after; through = through })
-runs_copy new never (inr (same, inl memory)) = inr (memory, same)
+runs_copy new never (inr (same, inl (memory, left))) = inr (memory, same)
 runs_copy new never (inr (same, inr (device, fails))) = absurd (never device)
 
 pub crash_tells : {moment : Moment} {keep words : List ℕ} {is : Status} {before after : DeviceView} {script rest : Option (List ℕ)} {took now : List ℕ → Type 0} {unread unwritten : Type 0} → IsNew before words → is ≢ status.DeviceFault

@@ -1,7 +1,7 @@
 -- What kind of job is asked.
 use Rattle.std.specs.Prelude.{◌≡◌, true, Option, Some, None}
 use Rattle.squirrel_cli.specs.declared.job.Job.{Job}
-use Rattle.squirrel_cli.specs.declared.job.Job.TheVariants.{Mkfs, Run, Tree, Check, Crash}
+use Rattle.squirrel_cli.specs.declared.job.Job.TheVariants.{Mkfs, Run, Tree, Check, Crash, Work}
 use Rattle.squirrel_cli.specs.Job.{stores_of}
 
 -- a job is asked, and it is of this kind
@@ -16,6 +16,7 @@ MountsDevice Run = Unit {0}
 MountsDevice Tree = Unit {0}
 MountsDevice Check = ⊥
 MountsDevice (Crash moment keep again) = ⊥
+MountsDevice (Work seed count) = Unit {0}
 
 -- it reads the script
 abbrev pub ReadsScript : Job → Type 0
@@ -24,6 +25,7 @@ ReadsScript Run = Unit {0}
 ReadsScript Tree = ⊥
 ReadsScript Check = ⊥
 ReadsScript (Crash moment keep again) = Unit {0}
+ReadsScript (Work seed count) = ⊥
 
 -- it replays a crash
 abbrev pub IsCrash : Job → Type 0
@@ -32,6 +34,7 @@ IsCrash Run = ⊥
 IsCrash Tree = ⊥
 IsCrash Check = ⊥
 IsCrash (Crash moment keep again) = Unit {0}
+IsCrash (Work seed count) = ⊥
 
 -- it may change the device
 abbrev pub Stores : Job → Type 0

@@ -48,6 +48,10 @@ crash_app = command (codes "crash") (argument (codes "IMAGE") ∷ needed_option 
     ∷ option (codes "at") ∷ option (codes "call") ∷ option (codes "fence")
     ∷ option (codes "again") ∷ option (codes "keep2") ∷ [])
 
+-- `work IMAGE SEED COUNT`
+abbrev pub work_app : App
+work_app = command (codes "work") (argument (codes "IMAGE") ∷ argument (codes "SEED") ∷ argument (codes "COUNT") ∷ [])
+
 -- The whole command: one of these is needed, and there is no help and no version to ask for.
 abbrev pub squirrel_app : App
 squirrel_app = record {
@@ -58,7 +62,7 @@ squirrel_app = record {
     disable_help_subcommand = true;
     disable_version_flag = true;
   };
-  subs = mkfs_app.top ∷ run_app.top ∷ tree_app.top ∷ check_app.top ∷ crash_app.top ∷ [];
+  subs = mkfs_app.top ∷ run_app.top ∷ tree_app.top ∷ check_app.top ∷ crash_app.top ∷ work_app.top ∷ [];
 }
 
 -- what was split, where there is no fault

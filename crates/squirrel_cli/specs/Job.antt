@@ -7,7 +7,7 @@ use Rattle.crash_replay.specs.declared.moment.Moment.TheVariants.{At, Before}
 use Rattle.squirrel_cli.specs.CommandLine.{Word, split_of, value_in}
 use Rattle.squirrel_cli.specs.declared.job.Again.{Again}
 use Rattle.squirrel_cli.specs.declared.job.Job.{Job}
-use Rattle.squirrel_cli.specs.declared.job.Job.TheVariants.{Mkfs, Run, Tree, Check, Crash}
+use Rattle.squirrel_cli.specs.declared.job.Job.TheVariants.{Mkfs, Run, Tree, Check, Crash, Work}
 
 -- both, where there are both
 abbrev pub both : {A B C : Type 0} → (A → B → C) → Option A → Option B → Option C
@@ -65,6 +65,19 @@ crash_in split = crash_of
     (option_and_then keep_of (value_in (codes "keep") split))
     (again_of (value_in (codes "again") split) (value_in (codes "keep2") split))
 
+-- the lines that may be asked for
+abbrev pub is_line_count : ℕ → Bool
+is_line_count count = nat_le 1 count && nat_le count 1000000
+
+abbrev pub work_of_numbers : Option ℕ → Option ℕ → Option Job
+work_of_numbers None count = None
+work_of_numbers (Some seed) None = None
+work_of_numbers (Some seed) (Some count) = if is_line_count count then Some (Work seed count) else None
+
+-- `work` of SEED and COUNT
+abbrev pub work_of : Option Word → Option Word → Option Job
+work_of seed count = work_of_numbers (option_and_then number_of seed) (option_and_then number_of count)
+
 -- the job of a subcommand
 abbrev pub job_of_verb : Word → Option (Word × List Row) → Option Job
 job_of_verb verb split =
@@ -73,6 +86,7 @@ job_of_verb verb split =
     else if is_word (codes "tree") verb then Some Tree
     else if is_word (codes "check") verb then Some Check
     else if is_word (codes "crash") verb then crash_in split
+    else if is_word (codes "work") verb then work_of (value_in (codes "SEED") split) (value_in (codes "COUNT") split)
     else None
 
 abbrev pub job_in : Option (Word × List Row) → Option Job
@@ -97,6 +111,7 @@ TakesVolume Run = Unit {0}
 TakesVolume Tree = Unit {0}
 TakesVolume Check = Unit {0}
 TakesVolume (Crash moment keep again) = Unit {0}
+TakesVolume (Work seed count) = Unit {0}
 
 -- the job may change its image
 abbrev pub stores_of : Job → Bool
@@ -105,6 +120,7 @@ stores_of Run = true
 stores_of Tree = true
 stores_of Check = false
 stores_of (Crash moment keep again) = false
+stores_of (Work seed count) = true
 
 -- no job is asked, or one that makes a volume of another size than the device
 abbrev pub IsUnusable : Option Job → ℕ → Type 0
@@ -114,3 +130,4 @@ IsUnusable (Some Run) words = ⊥
 IsUnusable (Some Tree) words = ⊥
 IsUnusable (Some Check) words = ⊥
 IsUnusable (Some (Crash moment keep again)) words = ⊥
+IsUnusable (Some (Work seed count)) words = ⊥

@@ -12,3 +12,5 @@ pub mod Replays
 pub mod ReplaySteps
 pub mod Asked
 pub mod ReplayLaw
+pub mod Works
+pub mod WorkSteps

@@ -1,5 +1,6 @@
 -- The steps of a replay.
-use Rattle.std.specs.Prelude.{◌≡◌, ◌≢◌, ℕ, ◌≤◌, List, length, slice_get, Option, Some}
+use Rattle.std.specs.Prelude.{◌≡◌, ◌≢◌, ℕ, ◌≤◌, List, [], ◌∷◌, length, slice_get, Option, Some, None}
+use Rattle.std.specs.Borrow.{Bor}
 use Rattle.pm_trait.specs.Trail.{Trail, trail_at, IsCrashImage}
 use Rattle.pm_trait.specs.Device.{MayLeave, moment_of}
 use Rattle.pm_trait.specs.DeviceView.{DeviceView}
@@ -9,6 +10,8 @@ use Rattle.tree_model.specs.declared.reply.Refusal.TheVariants.{NoMemory as OutO
 use Rattle.image_reading.specs.Soundness.{Sound, pages_in_image}
 use Rattle.image_laws.specs.Frame.{SameMeaning}
 use Rattle.mount_scan.specs.Mounting.{IsSound}
+use Rattle.remounts.specs.InTurn.{LeaveInTurn}
+use Rattle.remounts.specs.declared.Crash.{Crash}
 use Rattle.script.specs.declared.run_end.RunEnd.{RunEnd}
 use Rattle.script.specs.declared.run_end.RunEnd.TheVariants as ends
 use Rattle.engine.specs.Script.{RunsScript}
@@ -37,11 +40,17 @@ pub record ReplaysMounted (moment : Moment) (keep : List ℕ) (P : ℕ) (before 
   pub recorded : after.trail ≡ Some trail
   pub listed : ListsLeft moment keep (moment_of before.trail) trail result took now
 
--- what a crash left, and after it maybe another one in the mount of that: it is sound, and means what the chosen image means
-pub record HasLeft (keep : List ℕ) (trail : Trail) (words : List ℕ) : Type 0 where
+-- the second crash, by its moment and its keep, where one is asked
+abbrev pub crashes_of : Option (ℕ × Bor (List ℕ)) → List Crash
+crashes_of None = []
+crashes_of (Some (moment, keep)) = record { moment = moment; keep = keep } ∷ []
+
+-- what a crash left, and after it the second one in the mount of that: it is sound, and means what the chosen image means
+pub record HasLeft (keep : List ℕ) (again : Option (ℕ × Bor (List ℕ))) (trail : Trail) (words : List ℕ) : Type 0 where
   pub image : List ℕ
   pub chosen : IsChosenImage trail keep image
   pub crash : IsCrashImage trail image
   pub whole : IsSound image
+  pub in_turn : LeaveInTurn (crashes_of again) image words
   pub sound : IsSound words
   pub means : SameMeaning (pages_in_image image) image words

@@ -10,7 +10,7 @@ use Rattle.tree_model.specs.Step.{Refused}
 use Rattle.tree_model.specs.declared.reply.Refusal.TheVariants.{NoMemory as OutOfMemory}
 use Rattle.image_reading.specs.Reading.{Reads}
 use Rattle.image_reading.specs.Soundness.{pages_in_image}
-use Rattle.mount_scan.specs.Mounts.{FailsToMount}
+use Rattle.mount_scan.specs.Mounts.{FailsToMount, IsLeftAlone}
 use Rattle.script.specs.Texts.{acked_text, listing_text}
 use Rattle.script.specs.declared.run_end.RunEnd.{RunEnd}
 use Rattle.script.specs.declared.run_end.RunEnd.TheVariants as ends
@@ -18,7 +18,7 @@ use Rattle.crash_replay.specs.Place.{place_in}
 use Rattle.crash_replay.specs.declared.moment.Moment.{Moment}
 use Rattle.squirrel_cli.specs.declared.status.Status.{Status}
 use Rattle.squirrel_cli.specs.declared.status.Status.TheVariants.{Done, Usage, NoMemory, NotVolume, Damaged, DeviceFault, ReadFault, WriteFault, ScriptLimit}
-use Rattle.squirrel_cli.specs.Mounts.{MountsAndRuns}
+use Rattle.squirrel_cli.specs.Mounts.{IsOnlyMounted, MountsAndRuns}
 use Rattle.squirrel_cli.specs.Told.{IsToldOrCut}
 
 -- a device that records its trail, in which there is no event yet
@@ -92,11 +92,12 @@ pub record Replays (moment : Moment) (keep : List ℕ) (P : ℕ) (before after :
   pub open replayed use *
   pub told : IsToldOrCut Done (acked_text (acked_before trail (moment_of ran.mounted.trail) moment) ++ listing_text tree) result took now
 
--- The script was run through to this end, or left alone: a fence failed in the mount, or memory was short.
+-- The script was run through to this end, or left alone: a fence failed in the mount, or memory was short before a line was executed.
 abbrev pub RunsOrUnread : ℕ → Status → DeviceView → DeviceView → RunEnd → Option (List ℕ) → Option (List ℕ) → Type 0 → Type 0
 RunsOrUnread P result before after end script rest unread =
     RunsThrough P before after end script rest
-    ⊎ unread × ((result ≡ NoMemory) ⊎ (result ≡ DeviceFault) × FailsToMount P before after)
+    ⊎ unread × ((result ≡ NoMemory) × (IsLeftAlone before after ⊎ IsOnlyMounted P before after)
+    ⊎ (result ≡ DeviceFault) × FailsToMount P before after)
 
 -- the same on a new device of these words, which never fails
 pub record ReplaysCopy (moment : Moment) (keep words : List ℕ) (result : Status) (script rest : Option (List ℕ)) (took now : List ℕ → Type 0) : Type 0 where

@@ -1,7 +1,7 @@
 // What the words of a command line ask for.
 ghost use Rattle.std.specs.Prelude.{◌≡◌, IfOk, option_and_then};
 ghost use Rattle.squirrel_cli.specs.CommandLine.{given};
-ghost use Rattle.squirrel_cli.specs.Job.{job_of as job_of_words, job_in, mkfs_of, crash_in, moment_of as moment_of_options, again_of as again_of_options, keep_of as keep_of_hex, stores_of, is_volume_size as has_volume_size};
+ghost use Rattle.squirrel_cli.specs.Job.{job_of as job_of_words, job_in, mkfs_of, crash_in, moment_of as moment_of_options, again_of as again_of_options, keep_of as keep_of_hex, stores_of, is_volume_size as has_volume_size, is_line_count as may_be_line_count, work_of};
 
 use crate::keep::Keep;
 use crate::split::Split;
@@ -11,6 +11,9 @@ use layout::Geometry;
 use pm_trait::NoMemory;
 use script::number_of;
 use std::alloc::Global;
+
+// The most lines that `work` may be asked for, the four before them not counted.
+const MOST_LINES: u64 = 1_000_000;
 
 /// A job on an image.
 #[derive(Drop)]
@@ -31,6 +34,11 @@ pub enum Job {
         keep: Keep,
         again: Option<Again>,
     },
+    /// Run the generated script of this seed, of so many lines and the four before them, and tell its sums.
+    Work {
+        seed: u64,
+        count: u64,
+    },
 }
 
 /// A crash in the mount after a crash.
@@ -48,7 +56,7 @@ impl Job {
         ensures { result ≡ stores_of self.now }
     {
         match self {
-            Job::Mkfs { .. } | Job::Run | Job::Tree => true,
+            Job::Mkfs { .. } | Job::Run | Job::Tree | Job::Work { .. } => true,
             Job::Check | Job::Crash { .. } => false,
         }
     }
@@ -72,6 +80,7 @@ pub fn job_of_split(alloc: Global, split: &Split) -> Result<Option<Job>, NoMemor
         Some("tree") => Ok(Some(Job::Tree)),
         Some("check") => Ok(Some(Job::Check)),
         Some("crash") => crash_of_split(alloc, split),
+        Some("work") => Ok(work_of_texts(split.value("SEED"), split.value("COUNT"))),
         _ => Ok(None),
     }
 }
@@ -91,6 +100,24 @@ fn is_volume_size(pages: u64) -> bool
     ensures { result ≡ has_volume_size pages }
 {
     pages >= Geometry::FEWEST_PAGES && pages <= Geometry::MOST_PAGES
+}
+
+fn work_of_texts(seed: Option<&str>, count: Option<&str>) -> Option<Job>
+    ensures { result ≡ work_of (given seed.entry) (given count.entry) }
+{
+    let seed = number_of(seed?.as_bytes())?;
+    let count = number_of(count?.as_bytes())?;
+    if is_line_count(count) {
+        Some(Job::Work { seed, count })
+    } else {
+        None
+    }
+}
+
+fn is_line_count(count: u64) -> bool
+    ensures { result ≡ may_be_line_count count }
+{
+    count >= 1 && count <= MOST_LINES
 }
 
 fn crash_of_split(alloc: Global, split: &Split) -> Result<Option<Job>, NoMemory>

@@ -15,6 +15,7 @@ mod tasks;
 mod top_call;
 mod wanted;
 mod words;
+mod working;
 
 pub use laws::replay_law;
 pub use replaying::replay;

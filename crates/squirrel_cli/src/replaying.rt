@@ -182,7 +182,7 @@ fn replay_mounted<P: Recorded, S: Source, K: Sink>(
     ensures unwritten { IsSilent result → sink.new ≡ sink.old }
     ensures runs { IfSome (replayed_end result) (λ end. RunsMounted volume.size (P.view pm.old) (P.view pm.new) end
         (S.left source.old) (S.left source.new)
-        ⊎ (result ≡ Status.NoMemory) × (source.new ≡ source.old)) }
+        ⊎ (result ≡ Status.NoMemory) × (pm.new ≡ pm.old) × (source.new ≡ source.old)) }
     ensures replays { (result ≡ Status.Done) ⊎ (result ≡ Status.WriteFault) →
         ReplaysMounted moment keep.now volume.size (P.view pm.old) (P.view pm.new) result
         (S.left source.old) (S.left source.new) (K.took sink.old) (K.took sink.new) }
@@ -239,7 +239,7 @@ fn words_left(
     requires some { 0 < length keep.now }
     requires some_again { IfSome again (λ crash. 0 < length crash.1.now) }
     ensures { IfOk result (λ words. IfSome (⟦<RamPm as Pm>⟧.view ram.now).trail (λ trail.
-        HasLeft keep.now (trail_at trail place) words.items)) }
+        HasLeft keep.now again (trail_at trail place) words.items)) }
 {
     let image = ram.image_at(alloc, place, keep)?;
     let Some((moment, keep)) = again else {

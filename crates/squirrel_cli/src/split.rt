@@ -3,7 +3,7 @@ ghost use Rattle.std.specs.Prelude.{◌≡◌, false, IfOk};
 ghost use Rattle.clap.specs.Simple.{app_of};
 ghost use Rattle.clap.specs.Walk.{rule_of};
 ghost use Rattle.clap.specs.declared.builder.command.Command.TheViews.{out-Command as fields_of};
-ghost use Rattle.squirrel_cli.specs.CommandLine.{split_of, verb_in, value_in, given, argument as argument_rule, option as option_rule, needed_option as needed_rule, mkfs_app, run_app, tree_app, check_app, crash_app, squirrel_app};
+ghost use Rattle.squirrel_cli.specs.CommandLine.{split_of, verb_in, value_in, given, argument as argument_rule, option as option_rule, needed_option as needed_rule, mkfs_app, run_app, tree_app, check_app, crash_app, work_app, squirrel_app};
 ghost use Rattle.squirrel_cli.specs.Job.{image_in};
 
 use crate::words::Words;
@@ -82,7 +82,8 @@ fn squirrel_command<'a>(alloc: Global) -> Result<Command<'a>, AllocError>
         .subcommand(run_command(alloc)?)?
         .subcommand(tree_command(alloc)?)?
         .subcommand(check_command(alloc)?)?
-        .subcommand(crash_command(alloc)?)
+        .subcommand(crash_command(alloc)?)?
+        .subcommand(work_command(alloc)?)
 }
 
 fn mkfs_command<'a>(alloc: Global) -> Result<Command<'a>, AllocError>
@@ -127,6 +128,16 @@ fn crash_command<'a>(alloc: Global) -> Result<Command<'a>, AllocError>
         .arg(option(alloc, "fence"))?
         .arg(option(alloc, "again"))?
         .arg(option(alloc, "keep2"))
+}
+
+fn work_command<'a>(alloc: Global) -> Result<Command<'a>, AllocError>
+    ensures app { IfOk result (λ command. app_of command ≡ work_app) }
+    ensures local { IfOk result (λ command. (fields_of command).has_globals ≡ false) }
+{
+    Command::new(alloc, "work")
+        .arg(argument(alloc, "IMAGE"))?
+        .arg(argument(alloc, "SEED"))?
+        .arg(argument(alloc, "COUNT"))
 }
 
 // An argument that has its place among the words and has to be there.

@@ -1,5 +1,5 @@
 // What is done on the volume that a device holds.
-ghost use Rattle.std.specs.Prelude.{◌≡◌, ◌≢◌, ◌⊎◌, ◌^◌, ◌≤◌, Option, IfSome, IsSome, false};
+ghost use Rattle.std.specs.Prelude.{◌≡◌, ◌≢◌, ◌⊎◌, ℕ, ◌^◌, ◌≤◌, Option, IfSome, IsSome, false};
 ghost use Rattle.pm_trait.specs.Device.{HasRisen};
 ghost use Rattle.pm_trait.specs.DeviceView.{IsSettledView};
 ghost use Rattle.tree_model.specs.Run.{State};
@@ -16,12 +16,15 @@ ghost use Rattle.squirrel_cli.specs.Answers.{StatusTells, Refuses, IsShortOfMemo
 ghost use Rattle.squirrel_cli.specs.Causes.{TellsFaults};
 ghost use Rattle.squirrel_cli.specs.Ends.{IsStart, IsMountable, end_of, GaveAll};
 ghost use Rattle.squirrel_cli.specs.Mounts.{MountsAndRuns, MountFails};
-ghost use Rattle.squirrel_cli.specs.Tasks.{job_of_task};
+ghost use Rattle.squirrel_cli.specs.Tasks.{HasFewLines, job_of_task};
 ghost use Rattle.squirrel_cli.specs.Told.{IsToldOrCut};
+ghost use Rattle.squirrel_cli.specs.Works.{WorkTells};
+ghost use Rattle.squirrel_cli.specs.WorkSteps.{RunsGenerated, SumsGenerated};
 
 use crate::refused::refuse;
 use crate::scripted::answer_lines;
 use crate::status::{Status, status_of_write};
+use crate::working::work_lines;
 use engine::Session;
 use io_edge::{Sink, Source};
 use mount_scan::mount;
@@ -35,6 +38,8 @@ use volume::Volume;
 pub enum Task {
     /// To answer the lines of the script.
     Answer,
+    /// To answer the generated script, of so many lines and the four before them, and to tell its sums.
+    Generate { seed: u64, count: u64 },
     /// To list its tree.
     List,
 }
@@ -48,6 +53,7 @@ pub fn do_task<P: Pm, S: Source, K: Sink>(
     pm: &mut P,
 ) -> Status
     requires start { IsStart (P.view pm.old) }
+    requires few { HasFewLines task }
 
     ensures usable { result ≢ Status.Usage }
     ensures no_memory { result ≡ Status.NoMemory →
@@ -68,7 +74,10 @@ pub fn do_task<P: Pm, S: Source, K: Sink>(
         script.old script.new out.old out.new
         ⊎ ListsTree (pages_in_image (P.view pm.old).words) result (P.view pm.old) (P.view pm.new)
         (K.took out.old) (K.took out.new) }
-    ensures script { task ≡ Task.List → script.new ≡ script.old }
+    ensures works { (seed count : ℕ) → task ≡ Task.Generate seed count → IsMountable (P.view pm.old).words →
+        WorkTells (pages_in_image (P.view pm.old).words) seed count result (P.view pm.old) (P.view pm.new)
+        (K.took out.old) (K.took out.new) (out.new ≡ out.old) }
+    ensures script { (task ≡ Task.Answer) ⊎ (script.new ≡ script.old) }
     ensures cause { TellsFaults result (P.view pm.old) (P.view pm.new)
         (S.faults script.old) (S.faults script.new) (K.faults out.old) (K.faults out.new) }
     ensures limit { result ≡ Status.ScriptLimit → (task ≡ Task.Answer) × GaveAll (S.left script.old) (S.left script.new) }
@@ -95,6 +104,7 @@ fn do_mounted<P: Pm, S: Source, K: Sink>(
     requires stands { IsStanding volume (P.view pm.old) }
     requires fences { (P.view pm.old).fences ≤ 2 ^ 61 }
     requires acks { (P.view pm.old).acks ≤ 2 ^ 61 }
+    requires few { HasFewLines task }
 
     ensures ends { (result ≡ Status.NoMemory) ⊎ (result ≡ Status.Done) ⊎ (result ≡ Status.DeviceFault)
         ⊎ (result ≡ Status.ReadFault) ⊎ (result ≡ Status.WriteFault) ⊎ (result ≡ Status.ScriptLimit) }
@@ -106,6 +116,12 @@ fn do_mounted<P: Pm, S: Source, K: Sink>(
     ensures lists { task ≡ Task.List → (pm.new ≡ pm.old) × (script.new ≡ script.old)
         × ((state : State) → StandsFor volume (P.view pm.old) state → (result ≡ Status.NoMemory)
         ⊎ IsToldOrCut Status.Done (listing_text state.tree) result (K.took out.old) (K.took out.new)) }
+    ensures works { (seed count : ℕ) → task ≡ Task.Generate seed count → (script.new ≡ script.old)
+        × ((result ≡ Status.NoMemory)
+        ⊎ (result ≡ Status.DeviceFault) × (out.new ≡ out.old)
+        × RunsGenerated volume.size seed count (P.view pm.old) (P.view pm.new) RunEnd.Faulted
+        ⊎ SumsGenerated volume.size seed count result (P.view pm.old) (P.view pm.new)
+        (K.took out.old) (K.took out.new)) }
     ensures cause { TellsFaults result (P.view pm.old) (P.view pm.new)
         (S.faults script.old) (S.faults script.new) (K.faults out.old) (K.faults out.new) }
     ensures settled { HasRisen (P.view pm.old).faults (P.view pm.new).faults ⊎ IsSettledView (P.view pm.new) }
@@ -113,6 +129,7 @@ fn do_mounted<P: Pm, S: Source, K: Sink>(
 {
     match task {
         Task::Answer => answer_lines(alloc, volume, script, out, pm),
+        Task::Generate { seed, count } => work_lines(alloc, volume, seed, count, out, pm),
         Task::List => list_tree(alloc, volume, out, pm),
     }
 }

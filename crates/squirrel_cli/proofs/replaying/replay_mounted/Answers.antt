@@ -45,6 +45,6 @@ returns-in_default g c =
       cause = cause_beside (g.K.Sink.faults c.args.sink.now) c.answer_lines.ensures.cause;
       unwritten = λ silent. refl;
       runs = ends_map (replayed_end c.answer_lines.result) (λ end told. any_or_unread told)
-          (other_end _ c.answer_lines.result c.in_default.not-Done cut (λ is. (c.answer_lines.ensures.no_memory is).1) c.answer_lines.ensures.runs);
+          (other_end _ c.answer_lines.result c.in_default.not-Done cut (λ is. let (pm, script, out) = c.answer_lines.ensures.no_memory is in (pm, script)) c.answer_lines.ensures.runs);
       replays = λ asked. absurd (neither c.in_default.not-Done cut asked);
     }

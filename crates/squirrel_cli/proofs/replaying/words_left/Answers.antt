@@ -11,7 +11,7 @@ returns-in_default c =
 pub returns-in-Ok : goal.returns-in-Ok
 returns-in-Ok c =
     let whole = c.requires.sound c.args.place c.in_ok-image.image.items c.requires.in_range c.in_ok-image.ensures.crash_image in
-    left_again c.as_slice.ensures.value c.in_ok-image.ensures.chosen c.in_ok-image.ensures.crash_image whole c.in-Ok.ensures.means
+    left_again c.as_slice.ensures.value c.in_ok-image.ensures.chosen c.in_ok-image.ensures.crash_image whole c.in-Ok.ensures.in_turn c.in-Ok.ensures.means
 
 pub memory_alone-requires : goal.memory_alone-requires
 memory_alone-requires c =

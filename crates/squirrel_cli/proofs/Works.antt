@@ -1,0 +1,90 @@
+-- A generated script on a mounted volume, and its sums.
+use Rattle.std.proofs.Common.{◌≡◌, ℕ, ◌+◌, ◌^◌, ◌<◌, ◌≤◌, List, [], length, sym, ap, subst, ◌∙◌, arith}
+use Rattle.std.specs.Prelude.{Option, Some}
+use Rattle.pm_trait.specs.DeviceView.{DeviceView}
+use Rattle.tree_model.specs.Run.{Line}
+use Rattle.script.specs.Lines.{calls_of}
+use Rattle.script.specs.declared.run_end.RunEnd.TheVariants as run_end
+use Rattle.crash_replay.specs.Tally.{IsTallyOf, accepted_count, refused_count, accepted_in, refused_in}
+use Rattle.crash_replay.specs.Work.{work_script}
+use Rattle.crash_replay.specs.declared.tally.Tally.{Tally}
+use Rattle.crash_replay.proofs.Tallies.{tally_law-holds}
+use Rattle.crash_replay.proofs.Works.{work_law-holds}
+use Rattle.engine.specs.Script.{ExecutesTold, RunsScript}
+use Rattle.engine.proofs.Runs.{answers_as_lines}
+use Rattle.squirrel_cli.specs.declared.status.Status.{Status}
+use Rattle.squirrel_cli.specs.Ends.{IsShortScript}
+use Rattle.squirrel_cli.specs.Mounts.{IsOnlyMounted}
+use Rattle.squirrel_cli.specs.ReplaySteps.{RunsMounted}
+use Rattle.squirrel_cli.specs.Works.{WorksScript}
+use Rattle.squirrel_cli.specs.WorkSteps.{CountsGenerated, RunsGenerated, SumsGenerated}
+use Rattle.squirrel_cli.proofs.Leaving.{any_run}
+use Rattle.squirrel_cli.proofs.Mounted.{limit_gives, mounted_state, mounts_and_runs}
+use Rattle.squirrel_cli.proofs.StatusEnds.{not_at_limit}
+
+-- ---- the run
+
+-- of a script that was run through nothing is left
+nothing_left : (script : List ℕ) (rest : Option (List ℕ)) (lines : List Line) → ExecutesTold run_end.Done (Some script) rest lines → (rest ≡ Some []) × (lines ≡ calls_of script)
+nothing_left script None lines executes = absurd executes
+nothing_left script (Some rest) lines (same, none, short) = (ap Some none, same)
+
+nothing_left_at_fault : (script : List ℕ) (rest : Option (List ℕ)) (lines : List Line) → ExecutesTold run_end.Faulted (Some script) rest lines → rest ≡ Some []
+nothing_left_at_fault script None lines executes = absurd executes
+nothing_left_at_fault script (Some rest) lines (same, none, short) = ap Some none
+
+-- the answers of a run through the generated script, and what a tally counts of them
+record Counted (P seed count : ℕ) (before after : DeviceView) (tally : Tally) (rest : Option (List ℕ)) : Type 0 where
+  run : RunsMounted P before after run_end.Done (Some (work_script seed count)) rest
+  accepted : accepted_count tally ≡ accepted_in run.answers
+  refused : refused_count tally ≡ refused_in run.answers
+  all : accepted_in run.answers + refused_in run.answers ≡ count + 4
+
+generated_done : {P seed count : ℕ} {before after : DeviceView} {rest : Option (List ℕ)} {took : List ℕ → Type 0} {tally : Tally} → count ≤ 1000000 → took []
+    → (run : RunsScript P before after run_end.Done (Some (work_script seed count)) rest took (IsTallyOf tally)) → Counted P seed count before after tally rest
+unfolding any_run
+generated_done {P} {seed} {count} {rest = rest} {tally = tally} few began run =
+    let (none, called) = nothing_left (work_script seed count) rest run.lines run.executes in
+    let each = answers_as_lines P run.start run.lines run.answers run.states run.run run.ends in
+    let ends : length run.states ≡ length run.answers = run.ends in
+    let lines = ap length called ∙ (work_law-holds seed count few).lines in
+    let long : length run.answers ≡ count + 4 = omega (arith, each, ends, lines) in
+    let short : length run.answers < 2 ^ 64 = omega (arith, long, few) in
+    let tells = tally_law-holds tally run.answers (run.writes [] began) in
+    record {
+      run = any_run run;
+      accepted = tells.accepted short;
+      refused = tells.refused short;
+      all = let sum = tells.all short in omega (arith, sum, long, tells.accepted short, tells.refused short);
+    }
+
+pub counts_generated : {P seed count : ℕ} {before after : DeviceView} {script rest : Option (List ℕ)} {took : List ℕ → Type 0} {tally : Tally} → script ≡ Some (work_script seed count) → count ≤ 1000000 → took []
+    → RunsScript P before after run_end.Done script rest took (IsTallyOf tally) → CountsGenerated P seed count before after tally
+counts_generated {P} {seed} {count} {before} {after} {rest = rest} {took} {tally} told few began run =
+    let here = subst (λ (s : Option (List ℕ)). RunsScript P before after run_end.Done s rest took (IsTallyOf tally)) told run in
+    let (none, called) = nothing_left (work_script seed count) rest here.lines here.executes in
+    let counted = subst (Counted P seed count before after tally) none (generated_done few began here) in
+    record { run = counted.run; accepted = counted.accepted; refused = counted.refused; all = counted.all }
+
+pub faulted_generated : {P seed count : ℕ} {before after : DeviceView} {script rest : Option (List ℕ)} {took now : List ℕ → Type 0} → script ≡ Some (work_script seed count)
+    → RunsScript P before after run_end.Faulted script rest took now → RunsGenerated P seed count before after run_end.Faulted
+faulted_generated {P} {seed} {count} {before} {after} {rest = rest} {took} {now} told run =
+    let here = subst (λ (s : Option (List ℕ)). RunsScript P before after run_end.Faulted s rest took now) told run in
+    let none = nothing_left_at_fault (work_script seed count) rest here.lines here.executes in
+    subst (λ (r : Option (List ℕ)). RunsMounted P before after run_end.Faulted (Some (work_script seed count)) r) none (any_run here)
+
+-- the generated script is short
+pub never_at_limit : {P seed count : ℕ} {before after : DeviceView} {script rest : Option (List ℕ)} {took now : List ℕ → Type 0} → script ≡ Some (work_script seed count) → count ≤ 1000000
+    → RunsScript P before after run_end.Limit script rest took now → ⊥
+never_at_limit {P} {seed} {count} {before} {after} {script} {rest} told few run =
+    not_at_limit script rest (subst IsShortScript (sym told) (work_law-holds seed count few).short) (limit_gives script rest run.lines run.executes)
+
+-- ---- from the entry on
+
+pub sums_entry : {size P seed count : ℕ} {before mounted after : DeviceView} {result : Status} {took now : List ℕ → Type 0}
+    → size ≡ P → IsOnlyMounted P before mounted → SumsGenerated size seed count result mounted after took now → WorksScript P seed count result before after took now
+unfolding mounts_and_runs
+sums_entry {seed = seed} {count} {mounted = mounted} {after} {result} {took} {now} pages only sums =
+    let here = subst (λ (p : ℕ). SumsGenerated p seed count result mounted after took now) pages sums in
+    let (reads, mount) = mounted_state here.run.start only here.run.reads in
+    record { ran = mounts_and_runs here.run reads mount; sums = here.sums }

@@ -1,0 +1,15 @@
+use Rattle.std.proofs.lemmas.Result.{IfOk-weaker}
+use Rattle.squirrel_cli.proofs.CommandLines.{more_rules, still_local}
+use Rattle.squirrel_cli.proofs.split.work_command.Goals as goal
+
+pub returns-clause-app : goal.returns-clause-app
+returns-clause-app c =
+    let image = more_rules c.in_ok-arg.ensures c.argument.ensures.local c.argument.ensures.rule c.new.ensures.app in
+    let seed = more_rules c.in_ok-arg-2.ensures c.argument-2.ensures.local c.argument-2.ensures.rule image in
+    IfOk-weaker c.arg-3.result _ _ (λ command added. more_rules added c.argument-3.ensures.local c.argument-3.ensures.rule seed) c.arg-3.ensures
+
+pub returns-clause-local : goal.returns-clause-local
+returns-clause-local c =
+    let image = still_local c.in_ok-arg.ensures c.argument.ensures.local c.new.ensures.local in
+    let seed = still_local c.in_ok-arg-2.ensures c.argument-2.ensures.local image in
+    IfOk-weaker c.arg-3.result _ _ (λ command added. still_local added c.argument-3.ensures.local seed) c.arg-3.ensures

@@ -1,0 +1,51 @@
+-- What `work` runs, and what it tells of it.
+use Rattle.std.specs.Prelude.{◌≡◌, ◌⊎◌, ℕ, ◌+◌, List, [], Some}
+use Rattle.pm_trait.specs.DeviceView.{DeviceView}
+use Rattle.tree_model.specs.Capacity.{untaken}
+use Rattle.tree_model.specs.Run.{State}
+use Rattle.tree_model.specs.Step.{Answer, space_of}
+use Rattle.script.specs.Work.{work_text}
+use Rattle.script.specs.declared.run_end.RunEnd.{RunEnd}
+use Rattle.script.specs.declared.run_end.RunEnd.TheVariants as ends
+use Rattle.script.specs.declared.work.WorkSummary.{WorkSummary}
+use Rattle.volume.specs.Totals.{totals_of}
+use Rattle.mount_scan.specs.Mounts.{FailsToMount}
+use Rattle.engine.specs.Run.{last_state}
+use Rattle.crash_replay.specs.Tally.{accepted_in, refused_in}
+use Rattle.crash_replay.specs.Work.{work_script}
+use Rattle.squirrel_cli.specs.declared.status.Status.{Status}
+use Rattle.squirrel_cli.specs.declared.status.Status.TheVariants.{Done, NoMemory, DeviceFault}
+use Rattle.squirrel_cli.specs.Replays.{RunsThrough}
+use Rattle.squirrel_cli.specs.Told.{IsToldOrCut}
+
+-- The device was mounted, and the generated script run through on it to this end. Of what the run's own sink took nothing is asked.
+abbrev pub RunsWork : ℕ → ℕ → ℕ → DeviceView → DeviceView → RunEnd → Type 0
+RunsWork P seed count before after end = RunsThrough P before after end (Some (work_script seed count)) (Some [])
+
+-- the sums of `count` lines and the four before them, of which so many were accepted and refused, and of the state after the last
+abbrev pub summary_of : ℕ → ℕ → ℕ → ℕ → State → WorkSummary
+summary_of P count accepted refused last = record {
+  lines = count + 4;
+  accepted = accepted;
+  refused = refused;
+  space = space_of (untaken P) last.tree last.room;
+  names = (totals_of last.tree).names;
+  bytes = (totals_of last.tree).bytes;
+}
+
+-- Every line was answered, and the sums of the answers and of the last state were written, or a prefix of them where a write failed.
+pub record SumsUp (P count : ℕ) (start : State) (answers : List Answer) (states : List State) (result : Status) (took now : List ℕ → Type 0) : Type 0 where
+  pub all : accepted_in answers + refused_in answers ≡ count + 4
+  pub told : IsToldOrCut Done (work_text (summary_of P count (accepted_in answers) (refused_in answers) (last_state start states))) result took now
+
+-- The generated script was run through, no line of it was answered Fault, and its sums were told.
+pub record WorksScript (P seed count : ℕ) (result : Status) (before after : DeviceView) (took now : List ℕ → Type 0) : Type 0 where
+  pub ran : RunsWork P seed count before after ends.Done
+  pub sums : SumsUp P count ran.run.start ran.run.answers ran.run.states result took now
+
+-- What `work` tells of a sound volume. Where a fence failed, in the mount or in the run, nothing was written.
+abbrev pub WorkTells : ℕ → ℕ → ℕ → Status → DeviceView → DeviceView → (List ℕ → Type 0) → (List ℕ → Type 0) → Type 0 → Type 0
+WorkTells P seed count result before after took now unwritten =
+    (result ≡ NoMemory)
+    ⊎ (result ≡ DeviceFault) × unwritten × (FailsToMount P before after ⊎ RunsWork P seed count before after ends.Faulted)
+    ⊎ WorksScript P seed count result before after took now
