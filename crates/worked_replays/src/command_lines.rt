@@ -149,7 +149,7 @@ fn a_line_asks_for_no_job(rt: HostRuntime) -> Result<(), Fail> {
             "crash v --at 1 --keep 00 --help",
             "work",
             "work v",
-            "work v 1 100",
+            "work v 1 0",
             "-- run v",
             "--keep 00 crash v --at 1",
             "run",

@@ -10,11 +10,12 @@ use worked_drivers::jobs::{
 use worked_drivers::volumes::{small_volume, volume_with_a, with_words};
 
 // The jobs on a volume.
-const JOBS: [&str; 4] = [
+const JOBS: [&str; 5] = [
     "squirrel run v",
     "squirrel tree v",
     "squirrel check v",
     "squirrel crash v --at 0 --keep 00",
+    "squirrel work v 1 10",
 ];
 
 // A job ended with this number, and told this.

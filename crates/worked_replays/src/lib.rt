@@ -1,4 +1,4 @@
-//! Worked rows of crashes that are replayed, of listings, of what a check tells, and of the words of a command line.
+//! Worked rows of crashes that are replayed, of listings, of what a check tells, of generated scripts, and of the words of a command line.
 #![tactic(auto)]
 
 #[cfg(test)]
@@ -13,3 +13,5 @@ mod failures;
 mod moments;
 #[cfg(test)]
 mod torn;
+#[cfg(test)]
+mod works;
