@@ -47,7 +47,7 @@ generated_done {P} {seed} {count} {rest = rest} {tally = tally} few began run =
     let (none, called) = nothing_left (work_script seed count) rest run.lines run.executes in
     let each = answers_as_lines P run.start run.lines run.answers run.states run.run run.ends in
     let ends : length run.states ≡ length run.answers = run.ends in
-    let lines = ap length called ∙ (work_law-holds seed count few).lines in
+    let lines = ap length called ∙ (work_law-holds seed count).lines in
     let long : length run.answers ≡ count + 4 = omega (arith, each, ends, lines) in
     let short : length run.answers < 2 ^ 64 = omega (arith, long, few) in
     let tells = tally_law-holds tally run.answers (run.writes [] began) in
@@ -77,7 +77,7 @@ faulted_generated {P} {seed} {count} {before} {after} {rest = rest} {took} {now}
 pub never_at_limit : {P seed count : ℕ} {before after : DeviceView} {script rest : Option (List ℕ)} {took now : List ℕ → Type 0} → script ≡ Some (work_script seed count) → count ≤ 1000000
     → RunsScript P before after run_end.Limit script rest took now → ⊥
 never_at_limit {P} {seed} {count} {before} {after} {script} {rest} told few run =
-    not_at_limit script rest (subst IsShortScript (sym told) (work_law-holds seed count few).short) (limit_gives script rest run.lines run.executes)
+    not_at_limit script rest (subst IsShortScript (sym told) ((work_law-holds seed count).within few)) (limit_gives script rest run.lines run.executes)
 
 -- ---- from the entry on
 

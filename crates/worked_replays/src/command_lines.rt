@@ -70,6 +70,7 @@ fn a_line_asks_for_a_job(rt: HostRuntime) -> Result<(), Fail> {
         &[
             ("run v", Device::Changed("v")),
             ("tree v", Device::Changed("v")),
+            ("work v 1 2", Device::Changed("v")),
             ("check v", Device::Read("v")),
             ("run help", Device::Changed("help")),
             ("run run", Device::Changed("run")),
