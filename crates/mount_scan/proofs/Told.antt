@@ -1,15 +1,13 @@
 -- What is counted in the words is what is counted in the tree that they read as.
-use Rattle.std.proofs.Common.{◌≡◌, ◌≢◌, ◌⊎◌, inl, inr, ℕ, zero, suc, ◌+◌, ◌*◌, ◌^◌, ◌<◌, ◌≤◌, Bool, true, false, not, List, length, filter, count_by, Option, Some, None, is_some, reverse, nat_cmp, refl, sym, ap, subst, ◌∙◌, arith}
+use Rattle.std.proofs.Common.{◌≡◌, ◌≢◌, ◌⊎◌, inl, inr, ℕ, zero, suc, ◌+◌, ◌*◌, ◌^◌, ◌<◌, ◌≤◌, Bool, true, false, List, length, filter, count_by, Option, Some, None, is_some, nat_cmp, refl, sym, ap, subst, ◌∙◌, arith}
 use Rattle.std.specs.Cmp.{nat_cmp_total}
 use Rattle.std.specs.FinMap.{nat_cmp-IsAntisymmetric}
-use Rattle.std.proofs.lemmas.List.{reverse-reverse}
 use Rattle.std.proofs.lemmas.List.Sums.{length-filter}
 use Rattle.layout.specs.declared.geometry.Geometry.{Geometry}
 use Rattle.layout.proofs.GeometryLaws.{data_pages_below, inodes_below}
 use Rattle.layout.specs.Geometry.{inodes_of, data_pages_of, slots_of, page_of_slot, descriptor_word_of}
 use Rattle.layout.specs.Fields.{word, page_owner, page_kind, page_offset}
-use Rattle.tree_model.specs.PathText.{Route}
-use Rattle.tree_model.specs.Tree.{Tree, Node, node_at, is_root, is_directory, is_file, is_directory_node, is_file_node}
+use Rattle.tree_model.specs.Tree.{Tree, Node, node_at, is_directory, is_file, is_directory_node, is_file_node}
 use Rattle.image_reading.specs.Counts.{Count}
 use Rattle.image_reading.specs.Reading.{IsLive, Reached, IsReachedSlot, slot_owner, Reads}
 use Rattle.image_reading.specs.Repairs.{RepairCounts, HasRepairs, IsKept, IsKeptDirectoryPage, IsLitterSlot, IsLitterPage, IsLitterInode, IsLitterCount, IsPointer}
@@ -18,12 +16,13 @@ use Rattle.image_reading.proofs.Counts.{count_one}
 use Rattle.image_counts.proofs.Counting.{IsMatching, IsMatched, count_matched, count_alike, among_filter, filter_among, filter_apart}
 use Rattle.image_counts.proofs.Entries.{same_entry, entries_apart, among_find}
 use Rattle.image_counts.proofs.Nodes.{has_sizes}
-use Rattle.image_counts.proofs.Paths.{reached_slot, in_range}
-use Rattle.image_counts.proofs.Slots.{all_names, some_names, count_slots, owner_of}
+use Rattle.image_counts.proofs.Paths.{in_range}
 use Rattle.image_laws.proofs.Trees.{tree_law}
 use Rattle.repair_laws.proofs.Kept.{kept_held}
 use Rattle.script.specs.declared.check.CheckCounts.{CheckCounts}
-use Rattle.mount_scan.specs.Counting.{directory_count, file_count, below_root, AreCountsOf, IsReachedDirectory, IsReachedFile, CountsInodes, CountsPages}
+use Rattle.volume.specs.Totals.{below_root}
+use Rattle.volume.proofs.Summed.{count_names}
+use Rattle.mount_scan.specs.Counting.{directory_count, file_count, AreCountsOf, IsReachedDirectory, IsReachedFile, CountsInodes, CountsPages}
 use Rattle.mount_scan.specs.declared.counting.InodeCounts.{InodeCounts}
 use Rattle.mount_scan.specs.declared.counting.PageCounts.{PageCounts}
 use Rattle.mount_scan.proofs.Counted.{count_all}
@@ -74,7 +73,7 @@ file_there : (o : Option Node) → is_file_node o ≡ true → is_some o ≡ tru
 file_there None e = cc
 file_there (Some x) e = refl
 
--- ---- directories, files and names
+-- ---- directories and files
 
 module _ (P : ℕ) (I : List ℕ) (T : Tree) (sound : Sound P I) (reads : Reads P I T) where
   count_directories : Count (IsReachedDirectory P I) (directory_count T)
@@ -86,18 +85,6 @@ module _ (P : ℕ) (I : List ℕ) (T : Tree) (sound : Sound P I) (reads : Reads 
   count_files = count_alike (λ i. is_file T i ≡ true) (IsReachedFile P I) (file_count T)
       (λ i is. ((has_sizes P I T sound reads).files i).0 is) (λ i is. ((has_sizes P I T sound reads).files i).1 is)
       (count_nodes T (is_file T) (λ i is. file_there (node_at T i) is))
-
-  abbrev IsBelowRoot : Route × ℕ → Type 0
-  IsBelowRoot e = Unit {0} × (not (is_root e.0) ≡ true)
-
-  count_names : Count (IsReachedSlot P I) (below_root T)
-  count_names = subst (Count (IsReachedSlot P I)) (length-filter (λ e. not (is_root e.0)) T.names.entries)
-      (count_slots P I T sound reads IsBelowRoot (IsReachedSlot P I) (filter (λ e. not (is_root e.0)) T.names.entries)
-      (some_names T (λ e. Unit {0}) T.names.entries (λ e. not (is_root e.0)) (all_names T))
-      (λ i is below. (let clash : false ≡ true = below.1 in cc))
-      (λ p i s last below. reached_slot P I (reverse p) i s last)
-      (λ s slot. slot)
-      (λ p i s last slot. (tt, ap (λ b. not b) (ap is_root (sym (reverse-reverse p)) ∙ (owner_of P I T sound reads (reverse p) i s last).1))))
 
 -- ---- all counts
 

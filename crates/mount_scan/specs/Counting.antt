@@ -1,10 +1,11 @@
 -- What is counted in the words of a sound volume, and in the tree that they read as. P is the number of pages, I the words.
-use Rattle.std.specs.Prelude.{◌≡◌, ℕ, ◌<◌, not, List, count_by}
-use Rattle.tree_model.specs.Tree.{Tree, is_root, is_directory, is_file}
+use Rattle.std.specs.Prelude.{◌≡◌, ℕ, ◌<◌, List, count_by}
+use Rattle.tree_model.specs.Tree.{Tree, is_directory, is_file}
 use Rattle.script.specs.declared.check.CheckCounts.{CheckCounts}
 use Rattle.image_reading.specs.Counts.{Count}
 use Rattle.image_reading.specs.Reading.{IsFile, IsDirectory, Reached, IsReachedSlot, Reads}
 use Rattle.image_reading.specs.Repairs.{RepairCounts, HasRepairs, IsLitterSlot, IsLitterPage, IsLitterInode, IsLitterCount}
+use Rattle.volume.specs.Totals.{below_root}
 use Rattle.mount_scan.specs.declared.counting.InodeCounts.{InodeCounts}
 use Rattle.mount_scan.specs.declared.counting.PageCounts.{PageCounts}
 use Rattle.mount_scan.specs.declared.counting.SlotCounts.{SlotCounts}
@@ -17,10 +18,6 @@ directory_count T = count_by (λ e. is_directory T e.0) T.nodes.entries
 
 abbrev pub file_count : Tree → ℕ
 file_count T = count_by (λ e. is_file T e.0) T.nodes.entries
-
--- the paths but the root's
-abbrev pub below_root : Tree → ℕ
-below_root T = count_by (λ e. not (is_root e.0)) T.names.entries
 
 abbrev pub counts_of : Tree → RepairCounts → CheckCounts
 counts_of T r = record {

@@ -25,3 +25,4 @@ pub mod PlanRows
 pub mod Staying
 pub mod PlanFences
 pub mod NameMoves
+pub mod Summed

@@ -6,6 +6,7 @@ use Rattle.layout.specs.Fields.{inode_kind, inode_links, inode_size, slot_name}
 use Rattle.tree_model.specs.Tree.{Node, File, Directory, node_at, is_directory_node, bytes_of, bytes_of_node, name_count}
 use Rattle.tree_model.specs.Run.{State}
 use Rattle.tree_model.specs.Step.{status_of}
+use Rattle.image_reading.specs.Counts.{Count}
 use Rattle.image_reading.specs.Reading.{Reached}
 use Rattle.image_reading.proofs.Counts.{count_one}
 use Rattle.image_reading.proofs.Readings.{one_tree, one_room}
@@ -66,12 +67,10 @@ module _ (volume : VolumeView) (device : DeviceView) (state : State) (stands : S
       is_entry : (entry : Entry) → Among entry (entries_of volume.index d) → IsEntryOf volume.size device.words d entry.name entry.slot
       is_entry entry among = (stands.knows.nodes.entries d entry.slot entry.name least most).0 (among_contained entry (entries_of volume.index d) among)
 
-  pub names_counted : (d : ℕ) → 1 ≤ d → d ≤ inodes_of volume.size → IsSorted (entries_of volume.index d) → length (entries_of volume.index d) ≡ name_count state.tree d
-  names_counted d least most sorted =
+  pub slots_counted : (d : ℕ) → 1 ≤ d → d ≤ inodes_of volume.size → IsSorted (entries_of volume.index d) → Count (IsSlotOf volume.size device.words d) (length (entries_of volume.index d))
+  slots_counted d least most sorted =
       let entries = entries_of volume.index d in
-      count_one (IsSlotOf volume.size device.words d) (length entries) (name_count state.tree d)
-      (count_alike (IsMatched (λ (entry : Entry) s. entry.slot ≡ s) entries) (IsSlotOf volume.size device.words d) (length entries) to from (count_matched (λ (entry : Entry) s. entry.slot ≡ s) entries (matching d least most sorted)))
-      (name_count_law volume.size device.words state (tidied stands.tidy).coherent stands.reads d)
+      count_alike (IsMatched (λ (entry : Entry) s. entry.slot ≡ s) entries) (IsSlotOf volume.size device.words d) (length entries) to from (count_matched (λ (entry : Entry) s. entry.slot ≡ s) entries (matching d least most sorted))
     where
       to : (s : ℕ) → IsMatched (λ (entry : Entry) s. entry.slot ≡ s) (entries_of volume.index d) s → IsSlotOf volume.size device.words d s
       to s (entry, among, is) =
@@ -82,6 +81,11 @@ module _ (volume : VolumeView) (device : DeviceView) (state : State) (stands : S
       from s (slot, owner) =
           let entry : Entry = record { name = slot_name volume.size device.words s; slot = s } in
           (entry, contained_among entry (entries_of volume.index d) ((stands.knows.nodes.entries d s (slot_name volume.size device.words s) least most).1 (record { slot = slot; owner = owner; name = refl })), refl)
+
+  pub names_counted : (d : ℕ) → 1 ≤ d → d ≤ inodes_of volume.size → IsSorted (entries_of volume.index d) → length (entries_of volume.index d) ≡ name_count state.tree d
+  names_counted d least most sorted =
+      count_one (IsSlotOf volume.size device.words d) (length (entries_of volume.index d)) (name_count state.tree d) (slots_counted d least most sorted)
+      (name_count_law volume.size device.words state (tidied stands.tidy).coherent stands.reads d)
 
   -- ---- nodes
 

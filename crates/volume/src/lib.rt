@@ -13,6 +13,7 @@ mod plan;
 mod prepare;
 mod resolve;
 mod stat;
+mod totals;
 mod volume;
 
 pub use costs::{
@@ -25,6 +26,7 @@ pub use plan::{
 };
 pub use prepare::{LONGEST_FILE, LONGEST_READ};
 pub use resolve::Walk;
+pub use totals::Totals;
 pub use volume::Volume;
 
 #[cfg(test)]
