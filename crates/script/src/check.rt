@@ -9,8 +9,8 @@ use arrayvec::ArrayVec;
 use io_edge::{Sink, WriteFault, write_all};
 use itoa::Buffer;
 
-// No text of a check is longer: its words have 86 bytes, and its eight numbers at most 20 digits each.
-type CheckText = ArrayVec<u8, 256>;
+// No text of counts is longer. The words of a check have 86 bytes, and its eight numbers at most 20 digits each.
+pub type CountsText = ArrayVec<u8, 256>;
 
 /// What a check counts in a sound volume.
 #[derive(Clone, Copy, Debug, PartialEq, Eq)]
@@ -42,7 +42,7 @@ pub fn write_check<K: Sink>(counts: &CheckCounts, sink: &mut K) -> Result<(), Wr
 }
 
 // The text of a check.
-fn text_of(counts: &CheckCounts) -> CheckText
+fn text_of(counts: &CheckCounts) -> CountsText
     ensures { result.items ≡ check_text counts.now }
 {
     let mut text = ArrayVec::new();
@@ -53,7 +53,7 @@ fn text_of(counts: &CheckCounts) -> CheckText
 }
 
 // Adds the line of the tree.
-fn push_tree(text: &mut CheckText, counts: &CheckCounts)
+fn push_tree(text: &mut CountsText, counts: &CheckCounts)
     requires room { array_vec_len text.old + 92 ≤ 256 }
     ensures items { text.new.items ≡ text.old.items ++ tree_line counts.now }
     ensures len { array_vec_len text.new ≤ array_vec_len text.old + 92 }
@@ -65,7 +65,7 @@ fn push_tree(text: &mut CheckText, counts: &CheckCounts)
 }
 
 // Adds the line of the repairs.
-fn push_repairs(text: &mut CheckText, counts: &CheckCounts)
+fn push_repairs(text: &mut CountsText, counts: &CheckCounts)
     requires room { array_vec_len text.old + 148 ≤ 256 }
     ensures { text.new.items ≡ text.old.items ++ repairs_line counts.now }
 {
@@ -78,7 +78,7 @@ fn push_repairs(text: &mut CheckText, counts: &CheckCounts)
 }
 
 // Adds words and a number in decimal.
-fn push_count(text: &mut CheckText, words: &[u8], count: u64)
+pub fn push_count(text: &mut CountsText, words: &[u8], count: u64)
     requires room { array_vec_len text.old + length words.now + 20 ≤ 256 }
     ensures items { text.new.items ≡ text.old.items ++ words.now ++ decimal count }
     ensures len { array_vec_len text.new ≤ array_vec_len text.old + length words.now + 20 }

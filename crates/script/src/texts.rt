@@ -166,8 +166,9 @@ fn status_line(stat: &Stat) -> LineText
     line
 }
 
-fn space_line(free: &Free) -> LineText
-    ensures { result.items ≡ answer_text (Answer.Space free.now) }
+pub fn space_line(free: &Free) -> LineText
+    ensures items { result.items ≡ answer_text (Answer.Space free.now) }
+    ensures short { array_vec_len result ≤ 100 }
 {
     let mut line = ArrayVec::new();
     push_text(&mut line, b"ok inodes ");
