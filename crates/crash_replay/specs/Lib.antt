@@ -1,3 +1,5 @@
 pub mod Place
 pub mod Replay
 pub mod Tally
+pub mod Work
+pub mod WorkLeft

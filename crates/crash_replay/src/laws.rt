@@ -1,6 +1,7 @@
-// What a caller may rest on of places and of tallies, each law as a contract.
+// What a caller may rest on of places, of tallies and of generated scripts, each law as a contract.
 ghost use Rattle.crash_replay.specs.Replay.{ReplayLaw};
 ghost use Rattle.crash_replay.specs.Tally.{TallyLaw};
+ghost use Rattle.crash_replay.specs.Work.{WorkLaw};
 
 /// How many acknowledgements come before the place of a moment: for the calls that are acknowledged one less than the
 /// call's number, and all of them behind these.
@@ -12,4 +13,10 @@ pub fn replay_law()
 /// there were.
 pub fn tally_law()
     ensures { TallyLaw }
+{}
+
+/// A generated script has four lines more than are asked for, each a command of at most 148 bytes. With a million lines it is
+/// within the limit of a script.
+pub fn work_law()
+    ensures { WorkLaw }
 {}

@@ -1,4 +1,5 @@
-//! The moment of a run that is asked for, and a count of its answers: what a replay of a crash is made of.
+//! The moment of a run that is asked for, and a count of its answers: what a replay of a crash is made of; and the script that a
+//! seed generates.
 #![tactic(auto)]
 
 mod laws;
@@ -7,8 +8,11 @@ mod place;
 mod tally;
 #[cfg(test)]
 mod tests;
+mod work;
+mod work_line;
 
-pub use laws::{replay_law, tally_law};
+pub use laws::{replay_law, tally_law, work_law};
 pub use moment::Moment;
 pub use place::{acks_before, place_of};
 pub use tally::Tally;
+pub use work::Work;

@@ -1,6 +1,8 @@
 // What no clause says: that the definitions mean what was meant.
-use crate::{Moment, Tally, acks_before, place_of};
-use io_edge::write_all;
+ghost use Rattle.std.specs.Prelude.{◌≤◌};
+
+use crate::{Moment, Tally, Work, acks_before, place_of};
+use io_edge::{Source, write_all};
 use pm_memory::RamPm;
 use pm_trait::Pm;
 use std::alloc::Global;
@@ -76,6 +78,34 @@ fn answers_are_counted(rt: HostRuntime) -> Result<(), Fail> {
             (accepted, refused, lacking),
             "{piece}"
         );
+    }
+    Ok(())
+}
+
+// The script of a seed, read so many bytes at a time.
+fn script_in_pieces(alloc: Global, seed: u64, count: u64, piece: usize) -> Result<Vec<u8>, Fail>
+    requires { piece ≤ 8 }
+{
+    let mut work = Work::new(seed, count);
+    let mut bytes = Vec::new(alloc);
+    for _ in 0..u64::MAX {
+        let mut buf = [0; 8];
+        let given = work.read(&mut buf[..piece])?;
+        if given == 0 {
+            break;
+        }
+        bytes.extend_from_slice(&buf[..given])?;
+    }
+    Ok(bytes)
+}
+
+#[test]
+fn a_generated_script_is_read_in_pieces(rt: HostRuntime) -> Result<(), Fail> {
+    let wanted = b"mkdir /d0\nmkdir /d1\nmkdir /d2\nmkdir /d3\n\
+        create /d0/f13\nread /d2/f5 0 64\nmkdir /d3\n";
+    for piece in [1, 7] {
+        let script = script_in_pieces(rt.alloc(), 1, 3, piece)?;
+        assert_eq!(rt; script.as_slice(), wanted.as_slice(), "{piece}");
     }
     Ok(())
 }
