@@ -16,6 +16,7 @@ tree IMAGE        lists the volume, with the bytes of its files
 check IMAGE       tells what the next mount will repair, and stores nothing
 crash IMAGE --keep HEX (--at K | --call I --fence F) [--again J --keep2 HEX]  \
 lists what a crash in the script on standard input would leave, and stores nothing
+work IMAGE SEED COUNT  runs COUNT generated commands, 1 to 1000000, and tells their sums
 ";
 
 /// The program's exit status.

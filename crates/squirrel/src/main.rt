@@ -6,6 +6,7 @@ ghost use Rattle.squirrel_cli.specs.Job.{job_of};
 
 mod device;
 mod faults;
+mod watched;
 mod words;
 
 use device::{Images, device_for};
@@ -29,19 +30,24 @@ fn main(rt: HostRuntime) -> ExitCode {
 // How the job ended that the command line asks for.
 fn status_of_run(rt: &HostRuntime) -> Status {
     match words_of(rt, rt.alloc()) {
-        Ok(words) => do_job(rt, rt.alloc(), &words),
+        Ok(words) => do_job(rt, &rt.stderr(), rt.alloc(), &words),
         Err(status) => status,
     }
 }
 
 // Does what the words ask for, on the file that they name.
-fn do_job<R: Files + Input + Print>(rt: &R, alloc: Global, words: &Words) -> Status
+fn do_job<R: Files + Input + Print, E: Eprint + IsTerminal>(
+    rt: &R,
+    error: &E,
+    alloc: Global,
+    words: &Words,
+) -> Status
 where
     R::File: ImageFile,
     ensures usage { result ≡ Status.Usage → job_of words.now ≡ None }
     ensures no_job { job_of words.now ≡ None → (result ≡ Status.Usage) ⊎ (result ≡ Status.NoMemory) }
 {
-    match device_for(&Images { rt, alloc }, alloc, words) {
+    match device_for(&Images { rt, error, alloc }, alloc, words) {
         Ok(mut pm) => {
             let mut script = StdSource::new(rt.reader());
             let mut out = StdSink::new(io::writer(rt));
