@@ -16,7 +16,7 @@ use Rattle.tree_model.specs.Run.{State}
 use Rattle.tree_model.proofs.EntryLaws.{front, back, find-first, find-below}
 use Rattle.tree_model.proofs.TreeLaws.{other_id}
 use Rattle.image_reading.specs.Counts.{Count}
-use Rattle.image_reading.specs.Reading.{slot_owner, Reached, IsReachedSlot, Reads}
+use Rattle.image_reading.specs.Reading.{slot_owner, IsReachedSlot, Reads}
 use Rattle.image_reading.specs.Soundness.{IsCoherent}
 use Rattle.image_reading.proofs.Counts.{count_none, count_one}
 use Rattle.image_reading.proofs.Tidied.{tidied}
