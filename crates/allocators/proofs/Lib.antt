@@ -1,2 +1,6 @@
 pub mod NumbersLaws
-mod Lists
+mod Bits
+mod WordLaws
+mod AllOnes
+mod Searches
+mod Calls

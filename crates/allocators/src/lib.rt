@@ -2,6 +2,7 @@
 #![tactic(auto)]
 
 mod numbers;
+mod words;
 
 pub use numbers::Numbers;
 

@@ -1,31 +1,36 @@
-ghost use Rattle.std.specs.Prelude.{◌≡◌, ◌<◌, ◌≤◌, ℕ, true, length, replicate, IfOk, MatchOption};
+ghost use Rattle.std.specs.Prelude.{◌≡◌, ◌-◌, ◌*◌, ◌+◌, ◌<◌, ◌≤◌, ℕ, true, length, replicate, IfOk, MatchOption};
 ghost use Rattle.allocators.specs.Numbers.{IsFree, IsLowest, IsNextFree, free_in, Takes, Gives};
-ghost use Rattle.allocators.specs.NumbersKept.{IsLowestPlace};
 
+use crate::words::{WORD_BITS, all_ones, next_one, past_zeros};
+use counting::Steps;
 use pm_trait::NoMemory;
 use std::alloc::Global;
-use std::marker::Model;
+use std::marker::{Brand, Model};
+use std::sync::ledger::{Blank, Ledger};
 
 /// A set of free numbers from 0 to some last one, seen as the list that says at each number whether it is free.
 #[derive(Drop)]
 pub struct Numbers {
-    is_free: Vec<bool>,
-    // The least free number, or how many numbers there are where none is free.
-    lowest: usize,
+    // A bit for each number, which is 1 where it is free. The bits past the last number are 0.
+    words: Vec<u64>,
+    // How many numbers there are.
+    size: u64,
+    // No word below this one has a free number.
+    lowest_word: usize,
     // How many are free.
     count: u64,
 }
 
 impl Model for Numbers {
-    ghost use Rattle.std.specs.Prelude.{List, Bool, ◌≡◌};
-    ghost use Rattle.allocators.specs.Numbers.{free_in};
-    ghost use Rattle.allocators.specs.NumbersKept.{IsLowestPlace};
+    ghost use Rattle.std.specs.Prelude.{List, Bool};
+    ghost use Rattle.allocators.specs.Words.{numbers_of};
+    ghost use Rattle.allocators.specs.NumbersKept.{IsKept};
 
     ghost Value = { List Bool };
 
-    ghost view = { λ numbers. numbers.is_free.items };
+    ghost view = { λ numbers. numbers_of numbers.words.items numbers.size };
 
-    ghost invariant = { λ numbers. IsLowestPlace numbers.is_free.items numbers.lowest × (numbers.count ≡ free_in numbers.is_free.items) };
+    ghost invariant = { λ numbers. IsKept numbers.words.items numbers.size numbers.lowest_word numbers.count };
 }
 
 impl Numbers {
@@ -33,36 +38,60 @@ impl Numbers {
     pub fn new(alloc: Global, n: u64) -> Result<Numbers, NoMemory>
         ensures { IfOk result (λ numbers. numbers ≡ replicate n true) }
     {
-        let is_free = vec![in alloc; true; n as usize]?;
         Ok(Numbers {
-            is_free,
-            lowest: 0,
+            words: all_ones(alloc, n)?,
+            size: n,
+            lowest_word: 0,
             count: n,
         })
     }
 
-    /// The least free number, or `None` where none is free. It is kept, so this is one step.
+    /// The least free number, or `None` where none is free.
     pub fn lowest(&self) -> Option<u64>
         ensures { MatchOption result ((k : ℕ) → ¬ IsFree self.now k) (λ k. IsLowest self.now k) }
     {
-        if self.lowest < self.is_free.len() {
-            Some(self.lowest as u64)
-        } else {
-            None
-        }
+        self.lowest_uncounted::<Brand>(Blank::new(1))
     }
 
-    /// The least free number at or after `from`, or `None` where none is free there. It looks at the numbers from the greater of
-    /// `from` and the least free number on.
+    // The same, with steps that nobody reads.
+    fn lowest_uncounted<L: Ledger>(&self, blank: Blank) -> Option<u64>
+        requires name { blank.name ≡ L.name }
+        requires parts { blank.parts ≡ L.parts }
+        requires some { 0 < blank.parts }
+        ensures { MatchOption result ((k : ℕ) → ¬ IsFree self.now k) (λ k. IsLowest self.now k) }
+    {
+        self.lowest_counted(&mut Steps::<L>::new(blank))
+    }
+
+    /// The least free number, or `None` where none is free. A step is a look at a word of 64 numbers.
+    pub fn lowest_counted<L: Ledger>(&self, steps: &mut Steps<L>) -> Option<u64>
+        ensures lowest { MatchOption result ((k : ℕ) → ¬ IsFree self.now k) (λ k. IsLowest self.now k) }
+        ensures cost { 64 * (steps.new - steps.old) ≤ length self.now + 63 }
+    {
+        next_one(&self.words, self.lowest_word, 0, steps)
+    }
+
+    /// The least free number at or after `from`, or `None` where none is free there. It looks at the words of 64 numbers from that
+    /// of `from` on, or from the first one that may have a free number.
     pub fn next_free(&self, from: u64) -> Option<u64>
         ensures { MatchOption result ((k : ℕ) → from ≤ k → ¬ IsFree self.now k) (λ k. IsNextFree self.now from k) }
     {
-        let start = self.lowest.max(from as usize).min(self.is_free.len());
-        let place = free_place(&self.is_free, start);
-        if place < self.is_free.len() {
-            Some(place as u64)
+        self.next_uncounted::<Brand>(from, Blank::new(1))
+    }
+
+    // The same, with steps that nobody reads.
+    fn next_uncounted<L: Ledger>(&self, from: u64, blank: Blank) -> Option<u64>
+        requires name { blank.name ≡ L.name }
+        requires parts { blank.parts ≡ L.parts }
+        requires some { 0 < blank.parts }
+        ensures { MatchOption result ((k : ℕ) → from ≤ k → ¬ IsFree self.now k) (λ k. IsNextFree self.now from k) }
+    {
+        let mut steps = Steps::<L>::new(blank);
+        let word = (from / WORD_BITS) as usize;
+        if word < self.lowest_word {
+            next_one(&self.words, self.lowest_word, 0, &mut steps)
         } else {
-            None
+            next_one(&self.words, word, (from % WORD_BITS) as u32, &mut steps)
         }
     }
 
@@ -71,12 +100,9 @@ impl Numbers {
         requires free { IsFree self.old k }
         ensures { Takes k self.old self.new }
     {
-        let place = k as usize;
-        self.is_free[place] = false;
+        self.words[(k / WORD_BITS) as usize] &= !(1 << (k % WORD_BITS));
         self.count -= 1;
-        if place == self.lowest {
-            self.lowest = free_place(&self.is_free, place);
-        }
+        self.lowest_word = past_zeros(&self.words, self.lowest_word);
     }
 
     /// Gives back a number that is taken.
@@ -85,12 +111,10 @@ impl Numbers {
         requires taken { ¬ IsFree self.old k }
         ensures { Gives k self.old self.new }
     {
-        let place = k as usize;
-        self.is_free[place] = true;
+        let word = (k / WORD_BITS) as usize;
+        self.words[word] |= 1 << (k % WORD_BITS);
         self.count += 1;
-        if place < self.lowest {
-            self.lowest = place;
-        }
+        self.lowest_word = self.lowest_word.min(word);
     }
 
     /// How many numbers are free.
@@ -99,19 +123,4 @@ impl Numbers {
     {
         self.count
     }
-}
-
-// The least free number from one on, or how many numbers there are.
-fn free_place(is_free: &[bool], from: usize) -> usize
-    requires start { from ≤ length is_free.now }
-    ensures from { from ≤ result }
-    ensures within { result ≤ length is_free.now }
-    ensures passed { (k : ℕ) → from ≤ k → IsFree is_free.now k → result ≤ k }
-    ensures free { result < length is_free.now → IsFree is_free.now result }
-{
-    let mut place = from;
-    while place < is_free.len() && !is_free[place] {
-        place += 1;
-    }
-    place
 }

@@ -1,5 +1,8 @@
 // What no clause says: that `new` succeeds, and the lowest number after each call.
+ghost use Rattle.std.specs.Prelude.{◌≡◌, ◌<◌, length};
+
 use crate::Numbers;
+use std::alloc::Global;
 use std::test::Fail;
 
 #[test]
@@ -31,5 +34,106 @@ fn takes_and_gives(rt: HostRuntime) -> Result<(), Fail> {
 fn no_number_is_free_of_none(rt: HostRuntime) -> Result<(), Fail> {
     let numbers = Numbers::new(rt.alloc(), 0)?;
     assert_eq!(rt; (numbers.lowest(), numbers.free_count()), (None, 0));
+    Ok(())
+}
+
+// Takes the least free number, which is this one.
+fn take_lowest(numbers: &mut Numbers, k: u64) -> Result<(), Fail>
+    ensures { length numbers.new ≡ length numbers.old }
+{
+    match numbers.lowest() {
+        Some(lowest) if lowest == k => numbers.take(k),
+        _ => return Err("another number is the least".into()),
+    }
+    Ok(())
+}
+
+// Gives back a number, which is then the least free one.
+fn give_lowest(numbers: &mut Numbers, k: u64) -> Result<(), Fail>
+    requires { k < length numbers.old }
+    ensures { length numbers.new ≡ length numbers.old }
+{
+    match numbers.next_free(k) {
+        Some(next) if next == k => return Err("the number is free".into()),
+        _ => numbers.give(k),
+    }
+    if numbers.lowest() == Some(k) {
+        Ok(())
+    } else {
+        Err("another number is the least".into())
+    }
+}
+
+// Takes these numbers in turn, each of which is the least free one.
+fn take_each(numbers: &mut Numbers, first: u64, end: u64) -> Result<(), Fail>
+    ensures { length numbers.new ≡ length numbers.old }
+{
+    for k in first..end {
+        take_lowest(numbers, k)?;
+    }
+    Ok(())
+}
+
+// Takes all numbers from the least on, and gives them back from the last on.
+fn take_all_and_give_back(alloc: Global, n: u64) -> Result<(), Fail> {
+    let mut numbers = Numbers::new(alloc, n)?;
+    take_each(&mut numbers, 0, n)?;
+    if numbers.lowest().is_some() || numbers.next_free(0).is_some() {
+        return Err("a number is free".into());
+    }
+    for back in 0..n {
+        give_lowest(&mut numbers, n - 1 - back)?;
+    }
+    if numbers.free_count() == n {
+        Ok(())
+    } else {
+        Err("some number is not free".into())
+    }
+}
+
+#[test]
+fn all_are_taken_and_given_back(rt: HostRuntime) -> Result<(), Fail> {
+    take_all_and_give_back(rt.alloc(), 0)?;
+    take_all_and_give_back(rt.alloc(), 1)?;
+    take_all_and_give_back(rt.alloc(), 63)?;
+    take_all_and_give_back(rt.alloc(), 64)?;
+    take_all_and_give_back(rt.alloc(), 65)?;
+    take_all_and_give_back(rt.alloc(), 128)
+}
+
+#[test]
+fn words_meet_without_a_gap(rt: HostRuntime) -> Result<(), Fail> {
+    let mut numbers = Numbers::new(rt.alloc(), 130)?;
+    take_each(&mut numbers, 0, 63)?;
+    assert_eq!(rt;
+        (numbers.next_free(0), numbers.next_free(62)),
+        (Some(63), Some(63))
+    );
+    assert_eq!(rt;
+        (numbers.next_free(63), numbers.next_free(64)),
+        (Some(63), Some(64))
+    );
+    take_each(&mut numbers, 63, 64)?;
+    assert_eq!(rt;
+        (numbers.next_free(0), numbers.next_free(63)),
+        (Some(64), Some(64))
+    );
+    assert_eq!(rt;
+        (numbers.next_free(64), numbers.next_free(65)),
+        (Some(64), Some(65))
+    );
+    assert_eq!(rt;
+        (numbers.next_free(127), numbers.next_free(128)),
+        (Some(127), Some(128))
+    );
+    assert_eq!(rt;
+        (numbers.next_free(129), numbers.next_free(130)),
+        (Some(129), None)
+    );
+    take_each(&mut numbers, 64, 129)?;
+    assert_eq!(rt;
+        (numbers.lowest(), numbers.next_free(63)),
+        (Some(129), Some(129))
+    );
     Ok(())
 }
