@@ -9,7 +9,7 @@ use Rattle.crash_replay.specs.Tally.{IsTallyOf, accepted_count, refused_count, a
 use Rattle.crash_replay.specs.Work.{work_script}
 use Rattle.crash_replay.specs.declared.tally.Tally.{Tally}
 use Rattle.crash_replay.proofs.Tallies.{tally_law-holds}
-use Rattle.crash_replay.proofs.Works.{work_law-holds}
+use Rattle.crash_replay.proofs.WorkScripts.{work_law-holds}
 use Rattle.engine.specs.Script.{ExecutesTold, RunsScript}
 use Rattle.engine.proofs.Runs.{answers_as_lines}
 use Rattle.squirrel_cli.specs.declared.status.Status.{Status}
