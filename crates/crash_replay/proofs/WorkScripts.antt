@@ -1,6 +1,6 @@
 -- That a generated script has so many lines, and that each is a command of at most 148 bytes.
 use Rattle.std.proofs.Common.{◌≡◌, ℕ, zero, suc, ◌+◌, ◌-◌, ◌*◌, ◌/◌, ◌%◌, ◌^◌, ◌<◌, ◌≤◌, Bool, true, false, ◌==◌, ◌&&◌, cond, List, [], ◌∷◌, ◌++◌, length, map, filter, replicate, flat_map, codes, decimal, Option, Some, None, Result, Ok, Err, is_some, is_ok, refl, sym, ap, subst, ◌∙◌, inl, inr, arith, lit<, lit≤, append_assoc, length-append}
-use Rattle.std.specs.Prelude.{fold, nat_lt, nat_le, slice_index, IsOk}
+use Rattle.std.specs.Prelude.{nat_lt, nat_le, slice_index, IsOk}
 use Rattle.std.specs.Fmt.{digits}
 use Rattle.std.specs.List.{All, join_with_byte, list_all, slice_split}
 use Rattle.std.proofs.lemmas.Bool.{and_parts, and_from, cases_lt, ltb-true, leb-true, lt-ltb, le-leb, ne_eqb}
@@ -25,11 +25,11 @@ use Rattle.script.specs.Places.{Lacks}
 use Rattle.script.specs.Texts.{line_text}
 use Rattle.script.proofs.LineLaws.{lines_of-front}
 use Rattle.script.proofs.WordLaws.{words_none}
-use Rattle.crash_replay.specs.Work.{generator_of, draw_of, behind_draw, directory_of, file_of, bytes_of, kind_of, words_of, drawn_words, drawn_lines, first_lines, work_script, IsWorkScript, WorkLaw}
+use Rattle.crash_replay.specs.Work.{generator_of, draw_of, behind_draw, directory_of, file_of, bytes_of, kind_of, words_of, drawn_words, drawn_lines, first_lines, work_script, WorkLaw}
 use Rattle.crash_replay.specs.declared.work_line.Draw.{Draw}
 use Rattle.crash_replay.specs.declared.work_line.Kind.{Kind}
 use Rattle.crash_replay.specs.declared.work_line.Kind.TheVariants.{Create, Mkdir, Link, Unlink, Rmdir, RenameFile, RenameDirectory, Write, Truncate, Read}
-use Rattle.crash_replay.proofs.WorkTexts.{directory_digits, file_digits, offset_digits, size_digits}
+use Rattle.crash_replay.proofs.WorkTexts.{offset_digits, size_digits}
 
 -- ---- words
 
@@ -176,8 +176,8 @@ unfolding file_of directory_of
 file_word x =
     path_word 7 (file_at (x % 4) (x / 4 % 16))
     (pass_at (λ f. passes 7 (file_at (x % 4) f)) 16 (x / 4 % 16)
-      (pass_at (λ d. all_below (λ f. passes 7 (file_at d f)) 16) 4 (x % 4) all_files (omega arith))
-      (omega arith))
+    (pass_at (λ d. all_below (λ f. passes 7 (file_at d f)) 16) 4 (x % 4) all_files (omega arith))
+    (omega arith))
 
 -- ---- numbers
 
@@ -214,7 +214,7 @@ spells_more n word big spells =
           ∙ and_from (is_plain word) (is_plain (last ∷ [])) spells.plain (and_from (nat_lt space last) true (digit_plain (n % 10)) refl);
       digits_alone = list_all-append is_decimal_digit word (last ∷ [])
           ∙ and_from (list_all is_decimal_digit word) (list_all is_decimal_digit (last ∷ [])) spells.digits_alone
-            (and_from (is_decimal_digit last) true (digit_decimal (n % 10) (omega arith)) refl);
+          (and_from (is_decimal_digit last) true (digit_decimal (n % 10) (omega arith)) refl);
       value = fold_push (λ v b. 10 * v + (b - 48)) 0 word last ∙ omega (arith, value);
     }
 
@@ -366,7 +366,7 @@ write_line d =
       asks = read_ok (number_of (decimal (d.c % 8192)))
           (λ offset. or_bad_line (bytes_of_hex (encode_lower bytes)) (λ bytes. on_path (λ p. command.Write p offset bytes) (path_of (file_of d.b)))) offset.number
           (λ offset. read_ok (bytes_of_hex (encode_lower bytes)) (λ bytes. on_path (λ p. command.Write p offset bytes) (path_of (file_of d.b)))
-            (bytes_read bytes (equal_bytes count byte is_byte)) (λ bytes. on_path_ok (λ p. command.Write p offset bytes) (path_of (file_of d.b)) path.path));
+          (bytes_read bytes (equal_bytes count byte is_byte)) (λ bytes. on_path_ok (λ p. command.Write p offset bytes) (path_of (file_of d.b)) path.path));
     }
 
 truncate_line : (d : Draw) → IsCommandLine (words_of Truncate d)

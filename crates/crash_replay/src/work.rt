@@ -44,10 +44,7 @@ impl Work {
         ensures { ⟦<Work as Source>⟧.left result ≡ Some (work_script seed count) }
     {
         let mut line = ArrayVec::new();
-        push_text(
-            &mut line,
-            b"mkdir /d0\nmkdir /d1\nmkdir /d2\nmkdir /d3\n",
-        );
+        push_text(&mut line, b"mkdir /d0\nmkdir /d1\nmkdir /d2\nmkdir /d3\n");
         Work {
             generator: Lcg64Xsh32::new(seed, 1),
             to_come: count,

@@ -1,4 +1,4 @@
-use Rattle.std.proofs.Common.{List, ℕ, ◌++◌, replicate, ap, ◌∙◌, sym, append_assoc, arith}
+use Rattle.std.proofs.Common.{◌++◌, replicate, ap, ◌∙◌, sym, append_assoc, arith}
 use Rattle.hex.specs.Hex.{encode_lower}
 use Rattle.crash_replay.proofs.WorkTexts.{encode_none, encode_more}
 use Rattle.crash_replay.proofs.work_line.push_digits.Goals as goal
