@@ -2,7 +2,7 @@
 use Rattle.std.proofs.Common.{◌≡◌, ◌⊎◌, inl, inr, ℕ, ◌≤◌, List, refl, sym, ap, subst, ◌∙◌, arith}
 use Rattle.std.proofs.lemmas.Bool.{cases_lt}
 use Rattle.std.specs.Borrow.{Bor}
-use Rattle.std.specs.Prelude.{Option, Some, None, ◌++◌, take}
+use Rattle.std.specs.Prelude.{Option, Some, None, [], ◌∷◌, ◌++◌, take}
 use Rattle.pm_trait.specs.Trail.{Trail, IsCrashImage, trail_at, count_acks}
 use Rattle.pm_memory.specs.Chosen.{IsChosenImage}
 use Rattle.image_laws.specs.Frame.{SameMeaning}
@@ -106,20 +106,20 @@ any_run {end = end} {took = took} {now = now} run = record {
 
 -- ---- the words that a crash left
 
-pub left_alone : {keep : List ℕ} {trail : Trail} {image : List ℕ} → IsChosenImage trail keep image → IsCrashImage trail image → IsSound image → HasLeft keep None trail image
-left_alone {image = image} chosen crash whole = record {
+pub left_alone : {keep : List ℕ} {again : Option (ℕ × Bor (List ℕ))} {trail : Trail} {image : List ℕ} → again ≡ None → IsChosenImage trail keep image → IsCrashImage trail image → IsSound image → HasLeft keep again trail image
+left_alone {image = image} none chosen crash whole = record {
   image = image;
   chosen = chosen;
   crash = crash;
   whole = whole;
-  in_turn = refl;
+  in_turn = subst (λ (a : Option (ℕ × Bor (List ℕ))). LeaveInTurn (crashes_of a) image image) (sym none) refl;
   sound = whole;
   means = meanings_chain.itself (pages_in_image image) image whole;
 }
 
-pub left_again : {keep : List ℕ} {again : Option (ℕ × Bor (List ℕ))} {trail : Trail} {image lent words : List ℕ} → lent ≡ image → IsChosenImage trail keep image → IsCrashImage trail image → IsSound image
-    → LeaveInTurn (crashes_of again) lent words → (IsSound lent → SameMeaning (pages_in_image lent) lent words) → HasLeft keep again trail words
-left_again {again = again} {image = image} {words = words} same chosen crash whole in_turn means =
+pub left_again : {keep : List ℕ} {again : Option (ℕ × Bor (List ℕ))} {moment : ℕ} {second : Bor (List ℕ)} {trail : Trail} {image lent words : List ℕ} → again ≡ Some (moment, second) → lent ≡ image
+    → IsChosenImage trail keep image → IsCrashImage trail image → IsSound image → LeaveInTurn (record { moment = moment; keep = second } ∷ []) lent words → (IsSound lent → SameMeaning (pages_in_image lent) lent words) → HasLeft keep again trail words
+left_again {moment = moment} {second = second} {image = image} {words = words} some same chosen crash whole in_turn means =
     let there : SameMeaning (pages_in_image image) image words =
     subst (λ (I : List ℕ). SameMeaning (pages_in_image I) I words) same (means (subst IsSound (sym same) whole)) in
     record {
@@ -127,7 +127,8 @@ left_again {again = again} {image = image} {words = words} same chosen crash who
       chosen = chosen;
       crash = crash;
       whole = whole;
-      in_turn = subst (λ (I : List ℕ). LeaveInTurn (crashes_of again) I words) same in_turn;
+      in_turn = subst (λ (a : Option (ℕ × Bor (List ℕ))). LeaveInTurn (crashes_of a) image words) (sym some)
+          (subst (λ (I : List ℕ). LeaveInTurn (record { moment = moment; keep = second } ∷ []) I words) same in_turn);
       sound = sound_image words there.coherent;
       means = there;
     }

@@ -1,10 +1,20 @@
 -- A generated script on a mounted volume, and its sums.
 use Rattle.std.proofs.Common.{◌≡◌, ℕ, ◌+◌, ◌^◌, ◌<◌, ◌≤◌, List, [], length, sym, ap, subst, ◌∙◌, arith}
-use Rattle.std.specs.Prelude.{Option, Some}
+use Rattle.std.specs.Prelude.{Option, Some, None, Result}
+use Rattle.io_edge.specs.Bytes.{Writes}
+use Rattle.io_edge.specs.declared.sink.WriteFault.{WriteFault}
 use Rattle.pm_trait.specs.DeviceView.{DeviceView}
-use Rattle.tree_model.specs.Run.{Line}
+use Rattle.tree_model.specs.Capacity.{untaken}
+use Rattle.tree_model.specs.Run.{Line, State}
+use Rattle.tree_model.specs.Step.{space_of}
+use Rattle.tree_model.specs.declared.reply.Free.{Free}
 use Rattle.script.specs.Lines.{calls_of}
+use Rattle.script.specs.Work.{work_text}
+use Rattle.script.specs.declared.run_end.RunEnd.{RunEnd}
 use Rattle.script.specs.declared.run_end.RunEnd.TheVariants as run_end
+use Rattle.script.specs.declared.work.WorkSummary.{WorkSummary}
+use Rattle.volume.specs.Totals.{totals_of}
+use Rattle.volume.specs.declared.totals.Totals.{Totals}
 use Rattle.crash_replay.specs.Tally.{IsTallyOf, accepted_count, refused_count, accepted_in, refused_in}
 use Rattle.crash_replay.specs.Work.{work_script}
 use Rattle.crash_replay.specs.declared.tally.Tally.{Tally}
@@ -13,10 +23,9 @@ use Rattle.crash_replay.proofs.WorkScripts.{work_law-holds}
 use Rattle.engine.specs.Script.{ExecutesTold, RunsScript}
 use Rattle.engine.proofs.Runs.{answers_as_lines}
 use Rattle.squirrel_cli.specs.declared.status.Status.{Status}
-use Rattle.squirrel_cli.specs.Ends.{IsShortScript}
 use Rattle.squirrel_cli.specs.Mounts.{IsOnlyMounted}
 use Rattle.squirrel_cli.specs.ReplaySteps.{RunsMounted}
-use Rattle.squirrel_cli.specs.Works.{WorksScript}
+use Rattle.squirrel_cli.specs.Works.{WorksScript, summary_of}
 use Rattle.squirrel_cli.specs.WorkSteps.{CountsGenerated, RunsGenerated, SumsGenerated}
 use Rattle.squirrel_cli.proofs.Leaving.{any_run}
 use Rattle.squirrel_cli.proofs.Mounted.{limit_gives, mounted_state, mounts_and_runs}
@@ -32,6 +41,13 @@ nothing_left script (Some rest) lines (same, none, short) = (ap Some none, same)
 nothing_left_at_fault : (script : List ℕ) (rest : Option (List ℕ)) (lines : List Line) → ExecutesTold run_end.Faulted (Some script) rest lines → rest ≡ Some []
 nothing_left_at_fault script None lines executes = absurd executes
 nothing_left_at_fault script (Some rest) lines (same, none, short) = ap Some none
+
+-- with the end and the script that are known
+script_told : {P : ℕ} {before after : DeviceView} {end wanted : RunEnd} {script rest : Option (List ℕ)} {bytes : List ℕ} {took now : List ℕ → Type 0} → end ≡ wanted → script ≡ Some bytes
+    → RunsScript P before after end script rest took now → RunsScript P before after wanted (Some bytes) rest took now
+script_told {P} {before} {after} {wanted = wanted} {script} {rest} {took = took} {now} ended told run =
+    subst (λ (s : Option (List ℕ)). RunsScript P before after wanted s rest took now) told
+    (subst (λ (e : RunEnd). RunsScript P before after e script rest took now) ended run)
 
 -- the answers of a run through the generated script, and what a tally counts of them
 record Counted (P seed count : ℕ) (before after : DeviceView) (tally : Tally) (rest : Option (List ℕ)) : Type 0 where
@@ -58,26 +74,37 @@ generated_done {P} {seed} {count} {rest = rest} {tally = tally} few began run =
       all = let sum = tells.all short in omega (arith, sum, long, tells.accepted short, tells.refused short);
     }
 
-pub counts_generated : {P seed count : ℕ} {before after : DeviceView} {script rest : Option (List ℕ)} {took : List ℕ → Type 0} {tally : Tally} → script ≡ Some (work_script seed count) → count ≤ 1000000 → took []
-    → RunsScript P before after run_end.Done script rest took (IsTallyOf tally) → CountsGenerated P seed count before after tally
-counts_generated {P} {seed} {count} {before} {after} {rest = rest} {took} {tally} told few began run =
-    let here = subst (λ (s : Option (List ℕ)). RunsScript P before after run_end.Done s rest took (IsTallyOf tally)) told run in
+pub counts_generated : {P seed count : ℕ} {before after : DeviceView} {end : RunEnd} {script rest : Option (List ℕ)} {took : List ℕ → Type 0} {tally : Tally} → end ≡ run_end.Done → script ≡ Some (work_script seed count)
+    → count ≤ 1000000 → took [] → RunsScript P before after end script rest took (IsTallyOf tally) → CountsGenerated P seed count before after tally
+counts_generated {P} {seed} {count} {before} {after} {rest = rest} {took} {tally} ended told few began run =
+    let here = script_told ended told run in
     let (none, called) = nothing_left (work_script seed count) rest here.lines here.executes in
     let counted = subst (Counted P seed count before after tally) none (generated_done few began here) in
     record { run = counted.run; accepted = counted.accepted; refused = counted.refused; all = counted.all }
 
-pub faulted_generated : {P seed count : ℕ} {before after : DeviceView} {script rest : Option (List ℕ)} {took now : List ℕ → Type 0} → script ≡ Some (work_script seed count)
-    → RunsScript P before after run_end.Faulted script rest took now → RunsGenerated P seed count before after run_end.Faulted
-faulted_generated {P} {seed} {count} {before} {after} {rest = rest} {took} {now} told run =
-    let here = subst (λ (s : Option (List ℕ)). RunsScript P before after run_end.Faulted s rest took now) told run in
+pub faulted_generated : {P seed count : ℕ} {before after : DeviceView} {end : RunEnd} {script rest : Option (List ℕ)} {took now : List ℕ → Type 0} → end ≡ run_end.Faulted → script ≡ Some (work_script seed count)
+    → RunsScript P before after end script rest took now → RunsGenerated P seed count before after run_end.Faulted
+faulted_generated {P} {seed} {count} {before} {after} {rest = rest} {took} {now} ended told run =
+    let here = script_told ended told run in
     let none = nothing_left_at_fault (work_script seed count) rest here.lines here.executes in
     subst (λ (r : Option (List ℕ)). RunsMounted P before after run_end.Faulted (Some (work_script seed count)) r) none (any_run here)
 
 -- the generated script is short
-pub never_at_limit : {P seed count : ℕ} {before after : DeviceView} {script rest : Option (List ℕ)} {took now : List ℕ → Type 0} → script ≡ Some (work_script seed count) → count ≤ 1000000
-    → RunsScript P before after run_end.Limit script rest took now → ⊥
-never_at_limit {P} {seed} {count} {before} {after} {script} {rest} told few run =
-    not_at_limit script rest (subst IsShortScript (sym told) ((work_law-holds seed count).within few)) (limit_gives script rest run.lines run.executes)
+pub never_at_limit : {P seed count : ℕ} {before after : DeviceView} {end : RunEnd} {script rest : Option (List ℕ)} {took now : List ℕ → Type 0} → end ≡ run_end.Limit → script ≡ Some (work_script seed count)
+    → count ≤ 1000000 → RunsScript P before after end script rest took now → ⊥
+never_at_limit {seed = seed} {count = count} {rest = rest} ended told few run =
+    let here = script_told ended told run in
+    not_at_limit (Some (work_script seed count)) rest ((work_law-holds seed count).within few) (limit_gives (Some (work_script seed count)) rest here.lines here.executes)
+
+-- ---- the sums
+
+pub summed : {P count a r accepted refused : ℕ} {space : Free} {totals : Totals} {state : State} → a ≡ accepted → r ≡ refused → space ≡ space_of (untaken P) state.tree state.room → totals ≡ totals_of state.tree
+    → record { lines = count + 4; accepted = a; refused = r; space = space; names = totals.names; bytes = totals.bytes } ≡ summary_of P count accepted refused state
+summed {count = count} counted lacking free total = λ i. record { lines = count + 4; accepted = counted i; refused = lacking i; space = free i; names = (total i).names; bytes = (total i).bytes }
+
+pub sums_written : {took now : List ℕ → Type 0} {faults_before faults_after : ℕ} {summary wanted : WorkSummary} {written : Result (Unit {0}) WriteFault} → summary ≡ wanted
+    → Writes took now faults_before faults_after (work_text summary) written → Writes took now faults_before faults_after (work_text wanted) written
+sums_written {took} {now} {faults_before} {faults_after} {written = written} same writes = subst (λ (s : WorkSummary). Writes took now faults_before faults_after (work_text s) written) same writes
 
 -- ---- from the entry on
 

@@ -239,7 +239,7 @@ fn words_left(
     requires some { 0 < length keep.now }
     requires some_again { IfSome again (λ crash. 0 < length crash.1.now) }
     ensures { IfOk result (λ words. IfSome (⟦<RamPm as Pm>⟧.view ram.now).trail (λ trail.
-        HasLeft keep.now again (trail_at trail place) words.items)) }
+        HasLeft keep.now again.entry (trail_at trail place) words.items)) }
 {
     let image = ram.image_at(alloc, place, keep)?;
     let Some((moment, keep)) = again else {

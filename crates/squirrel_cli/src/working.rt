@@ -92,7 +92,9 @@ fn run_generated<P: Pm>(
     match run(session, buffers, &mut work, &mut tally, pm) {
         RunEnd::Done => Some(tally),
         RunEnd::Faulted => None,
-        RunEnd::ReadFault | RunEnd::WriteFault | RunEnd::Limit => unreachable!(),
+        RunEnd::ReadFault => unreachable!(),
+        RunEnd::WriteFault => unreachable!(),
+        RunEnd::Limit => unreachable!(),
     }
 }
 
