@@ -1,5 +1,5 @@
 -- How the words of the generator and the text of a line are put together.
-use Rattle.std.proofs.Common.{◌≡◌, ℕ, ◌+◌, ◌/◌, ◌%◌, ◌≤◌, List, [], ◌∷◌, ◌++◌, length, replicate, decimal, refl, sym, ap, ◌∙◌, arith}
+use Rattle.std.proofs.Common.{◌≡◌, ℕ, ◌+◌, ◌/◌, ◌%◌, ◌<◌, ◌≤◌, List, [], ◌∷◌, ◌++◌, length, replicate, decimal, refl, sym, ap, ◌∙◌, arith}
 use Rattle.std.specs.Prelude.{slice_index}
 use Rattle.std.proofs.lemmas.Fmt.{length-decimal-le}
 use Rattle.std.proofs.lemmas.List.{append-nil, replicate_more}
@@ -23,8 +23,8 @@ is_behind g next word taken = ap (λ (p : ℕ × Lcg). p.1) taken
 pub directory_digits : (x : ℕ) → length (decimal (x % 4)) ≤ 1
 directory_digits x = length-decimal-le 1 (x % 4) (omega arith) (omega arith) (omega arith)
 
-pub file_digits : (x : ℕ) → length (decimal (x / 4 % 16)) ≤ 2
-file_digits x = length-decimal-le 2 (x / 4 % 16) (omega arith) (omega arith) (omega arith)
+pub two_digits : (n : ℕ) → n < 100 → length (decimal n) ≤ 2
+two_digits n small = length-decimal-le 2 n (omega arith) (omega arith) (omega arith)
 
 pub offset_digits : (x : ℕ) → length (decimal (x % 8192)) ≤ 4
 offset_digits x = length-decimal-le 4 (x % 8192) (omega arith) (omega arith) (omega arith)

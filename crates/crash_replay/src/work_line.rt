@@ -197,7 +197,7 @@ fn push_directory(line: &mut Line, x: u32)
     push_number(line, x % 4);
 }
 
-#[tactic(auto, using(crate::proofs::WorkTexts::file_digits), unfolding(crate::specs::Work::file_of))]
+#[tactic(auto, using(crate::proofs::WorkTexts::two_digits), unfolding(crate::specs::Work::file_of))]
 fn push_file(line: &mut Line, x: u32)
     requires room { array_vec_len line.old + 7 ≤ 148 }
     ensures items { line.new.items ≡ line.old.items ++ file_of x }
