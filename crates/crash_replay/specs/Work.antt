@@ -94,7 +94,7 @@ work_script seed count = flat_map line_text (first_lines ++ drawn_lines (generat
 
 -- ---- what it is like
 
--- so many lines, each a command of at most 148 bytes; the bytes of a million lines are within a script's limit
+-- so many lines, each a command, and at most 148 bytes a line in all; at most a million lines are within a script's limit
 pub record IsWorkScript (count : ℕ) (script : List ℕ) : Type 0 where
   pub lines : length (calls_of script) ≡ count + 4
   pub commands : All (λ call. IsOk call) (calls_of script)

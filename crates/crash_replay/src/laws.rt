@@ -9,14 +9,14 @@ pub fn replay_law()
     ensures { ReplayLaw }
 {}
 
-/// What the counts of a tally tell of the answers whose texts it took: whether one told of a want of memory, and how many
-/// there were.
+/// What the counts of a tally tell of the answers whose texts it took: how many were accepted, how many were not, and whether one
+/// told of a want of memory.
 pub fn tally_law()
     ensures { TallyLaw }
 {}
 
-/// A generated script has four lines more than are asked for, each a command of at most 148 bytes. With a million lines it is
-/// within the limit of a script.
+/// A generated script has four lines more than are asked for, each a command, and 148 bytes a line at most. With at most a million
+/// lines it is within the limit of a script.
 pub fn work_law()
     ensures { WorkLaw }
 {}

@@ -1,4 +1,4 @@
-// A sign of life for whom waits at a terminal.
+// A sign of life for one who waits at a terminal.
 ghost use Rattle.std.specs.Prelude.{◌≤◌, ◌↔◌, IsTrue};
 ghost use Rattle.std.specs.Int.{IsPowerOfTwo};
 

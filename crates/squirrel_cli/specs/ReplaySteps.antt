@@ -45,7 +45,7 @@ abbrev pub crashes_of : Option (ℕ × Bor (List ℕ)) → List Crash
 crashes_of None = []
 crashes_of (Some (moment, keep)) = record { moment = moment; keep = keep } ∷ []
 
--- what a crash left, and after it the second one in the mount of that: it is sound, and means what the chosen image means
+-- what a crash left, and where one is asked a second one in the mount of that: it is sound, and means what the chosen image means
 pub record HasLeft (keep : List ℕ) (again : Option (ℕ × Bor (List ℕ))) (trail : Trail) (words : List ℕ) : Type 0 where
   pub image : List ℕ
   pub chosen : IsChosenImage trail keep image

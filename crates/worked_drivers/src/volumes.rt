@@ -4,9 +4,9 @@ use squirrel_cli::Status;
 use std::alloc::Global;
 use std::test::Fail;
 
-/// The words of a fresh volume of so many pages, at most 256.
+/// The words of a fresh volume of so many pages, at most 4,096.
 pub fn fresh_volume(alloc: Global, pages: u64) -> Result<Vec<u64>, Fail> {
-    let old = vec![in alloc; 0; 512 * pages.min(256) as usize]?;
+    let old = vec![in alloc; 0; 512 * pages.min(4_096) as usize]?;
     let line = format!(in alloc; "squirrel mkfs v {pages}")?;
     Ok(job_on(alloc, line.as_str(), old.as_slice(), b"")?.image)
 }

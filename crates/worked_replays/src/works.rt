@@ -167,11 +167,11 @@ fn script_of(alloc: Global, seed: u64, count: u64) -> Result<Vec<u8>, Fail> {
     Ok(script)
 }
 
-// How many lines of a text are this one.
-fn lines_like(text: &str, wanted: &str) -> u64 {
+// How many lines of a text begin so.
+fn lines_with(text: &str, beginning: &str) -> u64 {
     let mut count = 0;
     for line in text.lines() {
-        count += u64::from(line == wanted);
+        count += u64::from(line.starts_with(beginning));
     }
     count
 }
@@ -185,7 +185,8 @@ fn as_a_script(rt: HostRuntime) -> Result<(), Fail> {
     let run = job_on(alloc, "squirrel run v", volume.as_slice(), script.as_slice())?;
     let work = work_on(alloc, volume.as_slice(), 8, 400)?;
     same(run.image.as_slice(), work.image.as_slice(), "words")?;
-    for (refusal, wanted) in [
+    for (beginning, wanted) in [
+        ("ok", 60),
         ("error NotFound", 137),
         ("error NotDir", 90),
         ("error Exists", 52),
@@ -194,19 +195,40 @@ fn as_a_script(rt: HostRuntime) -> Result<(), Fail> {
         ("error NoInodes", 16),
         ("error NoPages", 12),
     ] {
-        same(lines_like(text_of(&run.told), refusal), wanted, refusal)?;
+        let count = lines_with(text_of(&run.told), beginning);
+        same(count, wanted, beginning)?;
     }
-    Ok(())
+    let held = "sound\ntree directories 5 files 11 names 23\n\
+        repairs pointers 0 slots 0 pages 0 inodes 0 counts 0\n";
+    let checked = job_without_script(alloc, "squirrel check v", work.image.as_slice())?;
+    is_done(&checked, held, "check")
 }
 
-// A fence that fails, in the first line or a later one, leaves the sums untold; an output that is full cuts them.
+// As many lines as take some seconds, each acknowledged.
+#[test]
+fn a_long_work(rt: HostRuntime) -> Result<(), Fail> {
+    let alloc = rt.alloc();
+    let fresh = fresh_volume(alloc, 4_096)?;
+    let lines = row(
+        (7, 20_000),
+        (20_004, 8_301, 11_703),
+        (984, 1_024),
+        (3_955, 3_999),
+        (43, 107_082),
+    );
+    let left = compare(alloc, fresh.as_slice(), lines)?;
+    same(left.fences, 18_006, "work")
+}
+
+// A fence that fails, in the mount, in the first line or in a later one, leaves the sums untold; an output that is full cuts them.
 #[test]
 fn failures_of_work(rt: HostRuntime) -> Result<(), Fail> {
     let alloc = rt.alloc();
     let volume = fresh_volume(alloc, 256)?;
     let line = "squirrel work v 1 10";
-    for fence in [1, 5] {
-        let left = job_with_fault(alloc, line, volume.as_slice(), b"", fence)?;
+    let littered = littered(alloc)?;
+    for (image, fence) in [(&volume, 1), (&volume, 5), (&littered, 1), (&littered, 4)] {
+        let left = job_with_fault(alloc, line, image.as_slice(), b"", fence)?;
         same((left.status.number(), text_of(&left.told)), (5, ""), line)?;
     }
     for (room, told) in [
