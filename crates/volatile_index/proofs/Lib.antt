@@ -1,4 +1,5 @@
 pub mod EntryLaws
 mod Places
+mod Halving
 mod Nodes
 mod PagesLeft

@@ -1,47 +1,15 @@
 -- Where the entry of a name stands in a sorted list, or would stand.
-use Rattle.std.proofs.Common.{◌≡◌, ◌≢◌, ℕ, zero, suc, ◌+◌, ◌<◌, ◌≤◌, List, [], ◌∷◌, ◌++◌, length, take, drop, take-append-drop, get_or, slice_get, Contains, All, Result, Ok, Err, IfOk, IfErr, IsSomeAnd, refl, sym, ap, inl, inr, arith, Ordering, Less, Equal, Greater, is_lt, IsOk, is_ok, cond}
-use Rattle.std.specs.Cmp.Lexicographic.{nat_list_cmp_total}
-use Rattle.std.specs.FinMap.{nat_cmp-IsAntisymmetric, slice_cmp-IsAntisymmetric}
-use Rattle.std.specs.List.{AllWithin, HoldsAt}
-use Rattle.std.specs.List.Sorted.{IsSearchInRange, IsBinarySearchResult, IsNonDecreasingBy, IsSortedBy}
-use Rattle.std.specs.Ordering.{ordering_index}
+use Rattle.std.proofs.Common.{◌≡◌, ◌≢◌, ℕ, zero, suc, ◌≤◌, List, [], ◌∷◌, ◌++◌, length, take, drop, take-append-drop, get_or, slice_get, Contains, All, Result, IsSomeAnd, refl, sym, ap, inl, inr, arith, Less, Greater, IsOk, is_ok, cond}
+use Rattle.std.specs.List.{AllWithin}
 use Rattle.std.proofs.lemmas.Bool.{cases_lt, cond-true}
 use Rattle.std.proofs.lemmas.List.Elements.{All-contains, All-append, All-cons, All-take, All-drop}
 use Rattle.std.proofs.lemmas.List.Kept.{AllPairs-cons}
-use Rattle.std.proofs.lemmas.List.Sorted.{searchable_from_sorted}
 use Rattle.volatile_index.specs.declared.entry.Entry.{Entry}
 use Rattle.volatile_index.specs.Entries.{name_cmp, IsSorted, IsAbsent, IsPresent, IsWithEntry}
-use Rattle.volatile_index.proofs.EntryLaws.{contains_more, differs, turned, turned_back, sorted_head, sorted_tail}
+use Rattle.volatile_index.proofs.EntryLaws.{contains_more, differs, turned_back, sorted_head, sorted_tail}
 use Rattle.volatile_index.specs.Place.{IsGap}
 
-abbrev pub against : List ℕ → Entry → Ordering
-against name entry = name_cmp entry.name name
-
--- ---- a search
-
-not_falling : (entries : List Entry) → IsSorted entries → IsSortedBy (λ a b. is_lt (name_cmp a.name b.name)) entries
-not_falling entries sorted k d low next =
-    ap is_lt (turned (get_or entries k d).name (get_or entries (k + 1) d).name (sorted k (k + 1) d (omega arith) next))
-
-non_decreasing : (name : List ℕ) (entries : List Entry) → IsSorted entries → IsNonDecreasingBy (λ entry. ordering_index (against name entry)) entries
-non_decreasing name entries sorted = searchable_from_sorted nat_list_cmp_total (λ (entry : Entry). entry.name) entries name (not_falling entries sorted)
-
-found_at : (name : List ℕ) (entries : List Entry) (place : ℕ) → place < length entries → HoldsAt (λ entry. against name entry ≡ Equal) entries place → IsSomeAnd (slice_get entries place) (λ entry. entry.name ≡ name)
-found_at name [] place lt h = absurd (omega arith)
-found_at name (entry ∷ entries) zero lt h = slice_cmp-IsAntisymmetric nat_cmp-IsAntisymmetric entry.name name (h entry)
-found_at name (entry ∷ entries) (suc place) lt h = found_at name entries place (omega arith) h
-
-pub found : (name : List ℕ) (entries : List Entry) (r : Result ℕ ℕ) → IsSearchInRange r (length entries) → IsBinarySearchResult (against name) entries r
-    → IfOk r (λ place. IsSomeAnd (slice_get entries place) (λ entry. entry.name ≡ name))
-found name entries (Ok place) within is = found_at name entries place within is
-found name entries (Err place) within is = tt
-
-pub gap : (name : List ℕ) (entries : List Entry) (r : Result ℕ ℕ) → IsSorted entries → IsSearchInRange r (length entries) → IsBinarySearchResult (against name) entries r
-    → IfErr r (λ place. IsGap entries place name)
-gap name entries (Ok place) sorted within is = tt
-gap name entries (Err place) sorted within is =
-    let parts = is (non_decreasing name entries sorted) in
-    record { within = within; less = parts.0; greater = parts.1 }
+-- ---- what a search finds
 
 pub gap_absent : (name : List ℕ) (entries : List Entry) (place : ℕ) → IsGap entries place name → IsAbsent entries name
 gap_absent name entries place gap entry there = All-contains (λ entry. entry.name ≢ name) entries entry other there

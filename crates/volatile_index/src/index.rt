@@ -1,14 +1,16 @@
 // What is held of each inode.
-ghost use Rattle.std.specs.Prelude.{◌≡◌, ◌+◌, ◌-◌, ◌<◌, ◌≤◌, ℕ, [], ◌∷◌, ◌++◌, length, take, slice_get, slice_set, Contains, MatchOption, IfOk, Some};
+ghost use Rattle.std.specs.Prelude.{◌≡◌, ◌+◌, ◌-◌, ◌*◌, ◌^◌, ◌<◌, ◌≤◌, ℕ, [], ◌∷◌, ◌++◌, length, take, slice_get, slice_set, Contains, MatchOption, IfOk, Some};
 ghost use Rattle.volatile_index.specs.Entries.{IsSorted, IsAbsent, IsPresent};
 ghost use Rattle.volatile_index.specs.Index.{inodes_of_index, node_of, entries_of, places_of, pages_of, page_places_of, IsEmpty, ReservesEntry, PutsEntry, RemovesEntry, ReservesPages, IsWithPages, DropsPage, ChangesNode};
 
 use crate::entry::Entry;
 use crate::node::Node;
+use counting::Steps;
 use layout::{Geometry, Name};
 use pm_trait::NoMemory;
 use std::alloc::Global;
-use std::marker::Model;
+use std::marker::{Brand, Model};
+use std::sync::ledger::{Blank, Ledger};
 
 /// For each inode, numbered from 1, the entries of the directory and the pages of the file or the directory.
 #[derive(Drop)]
@@ -67,7 +69,24 @@ impl Index {
             (λ slot. Contains (entries_of self.now directory) (record { name = name.now; slot = slot })) }
         ensures sorted { IsSorted (entries_of self.now directory) }
     {
-        self.nodes[place_of(directory)].find(name)
+        find_uncounted::<Brand>(self, directory, name, Blank::new(1))
+    }
+
+    /// The same in few steps. A step is a comparison of two names: there are no more of them than the number of entries has binary digits.
+    pub fn find_counted<L: Ledger>(
+        &self,
+        directory: u64,
+        name: &Name,
+        steps: &mut Steps<L>,
+    ) -> Option<u64>
+        requires from_one { 1 ≤ directory }
+        requires in_range { directory ≤ inodes_of_index self.now }
+        ensures slot { MatchOption result (IsAbsent (entries_of self.now directory) name.now)
+            (λ slot. Contains (entries_of self.now directory) (record { name = name.now; slot = slot })) }
+        ensures sorted { IsSorted (entries_of self.now directory) }
+        ensures cost { 2 ^ (steps.new - steps.old) ≤ 2 * length (entries_of self.now directory) + 1 }
+    {
+        self.nodes[place_of(directory)].find_counted(name, steps)
     }
 
     /// Takes memory for one more entry of a directory. Whether there is any or not, what is held stays.
@@ -165,6 +184,25 @@ impl Index {
     {
         self.nodes[place_of(inode)].drop_page(page);
     }
+}
+
+// What `find` answers, with steps that nobody reads.
+fn find_uncounted<L: Ledger>(
+    index: &Index,
+    directory: u64,
+    name: &Name,
+    blank: Blank,
+) -> Option<u64>
+    requires from_one { 1 ≤ directory }
+    requires in_range { directory ≤ inodes_of_index index.now }
+    requires name { blank.name ≡ L.name }
+    requires parts { blank.parts ≡ L.parts }
+    requires some { 0 < blank.parts }
+    ensures slot { MatchOption result (IsAbsent (entries_of index.now directory) name.now)
+        (λ slot. Contains (entries_of index.now directory) (record { name = name.now; slot = slot })) }
+    ensures sorted { IsSorted (entries_of index.now directory) }
+{
+    index.find_counted(directory, name, &mut Steps::<L>::new(blank))
 }
 
 // Where an inode stands in the list.

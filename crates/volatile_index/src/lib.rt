@@ -6,6 +6,7 @@ mod entry;
 mod index;
 mod laws;
 mod node;
+mod search;
 
 pub use entry::Entry;
 pub use index::Index;

@@ -1,14 +1,16 @@
 // What is held of one inode.
-ghost use Rattle.std.specs.Prelude.{◌≡◌, ◌-◌, ◌<◌, ◌≤◌, ℕ, [], ◌∷◌, ◌++◌, length, take, slice_get, slice_set, Contains, IsSomeAnd, MatchOption, IfOk, IfErr, Some};
+ghost use Rattle.std.specs.Prelude.{◌≡◌, ◌+◌, ◌-◌, ◌*◌, ◌^◌, ◌<◌, ◌≤◌, ℕ, [], ◌∷◌, ◌++◌, length, take, slice_get, slice_set, Contains, MatchOption, Some};
 ghost use Rattle.volatile_index.specs.Entries.{IsSorted, IsAbsent, IsPresent};
 ghost use Rattle.volatile_index.specs.Index.{IsEmpty, ReservesEntry, PutsEntry, RemovesEntry, ReservesPages, IsWithPages, DropsPage};
-ghost use Rattle.volatile_index.specs.Place.{IsGap};
 
 use crate::entry::Entry;
+use crate::search::{search, search_from_end, search_uncounted};
+use counting::Steps;
 use layout::Name;
 use pm_trait::NoMemory;
 use std::alloc::Global;
-use std::marker::Model;
+use std::marker::{Brand, Model};
+use std::sync::ledger::{Blank, Ledger};
 
 /// The entries of a directory, sorted by name, and the pages of a file or a directory.
 #[derive(Drop)]
@@ -57,25 +59,17 @@ impl Node {
         &self.entries[k as usize]
     }
 
-    /// The slot of a name.
-    pub fn find(&self, name: &Name) -> Option<u64>
+    /// The slot of a name. A step is a comparison of two names.
+    pub fn find_counted<L: Ledger>(&self, name: &Name, steps: &mut Steps<L>) -> Option<u64>
         ensures slot { MatchOption result (IsAbsent self.now.entries name.now)
             (λ slot. Contains self.now.entries (record { name = name.now; slot = slot })) }
         ensures sorted { IsSorted self.now.entries }
+        ensures cost { 2 ^ (steps.new - steps.old) ≤ 2 * length self.now.entries + 1 }
     {
-        match self.search(name) {
+        match search(&self.entries, name, steps) {
             Ok(place) => Some(self.entries[place].slot),
             Err(_) => None,
         }
-    }
-
-    // Where the entry of a name stands, or would stand.
-    fn search(&self, name: &Name) -> Result<usize, usize>
-        ensures found { IfOk result (λ place. IsSomeAnd (slice_get self.now.entries place)
-            (λ entry. entry.name ≡ name.now)) }
-        ensures gap { IfErr result (λ place. IsGap self.now.entries place name.now) }
-    {
-        self.entries.binary_search_by(|entry| entry.name.cmp(name))
     }
 
     /// Takes memory for one more entry.
@@ -92,7 +86,7 @@ impl Node {
         requires room { length self.old.entries < self.old.places }
         ensures { PutsEntry (record { name = name; slot = slot }) self.old self.new }
     {
-        if let Err(place) = self.search(&name) {
+        if let Err(place) = search_from_end::<Brand>(&self.entries, &name, Blank::new(1)) {
             let _ = self.entries.insert(place, Entry { name, slot });
         }
     }
@@ -102,7 +96,7 @@ impl Node {
         requires present { IsPresent self.old.entries name.now }
         ensures { RemovesEntry name.now self.old self.new }
     {
-        if let Ok(place) = self.search(name) {
+        if let Ok(place) = search_uncounted::<Brand>(&self.entries, name, Blank::new(1)) {
             let _ = self.entries.remove(place);
         }
     }

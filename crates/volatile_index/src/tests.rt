@@ -1,11 +1,14 @@
 // What no clause says: that calls which need memory succeed, and the order of names in examples.
-ghost use Rattle.std.specs.Prelude.{◌≡◌, ◌≤◌, ℕ, IfOk};
-ghost use Rattle.volatile_index.specs.Index.{inodes_of_index, node_of, IsEmpty};
+ghost use Rattle.std.specs.Prelude.{◌≡◌, ◌+◌, ◌<◌, ◌≤◌, ℕ, length, IfOk};
+ghost use Rattle.volatile_index.specs.Index.{inodes_of_index, node_of, entries_of, IsEmpty};
 
 use crate::Index;
+use counting::Steps;
 use layout::{Geometry, Name};
 use std::alloc::Global;
+use std::marker::Brand;
 use std::process::Abort;
+use std::sync::ledger::{Blank, Ledger};
 use std::test::Fail;
 
 fn name(text: &str) -> Result<Name, Fail> {
@@ -90,6 +93,40 @@ fn finds_what_is_there(rt: HostRuntime) -> Result<(), Fail> {
     take(&mut index, "a")?;
     assert_eq!(rt; index.find(2, &name("a")?), None);
     assert_eq!(rt; index.find(2, &name("b")?), Some(8));
+    Ok(())
+}
+
+// Finds a name among those of the directory 2, in no more steps than so many names may take.
+fn find_in_few_steps<L: Ledger>(index: &Index, name: &Name, steps: &mut Steps<L>) -> Option<u64>
+    requires { inodes_of_index index.now ≡ 4 }
+    ensures none { length (entries_of index.now 2) ≡ 0 → steps.new ≤ steps.old }
+    ensures one { length (entries_of index.now 2) ≡ 1 → steps.new ≤ steps.old + 1 }
+    ensures three { length (entries_of index.now 2) ≤ 3 → steps.new ≤ steps.old + 2 }
+    ensures seven { length (entries_of index.now 2) ≤ 7 → steps.new ≤ steps.old + 3 }
+    ensures eight { length (entries_of index.now 2) ≤ 8 → steps.new ≤ steps.old + 4 }
+    ensures many { length (entries_of index.now 2) ≤ 65536 → steps.new ≤ steps.old + 17 }
+{
+    index.find_counted(2, name, steps)
+}
+
+fn find_from_none<L: Ledger>(index: &Index, name: &Name, blank: Blank) -> Option<u64>
+    requires inodes { inodes_of_index index.now ≡ 4 }
+    requires name { blank.name ≡ L.name }
+    requires parts { blank.parts ≡ L.parts }
+    requires some { 0 < blank.parts }
+{
+    find_in_few_steps(index, name, &mut Steps::<L>::new(blank))
+}
+
+#[test]
+fn few_names_take_few_steps(rt: HostRuntime) -> Result<(), Fail> {
+    let mut index = least_index(rt.alloc())?;
+    add(&mut index, "b", 1)?;
+    add(&mut index, "c", 2)?;
+    add(&mut index, "a", 3)?;
+    let found = find_from_none::<Brand>(&index, &name("a")?, Blank::new(1));
+    let missing = find_from_none::<Brand>(&index, &name("d")?, Blank::new(1));
+    assert_eq!(rt; (found, missing), (Some(3), None));
     Ok(())
 }
 

@@ -1,7 +1,7 @@
 use Rattle.std.proofs.Common.{◌≡◌, ◌<◌, ◌∷◌, ◌++◌, length, take, drop, ap, sym, subst, ◌∙◌, arith, rules}
 use Rattle.std.specs.Vec.{vec_len, vec_capacity}
 use Rattle.volatile_index.specs.declared.entry.Entry.{Entry}
-use Rattle.volatile_index.specs.Entries.{IsSorted, IsWithEntry}
+use Rattle.volatile_index.specs.Entries.{IsSorted, IsAbsent, IsWithEntry}
 use Rattle.volatile_index.specs.Index.{NodeView}
 use Rattle.volatile_index.specs.Place.{IsGap}
 use Rattle.volatile_index.proofs.Places.{sorted_with, with_entry, when_ok, found_not_absent}
@@ -21,8 +21,7 @@ sorted_then : (c : goal.After-insert) → IsSorted c.insert.new.self.items
 sorted_then c =
     let entry : Entry = record { name = c.args.name; slot = c.args.slot } in
     let before = c.self.inside.entries.items in
-    let same : before ≡ c.args.self.now.entries = ap (λ (node : NodeView). node.entries) c.self.view_is in
-    let gap : IsGap before c.in-Err.place c.args.name = subst (λ entries. IsGap entries c.in-Err.place c.args.name) (sym same) c.in-Err.ensures.gap in
+    let gap : IsGap before c.in-Err.place c.args.name = subst (λ entries. IsGap entries c.in-Err.place c.args.name) c.deref.ensures.value c.in-Err.ensures.gap in
     subst IsSorted (sym (items_then c)) (sorted_with before c.in-Err.place entry c.self.invariant gap)
 
 pub invariant_of-self : goal.invariant_of-self
@@ -41,4 +40,6 @@ returns-in-Err c = record {
 }
 
 pub returns-in_default : goal.returns-in_default
-returns-in_default c = absurd (found_not_absent _ _ _ c.in_default.ensures.found c.requires.absent)
+returns-in_default c =
+    let same : c.deref.result.now ≡ c.args.self.now.entries = c.deref.ensures.value ∙ ap (λ (node : NodeView). node.entries) c.self.view_is in
+    absurd (found_not_absent _ _ _ c.in_default.ensures.found (subst (λ entries. IsAbsent entries c.args.name) (sym same) c.requires.absent))
