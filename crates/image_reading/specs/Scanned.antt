@@ -24,7 +24,7 @@ pub record AreNames (P : ℕ) (I names : List ℕ) : Type 0 where
 
 -- The walk over the words is done, and the links are counted.
 pub record HasScanned (words : List ℕ) (scan : Scan) : Type 0 where
-  pub walk : IsWalkDone scan.geometry.pages words scan.first.items scan.next.items scan.reach
+  pub walk : IsWalkDone scan.geometry.pages words scan.first.items scan.next.items scan.held.items scan.reach
   pub pointer : IsPointerAt scan.geometry.pages words scan.pointer
   pub counted : AreCounted scan.geometry.pages words scan.tally.items
 

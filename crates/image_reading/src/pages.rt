@@ -15,6 +15,8 @@ pub struct Lists<'a> {
     pub first: &'a [u64],
     /// For each page the link to the next of the same owner.
     pub next: &'a [u64],
+    /// For each page, and behind the last, the link to the first held page from there on.
+    pub held: &'a [u64],
 }
 
 /// Writes the lists: for each inode number one more than its first page, for each page one more than the next page of the

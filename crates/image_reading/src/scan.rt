@@ -42,7 +42,7 @@ pub struct Scan {
 
 impl Scan {
     ghost use Rattle.std.specs.Prelude.{◌≡◌, ◌*◌, ℕ, IfOk, None, length};
-    ghost use Rattle.image_reading.specs.Scan.{FindsFault, IsLinked, IsPointerAt, KeepsBelow};
+    ghost use Rattle.image_reading.specs.Scan.{AreHeld, FindsFault, IsLinked, IsPointerAt, KeepsBelow};
     ghost use Rattle.image_reading.specs.Scanned.{HasScanned, IsScanned};
     ghost use Rattle.image_reading.specs.Soundness.{IsOnlyPointer, Sound, pages_in_image};
     ghost use Rattle.image_reading.specs.Walk.{IsWalkDone};
@@ -81,6 +81,7 @@ impl Scan {
         requires kept { KeepsBelow self.old.geometry.pages words.now 3 }
         ensures found { FindsFault self.old.geometry.pages words.now 5 result }
         ensures linked { IsLinked self.old.geometry.pages words.now self.new.first.items self.new.next.items }
+        ensures held { AreHeld self.old.geometry.pages words.now self.new.held.items }
         ensures pointer { result ≡ None → IsPointerAt self.old.geometry.pages words.now self.new.pointer }
         ensures made_for { self.new.geometry ≡ self.old.geometry }
     {
@@ -102,9 +103,10 @@ impl Scan {
         requires whole { length words.now ≡ 512 * self.old.geometry.pages }
         requires one_pointer { (s : ℕ) → IsOnlyPointer self.old.geometry.pages words.now s }
         requires linked { IsLinked self.old.geometry.pages words.now self.old.first.items self.old.next.items }
+        requires held { AreHeld self.old.geometry.pages words.now self.old.held.items }
         requires pointer { IsPointerAt self.old.geometry.pages words.now self.old.pointer }
         ensures done { IsWalkDone self.old.geometry.pages words.now self.new.first.items self.new.next.items
-            self.new.reach }
+            self.new.held.items self.new.reach }
         ensures pointer { self.new.pointer ≡ self.old.pointer }
         ensures made_for { self.new.geometry ≡ self.old.geometry }
     {
@@ -116,6 +118,7 @@ impl Scan {
         let lists = Lists {
             first: self.first.as_slice(),
             next: self.next.as_slice(),
+            held: self.held.as_slice(),
         };
         walk_tree(&image, rename, lists, &mut self.reach);
     }
@@ -139,6 +142,7 @@ impl Scan {
         let lists = Lists {
             first: self.first.as_slice(),
             next: self.next.as_slice(),
+            held: self.held.as_slice(),
         };
         let walked = Walked::new(image, lists, &self.reach);
         if let Some(fault) = fault_of_names(&walked, self.named.as_mut_slice()) {
