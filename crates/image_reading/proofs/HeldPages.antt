@@ -3,7 +3,7 @@ use Rattle.std.proofs.Common.{◌≡◌, ◌≢◌, inl, inr, ℕ, ◌+◌, ◌-
 use Rattle.std.proofs.lemmas.Bool.{cases_eq, cases_lt}
 use Rattle.layout.specs.Geometry.{data_pages_of, slots_of, page_of_slot}
 use Rattle.layout.specs.Fields.{slot_pointer}
-use Rattle.image_reading.specs.Reading.{IsHeld, slot_owner, IsReachedSlot}
+use Rattle.image_reading.specs.Reading.{IsHeld, slot_owner}
 use Rattle.std.specs.Option.{is_some}
 use Rattle.image_reading.specs.Repairs.{IsPointer}
 use Rattle.image_reading.specs.Soundness.{PointsAtHeld, IsOnlyPointer, NamesInode, HasName, HasOwnName, HasOwnDirectory}

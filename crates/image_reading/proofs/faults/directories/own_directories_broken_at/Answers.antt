@@ -43,9 +43,9 @@ loop-slot-preserved c =
           record {
             within = next.in_range;
             kept = up_to P I _ (own_directories_free P I) (s + 1) m
-            (below_more _ _ c.loop-slot.invariant.kept (lemmas.own_at P I s c.loop-slot.named marks inode w.slot_at-inode.ensures.inode naming (both_ways _ w.if-named-inode.false))) next.passed;
+                (below_more _ _ c.loop-slot.invariant.kept (lemmas.own_at P I s c.loop-slot.named marks inode w.slot_at-inode.ensures.inode naming (both_ways _ w.if-named-inode.false))) next.passed;
             marks = subst (lemmas.AreNamed P I m) (sym w.named-is)
-            (lemmas.named_up_to P I (s + 1) m _ next.later next.passed (lemmas.named_more P I s c.loop-slot.named marks inode w.slot_at-inode.ensures.inode naming within));
+                (lemmas.named_up_to P I (s + 1) m _ next.later next.passed (lemmas.named_more P I s c.loop-slot.named marks inode w.slot_at-inode.ensures.inode naming within));
           }
       | else-names_directory w ↦
           let none = iff_false c.names_directory.ensures w.if-names_directory.false in

@@ -73,12 +73,12 @@ loop-slot-preserved c =
           record {
             within = next.in_range;
             tallied = subst (lemmas.AreTallied P I m) (sym w.tally-is)
-            (lemmas.tallied_up_to P I (s + 1) m _ next.later next.passed
-            (lemmas.tallied_more P I s c.loop-slot.tally w.credited-inode.result slot w.credited-inode.ensures (omega (arith, within, w.credited-inode.ensures)) t));
+                (lemmas.tallied_up_to P I (s + 1) m _ next.later next.passed
+                (lemmas.tallied_more P I s c.loop-slot.tally w.credited-inode.result slot w.credited-inode.ensures (omega (arith, within, w.credited-inode.ensures)) t));
           }
       | else-is_reached_slot w ↦ record {
-          within = next.in_range;
-          tallied = subst (lemmas.AreTallied P I m) (sym w.tally-is)
-          (lemmas.tallied_up_to P I (s + 1) m _ next.later next.passed (lemmas.tallied_same P I s c.loop-slot.tally (iff_false c.is_reached_slot.ensures w.if-is_reached_slot.false) t));
-        }
+        within = next.in_range;
+        tallied = subst (lemmas.AreTallied P I m) (sym w.tally-is)
+            (lemmas.tallied_up_to P I (s + 1) m _ next.later next.passed (lemmas.tallied_same P I s c.loop-slot.tally (iff_false c.is_reached_slot.ensures w.if-is_reached_slot.false) t));
+      }
     ]
