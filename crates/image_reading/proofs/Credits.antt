@@ -1,10 +1,10 @@
 -- The links of each inode, counted slot by slot.
 use Rattle.std.proofs.Common.{◌≡◌, ◌↔◌, ◌⊎◌, inl, inr, ℕ, zero, suc, ◌+◌, ◌<◌, ◌≤◌, List, ◌∷◌, length, get_or, set, replicate, refl, sym, ap, subst, ◌∙◌, arith, eq-eqb, ne_eqb, get_or-set_other, get_or-set_same}
-use Rattle.std.proofs.lemmas.Bool.{cases_eq, cond-true, cond-false}
+use Rattle.std.proofs.lemmas.Bool.{cases_eq, cases_lt, cond-true, cond-false}
 use Rattle.layout.specs.Geometry.{inodes_of, slots_of}
 use Rattle.layout.specs.Fields.{inode_kind, inode_links, slot_inode}
 use Rattle.image_reading.specs.Counts.{Count, AtMost}
-use Rattle.image_reading.specs.Reading.{IsDirectory, HasBytes, slot_owner, IsReachedSlot, IsNameOf, IsChildOf}
+use Rattle.image_reading.specs.Reading.{IsDirectory, HasBytes, slot_owner, IsHeld, IsReachedSlot, IsNameOf, IsChildOf}
 use Rattle.image_reading.specs.Soundness.{HasLinks, NamesInode}
 use Rattle.image_reading.specs.Scan.{credited, IsCredit, AreCounted}
 use Rattle.image_reading.proofs.Counts.{length-distinct}
@@ -117,6 +117,22 @@ module _ (P : ℕ) (I : List ℕ) where
   tallied_same n tally un t = record {
     counts = λ i le. count_same (IsEarlyCredit n i) (IsEarlyCredit (n + 1) i) _ (same_early n i (λ credit. un credit.slot)) (t.counts i le);
     few = λ i. (let h = t.few i in omega (arith, h));
+  }
+
+  -- past slots that aren't held
+  up_to_early : (n m i : ℕ) → n ≤ m → ((x : ℕ) → n ≤ x → x < m → IsHeld P I x → ⊥) → (s : ℕ) → IsEarlyCredit n i s ↔ IsEarlyCredit m i s
+  up_to_early n m i le passed s = (
+    (λ h. record { early = (let lt = h.early in omega (arith, lt, le)); credit = h.credit }),
+    (λ h. elim (cases_lt s n) [
+      | inl before ↦ record { early = before; credit = h.credit }
+      | inr after ↦ absurd (passed s after h.early h.credit.slot.live.held)
+    ]),
+  )
+
+  pub tallied_up_to : (n m : ℕ) (tally : List ℕ) → n ≤ m → ((x : ℕ) → n ≤ x → x < m → IsHeld P I x → ⊥) → AreTallied n tally → AreTallied m tally
+  tallied_up_to n m tally le passed t = record {
+    counts = λ i most. count_same (IsEarlyCredit n i) (IsEarlyCredit m i) _ (up_to_early n m i le passed) (t.counts i most);
+    few = λ i. (let h = t.few i in omega (arith, h, le));
   }
 
   pub tallied_more : (n : ℕ) (tally : List ℕ) (k : ℕ) → IsReachedSlot P I n → k ≡ credited P I n → k < length tally → AreTallied n tally → AreTallied (n + 1) (set tally k (get_or tally k 0 + 1))

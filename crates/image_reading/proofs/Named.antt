@@ -1,9 +1,9 @@
 -- The marks of directories that have a name.
-use Rattle.std.proofs.Common.{◌≡◌, inl, inr, ℕ, zero, suc, ◌+◌, ◌<◌, Bool, true, false, List, length, set, replicate, sym, ap, subst, ◌∙◌, arith, get_or-set_other, get_or-set_same}
-use Rattle.std.proofs.lemmas.Bool.{cases_eq, false≢true}
+use Rattle.std.proofs.Common.{◌≡◌, inl, inr, ℕ, zero, suc, ◌+◌, ◌<◌, ◌≤◌, Bool, true, false, List, length, set, replicate, sym, ap, subst, ◌∙◌, arith, get_or-set_other, get_or-set_same}
+use Rattle.std.proofs.lemmas.Bool.{cases_eq, cases_lt, false≢true}
 use Rattle.layout.specs.Geometry.{inodes_of}
 use Rattle.layout.specs.Fields.{slot_inode}
-use Rattle.image_reading.specs.Reading.{IsDirectory}
+use Rattle.image_reading.specs.Reading.{IsDirectory, IsHeld}
 use Rattle.image_reading.specs.Soundness.{HasOwnDirectory, NamesInode}
 use Rattle.image_reading.specs.Scan.{IsNaming}
 use Rattle.image_reading.specs.Marks.{IsMarked}
@@ -23,6 +23,13 @@ pub naming_within : (P : ℕ) (I : List ℕ) (s i n m : ℕ) → i ≡ slot_inod
 naming_within P I s i n m is naming numbers inodes size = let most = (numbers s).most naming.slot in omega (arith, is, inodes, size, most)
 
 module _ (P : ℕ) (I : List ℕ) where
+  -- past slots that aren't held
+  pub named_up_to : (n m : ℕ) (marks : List Bool) → n ≤ m → ((x : ℕ) → n ≤ x → x < m → IsHeld P I x → ⊥) → AreNamed P I n marks → AreNamed P I m marks
+  named_up_to n m marks le passed named = record {
+    marked = λ r lt h. elim (cases_lt r n) [ inl before ↦ named.marked r before h | inr after ↦ absurd (passed r after lt h.slot.live.held) ];
+    only = λ i h. let (r, lt, naming, e) = named.only i h in (r, omega (arith, lt, le), naming, e);
+  }
+
   module _ (s : ℕ) (marks : List Bool) (named : AreNamed P I s marks) where
     -- s names no directory
     pub named_same : (IsNaming P I s → ⊥) → AreNamed P I (s + 1) marks

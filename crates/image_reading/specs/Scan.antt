@@ -1,7 +1,7 @@
 -- What a scan of the words finds, and what its tables say.
 use Rattle.std.specs.Prelude.{◌≡◌, ◌≢◌, ◌↔◌, ◌⊎◌, ℕ, Bool, true, false, ◌+◌, ◌-◌, ◌<◌, ◌≤◌, List, length, slice_index, Option, MatchOption, ◌==◌, if◌then◌else◌}
 use Rattle.layout.specs.Geometry.{inodes_of, data_pages_of, slots_of}
-use Rattle.layout.specs.Fields.{inode_kind, page_owner, slot_inode, slot_pointer, slot_words}
+use Rattle.layout.specs.Fields.{inode_kind, page_owner, page_kind, slot_inode, slot_pointer, slot_words}
 use Rattle.image_reading.specs.Reading.{IsDirectory, IsHeld, IsReachedSlot, IsPageOf, slot_owner}
 use Rattle.image_reading.specs.Repairs.{IsPointer}
 use Rattle.image_reading.specs.Counts.{Count}
@@ -18,6 +18,28 @@ Finds Q found = MatchOption found ((x : ℕ) → Q x) (λ place. ((x : ℕ) → 
 pub record IsRename (P : ℕ) (I : List ℕ) (target inode : ℕ) : Type 0 where
   pub all : (d : ℕ) → IsPointer P I d → (slot_pointer P I d ≡ target) × (slot_inode P I d ≡ inode)
   pub some : target ≢ 0 → (d : ℕ) × IsHeld P I d × (slot_pointer P I d ≡ target) × (slot_inode P I d ≡ inode)
+
+-- the held slot with a rename pointer, or none where no held slot has one
+abbrev pub IsPointerAt : ℕ → List ℕ → Option ℕ → Type 0
+IsPointerAt P I pointer = MatchOption pointer ((s : ℕ) → IsPointer P I s → ⊥) (λ s. IsPointer P I s)
+
+-- ---- held pages
+
+-- a data page that is held as a directory page
+pub record IsHeldPage (P : ℕ) (I : List ℕ) (j : ℕ) : Type 0 where
+  pub in_range : j < data_pages_of P
+  pub kind : page_kind P I j ≡ 2
+  pub owned : page_owner P I j ≢ 0
+
+-- From page n on the first held page is v - 1; there is none where v is 0.
+pub record IsNextHeld (P : ℕ) (I : List ℕ) (n v : ℕ) : Type 0 where
+  pub there : v ≢ 0 → (n < v) × IsHeldPage P I (v - 1)
+  pub least : (j : ℕ) → n ≤ j → IsHeldPage P I j → (v ≢ 0) × (v ≤ j + 1)
+
+-- For each page, and behind the last, the first held page from there on.
+pub record AreHeld (P : ℕ) (I held : List ℕ) : Type 0 where
+  pub pages : length held ≡ data_pages_of P + 1
+  pub nexts : (n : ℕ) → n ≤ data_pages_of P → IsNextHeld P I n (slice_index held n)
 
 -- ---- the pages of an owner
 

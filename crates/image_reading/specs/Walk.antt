@@ -3,7 +3,7 @@ use Rattle.std.specs.Prelude.{◌≡◌, ◌↔◌, ◌⊎◌, ℕ, ◌+◌, ◌
 use Rattle.layout.specs.Geometry.{inodes_of, data_pages_of, slots_of, page_of_slot}
 use Rattle.layout.specs.Fields.{page_owner, slot_inode}
 use Rattle.image_reading.specs.Reading.{IsDirectory, slot_owner, IsLive, Reached}
-use Rattle.image_reading.specs.Scan.{IsRename, IsLinked, KeepsBelow}
+use Rattle.image_reading.specs.Scan.{IsRename, AreHeld, IsLinked, KeepsBelow}
 use Rattle.image_reading.specs.Soundness.{NamesInode}
 use Rattle.image_reading.specs.declared.held.Rename.{Rename}
 use Rattle.image_reading.specs.Marks.{IsMarked}
@@ -88,14 +88,15 @@ pub record Knows (P : ℕ) (I : List ℕ) (reach : Reach) : Type 0 where
   pub size : vec_len reach.reached ≡ inodes_of P + 1
   pub reached : (i : ℕ) → IsFound reach i ↔ Reached P I i
 
--- The lists have the pages of each inode, and the walk is done.
-pub record IsWalkDone (P : ℕ) (I first next : List ℕ) (reach : Reach) : Type 0 where
+-- The lists have the pages of each inode and the held pages, and the walk is done.
+pub record IsWalkDone (P : ℕ) (I first next held : List ℕ) (reach : Reach) : Type 0 where
   pub linked : IsLinked P I first next
+  pub held_pages : AreHeld P I held
   pub known : Knows P I reach
 
 -- and so of an image
 abbrev pub IsWalked : Walked → Type 0
-IsWalked walked = IsWalkDone walked.image.geometry.pages walked.image.words.now walked.lists.first.now walked.lists.next.now walked.reach.now
+IsWalked walked = IsWalkDone walked.image.geometry.pages walked.image.words.now walked.lists.first.now walked.lists.next.now walked.lists.held.now walked.reach.now
 
 -- The rules below this number hold.
 pub record IsWalkedBelow (n : ℕ) (walked : Walked) : Type 0 where

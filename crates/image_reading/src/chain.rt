@@ -1,6 +1,6 @@
 // The rules, one after another.
-ghost use Rattle.std.specs.Prelude.{◌≡◌, ◌*◌, ◌+◌, length};
-ghost use Rattle.image_reading.specs.Scan.{AreCounted, FindsFault};
+ghost use Rattle.std.specs.Prelude.{◌≡◌, ◌*◌, ◌+◌, None, length};
+ghost use Rattle.image_reading.specs.Scan.{AreCounted, AreHeld, FindsFault, IsPointerAt, KeepsBelow};
 ghost use Rattle.image_reading.specs.Walk.{IsWalkedBelow};
 
 use crate::Violation;
@@ -14,9 +14,9 @@ use crate::faults::names::own_names_broken_at;
 use crate::faults::pointers::{one_pointer_broken_at, pointers_broken_at};
 use crate::image::{Image, Walked};
 
-/// Rules 1 to 4, which need no walk.
+/// Rules 1 and 2, which are about the head and the root.
 pub fn fault_of_head(image: &Image<'_>) -> Option<Violation>
-    ensures { FindsFault image.now.geometry.pages image.now.words.now 5 result }
+    ensures { FindsFault image.now.geometry.pages image.now.words.now 3 result }
 {
     if let Some(place) = head_broken_at(image) {
         return Some(Violation { rule: 1, place });
@@ -24,10 +24,24 @@ pub fn fault_of_head(image: &Image<'_>) -> Option<Violation>
     if let Some(place) = root_broken_at(image) {
         return Some(Violation { rule: 2, place });
     }
-    if let Some(place) = pointers_broken_at(image) {
+    None
+}
+
+/// Rules 3 and 4, which are about rename pointers. Where they hold, `pointer` is set to the slot that has one.
+pub fn fault_of_pointers(
+    image: &Image<'_>,
+    held: &[u64],
+    pointer: &mut Option<u64>,
+) -> Option<Violation>
+    requires kept { KeepsBelow image.now.geometry.pages image.now.words.now 3 }
+    requires held { AreHeld image.now.geometry.pages image.now.words.now held.now }
+    ensures found { FindsFault image.now.geometry.pages image.now.words.now 5 result }
+    ensures pointer { result ≡ None → IsPointerAt image.now.geometry.pages image.now.words.now pointer.new }
+{
+    if let Some(place) = pointers_broken_at(image, held) {
         return Some(Violation { rule: 3, place });
     }
-    if let Some(place) = one_pointer_broken_at(image) {
+    if let Some(place) = one_pointer_broken_at(image, held, pointer) {
         return Some(Violation { rule: 4, place });
     }
     None

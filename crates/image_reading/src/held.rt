@@ -1,10 +1,10 @@
 // Which slots are held, and their rename pointer.
-ghost use Rattle.std.specs.Prelude.{◌≡◌, ◌↔◌, ◌*◌, ◌<◌, ℕ, IsTrue, MatchOption, length};
+ghost use Rattle.std.specs.Prelude.{◌≡◌, ◌↔◌, ◌*◌, ◌<◌, ℕ, IsTrue, length};
 ghost use Rattle.layout.specs.Geometry.{data_pages_of, slots_of};
 ghost use Rattle.image_reading.specs.Images.{In};
 ghost use Rattle.image_reading.specs.Reading.{IsHeld, IsLive, slot_owner};
 ghost use Rattle.image_reading.specs.Soundness.{IsOnlyPointer};
-ghost use Rattle.image_reading.specs.Scan.{IsRename};
+ghost use Rattle.image_reading.specs.Scan.{IsRename, IsPointerAt};
 ghost use Rattle.image_reading.specs.Repairs.{IsPointer};
 ghost use Rattle.image_reading.specs.Litter.{HasLiveSlot};
 
@@ -55,24 +55,13 @@ pub struct Rename {
     pub inode: u64,
 }
 
-/// The first held slot with a rename pointer.
-pub fn pointer_of(image: &Image<'_>) -> Option<u64>
-    ensures { MatchOption result ((s : ℕ) → ¬ In image.now IsPointer s) (λ s. In image.now IsPointer s) }
-{
-    for slot in 0..image.geometry.slots() {
-        if has_pointer(image, slot) {
-            return Some(slot);
-        }
-    }
-    None
-}
-
-/// The rename pointer, where one held slot at most has one.
-pub fn rename_of(image: &Image<'_>) -> Rename
-    requires { (s : ℕ) → In image.now IsOnlyPointer s }
+/// The rename pointer, where one held slot at most has one: the one at this slot.
+pub fn rename_of(image: &Image<'_>, pointer: Option<u64>) -> Rename
+    requires only { (s : ℕ) → In image.now IsOnlyPointer s }
+    requires pointer { IsPointerAt image.now.geometry.pages image.now.words.now pointer }
     ensures { IsRename image.now.geometry.pages image.now.words.now result.target result.inode }
 {
-    let Some(slot) = pointer_of(image) else {
+    let Some(slot) = pointer else {
         return Rename {
             target: 0,
             inode: 0,

@@ -27,7 +27,8 @@ impl<'a> Walked<'a> {
 
     /// The image of these words, with what the walk of it has found.
     pub fn new(image: Image<'a>, lists: Lists<'a>, reach: &'a Reach) -> Walked<'a>
-        requires { IsWalkDone image.geometry.pages image.words.now lists.first.now lists.next.now reach.now }
+        requires { IsWalkDone image.geometry.pages image.words.now lists.first.now lists.next.now lists.held.now
+            reach.now }
         ensures walked { IsWalked result }
         ensures geometry { result.image.geometry ≡ image.entry.geometry }
         ensures words { result.image.words.now ≡ image.entry.words.now }

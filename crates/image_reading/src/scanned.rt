@@ -10,6 +10,8 @@ pub struct Scanned<'a> {
     /// The words, and the size of their volume.
     pub image: Image<'a>,
     pub(crate) reach: &'a Reach,
+    // The held slot with a rename pointer.
+    pub(crate) pointer: Option<u64>,
     pub(crate) tally: &'a [u64],
 }
 
@@ -77,7 +79,7 @@ impl<'a> Scanned<'a> {
         requires { IsScanned self.now }
         ensures { (slot : ℕ) → (result ≡ Some slot) ↔ In self.now.image IsPointer slot }
     {
-        held::pointer_of(&self.image)
+        self.pointer
     }
 
     /// The slot that a committed rename left.

@@ -1,5 +1,6 @@
 use super::*;
 use crate::superblock::{MAGIC, MAGIC_WORD, VERSION};
+use std::cmp::Ordering;
 use std::test::Fail;
 
 #[test]
@@ -90,6 +91,28 @@ fn names_and_their_faults(rt: HostRuntime) -> Result<(), Fail> {
     assert_eq!(rt; name_of_words(&[0; 14]), None);
     assert!(rt; a < b);
     assert!(rt; a != b);
+    Ok(())
+}
+
+#[test]
+fn order_of_names_in_words(rt: HostRuntime) -> Result<(), Fail> {
+    let mut last = [b'x'; 110];
+    last[109] = b'y';
+    for (left, right) in [
+        (b"a".as_slice(), b"b".as_slice()),
+        (b"a".as_slice(), b"a\x01".as_slice()),
+        (b"aa".as_slice(), b"b".as_slice()),
+        (b"aaaaaaaaa".as_slice(), b"aaaaaaab".as_slice()),
+        (b"a\x7f".as_slice(), b"a\x80".as_slice()),
+        ([b'x'; 110].as_slice(), last.as_slice()),
+        ([b'x'; 109].as_slice(), [b'x'; 110].as_slice()),
+    ] {
+        let low = name_words(&Name::new(left).ok().ok_or("no name")?);
+        let high = name_words(&Name::new(right).ok().ok_or("no name")?);
+        assert_eq!(rt; cmp_name_words(&low, &high), Ordering::Less);
+        assert_eq!(rt; cmp_name_words(&high, &low), Ordering::Greater);
+        assert_eq!(rt; cmp_name_words(&low, &low), Ordering::Equal);
+    }
     Ok(())
 }
 

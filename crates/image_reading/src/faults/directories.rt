@@ -6,6 +6,7 @@ ghost use Rattle.image_reading.specs.Scan.{Finds};
 ghost use Rattle.image_reading.specs.Walk.{IsNumbered};
 
 use crate::image::Walked;
+use crate::pages::next_held;
 use crate::slots::names_directory;
 
 /// Rule 9: no two reached slots name one directory. `named` is overwritten.
@@ -15,7 +16,8 @@ pub fn own_directories_broken_at(walked: &Walked<'_>, named: &mut [bool]) -> Opt
     ensures { Finds (In walked.now.image HasOwnDirectory) result }
 {
     named.fill(false);
-    for slot in 0..walked.image.geometry.slots() {
+    let mut slot = next_held(&walked.image, walked.lists.held, 0);
+    while slot < walked.image.geometry.slots() {
         if names_directory(walked, slot) {
             let inode = walked
                 .image
@@ -27,6 +29,7 @@ pub fn own_directories_broken_at(walked: &Walked<'_>, named: &mut [bool]) -> Opt
             }
             named[inode] = true;
         }
+        slot = next_held(&walked.image, walked.lists.held, slot + 1);
     }
     None
 }

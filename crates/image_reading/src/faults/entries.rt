@@ -6,6 +6,7 @@ ghost use Rattle.image_reading.specs.Scan.{Finds};
 ghost use Rattle.image_reading.specs.Walk.{IsWalked};
 
 use crate::image::Walked;
+use crate::pages::next_held;
 use crate::slots::is_reached_slot;
 use layout::{ROOT, name_of_words};
 
@@ -14,10 +15,12 @@ pub fn inodes_broken_at(walked: &Walked<'_>) -> Option<u64>
     requires { IsWalked walked.now }
     ensures { Finds (In walked.now.image NamesInode) result }
 {
-    for slot in 0..walked.image.geometry.slots() {
+    let mut slot = next_held(&walked.image, walked.lists.held, 0);
+    while slot < walked.image.geometry.slots() {
         if !names_inode(walked, slot) {
             return Some(slot);
         }
+        slot = next_held(&walked.image, walked.lists.held, slot + 1);
     }
     None
 }
@@ -46,10 +49,12 @@ pub fn names_broken_at(walked: &Walked<'_>) -> Option<u64>
     requires { IsWalked walked.now }
     ensures { Finds (In walked.now.image HasName) result }
 {
-    for slot in 0..walked.image.geometry.slots() {
+    let mut slot = next_held(&walked.image, walked.lists.held, 0);
+    while slot < walked.image.geometry.slots() {
         if !has_name(walked, slot) {
             return Some(slot);
         }
+        slot = next_held(&walked.image, walked.lists.held, slot + 1);
     }
     None
 }

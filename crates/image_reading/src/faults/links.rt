@@ -7,6 +7,7 @@ ghost use Rattle.image_reading.specs.Walk.{IsWalked, IsNumbered};
 
 use crate::held::owner_of;
 use crate::image::{Image, Walked};
+use crate::pages::next_held;
 use crate::slots::is_reached_slot;
 use layout::{DIRECTORY, FILE};
 
@@ -57,11 +58,13 @@ pub fn count_links(walked: &Walked<'_>, tally: &mut [u64])
     ensures { AreCounted walked.now.image.geometry.pages walked.now.image.words.now tally.new }
 {
     tally.fill(0);
-    for slot in 0..walked.image.geometry.slots() {
+    let mut slot = next_held(&walked.image, walked.lists.held, 0);
+    while slot < walked.image.geometry.slots() {
         if is_reached_slot(walked, slot) {
             let inode = credited(&walked.image, slot) as usize;
             tally[inode] += 1;
         }
+        slot = next_held(&walked.image, walked.lists.held, slot + 1);
     }
 }
 

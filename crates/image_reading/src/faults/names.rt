@@ -9,6 +9,7 @@ ghost use Rattle.image_reading.specs.Walk.{IsWalked};
 
 use crate::held::owner_of;
 use crate::image::Walked;
+use crate::pages::next_held;
 use crate::slots::is_reached_slot;
 use layout::PAGE_SLOTS;
 
@@ -18,10 +19,12 @@ pub fn own_names_broken_at(walked: &Walked<'_>) -> Option<u64>
     requires named { (s : ℕ) → In walked.now.image HasName s }
     ensures { Finds (In walked.now.image HasOwnName) result }
 {
-    for slot in 0..walked.image.geometry.slots() {
+    let mut slot = next_held(&walked.image, walked.lists.held, 0);
+    while slot < walked.image.geometry.slots() {
         if is_reached_slot(walked, slot) && has_twin(walked, slot) {
             return Some(slot);
         }
+        slot = next_held(&walked.image, walked.lists.held, slot + 1);
     }
     None
 }

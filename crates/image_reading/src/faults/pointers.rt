@@ -1,21 +1,25 @@
 // The rename pointers of held slots.
-ghost use Rattle.std.specs.Prelude.{◌≡◌, ◌↔◌, ◌*◌, ◌<◌, ℕ, IsTrue, length};
+ghost use Rattle.std.specs.Prelude.{◌≡◌, ◌↔◌, ◌*◌, ◌<◌, ℕ, IsTrue, None, length};
 ghost use Rattle.layout.specs.Geometry.{slots_of};
 ghost use Rattle.image_reading.specs.Images.{In};
 ghost use Rattle.image_reading.specs.Soundness.{PointsAtHeld, IsOnlyPointer};
-ghost use Rattle.image_reading.specs.Scan.{Finds};
+ghost use Rattle.image_reading.specs.Scan.{Finds, AreHeld, IsPointerAt};
 
 use crate::held::{has_pointer, is_held};
 use crate::image::Image;
+use crate::pages::next_held;
 
 /// Rule 3: a held slot's rename pointer is 0 or names another held slot.
-pub fn pointers_broken_at(image: &Image<'_>) -> Option<u64>
+pub fn pointers_broken_at(image: &Image<'_>, held: &[u64]) -> Option<u64>
+    requires { AreHeld image.now.geometry.pages image.now.words.now held.now }
     ensures { Finds (In image.now PointsAtHeld) result }
 {
-    for slot in 0..image.geometry.slots() {
+    let mut slot = next_held(image, held, 0);
+    while slot < image.geometry.slots() {
         if !points_at_held(image, slot) {
             return Some(slot);
         }
+        slot = next_held(image, held, slot + 1);
     }
     None
 }
@@ -38,18 +42,27 @@ fn points_at_held(image: &Image<'_>, slot: u64) -> bool
     is_held(image, pointer - 1)
 }
 
-/// Rule 4: one held slot at most has a rename pointer.
-pub fn one_pointer_broken_at(image: &Image<'_>) -> Option<u64>
-    ensures { Finds (In image.now IsOnlyPointer) result }
+/// Rule 4: one held slot at most has a rename pointer. Where that holds, `pointer` is set to the slot that has it.
+pub fn one_pointer_broken_at(
+    image: &Image<'_>,
+    held: &[u64],
+    pointer: &mut Option<u64>,
+) -> Option<u64>
+    requires { AreHeld image.now.geometry.pages image.now.words.now held.now }
+    ensures found { Finds (In image.now IsOnlyPointer) result }
+    ensures pointer { result ≡ None → IsPointerAt image.now.geometry.pages image.now.words.now pointer.new }
 {
-    let mut found = false;
-    for slot in 0..image.geometry.slots() {
+    let mut found = None;
+    let mut slot = next_held(image, held, 0);
+    while slot < image.geometry.slots() {
         if has_pointer(image, slot) {
-            if found {
+            if found.is_some() {
                 return Some(slot);
             }
-            found = true;
+            found = Some(slot);
         }
+        slot = next_held(image, held, slot + 1);
     }
+    *pointer = found;
     None
 }

@@ -16,29 +16,10 @@ returns-in-Some-root_broken_at c =
     let after_head = lemmas.keeps_more P I Rule.head (lemmas.keeps_none P I) c.in_default.ensures in
     lemmas.fault_at P I Rule.root _ refl after_head c.in-Some-root_broken_at.ensures
 
-pub returns-in-Some-pointers_broken_at : goal.returns-in-Some-pointers_broken_at
-returns-in-Some-pointers_broken_at c =
-    let P = c.args.image.now.geometry.pages in
-    let I = c.args.image.now.words.now in
-    let after_head = lemmas.keeps_more P I Rule.head (lemmas.keeps_none P I) c.in_default.ensures in
-    let after_root = lemmas.keeps_more P I Rule.root after_head c.in_default-root_broken_at.ensures in
-    lemmas.fault_at P I Rule.pointers _ refl after_root c.in-Some-pointers_broken_at.ensures
-
-pub returns-in-Some-one_pointer_broken_at : goal.returns-in-Some-one_pointer_broken_at
-returns-in-Some-one_pointer_broken_at c =
-    let P = c.args.image.now.geometry.pages in
-    let I = c.args.image.now.words.now in
-    let after_head = lemmas.keeps_more P I Rule.head (lemmas.keeps_none P I) c.in_default.ensures in
-    let after_root = lemmas.keeps_more P I Rule.root after_head c.in_default-root_broken_at.ensures in
-    let after_pointers = lemmas.keeps_more P I Rule.pointers after_root c.in_default-pointers_broken_at.ensures in
-    lemmas.fault_at P I Rule.one_pointer _ refl after_pointers c.in-Some-one_pointer_broken_at.ensures
-
 pub returns : goal.returns
 returns c =
     let P = c.args.image.now.geometry.pages in
     let I = c.args.image.now.words.now in
     let after_head = lemmas.keeps_more P I Rule.head (lemmas.keeps_none P I) c.in_default.ensures in
     let after_root = lemmas.keeps_more P I Rule.root after_head c.in_default-root_broken_at.ensures in
-    let after_pointers = lemmas.keeps_more P I Rule.pointers after_root c.in_default-pointers_broken_at.ensures in
-    let after_one_pointer = lemmas.keeps_more P I Rule.one_pointer after_pointers c.in_default-one_pointer_broken_at.ensures in
-    after_one_pointer
+    after_root

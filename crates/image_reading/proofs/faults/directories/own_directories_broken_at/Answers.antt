@@ -1,5 +1,7 @@
 use Rattle.std.proofs.Common.{◌+◌, length, below_more, sym, subst, arith}
 use Rattle.std.proofs.lemmas.Bool.{iff_false, both_ways}
+use Rattle.image_reading.proofs.Places.{holds_at_all}
+use Rattle.image_reading.proofs.HeldPages.{up_to, own_directories_free, not_held_past}
 use Rattle.image_reading.proofs.Named as lemmas
 use Rattle.image_reading.proofs.faults.directories.own_directories_broken_at.Goals as goal
 use Rattle.image_reading.proofs.faults.directories.own_directories_broken_at.Goals.{then-names_directory+else-named-inode, else-names_directory}
@@ -29,6 +31,8 @@ loop-slot-preserved c =
     let P = c.args.walked.now.image.geometry.pages in
     let I = c.args.walked.now.image.words.now in
     let s = c.loop-slot.slot in
+    let m = c.next_held-slot-in-loop-slot.result in
+    let next = c.next_held-slot-in-loop-slot.ensures in
     let marks = c.loop-slot.invariant.marks in
     elim c.if-names_directory.branch [
       | then-names_directory+else-named-inode w ↦
@@ -37,13 +41,23 @@ loop-slot-preserved c =
           let within = lemmas.naming_within P I s inode g.inodes (length c.loop-slot.named) w.slot_at-inode.ensures.inode naming c.requires.walked.numbers g.inodes_exact
           (omega (arith, c.loop-slot.auto.named, c.fill.ensures.len, c.requires.inodes)) in
           record {
-            kept = below_more _ _ c.loop-slot.invariant.kept (lemmas.own_at P I s c.loop-slot.named marks inode w.slot_at-inode.ensures.inode naming (both_ways _ w.if-named-inode.false));
-            marks = subst (lemmas.AreNamed P I (s + 1)) (sym w.named-is) (lemmas.named_more P I s c.loop-slot.named marks inode w.slot_at-inode.ensures.inode naming within);
+            within = next.in_range;
+            kept = up_to P I _ (own_directories_free P I) (s + 1) m
+                (below_more _ _ c.loop-slot.invariant.kept (lemmas.own_at P I s c.loop-slot.named marks inode w.slot_at-inode.ensures.inode naming (both_ways _ w.if-named-inode.false))) next.passed;
+            marks = subst (lemmas.AreNamed P I m) (sym w.named-is)
+                (lemmas.named_up_to P I (s + 1) m _ next.later next.passed (lemmas.named_more P I s c.loop-slot.named marks inode w.slot_at-inode.ensures.inode naming within));
           }
       | else-names_directory w ↦
           let none = iff_false c.names_directory.ensures w.if-names_directory.false in
           record {
-            kept = below_more _ _ c.loop-slot.invariant.kept (lemmas.own_at_none P I s c.loop-slot.named marks none);
-            marks = subst (lemmas.AreNamed P I (s + 1)) (sym w.named-is) (lemmas.named_same P I s c.loop-slot.named marks none);
+            within = next.in_range;
+            kept = up_to P I _ (own_directories_free P I) (s + 1) m (below_more _ _ c.loop-slot.invariant.kept (lemmas.own_at_none P I s c.loop-slot.named marks none)) next.passed;
+            marks = subst (lemmas.AreNamed P I m) (sym w.named-is) (lemmas.named_up_to P I (s + 1) m _ next.later next.passed (lemmas.named_same P I s c.loop-slot.named marks none));
           }
     ]
+
+pub returns : goal.returns
+returns c =
+    let P = c.args.walked.now.image.geometry.pages in
+    let I = c.args.walked.now.image.words.now in
+    holds_at_all _ _ c.loop-slot.invariant.kept (λ x past. own_directories_free P I x (not_held_past P I x (omega (arith, past, c.loop-slot-test.false, c.slots.ensures))))

@@ -52,8 +52,8 @@ bounds-tally-inode-then-is_reached_slot c =
     omega (arith, within, c.credited-inode.ensures)
 
 pub returns : goal.returns
-returns c = lemmas.tallied_all c.args.walked.now.image.geometry.pages c.args.walked.now.image.words.now c.loop-slot.slot c.loop-slot.tally (omega (arith, c.loop-slot-test.false, c.slots-slot-end.ensures))
-    (omega (arith, c.loop-slot.auto.tally, c.fill.ensures.len, c.requires.inodes, c.args.walked.now.image.geometry.inodes_exact)) c.loop-slot.invariant
+returns c = lemmas.tallied_all c.args.walked.now.image.geometry.pages c.args.walked.now.image.words.now c.loop-slot.slot c.loop-slot.tally (omega (arith, c.loop-slot-test.false, c.slots.ensures))
+    (omega (arith, c.loop-slot.auto.tally, c.fill.ensures.len, c.requires.inodes, c.args.walked.now.image.geometry.inodes_exact)) c.loop-slot.invariant.tallied
 
 pub loop-slot-preserved : goal.loop-slot-preserved
 loop-slot-preserved c =
@@ -61,15 +61,24 @@ loop-slot-preserved c =
     let P = g.pages in
     let I = c.args.walked.now.image.words.now in
     let s = c.loop-slot.slot in
-    let t = c.loop-slot.invariant in
+    let m = c.next_held-slot-in-loop-slot.result in
+    let next = c.next_held-slot-in-loop-slot.ensures in
+    let t = c.loop-slot.invariant.tallied in
     elim c.if-is_reached_slot.branch [
       | then-is_reached_slot w ↦
           let slot = c.is_reached_slot.ensures.0 w.if-is_reached_slot.true in
           let owner = (reached_range P I (slot_owner P I s) (one_inode P g.volume_size) slot.owner).1 in
           let within = lemmas.credited_within P I s g.inodes (length c.loop-slot.tally) slot (c.requires.walked.numbers s) g.inodes_exact
           (omega (arith, c.loop-slot.auto.tally, c.fill.ensures.len, c.requires.inodes)) owner in
-          subst (lemmas.AreTallied P I (s + 1)) (sym w.tally-is)
-          (lemmas.tallied_more P I s c.loop-slot.tally w.credited-inode.result slot w.credited-inode.ensures (omega (arith, within, w.credited-inode.ensures)) t)
-      | else-is_reached_slot w ↦ subst (lemmas.AreTallied P I (s + 1)) (sym w.tally-is)
-          (lemmas.tallied_same P I s c.loop-slot.tally (iff_false c.is_reached_slot.ensures w.if-is_reached_slot.false) t)
+          record {
+            within = next.in_range;
+            tallied = subst (lemmas.AreTallied P I m) (sym w.tally-is)
+                (lemmas.tallied_up_to P I (s + 1) m _ next.later next.passed
+                (lemmas.tallied_more P I s c.loop-slot.tally w.credited-inode.result slot w.credited-inode.ensures (omega (arith, within, w.credited-inode.ensures)) t));
+          }
+      | else-is_reached_slot w ↦ record {
+        within = next.in_range;
+        tallied = subst (lemmas.AreTallied P I m) (sym w.tally-is)
+            (lemmas.tallied_up_to P I (s + 1) m _ next.later next.passed (lemmas.tallied_same P I s c.loop-slot.tally (iff_false c.is_reached_slot.ensures w.if-is_reached_slot.false) t));
+      }
     ]

@@ -11,5 +11,6 @@ returns-clause-known c =
     record {
       sound = subst (λ (n : ℕ). Sound n I) (pages_are P I c.requires.made_for) c.requires.sound;
       known = c.requires.known.walk.known;
+      pointer = c.requires.known.pointer;
       counted = subst (λ (t : List ℕ). AreCounted P I t) (sym c.as_slice.ensures.value) c.requires.known.counted;
     }

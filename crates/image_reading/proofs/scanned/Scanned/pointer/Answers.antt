@@ -9,4 +9,4 @@ exactly P I None sound none = none_at (IsPointer P I) none
 exactly P I (Some p) sound here = only_at (IsPointer P I) p here (λ s. one_pointer P I p s sound here)
 
 pub returns : goal.returns
-returns c = let image = c.args.self.now.image in exactly image.geometry.pages image.words.now c.pointer_of.result c.requires.sound c.pointer_of.ensures
+returns c = let image = c.args.self.now.image in exactly image.geometry.pages image.words.now c.args.self.now.pointer c.requires.sound c.requires.pointer
