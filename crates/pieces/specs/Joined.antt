@@ -1,5 +1,5 @@
 -- Pieces of a list, and where each begins in it.
-use Rattle.std.specs.Prelude.{◌≡◌, ℕ, ◌+◌, ◌^◌, ◌<◌, ◌≤◌, List, length, take, slice_index}
+use Rattle.std.specs.Prelude.{◌≡◌, ℕ, ◌+◌, ◌^◌, ◌<◌, ◌≤◌, List, length, take, slice_index, slice_index_or}
 use Rattle.std.specs.List.{flat_map}
 use Rattle.std.specs.Vec.{vec_len, vec_capacity}
 use Rattle.std.specs.declared.vec.Vec.{Vec}
@@ -22,3 +22,7 @@ pub record IsCounted {T : Type 0} (pieces : List (Vec T Global)) (starts : List 
 pub record IsPiece {T : Type 0} (piece : Vec T Global) : Type 0 where
   pub len : vec_len piece ≤ 256
   pub capacity : 256 ≤ vec_capacity piece
+
+-- the items of a piece and of the one behind it fit one piece
+abbrev pub IsTogetherPiece : {T : Type 0} → List (Vec T Global) → ℕ → Type 0
+IsTogetherPiece {T} pieces k = (first second : Vec T Global) → vec_len (slice_index_or pieces k first) + vec_len (slice_index_or pieces (k + 1) second) ≤ 256

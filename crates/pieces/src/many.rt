@@ -1,8 +1,8 @@
 // One piece or more.
-ghost use Rattle.std.specs.Prelude.{◌≡◌, ◌+◌, ◌-◌, ◌^◌, ◌<◌, ◌≤◌, [], ◌∷◌, ◌++◌, ℕ, length, take, drop, insert, slice_get, slice_index, vec_len, vec_capacity, IsOk, OnOk, Some};
+ghost use Rattle.std.specs.Prelude.{◌≡◌, ◌+◌, ◌-◌, ◌^◌, ◌<◌, ◌≤◌, [], ◌∷◌, ◌++◌, ℕ, length, take, drop, insert, remove, slice_get, slice_index, vec_len, vec_capacity, IsTrue, IsOk, OnOk, Some};
 
 ghost use Rattle.std.specs.List.{HoldsAt};
-ghost use Rattle.pieces.specs.Joined.{IsPiece};
+ghost use Rattle.pieces.specs.Joined.{IsPiece, IsTogetherPiece};
 ghost use Rattle.pieces.specs.Many.{all_items, IsWhole, HasRoom};
 
 use crate::counts::{count_from, piece_at};
@@ -140,6 +140,87 @@ impl<T: Drop> Many<T> {
             self.put(k, at, item);
         } else {
             self.put_in_half(k, at, item);
+        }
+    }
+
+    // Takes an item out. A piece that has few left, or none, is joined with a neighbour.
+    pub fn remove(&mut self, place: usize) -> T
+        requires whole { IsWhole self.old }
+        requires place { place < length (all_items self.old) }
+        ensures whole { IsWhole self.new }
+        ensures items { all_items self.new ≡ remove (all_items self.old) place }
+        ensures item { slice_get (all_items self.old) place ≡ Some result }
+        ensures room { HasRoom self.old → HasRoom self.new }
+        ensures some { 0 < vec_len self.new.pieces }
+    {
+        let k = piece_at(&self.starts, place);
+        let at = place - self.starts[k];
+        let item = self.take(k, at);
+        self.join_around(k);
+        item
+    }
+
+    // Takes an item out of a piece.
+    fn take(&mut self, k: usize, at: usize) -> T
+        requires whole { IsWhole self.old }
+        requires within { k < vec_len self.old.pieces }
+        requires place { HoldsAt (λ piece. at < vec_len piece) self.old.pieces.items k }
+        ensures whole { IsWhole self.new }
+        ensures items { all_items self.new
+            ≡ remove (all_items self.old) (slice_index self.old.starts.items k + at) }
+        ensures item { slice_get (all_items self.old) (slice_index self.old.starts.items k + at)
+            ≡ Some result }
+        ensures len { vec_len self.new.pieces ≡ vec_len self.old.pieces }
+        ensures room { HasRoom self.old → HasRoom self.new }
+    {
+        let item = self.pieces[k].remove(at);
+        count_from(&mut self.starts, &self.pieces, k + 1);
+        item
+    }
+
+    // Joins a piece with the one behind it or else with the one before it, where these have few items.
+    fn join_around(&mut self, k: usize)
+        requires whole { IsWhole self.old }
+        requires within { k < vec_len self.old.pieces }
+        ensures whole { IsWhole self.new }
+        ensures items { all_items self.new ≡ all_items self.old }
+        ensures some { 0 < vec_len self.new.pieces }
+        ensures room { HasRoom self.old → HasRoom self.new }
+    {
+        if k + 1 < self.pieces.len() && self.are_few(k) {
+            self.join(k);
+        } else if k > 0 && self.are_few(k - 1) {
+            self.join(k - 1);
+        }
+    }
+
+    // Whether a piece and the one behind it have half a piece at most together, or one of them has nothing.
+    fn are_few(&self, k: usize) -> bool
+        requires whole { IsWhole self.now }
+        requires within { k + 1 < vec_len self.now.pieces }
+        ensures { IsTrue result → IsTogetherPiece self.now.pieces.items k }
+    {
+        let first = self.pieces[k].len();
+        let second = self.pieces[k + 1].len();
+        first == 0 || second == 0 || first + second <= PIECE / 2
+    }
+
+    // Joins a piece with the one behind it. The emptied piece becomes the spare, where there was none.
+    fn join(&mut self, k: usize)
+        requires whole { IsWhole self.old }
+        requires within { k + 1 < vec_len self.old.pieces }
+        requires few { IsTogetherPiece self.old.pieces.items k }
+        ensures whole { IsWhole self.new }
+        ensures items { all_items self.new ≡ all_items self.old }
+        ensures some { 0 < vec_len self.new.pieces }
+        ensures room { HasRoom self.old → HasRoom self.new }
+    {
+        let mut upper = self.pieces.remove(k + 1);
+        let _ = self.pieces[k].append(&mut upper);
+        let _ = self.starts.pop();
+        count_from(&mut self.starts, &self.pieces, k + 1);
+        if self.spare.capacity() < PIECE {
+            self.spare = upper;
         }
     }
 
