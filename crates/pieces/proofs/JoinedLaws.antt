@@ -140,3 +140,10 @@ module _ {T : Type 0} where
       let same : length (get_or pieces k piece).items ≡ length piece.items = ap (λ (p : Vec T Global). length p.items) (sym read) in
       let all = count_within pieces (k + 1) in
       omega arith
+
+  pub place_in : (pieces : List (Vec T Global)) (k at : ℕ) (piece : Vec T Global) → k < length pieces → piece ≡ get_or pieces k piece → at < length piece.items → count_before pieces k + at < length (items_of pieces)
+  place_in pieces k at piece within read place =
+      let more = count_more pieces k piece within in
+      let same : length (get_or pieces k piece).items ≡ length piece.items = ap (λ (p : Vec T Global). length p.items) (sym read) in
+      let all = count_within pieces (k + 1) in
+      omega arith

@@ -4,8 +4,8 @@ use Rattle.std.specs.List.{insert, remove, HoldsAt}
 use Rattle.std.specs.declared.vec.Vec.{Vec}
 use Rattle.std.specs.declared.alloc.Global.{Global}
 use Rattle.std.proofs.lemmas.List.Edits.{length-insert, length-remove}
-use Rattle.pieces.specs.Joined.{items_of, count_before, IsPiece}
-use Rattle.pieces.proofs.JoinedLaws.{items_inserted, place_among}
+use Rattle.pieces.specs.Joined.{items_of, count_before, IsPiece, IsTogetherPiece}
+use Rattle.pieces.proofs.JoinedLaws.{items_inserted, items_removed, place_among, place_in}
 
 -- what a call says by its result, where it went well
 pub went_well : {X : Type 0} (ok : Bool) (new there before : X) → ok ≡ true → new ≡ cond ok there before → new ≡ there
@@ -30,3 +30,13 @@ module _ {T : Type 0} where
       let old_len = old.ok.0 in
       let old_capacity = piece.capacity in
       record { len = omega arith; capacity = omega arith }
+
+  pub removed_number : (pieces : List (Vec T Global)) (k at : ℕ) (old new : Vec T Global) → k < length pieces → old ≡ get_or pieces k old → at < length old.items → new.items ≡ remove old.items at → length (items_of (set pieces k new)) + 1 ≡ length (items_of pieces)
+  removed_number pieces k at old new within read place is =
+      ap (λ xs. length xs + 1) (items_removed pieces k at old new within read place is)
+      ∙ length-remove (items_of pieces) (count_before pieces k + at) (place_in pieces k at old within read place)
+
+  pub few_of : (pieces : List (Vec T Global)) (k : ℕ) (first second : Vec T Global) → IsTogetherPiece pieces k → first ≡ get_or pieces k first → second ≡ get_or pieces (k + 1) second → vec_len first + vec_len second ≤ 256
+  few_of pieces k first second few first_read second_read =
+      let with_second = subst (λ (p : Vec T Global). vec_len (get_or pieces k first) + vec_len p ≤ 256) (sym second_read) (few first second) in
+      subst (λ (p : Vec T Global). vec_len p + vec_len second ≤ 256) (sym first_read) with_second

@@ -219,8 +219,19 @@ impl<T: Drop> Many<T> {
         let _ = self.pieces[k].append(&mut upper);
         let _ = self.starts.pop();
         count_from(&mut self.starts, &self.pieces, k + 1);
-        if self.spare.capacity() < PIECE {
-            self.spare = upper;
+        self.keep(upper);
+    }
+
+    // Keeps an emptied piece as the spare, where there was none.
+    fn keep(&mut self, piece: Vec<T>)
+        requires whole { IsWhole self.old }
+        requires empty { piece.items ≡ [] }
+        ensures whole { IsWhole self.new }
+        ensures pieces { self.new.pieces ≡ self.old.pieces }
+        ensures room { HasRoom self.old → HasRoom self.new }
+    {
+        if self.spare.capacity() < piece.capacity() {
+            self.spare = piece;
         }
     }
 
