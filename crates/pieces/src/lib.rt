@@ -2,5 +2,7 @@
 #![tactic(auto)]
 
 mod counts;
+mod list;
 mod many;
 
+pub use list::Pieces;
