@@ -120,9 +120,9 @@ module _ {T : Type 0} where
   before_end pieces starts k n piece counted within read next all =
       let len = counted.len in
       let more : count_before pieces (k + 1) ≡ count_before pieces k + vec_len piece =
-          count_more pieces k piece within
-          ∙ ap (λ (p : Vec T Global). count_before pieces k + length p.items) (sym read)
-          ∙ ap (λ m. count_before pieces k + m) (sym piece.ok.0) in
+      count_more pieces k piece within
+      ∙ ap (λ (p : Vec T Global). count_before pieces k + length p.items) (sym read)
+      ∙ ap (λ m. count_before pieces k + m) (sym piece.ok.0) in
       elim (cases_lt (k + 1) (length pieces)) [
         | inl lt ↦
             let start : slice_index starts (k + 1) ≡ count_before pieces (k + 1) = counted.count (k + 1) lt in

@@ -22,10 +22,10 @@ module _ {T : Type 0} where
       let front = items_of (take k pieces) in
       let back = items_of (drop (k + 1) pieces) in
       let first : items_of (take (k + 1) (set pieces k lower)) ≡ front ++ lower.items =
-          ap items_of (take_more_set pieces k lower within) ∙ items_of-append (take k pieces) (lower ∷ []) ∙ ap (λ xs. front ++ xs) (append-nil lower.items) in
+      ap items_of (take_more_set pieces k lower within) ∙ items_of-append (take k pieces) (lower ∷ []) ∙ ap (λ xs. front ++ xs) (append-nil lower.items) in
       let last : items_of (drop (k + 1) (set pieces k lower)) ≡ back = ap items_of (drop-set-lt (k + 1) pieces k lower (omega arith)) in
       let together : lower.items ++ upper.items ≡ old.items =
-          ap (λ xs. xs ++ upper.items) lower_is ∙ ap (λ xs. take cut old.items ++ xs) upper_is ∙ take-append-drop cut old.items in
+      ap (λ xs. xs ++ upper.items) lower_is ∙ ap (λ xs. take cut old.items ++ xs) upper_is ∙ take-append-drop cut old.items in
       items_of-insert (set pieces k lower) (k + 1) upper
       ∙ ap (λ xs. xs ++ (upper.items ++ items_of (drop (k + 1) (set pieces k lower)))) first
       ∙ ap (λ xs. (front ++ lower.items) ++ (upper.items ++ xs)) last
@@ -81,7 +81,7 @@ module _ {T : Type 0} where
       let shorter = length-remove pieces (k + 1) within in
       let there : k < length (remove pieces (k + 1)) = omega arith in
       let behind : items_of (drop (k + 1) pieces) ≡ second.items ++ back =
-          ap items_of (drop_more pieces (k + 1) second within) ∙ ap (λ (p : Vec T Global). p.items ++ back) (sym second_read) in
+      ap items_of (drop_more pieces (k + 1) second within) ∙ ap (λ (p : Vec T Global). p.items ++ back) (sym second_read) in
       ap (λ ps. items_of (set ps k new)) is
       ∙ items_of-set (remove pieces (k + 1)) k new there
       ∙ ap (λ ps. items_of ps ++ (new.items ++ items_of (drop (k + 1) (remove pieces (k + 1))))) (front_stays pieces k k within (omega arith))

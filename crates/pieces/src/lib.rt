@@ -6,3 +6,6 @@ mod list;
 mod many;
 
 pub use list::Pieces;
+
+#[cfg(test)]
+mod tests;

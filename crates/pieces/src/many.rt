@@ -1,6 +1,5 @@
 // One piece or more.
 ghost use Rattle.std.specs.Prelude.{◌≡◌, ◌+◌, ◌-◌, ◌^◌, ◌<◌, ◌≤◌, [], ◌∷◌, ◌++◌, ℕ, length, take, drop, insert, remove, slice_get, slice_index, vec_len, vec_capacity, IsTrue, IsOk, OnOk, Some};
-
 ghost use Rattle.std.specs.List.{HoldsAt};
 ghost use Rattle.pieces.specs.Joined.{IsPiece, IsTogetherPiece};
 ghost use Rattle.pieces.specs.Many.{all_items, IsWhole, HasRoom};
