@@ -1,6 +1,6 @@
 -- Laws of pieces joined end to end.
-use Rattle.std.proofs.Common.{◌≡◌, ℕ, suc, ◌+◌, ◌-◌, ◌<◌, ◌≤◌, List, [], ◌∷◌, ◌++◌, length, take, drop, get_or, refl, sym, ap, subst, ◌∙◌, set, slice_get, slice_index, Some, inl, inr, arith, add-one, length-append, append_assoc}
-use Rattle.std.specs.List.{flat_map, insert, remove}
+use Rattle.std.proofs.Common.{◌≡◌, ℕ, suc, ◌+◌, ◌-◌, ◌<◌, ◌≤◌, List, [], ◌∷◌, ◌++◌, length, take, drop, get_or, refl, sym, ap, subst, ◌∙◌, set, slice_get, slice_index, Some, inl, inr, arith, add-one, length-append}
+use Rattle.std.specs.List.{insert, remove}
 use Rattle.std.specs.Vec.{vec_len}
 use Rattle.std.specs.declared.vec.Vec.{Vec}
 use Rattle.std.specs.declared.alloc.Global.{Global}

@@ -1,5 +1,5 @@
 -- How a piece changes, and what stays true of all.
-use Rattle.std.proofs.Common.{◌≡◌, ℕ, ◌+◌, ◌-◌, ◌^◌, ◌<◌, ◌≤◌, Bool, true, cond, List, length, get_or, set, All, vec_len, vec_capacity, sym, ap, subst, ◌∙◌, arith}
+use Rattle.std.proofs.Common.{◌≡◌, ℕ, ◌+◌, ◌<◌, ◌≤◌, Bool, true, cond, List, length, get_or, set, All, vec_len, vec_capacity, sym, ap, subst, ◌∙◌, arith}
 use Rattle.std.specs.List.{insert, remove, HoldsAt}
 use Rattle.std.specs.declared.vec.Vec.{Vec}
 use Rattle.std.specs.declared.alloc.Global.{Global}

@@ -1,5 +1,5 @@
 -- A piece in two, and two in one.
-use Rattle.std.proofs.Common.{◌≡◌, ℕ, suc, ◌+◌, ◌-◌, ◌^◌, ◌<◌, ◌≤◌, List, [], ◌∷◌, ◌++◌, length, take, drop, get_or, set, slice_index, All, vec_len, vec_capacity, refl, sym, ap, subst, ◌∙◌, arith, add-one, append_assoc, length-set, get_or-set_same}
+use Rattle.std.proofs.Common.{◌≡◌, ℕ, suc, ◌+◌, ◌-◌, ◌<◌, ◌≤◌, List, [], ◌∷◌, ◌++◌, length, take, drop, get_or, set, slice_index, All, sym, ap, ◌∙◌, arith, add-one, append_assoc, length-set, get_or-set_same}
 use Rattle.std.specs.List.{insert, remove}
 use Rattle.std.specs.declared.vec.Vec.{Vec}
 use Rattle.std.specs.declared.alloc.Global.{Global}

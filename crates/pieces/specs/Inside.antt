@@ -1,5 +1,5 @@
 -- How the few items of a short list, or else the pieces of a longer one, are seen. No public clause cites this module.
-use Rattle.std.specs.Prelude.{◌≡◌, ℕ, ◌-◌, ◌^◌, ◌≤◌, List, Bool, ◌&&◌, ◌==◌, if◌then◌else◌, nat_lt, nat_le, length}
+use Rattle.std.specs.Prelude.{◌-◌, ◌^◌, ◌≤◌, Bool, ◌&&◌, ◌==◌, if◌then◌else◌, nat_lt, nat_le, length}
 use Rattle.std.specs.Vec.{vec_len, vec_capacity}
 use Rattle.std.specs.declared.vec.Vec.{Vec}
 use Rattle.std.specs.declared.alloc.Global.{Global}

@@ -1,5 +1,5 @@
 -- What is true of pieces between any two calls.
-use Rattle.std.specs.Prelude.{◌≡◌, ℕ, ◌+◌, ◌-◌, ◌^◌, ◌<◌, ◌≤◌, List, [], All, length}
+use Rattle.std.specs.Prelude.{◌≡◌, ◌-◌, ◌^◌, ◌<◌, ◌≤◌, List, [], All, length}
 use Rattle.std.specs.Vec.{vec_len, vec_capacity}
 use Rattle.pieces.specs.Joined.{items_of, IsCounted, IsPiece}
 use Rattle.pieces.specs.declared.many.Many.{Many}

@@ -1,5 +1,5 @@
 -- What a contract sees of `Pieces`.
-use Rattle.std.specs.Prelude.{ℕ, List, Bool, refl}
+use Rattle.std.specs.Prelude.{List, Bool, refl}
 use Rattle.std.specs.Coded.{Coded, code_by, coded×, coded_bool, coded_list}
 
 -- the items, in order, and whether there is memory for one more, wherever it goes

@@ -1,4 +1,4 @@
-use Rattle.std.proofs.Common.{◌≡◌, ◌+◌, ◌-◌, ◌<◌, ◌≤◌, length, slice_index}
+use Rattle.std.proofs.Common.{◌-◌, ◌<◌, ◌≤◌, length, slice_index}
 use Rattle.pieces.proofs.counts.piece_at.Given as goal
 
 abbrev pub invariant-loop-high : goal.invariant-loop-high

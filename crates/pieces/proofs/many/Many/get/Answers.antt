@@ -1,6 +1,6 @@
-use Rattle.std.proofs.Common.{◌≡◌, ◌+◌, ◌-◌, ◌<◌, ◌≤◌, length, slice_index, get_or, vec_len, subst, arith}
+use Rattle.std.proofs.Common.{◌≡◌, ◌+◌, ◌-◌, ◌<◌, ◌≤◌, length, slice_index, subst, arith}
 use Rattle.std.proofs.lemmas.List.{get_or_read}
-use Rattle.pieces.specs.Joined.{items_of, count_before}
+use Rattle.pieces.specs.Joined.{count_before}
 use Rattle.pieces.proofs.JoinedLaws.{item_at, before_end}
 use Rattle.pieces.proofs.many.Many.get.Goals as goal
 

@@ -1,6 +1,6 @@
-use Rattle.std.proofs.Common.{◌≡◌, ℕ, ◌+◌, ◌-◌, ◌<◌, ◌≤◌, [], ◌∷◌, ◌++◌, true, is_ok, length, take, slice_index, vec_len, vec_capacity, ap, sym, ◌∙◌, arith, length-append}
+use Rattle.std.proofs.Common.{◌≡◌, ◌+◌, ◌-◌, ◌<◌, ◌++◌, true, is_ok, length, take, slice_index, ap, ◌∙◌, arith, length-append}
 use Rattle.std.specs.List.{remove}
-use Rattle.pieces.specs.Joined.{items_of, count_before, IsPiece}
+use Rattle.pieces.specs.Joined.{items_of, IsPiece}
 use Rattle.pieces.proofs.ManyLaws.{went_well, piece_of, few_of}
 use Rattle.pieces.proofs.SplitLaws.{first_read, items_joined, counted_joined, sized_joined}
 use Rattle.pieces.proofs.many.Many.join.Goals as goal

@@ -1,7 +1,7 @@
-use Rattle.std.proofs.Common.{◌≡◌, ◌+◌, ◌-◌, ◌<◌, ◌≤◌, true, is_ok, length, slice_index, vec_len, ap, sym, ◌∙◌, arith}
+use Rattle.std.proofs.Common.{◌≡◌, ◌+◌, ◌<◌, ◌≤◌, true, is_ok, length, vec_len, ap, sym, ◌∙◌, arith}
 use Rattle.std.specs.List.{insert}
 use Rattle.std.proofs.lemmas.List.Elements.{All-set}
-use Rattle.pieces.specs.Joined.{items_of, count_before, IsPiece}
+use Rattle.pieces.specs.Joined.{items_of, IsPiece}
 use Rattle.pieces.proofs.JoinedLaws.{items_inserted}
 use Rattle.pieces.proofs.ManyLaws.{went_well, at_piece, piece_of, put_in_number, put_in_piece}
 use Rattle.pieces.proofs.many.Many.put.Goals as goal

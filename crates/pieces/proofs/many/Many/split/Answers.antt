@@ -1,9 +1,9 @@
-use Rattle.std.proofs.Common.{rules, ◌≡◌, ℕ, ◌+◌, ◌-◌, ◌<◌, ◌≤◌, [], ◌∷◌, ◌++◌, true, is_ok, length, set, All, slice_index, vec_len, vec_capacity, ap, sym, subst, ◌∙◌, arith}
+use Rattle.std.proofs.Common.{rules, ◌≡◌, ◌+◌, ◌<◌, ◌≤◌, true, is_ok, length, set, slice_index, vec_len, vec_capacity, ap, sym, ◌∙◌, arith}
 use Rattle.std.proofs.lemmas.List.Elements.{All-set, All-same}
 use Rattle.std.proofs.lemmas.List.{length-drop, length-take-le}
 use Rattle.pieces.specs.Joined.{items_of, count_before, IsPiece}
 use Rattle.pieces.proofs.ManyLaws.{went_well, at_piece, piece_of}
-use Rattle.pieces.proofs.SplitLaws.{All-insert, halved, items_halved, count_halved, count_upper, counted_halved}
+use Rattle.pieces.proofs.SplitLaws.{All-insert, halved, items_halved, count_upper, counted_halved}
 use Rattle.pieces.proofs.many.Many.split.Goals as goal
 
 pub count_from-requires-clause-fits : goal.count_from-requires-clause-fits
