@@ -1,0 +1,3 @@
+pub mod JoinedLaws
+pub mod ManyLaws
+pub mod SplitLaws

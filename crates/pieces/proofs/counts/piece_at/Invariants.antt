@@ -1,0 +1,13 @@
+use Rattle.std.proofs.Common.{◌-◌, ◌<◌, ◌≤◌, length, slice_index}
+use Rattle.pieces.proofs.counts.piece_at.Given as goal
+
+abbrev pub invariant-loop-high : goal.invariant-loop-high
+invariant-loop-high l = record {
+  apart : l.low < l.high;
+  within : l.high ≤ length l.starts;
+  begins : slice_index l.starts l.low ≤ l.place;
+  before_next : l.high < length l.starts → l.place < slice_index l.starts l.high;
+}
+
+abbrev pub decreases-loop-high : goal.decreases-loop-high
+decreases-loop-high l = l.high - l.low

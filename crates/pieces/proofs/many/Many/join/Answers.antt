@@ -1,0 +1,104 @@
+use Rattle.std.proofs.Common.{◌≡◌, ◌+◌, ◌-◌, ◌<◌, ◌++◌, true, is_ok, length, take, slice_index, ap, ◌∙◌, arith, length-append}
+use Rattle.std.specs.List.{remove}
+use Rattle.pieces.specs.Joined.{items_of, IsPiece}
+use Rattle.pieces.proofs.ManyLaws.{went_well, piece_of, few_of}
+use Rattle.pieces.proofs.SplitLaws.{first_read, items_joined, counted_joined, sized_joined}
+use Rattle.pieces.proofs.many.Many.join.Goals as goal
+
+pub count_from-requires-clause-fits : goal.count_from-requires-clause-fits
+count_from-requires-clause-fits g c =
+    let pieces = c.args.self.now.pieces.items in
+    let rest = c.remove-upper.new.self.items in
+    let first = c.index_mut.result.now in
+    let second = c.remove-upper.result in
+    let new = c.append.new.self in
+    let within : c.args.k + 1 < length pieces = omega arith in
+    let here : c.args.k < length pieces = omega arith in
+    let rest_is : rest ≡ remove pieces (c.args.k + 1) = c.remove-upper.ensures.items in
+    let read = first_read pieces rest c.args.k first rest_is within c.index_mut.ensures.value in
+    let sized = piece_of pieces c.args.k first c.requires.whole.sized here read in
+    let few = few_of pieces c.args.k first second c.requires.few read c.remove-upper.ensures.value in
+    let least = sized.capacity in
+    let well : is_ok c.append.result ≡ true = c.append.ensures.succeeds (omega arith) in
+    let is : new.items ≡ first.items ++ second.items = went_well (is_ok c.append.result) new.items (first.items ++ second.items) first.items well c.append.ensures.items in
+    let same = items_joined pieces rest c.args.k first second new rest_is within c.index_mut.ensures.value c.remove-upper.ensures.value is in
+    omega (arith, ap length same)
+
+pub count_from-requires-clause-before : goal.count_from-requires-clause-before
+count_from-requires-clause-before g c =
+    let pieces = c.args.self.now.pieces.items in
+    let starts = c.args.self.now.starts in
+    let within : c.args.k + 1 < length pieces = omega arith in
+    λ j lt in_new.
+    ap (λ counts. slice_index counts j) c.pop.ensures.rest
+    ∙ ap (λ n. slice_index (take (n - 1) starts.items) j) starts.ok.0
+    ∙ counted_joined pieces c.remove-upper.new.self.items starts.items c.args.k c.append.new.self c.requires.whole.counted c.remove-upper.ensures.items within j lt
+
+pub keep-requires-clause-whole : goal.keep-requires-clause-whole
+keep-requires-clause-whole g c =
+    let pieces = c.args.self.now.pieces.items in
+    let rest = c.remove-upper.new.self.items in
+    let first = c.index_mut.result.now in
+    let second = c.remove-upper.result in
+    let new = c.append.new.self in
+    let within : c.args.k + 1 < length pieces = omega arith in
+    let here : c.args.k < length pieces = omega arith in
+    let rest_is : rest ≡ remove pieces (c.args.k + 1) = c.remove-upper.ensures.items in
+    let read = first_read pieces rest c.args.k first rest_is within c.index_mut.ensures.value in
+    let sized = piece_of pieces c.args.k first c.requires.whole.sized here read in
+    let few = few_of pieces c.args.k first second c.requires.few read c.remove-upper.ensures.value in
+    let least = sized.capacity in
+    let well : is_ok c.append.result ≡ true = c.append.ensures.succeeds (omega arith) in
+    let is : new.items ≡ first.items ++ second.items = went_well (is_ok c.append.result) new.items (first.items ++ second.items) first.items well c.append.ensures.items in
+    let same = items_joined pieces rest c.args.k first second new rest_is within c.index_mut.ensures.value c.remove-upper.ensures.value is in
+    let new_len = new.ok.0 in
+    let first_len = first.ok.0 in
+    let second_len = second.ok.0 in
+    let this : IsPiece new = record { len = omega (arith, ap length is, length-append first.items second.items); capacity = omega (arith, c.append.ensures.capacity) } in
+    record {
+      counted = c.count_from.ensures.counted;
+      sized = sized_joined pieces rest c.args.k new rest_is this c.requires.whole.sized;
+      spare = c.requires.whole.spare;
+      fits = omega (arith, ap length same);
+    }
+
+pub returns-clause-items : goal.returns-clause-items
+returns-clause-items g c =
+    let pieces = c.args.self.now.pieces.items in
+    let rest = c.remove-upper.new.self.items in
+    let first = c.index_mut.result.now in
+    let second = c.remove-upper.result in
+    let new = c.append.new.self in
+    let within : c.args.k + 1 < length pieces = omega arith in
+    let here : c.args.k < length pieces = omega arith in
+    let rest_is : rest ≡ remove pieces (c.args.k + 1) = c.remove-upper.ensures.items in
+    let read = first_read pieces rest c.args.k first rest_is within c.index_mut.ensures.value in
+    let sized = piece_of pieces c.args.k first c.requires.whole.sized here read in
+    let few = few_of pieces c.args.k first second c.requires.few read c.remove-upper.ensures.value in
+    let least = sized.capacity in
+    let well : is_ok c.append.result ≡ true = c.append.ensures.succeeds (omega arith) in
+    let is : new.items ≡ first.items ++ second.items = went_well (is_ok c.append.result) new.items (first.items ++ second.items) first.items well c.append.ensures.items in
+    let same = items_joined pieces rest c.args.k first second new rest_is within c.index_mut.ensures.value c.remove-upper.ensures.value is in
+    ap (λ v. items_of v.items) c.keep.ensures.pieces ∙ same
+
+pub returns-clause-room : goal.returns-clause-room
+returns-clause-room g c room =
+    let pieces = c.args.self.now.pieces.items in
+    let rest = c.remove-upper.new.self.items in
+    let first = c.index_mut.result.now in
+    let second = c.remove-upper.result in
+    let new = c.append.new.self in
+    let within : c.args.k + 1 < length pieces = omega arith in
+    let here : c.args.k < length pieces = omega arith in
+    let rest_is : rest ≡ remove pieces (c.args.k + 1) = c.remove-upper.ensures.items in
+    let read = first_read pieces rest c.args.k first rest_is within c.index_mut.ensures.value in
+    let sized = piece_of pieces c.args.k first c.requires.whole.sized here read in
+    let few = few_of pieces c.args.k first second c.requires.few read c.remove-upper.ensures.value in
+    let least = sized.capacity in
+    let well : is_ok c.append.result ≡ true = c.append.ensures.succeeds (omega arith) in
+    let is : new.items ≡ first.items ++ second.items = went_well (is_ok c.append.result) new.items (first.items ++ second.items) first.items well c.append.ensures.items in
+    let same = items_joined pieces rest c.args.k first second new rest_is within c.index_mut.ensures.value c.remove-upper.ensures.value is in
+    let places = room.places in
+    let counts = room.counts in
+    let number = room.number in
+    c.keep.ensures.room (record { places = omega arith; counts = omega arith; spare = room.spare; number = omega (arith, ap length same) })

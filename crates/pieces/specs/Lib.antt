@@ -1,0 +1,4 @@
+pub mod Inside
+pub mod Joined
+pub mod Many
+pub mod Pieces
