@@ -252,6 +252,11 @@ fn faults_of_names(rt: HostRuntime) -> Result<(), Fail> {
         ([(1_537, 33)].as_slice(), Some((3, 0))),
         // slots 0 and 5 both have one
         ([(1_537, 2), (1_617, 2)].as_slice(), Some((4, 5))),
+        // slots 0 and 96, of page 3, which is the root's, while pages 1 and 2 are nobody's
+        (
+            [(1_537, 2), (1_048, 1), (1_049, 2), (3_073, 1)].as_slice(),
+            Some((4, 96)),
+        ),
         // slot 0 names the root, or no inode of the volume
         ([(1_536, 1)].as_slice(), Some((5, 0))),
         ([(1_536, 5)].as_slice(), Some((5, 0))),
@@ -320,6 +325,149 @@ fn faults_of_files(rt: HostRuntime) -> Result<(), Fail> {
     ] {
         assert_eq!(rt;
             fault_after(&rt, rt.alloc(), ONE_FILE.as_slice(), stores)?,
+            fault
+        );
+    }
+    Ok(())
+}
+
+// What differs on 64 pages, which have 16 inodes.
+const OF_64_PAGES: [(u64, u64); 3] = [(2, 64), (3, 16), (4, 61)];
+
+// The first violation of 64 pages with this tree, after these stores.
+fn fault_on_64_pages(
+    rt: &impl Abort,
+    alloc: Global,
+    tree: Stores<'_>,
+    stores: Stores<'_>,
+) -> Result<Option<(u64, u64)>, Fail> {
+    let geometry = Geometry::of(64).ok_or("no volume")?;
+    let mut scan = Scan::new(alloc, &geometry)?;
+    let mut words = vec![in alloc; 0u64; 32_768]?;
+    store(&mut words, FORMATTED.as_slice());
+    store(&mut words, OF_64_PAGES.as_slice());
+    store(&mut words, tree);
+    store(&mut words, stores);
+    assert_eq!(rt; geometry.pages, 64);
+    Ok(first_fault(words.as_slice(), &mut scan).map(|fault| (fault.rule, fault.place)))
+}
+
+// The root's slots 0 to 40 name the file 2: slot 0 by `f`, slot k by `nk` in two digits. Then slots that each part of `named`
+// tells, the last one not among them, have a name with this first word.
+fn many_names(alloc: Global, named: &[(u64, u64, u64)]) -> Result<Vec<(u64, u64)>, Fail> {
+    let mut stores = Vec::from_slice(alloc, MANY_NAMES.as_slice())?;
+    for k in 1..41u64 {
+        let digits = (48 + k / 10) * 0x100_0000 + (48 + k % 10) * 0x1_0000_0000;
+        stores.push((1_536 + 16 * k, 2))?;
+        stores.push((1_538 + 16 * k, 0x6e_0003 + digits))?;
+    }
+    for (first, end, word) in named {
+        for slot in *first..(*end).min(41) {
+            stores.push((1_538 + 16 * slot, *word))?;
+        }
+    }
+    Ok(stores)
+}
+
+// The file, which has 41 names, and the root's two pages.
+const MANY_NAMES: [(u64, u64); 9] = [
+    (528, 1),
+    (529, 41),
+    (531, 2),
+    (1_024, 1),
+    (1_025, 2),
+    (1_032, 1),
+    (1_033, 2),
+    (1_536, 2),
+    (1_538, 0x66_0001),
+];
+
+const F: u64 = 0x66_0001;
+
+const N02: u64 = 0x32_306e_0003;
+
+const N20: u64 = 0x30_326e_0003;
+
+const SAME: u64 = 0x656d_6173_0004;
+
+#[test]
+fn twins_among_many_names(rt: HostRuntime) -> Result<(), Fail> {
+    for (named, stores, fault) in [
+        ([].as_slice(), [].as_slice(), None),
+        ([(40, 41, N02)].as_slice(), [].as_slice(), Some((8, 40))),
+        // the least second slot, not that of the first name
+        (
+            [(40, 41, N02), (33, 34, N20)].as_slice(),
+            [].as_slice(),
+            Some((8, 33)),
+        ),
+        // the second of three
+        (
+            [(5, 6, F), (9, 10, F)].as_slice(),
+            [].as_slice(),
+            Some((8, 5)),
+        ),
+        ([(1, 41, SAME)].as_slice(), [].as_slice(), Some((8, 2))),
+        ([(0, 41, SAME)].as_slice(), [].as_slice(), Some((8, 1))),
+        // the twin isn't live, since slot 39 points at it
+        ([(40, 41, N02)].as_slice(), [(2_161, 41)].as_slice(), None),
+    ] {
+        let tree = many_names(rt.alloc(), named)?;
+        assert_eq!(rt;
+            fault_on_64_pages(&rt, rt.alloc(), tree.as_slice(), stores)?,
+            fault
+        );
+    }
+    Ok(())
+}
+
+// `/a` and `/b`, each with a file `x`, and `/x`, another name of `/a/x`. Page 0 is the root's, page 1 is `/a`'s, page 2 `/b`'s.
+const TWO_DIRECTORIES: [(u64, u64); 29] = [
+    (513, 4),
+    (528, 2),
+    (529, 2),
+    (531, 2),
+    (544, 2),
+    (545, 2),
+    (547, 3),
+    (560, 1),
+    (561, 2),
+    (563, 4),
+    (576, 1),
+    (577, 1),
+    (579, 5),
+    (1_024, 1),
+    (1_025, 2),
+    (1_032, 2),
+    (1_033, 2),
+    (1_040, 3),
+    (1_041, 2),
+    (1_536, 2),
+    (1_538, 0x61_0001),
+    (1_552, 3),
+    (1_554, 0x62_0001),
+    (1_568, 4),
+    (1_570, 0x78_0001),
+    (2_048, 4),
+    (2_050, 0x78_0001),
+    (2_560, 5),
+    (2_562, 0x78_0001),
+];
+
+#[test]
+fn places_in_two_directories(rt: HostRuntime) -> Result<(), Fail> {
+    for (stores, fault) in [
+        ([].as_slice(), None),
+        ([(1_554, 0x61_0001)].as_slice(), Some((8, 1))),
+        ([(1_552, 2)].as_slice(), Some((9, 1))),
+        ([(1_552, 2), (1_554, 0x61_0001)].as_slice(), Some((8, 1))),
+        ([(2_560, 2)].as_slice(), Some((9, 64))),
+        ([(2_048, 3)].as_slice(), Some((9, 32))),
+        ([(2_560, 17), (1_568, 1)].as_slice(), Some((5, 2))),
+        ([(2_562, 0), (1_570, 0)].as_slice(), Some((6, 2))),
+    ] {
+        assert_eq!(rt;
+            fault_on_64_pages(&rt, rt.alloc(), TWO_DIRECTORIES.as_slice(), stores)?,
             fault
         );
     }
