@@ -1,5 +1,5 @@
 -- What a job asks for, and what is left where the words took no memory.
-use Rattle.std.proofs.Common.{rules, ◌≡◌, ◌⊎◌, inl, inr, ℕ, ◌≤◌, List, refl, subst, arith}
+use Rattle.std.proofs.Common.{rules, ◌≡◌, ◌⊎◌, inl, inr, ℕ, ◌≤◌, List, refl, ap₂, subst, arith}
 use Rattle.std.specs.Prelude.{Bool, true, false, if◌then◌else◌, Option, Some, None, codes, option_and_then}
 use Rattle.clap.specs.Walk.{Row}
 use Rattle.pm_trait.specs.DeviceView.{DeviceView, IsSettledView}
@@ -11,6 +11,7 @@ use Rattle.squirrel_cli.specs.declared.job.Again.{Again}
 use Rattle.squirrel_cli.specs.declared.job.Job.{Job}
 use Rattle.squirrel_cli.specs.declared.job.Job.TheVariants.{Mkfs, Run, Tree, Check, Crash, Work}
 use Rattle.squirrel_cli.specs.declared.status.Status.TheVariants.{Done, NoMemory, WriteFault}
+use Rattle.squirrel_cli.specs.declared.tasks.Task.TheVariants.{Generate}
 use Rattle.squirrel_cli.specs.Answers.{Makes}
 use Rattle.squirrel_cli.specs.CommandLine.{Word, split_of, value_in}
 use Rattle.script.specs.Lines.{is_word, number_of}
@@ -100,3 +101,9 @@ mkfs_size words pages same = subst InRange same (of_split (split_of words))
 
 pub work_count : (words : List Word) (seed count : ℕ) → job_of words ≡ Some (Work seed count) → count ≤ 1000000
 work_count words seed count same = subst InRange same (of_split (split_of words))
+
+pub task_of_job : {seed count other more : ℕ} → Some (Work seed count) ≡ Some (Work other more) → Generate seed count ≡ Generate other more
+task_of_job {seed} {count} {other} {more} same =
+    let seeds : seed ≡ other = cc same in
+    let counts : count ≡ more = cc same in
+    ap₂ Generate seeds counts

@@ -92,7 +92,7 @@ mounts_and_runs {P} {before} {mounted} {after} run reads mount = record {
 -- ---- the state that a run starts with
 
 -- words read as one state
-one_state : {P : ℕ} {W : List ℕ} (state other : State) → ReadsAs P W state → ReadsAs P W other → state ≡ other
+pub one_state : {P : ℕ} {W : List ℕ} (state other : State) → ReadsAs P W state → ReadsAs P W other → state ≡ other
 one_state {P} {W} state other reads also =
     let tree = one_tree P W state.tree other.tree reads.tree also.tree in
     let room = one_room P W state.room other.room reads.room also.room in

@@ -116,16 +116,19 @@ pub runs_entry : {size P : ℕ} {before mounted after : DeviceView} {end : RunEn
 runs_entry pages only alone (inl run) = inl (runs_mounted pages only run)
 runs_entry {P = P} {before = before} pages only alone (inr (memory, kept, same)) = inr (same, inl (memory, inr (subst (IsOnlyMounted P before) (sym (alone kept)) only)))
 
+pub first_two : {A B C : Type 0} → A × B × C → A × B
+first_two (a, b, c) = (a, b)
+
 -- where the mount was refused, no line was executed
-pub refused_unread : {before after : DeviceView} {error : MountError} {is : Status} (script rest : Option (List ℕ)) (took now : List ℕ → Type 0) {unread : Type 0}
+pub refused_unread : {before after : DeviceView} {error : MountError} (is : Status) (script rest : Option (List ℕ)) (took now : List ℕ → Type 0) {unread : Type 0}
     → WhyRefused before after error → IsToldOf error is took now → unread → IsSound before.words
     → IfSome (replayed_end is) (λ end. RunsOrUnread (pages_in_image before.words) is before after end script rest unread)
-refused_unread {before = before} script rest took now (no_volume not same) told unread sound = absurd (not (sound_volume before.words sound))
-refused_unread script rest took now (broken violation holds first same) told unread sound = absurd (not_sound first sound)
-refused_unread {before} {after} script rest took now {unread} (failed fails) told same sound =
+refused_unread {before = before} is script rest took now (no_volume not same) told unread sound = absurd (not (sound_volume before.words sound))
+refused_unread is script rest took now (broken violation holds first same) told unread sound = absurd (not_sound first sound)
+refused_unread {before} {after} is script rest took now {unread} (failed fails) told same sound =
     subst (λ (s : Status). IfSome (replayed_end s) (λ (end : RunEnd). RunsOrUnread (pages_in_image before.words) s before after end script rest unread)) (sym told)
     (inr (same, inr (refl, fails)))
-refused_unread {before} {after} script rest took now {unread} (short holds alone unsound) told same sound =
+refused_unread {before} {after} is script rest took now {unread} (short holds alone unsound) told same sound =
     subst (λ (s : Status). IfSome (replayed_end s) (λ (end : RunEnd). RunsOrUnread (pages_in_image before.words) s before after end script rest unread)) (sym told)
     (inr (same, inl (refl, inl alone)))
 

@@ -1,4 +1,5 @@
--- Each task mounts the device.
+-- Each task mounts the device, and one alone reads the script.
+use Rattle.std.proofs.Common.{◌≡◌, ◌⊎◌, inl, inr, ℕ, refl}
 use Rattle.squirrel_cli.specs.declared.tasks.Task.{Task}
 use Rattle.squirrel_cli.specs.declared.tasks.Task.TheVariants.{Answer, Generate, List}
 use Rattle.squirrel_cli.specs.Asked.{Asks, MountsDevice}
@@ -8,3 +9,8 @@ pub task_mounts : (task : Task) → Asks MountsDevice (job_of_task task)
 task_mounts Answer = tt
 task_mounts (Generate seed count) = tt
 task_mounts List = tt
+
+pub task_script : {S : Type 0} (task : Task) → (task ≡ List → S) → ((seed count : ℕ) → task ≡ Generate seed count → S) → (task ≡ Answer) ⊎ S
+task_script Answer lists works = inl refl
+task_script (Generate seed count) lists works = inr (works seed count refl)
+task_script List lists works = inr (lists refl)

@@ -22,13 +22,19 @@ use Rattle.crash_replay.proofs.Tallies.{tally_law-holds}
 use Rattle.crash_replay.proofs.WorkScripts.{work_law-holds}
 use Rattle.engine.specs.Script.{ExecutesTold, RunsScript}
 use Rattle.engine.proofs.Runs.{answers_as_lines}
+use Rattle.image_reading.specs.Reading.{ReadsAs}
+use Rattle.volume.specs.Volume.{VolumeView}
+use Rattle.volume.specs.Stands.{IsStanding, StandsFor}
+use Rattle.engine.specs.Run.{IsAt, last_state}
 use Rattle.squirrel_cli.specs.declared.status.Status.{Status}
+use Rattle.squirrel_cli.specs.declared.status.Status.TheVariants as status
+use Rattle.squirrel_cli.specs.Told.{IsToldOrCut}
 use Rattle.squirrel_cli.specs.Mounts.{IsOnlyMounted}
 use Rattle.squirrel_cli.specs.ReplaySteps.{RunsMounted}
 use Rattle.squirrel_cli.specs.Works.{WorksScript, summary_of}
 use Rattle.squirrel_cli.specs.WorkSteps.{CountsGenerated, RunsGenerated, SumsGenerated}
 use Rattle.squirrel_cli.proofs.Leaving.{any_run}
-use Rattle.squirrel_cli.proofs.Mounted.{limit_gives, mounted_state, mounts_and_runs}
+use Rattle.squirrel_cli.proofs.Mounted.{limit_gives, mounted_state, mounts_and_runs, one_state}
 use Rattle.squirrel_cli.proofs.StatusEnds.{not_at_limit}
 
 -- ---- the run
@@ -82,29 +88,55 @@ counts_generated {P} {seed} {count} {before} {after} {rest = rest} {took} {tally
     let counted = subst (Counted P seed count before after tally) none (generated_done few began here) in
     record { run = counted.run; accepted = counted.accepted; refused = counted.refused; all = counted.all }
 
-pub faulted_generated : {P seed count : ℕ} {before after : DeviceView} {end : RunEnd} {script rest : Option (List ℕ)} {took now : List ℕ → Type 0} → end ≡ run_end.Faulted → script ≡ Some (work_script seed count)
+pub faulted_generated : (seed count : ℕ) {P : ℕ} {before after : DeviceView} {end : RunEnd} {script rest : Option (List ℕ)} {took now : List ℕ → Type 0} → end ≡ run_end.Faulted → script ≡ Some (work_script seed count)
     → RunsScript P before after end script rest took now → RunsGenerated P seed count before after run_end.Faulted
-faulted_generated {P} {seed} {count} {before} {after} {rest = rest} {took} {now} ended told run =
+faulted_generated seed count {P} {before} {after} {rest = rest} {took} {now} ended told run =
     let here = script_told ended told run in
     let none = nothing_left_at_fault (work_script seed count) rest here.lines here.executes in
     subst (λ (r : Option (List ℕ)). RunsMounted P before after run_end.Faulted (Some (work_script seed count)) r) none (any_run here)
 
 -- the generated script is short
-pub never_at_limit : {P seed count : ℕ} {before after : DeviceView} {end : RunEnd} {script rest : Option (List ℕ)} {took now : List ℕ → Type 0} → end ≡ run_end.Limit → script ≡ Some (work_script seed count)
+pub never_at_limit : (seed count : ℕ) {P : ℕ} {before after : DeviceView} {end : RunEnd} {script rest : Option (List ℕ)} {took now : List ℕ → Type 0} → end ≡ run_end.Limit → script ≡ Some (work_script seed count)
     → count ≤ 1000000 → RunsScript P before after end script rest took now → ⊥
-never_at_limit {seed = seed} {count = count} {rest = rest} ended told few run =
+never_at_limit seed count {rest = rest} ended told few run =
     let here = script_told ended told run in
     not_at_limit (Some (work_script seed count)) rest ((work_law-holds seed count).within few) (limit_gives (Some (work_script seed count)) rest here.lines here.executes)
 
 -- ---- the sums
 
-pub summed : {P count a r accepted refused : ℕ} {space : Free} {totals : Totals} {state : State} → a ≡ accepted → r ≡ refused → space ≡ space_of (untaken P) state.tree state.room → totals ≡ totals_of state.tree
+pub summed : (P count : ℕ) {a r accepted refused : ℕ} {space : Free} {totals : Totals} (state : State) → a ≡ accepted → r ≡ refused → space ≡ space_of (untaken P) state.tree state.room → totals ≡ totals_of state.tree
     → record { lines = count + 4; accepted = a; refused = r; space = space; names = totals.names; bytes = totals.bytes } ≡ summary_of P count accepted refused state
-summed {count = count} counted lacking free total = λ i. record { lines = count + 4; accepted = counted i; refused = lacking i; space = free i; names = (total i).names; bytes = (total i).bytes }
+summed P count state counted lacking free total = λ i. record { lines = count + 4; accepted = counted i; refused = lacking i; space = free i; names = (total i).names; bytes = (total i).bytes }
 
 pub sums_written : {took now : List ℕ → Type 0} {faults_before faults_after : ℕ} {summary wanted : WorkSummary} {written : Result (Unit {0}) WriteFault} → summary ≡ wanted
     → Writes took now faults_before faults_after (work_text summary) written → Writes took now faults_before faults_after (work_text wanted) written
 sums_written {took} {now} {faults_before} {faults_after} {written = written} same writes = subst (λ (s : WorkSummary). Writes took now faults_before faults_after (work_text s) written) same writes
+
+-- They are told of the last state, for which the volume in memory stands.
+pub sums_generated : {P seed count : ℕ} {before after : DeviceView} {tally : Tally} {volume : VolumeView} {result : Status} {took now : List ℕ → Type 0} → CountsGenerated P seed count before after tally
+    → volume.size ≡ P → IsStanding volume after
+    → ((state : State) → StandsFor volume after state → IsToldOrCut status.Done (work_text (summary_of volume.size count (accepted_count tally) (refused_count tally) state)) result took now)
+    → SumsGenerated P seed count result before after took now
+sums_generated {P} {count = count} {after = after} {tally = tally} {volume = volume} {result = result} {took} {now} counted size (state, stands) told =
+    let run = counted.run in
+    let last : State = last_state run.start run.states in
+    let ended : IsAt P last after.words = run.last run.ends in
+    let same : state ≡ last = one_state state last (subst (λ (p : ℕ). ReadsAs p after.words state) size stands.reads) ended.reads in
+    let sized = subst (λ (p : ℕ). IsToldOrCut status.Done (work_text (summary_of p count (accepted_count tally) (refused_count tally) state)) result took now) size (told state stands) in
+    let accepted = subst (λ (n : ℕ). IsToldOrCut status.Done (work_text (summary_of P count n (refused_count tally) state)) result took now) counted.accepted sized in
+    let refused = subst (λ (n : ℕ). IsToldOrCut status.Done (work_text (summary_of P count (accepted_in run.answers) n state)) result took now) counted.refused accepted in
+    record {
+      run = run;
+      sums = record {
+        all = counted.all;
+        told = subst (λ (s : State). IsToldOrCut status.Done (work_text (summary_of P count (accepted_in run.answers) (refused_in run.answers) s)) result took now) same refused;
+      };
+    }
+
+-- of the volume that the session was started with
+pub sums_of_volume : {seed count : ℕ} {session volume : VolumeView} {result : Status} {before after : DeviceView} {took now : List ℕ → Type 0} → session ≡ volume
+    → SumsGenerated session.size seed count result before after took now → SumsGenerated volume.size seed count result before after took now
+sums_of_volume {seed} {count} {result = result} {before} {after} {took} {now} same sums = subst (λ (v : VolumeView). SumsGenerated v.size seed count result before after took now) same sums
 
 -- ---- from the entry on
 

@@ -4,7 +4,7 @@ use Rattle.crash_replay.proofs.Tallies.{tally_law-holds}
 use Rattle.squirrel_cli.specs.declared.status.Status.TheVariants as status
 use Rattle.squirrel_cli.specs.Replays.{replayed_end}
 use Rattle.squirrel_cli.proofs.Leaving.{any_run, leaves_sound}
-use Rattle.squirrel_cli.proofs.ReplayRuns.{any_or_unread, cause_beside, ends_map, left_ended, neither, never_risen, other_end, replays_mounted, run_of_done}
+use Rattle.squirrel_cli.proofs.ReplayRuns.{any_or_unread, cause_beside, ends_map, first_two, left_ended, neither, never_risen, other_end, replays_mounted, run_of_done}
 use Rattle.squirrel_cli.proofs.replaying.replay_mounted.Goals as goal
 
 pub list_left-requires-clause-countable : goal.list_left-requires-clause-countable
@@ -45,6 +45,6 @@ returns-in_default g c =
       cause = cause_beside (g.K.Sink.faults c.args.sink.now) c.answer_lines.ensures.cause;
       unwritten = λ silent. refl;
       runs = ends_map (replayed_end c.answer_lines.result) (λ end told. any_or_unread told)
-          (other_end _ c.answer_lines.result c.in_default.not-Done cut (λ is. let (pm, script, out) = c.answer_lines.ensures.no_memory is in (pm, script)) c.answer_lines.ensures.runs);
+          (other_end _ c.answer_lines.result c.in_default.not-Done cut (λ is. first_two (c.answer_lines.ensures.no_memory is)) c.answer_lines.ensures.runs);
       replays = λ asked. absurd (neither c.in_default.not-Done cut asked);
     }

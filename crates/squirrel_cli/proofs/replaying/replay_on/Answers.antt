@@ -21,7 +21,7 @@ returns-in-Ok-clause-limit g c is = replay_limit _ _ _ _ _ _ c.replay_mounted.en
 pub returns-in-Ok-clause-runs : goal.returns-in-Ok-clause-runs
 returns-in-Ok-clause-runs g c sound =
     let only = only_mounted c.in-Ok.ensures.only_sound (λ state reads. (c.in-Ok.ensures.mounted state reads).1) in
-    ends_map (replayed_end c.replay_mounted.result) (λ end told. runs_entry c.in-Ok.ensures.size only (λ kept. ap g.P.Recorded.Pm.view kept) told) c.replay_mounted.ensures.runs
+    ends_map (replayed_end c.replay_mounted.result) (λ end told. runs_entry c.in-Ok.ensures.size only (λ kept. ap g.P.Pm.view kept) told) c.replay_mounted.ensures.runs
 
 pub returns-in-Ok-clause-replays : goal.returns-in-Ok-clause-replays
 returns-in-Ok-clause-replays g c sound asked =
@@ -56,7 +56,7 @@ returns-in-Err-clause-cause g c =
 pub returns-in-Err-clause-runs : goal.returns-in-Err-clause-runs
 returns-in-Err-clause-runs g c sound =
     let why = why_refused c.in-Err.error c.in-Err.is (c.mount.ensures.not_volume).0 c.mount.ensures.damaged c.mount.ensures.untouched c.mount.ensures.failed c.mount.ensures.no_memory c.mount.ensures.alone in
-    refused_unread _ _ (g.K.Sink.took c.args.sink.now) (g.K.Sink.took c.refuse.new.out) why c.refuse.ensures.told refl sound
+    refused_unread _ _ _ (g.K.Sink.took c.args.sink.now) (g.K.Sink.took c.refuse.new.out) why c.refuse.ensures.told refl sound
 
 pub returns-in-Err-clause-replays : goal.returns-in-Err-clause-replays
 returns-in-Err-clause-replays g c sound asked =
