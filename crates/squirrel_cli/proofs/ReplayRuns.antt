@@ -112,9 +112,9 @@ replays_entry {moment} {keep} {mounted = mounted} {after = after} {result} {scri
     }
 
 pub runs_entry : {size P : ℕ} {before mounted after : DeviceView} {end : RunEnd} {script rest : Option (List ℕ)} {is : Status} {kept same : Type 0} → size ≡ P → IsOnlyMounted P before mounted → (kept → after ≡ mounted)
-    → RunsMounted size mounted after end script rest ⊎ (is ≡ status.NoMemory) × kept × same → RunsOrUnread P is before after end script rest same
+    → RunsMounted size mounted after end script rest ⊎ (is ≡ status.NoMemory) × (kept × same) → RunsOrUnread P is before after end script rest same
 runs_entry pages only alone (inl run) = inl (runs_mounted pages only run)
-runs_entry {P = P} {before = before} pages only alone (inr (memory, kept, same)) = inr (same, inl (memory, inr (subst (IsOnlyMounted P before) (sym (alone kept)) only)))
+runs_entry {P = P} {before = before} pages only alone (inr (memory, (kept, same))) = inr (same, inl (memory, inr (subst (IsOnlyMounted P before) (sym (alone kept)) only)))
 
 pub first_two : {A B C : Type 0} → A × B × C → A × B
 first_two (a, b, c) = (a, b)

@@ -1,5 +1,5 @@
 -- Which job asks for a task.
-use Rattle.std.specs.Prelude.{ℕ, ◌≤◌, Option, Some}
+use Rattle.std.specs.Prelude.{◌≤◌, Option, Some}
 use Rattle.squirrel_cli.specs.declared.job.Job.{Job}
 use Rattle.squirrel_cli.specs.declared.job.Job.TheVariants.{Run, Tree, Work}
 use Rattle.squirrel_cli.specs.declared.tasks.Task.{Task}

@@ -182,7 +182,7 @@ fn replay_mounted<P: Recorded, S: Source, K: Sink>(
     ensures unwritten { IsSilent result → sink.new ≡ sink.old }
     ensures runs { IfSome (replayed_end result) (λ end. RunsMounted volume.size (P.view pm.old) (P.view pm.new) end
         (S.left source.old) (S.left source.new)
-        ⊎ (result ≡ Status.NoMemory) × (pm.new ≡ pm.old) × (source.new ≡ source.old)) }
+        ⊎ (result ≡ Status.NoMemory) × ((pm.new ≡ pm.old) × (source.new ≡ source.old))) }
     ensures replays { (result ≡ Status.Done) ⊎ (result ≡ Status.WriteFault) →
         ReplaysMounted moment keep.now volume.size (P.view pm.old) (P.view pm.new) result
         (S.left source.old) (S.left source.new) (K.took sink.old) (K.took sink.new) }

@@ -58,10 +58,10 @@ pub fn work_lines<P: Pm, K: Sink>(
         return Status::NoMemory;
     };
     match run_generated(&mut session, &mut buffers, seed, count, pm) {
-        Some(tally) => status_of_write(
-            write_sums(count, &tally, session.volume(), out, pm),
-            Status::Done,
-        ),
+        Some(tally) => {
+            let lent = session.volume();
+            status_of_write(write_sums(count, &tally, lent, out, pm), Status::Done)
+        }
         None => Status::DeviceFault,
     }
 }
