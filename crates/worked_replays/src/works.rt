@@ -4,8 +4,8 @@ use io_edge::Source;
 use std::alloc::Global;
 use std::test::Fail;
 use worked_drivers::jobs::{
-    Left, is_done, job_between, job_on, job_with_fault, job_without_script, same, sink_of, source_of,
-    text_of,
+    Left, is_done, job_between, job_on, job_with_fault, job_without_script, same, sink_of,
+    source_of, text_of,
 };
 use worked_drivers::volumes::{fresh_volume, littered, volume_after};
 
@@ -83,14 +83,44 @@ fn on_fresh_volumes(rt: HostRuntime) -> Result<(), Fail> {
     for (pages, row) in [
         (16, row((1, 1), (5, 3, 2), (0, 4), (12, 13), (3, 0))),
         (16, row((1, 10), (14, 5, 9), (0, 4), (11, 13), (3, 0))),
-        (16, row((1, 100), (104, 10, 94), (0, 4), (9, 13), (3, 4_258))),
+        (
+            16,
+            row((1, 100), (104, 10, 94), (0, 4), (9, 13), (3, 4_258)),
+        ),
         (256, row((0, 1), (5, 5, 0), (60, 64), (248, 249), (3, 0))),
-        (256, row((u64::MAX, 1), (5, 5, 0), (58, 64), (247, 249), (5, 0))),
+        (
+            256,
+            row((u64::MAX, 1), (5, 5, 0), (58, 64), (247, 249), (5, 0)),
+        ),
         (256, row((1, 10), (14, 9, 5), (56, 64), (246, 249), (7, 0))),
-        (256, row((0, 100), (104, 25, 79), (53, 64), (243, 249), (10, 8_178))),
-        (256, row((2, 100), (104, 29, 75), (41, 64), (238, 249), (22, 16_359))),
-        (256, row((u64::MAX, 100), (104, 35, 69), (47, 64), (235, 249), (16, 27_755))),
-        (64, row((5, 2_000), (2_004, 353, 1_651), (0, 16), (38, 61), (20, 56_760))),
+        (
+            256,
+            row((0, 100), (104, 25, 79), (53, 64), (243, 249), (10, 8_178)),
+        ),
+        (
+            256,
+            row((2, 100), (104, 29, 75), (41, 64), (238, 249), (22, 16_359)),
+        ),
+        (
+            256,
+            row(
+                (u64::MAX, 100),
+                (104, 35, 69),
+                (47, 64),
+                (235, 249),
+                (16, 27_755),
+            ),
+        ),
+        (
+            64,
+            row(
+                (5, 2_000),
+                (2_004, 353, 1_651),
+                (0, 16),
+                (38, 61),
+                (20, 56_760),
+            ),
+        ),
     ] {
         let fresh = fresh_volume(alloc, pages)?;
         let _left = compare(alloc, fresh.as_slice(), row)?;
@@ -182,7 +212,12 @@ fn as_a_script(rt: HostRuntime) -> Result<(), Fail> {
     let alloc = rt.alloc();
     let volume = volume_after(alloc, 64, PREPARED)?;
     let script = script_of(alloc, 8, 400)?;
-    let run = job_on(alloc, "squirrel run v", volume.as_slice(), script.as_slice())?;
+    let run = job_on(
+        alloc,
+        "squirrel run v",
+        volume.as_slice(),
+        script.as_slice(),
+    )?;
     let work = work_on(alloc, volume.as_slice(), 8, 400)?;
     same(run.image.as_slice(), work.image.as_slice(), "words")?;
     for (beginning, wanted) in [
@@ -234,7 +269,10 @@ fn failures_of_work(rt: HostRuntime) -> Result<(), Fail> {
     for (room, told) in [
         (4, "work"),
         (30, "work lines 14 ok 9 refused 5\no"),
-        (60, "work lines 14 ok 9 refused 5\nok inodes 56 64 pages 246 249\nn"),
+        (
+            60,
+            "work lines 14 ok 9 refused 5\nok inodes 56 64 pages 246 249\nn",
+        ),
     ] {
         let source = source_of(alloc, b"", 1, 1)?;
         let sink = sink_of(alloc, room, 0)?;
