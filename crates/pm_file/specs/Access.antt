@@ -16,3 +16,7 @@ access_of pm = pm.access
 -- it is for reading alone
 abbrev pub IsToRead : {R F E : Type 0} → FilePm R F E → Type 0
 IsToRead pm = pm.access ≡ Read
+
+-- the device may write into its file
+abbrev pub IsToWrite : {R F E : Type 0} → FilePm R F E → Type 0
+IsToWrite pm = pm.access ≡ Write
