@@ -23,8 +23,8 @@ use Rattle.script.specs.declared.check.CheckCounts.{CheckCounts}
 use Rattle.volume.specs.Totals.{below_root}
 use Rattle.volume.proofs.Summed.{count_names}
 use Rattle.mount_scan.specs.Counting.{directory_count, file_count, AreCountsOf, IsReachedDirectory, IsReachedFile, CountsInodes, CountsPages}
-use Rattle.mount_scan.specs.declared.counting.InodeCounts.{InodeCounts}
-use Rattle.mount_scan.specs.declared.counting.PageCounts.{PageCounts}
+use Rattle.mount_scan.specs.declared.counts.InodeCounts.{InodeCounts}
+use Rattle.mount_scan.specs.declared.counts.PageCounts.{PageCounts}
 use Rattle.mount_scan.proofs.Counted.{count_all}
 
 -- ---- nodes that pass a test

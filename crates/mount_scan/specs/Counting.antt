@@ -6,9 +6,9 @@ use Rattle.image_reading.specs.Counts.{Count}
 use Rattle.image_reading.specs.Reading.{IsFile, IsDirectory, Reached, IsReachedSlot, Reads}
 use Rattle.image_reading.specs.Repairs.{RepairCounts, HasRepairs, IsLitterSlot, IsLitterPage, IsLitterInode, IsLitterCount}
 use Rattle.volume.specs.Totals.{below_root}
-use Rattle.mount_scan.specs.declared.counting.InodeCounts.{InodeCounts}
-use Rattle.mount_scan.specs.declared.counting.PageCounts.{PageCounts}
-use Rattle.mount_scan.specs.declared.counting.SlotCounts.{SlotCounts}
+use Rattle.mount_scan.specs.declared.counts.InodeCounts.{InodeCounts}
+use Rattle.mount_scan.specs.declared.counts.PageCounts.{PageCounts}
+use Rattle.mount_scan.specs.declared.counts.SlotCounts.{SlotCounts}
 
 -- ---- of a tree, and of what recovery would repair
 

@@ -2,7 +2,7 @@
 #![tactic(auto)]
 
 mod build;
-mod counting;
+mod counts;
 mod error;
 mod head;
 mod index;

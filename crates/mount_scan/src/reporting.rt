@@ -5,7 +5,7 @@ ghost use Rattle.image_reading.specs.declared.Violation.{Violation};
 ghost use Rattle.mount_scan.specs.Mounting.{HoldsVolume};
 ghost use Rattle.mount_scan.specs.Reports.{IsCheckOf, IsUnwritten, IsWritten, Reports};
 
-use crate::counting::check_counts;
+use crate::counts::check_counts;
 use crate::error::ReportError;
 use crate::head::{geometry_of, head_fault};
 use image_reading::{Scan, Violation, first_fault};

@@ -5,7 +5,7 @@ use Rattle.image_reading.specs.Repairs.{IsLitterPage}
 use Rattle.mount_scan.specs.Counting.{CountBelow, CountsSlots}
 use Rattle.mount_scan.proofs.Counted.{count_told, count_fits}
 use Rattle.mount_scan.proofs.Told.{page_limit}
-use Rattle.mount_scan.proofs.counting.count_pages.Goals as goal
+use Rattle.mount_scan.proofs.counts.count_pages.Goals as goal
 
 pub overflow_add-litter : goal.overflow_add-litter
 overflow_add-litter c =

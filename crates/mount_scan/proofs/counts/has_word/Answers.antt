@@ -2,7 +2,7 @@ use Rattle.std.proofs.Common.{inl, inr, ℕ, get_or, refl, sym, ap, ◌∙◌, a
 use Rattle.std.proofs.lemmas.Bool.{false≢true, cases_eq}
 use Rattle.layout.specs.Geometry.{slot_word_of}
 use Rattle.layout.specs.Fields.{word}
-use Rattle.mount_scan.proofs.counting.has_word.Goals as goal
+use Rattle.mount_scan.proofs.counts.has_word.Goals as goal
 
 pub returns-then-image-slot_word-ne0 : goal.returns-then-image-slot_word-ne0
 unfolding word

@@ -5,7 +5,7 @@ use Rattle.image_reading.specs.Repairs.{IsKeptDirectoryPage, IsLitterSlot}
 use Rattle.mount_scan.specs.Counting.{CountBelow, CountsSlots}
 use Rattle.mount_scan.proofs.Counted.{count_skipped, count_told, count_fits}
 use Rattle.mount_scan.proofs.Told.{reached_kept, kept_reached, none_of_page, slot_limit}
-use Rattle.mount_scan.proofs.counting.count_slots.Goals as goal
+use Rattle.mount_scan.proofs.counts.count_slots.Goals as goal
 
 pub returns-then-not-is_kept_directory_page : goal.returns-then-not-is_kept_directory_page
 returns-then-not-is_kept_directory_page c =

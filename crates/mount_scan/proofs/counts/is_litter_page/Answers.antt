@@ -2,7 +2,7 @@ use Rattle.std.proofs.Common.{inl, inr, sym, ◌∙◌, rules}
 use Rattle.std.proofs.lemmas.Bool.{iff_false}
 use Rattle.image_reading.proofs.Places.{not_zero, is_not_zero}
 use Rattle.mount_scan.proofs.Told.{litter_page, litter_offset}
-use Rattle.mount_scan.proofs.counting.is_litter_page.Goals as goal
+use Rattle.mount_scan.proofs.counts.is_litter_page.Goals as goal
 
 pub returns-then-fields-ne0-2 : goal.returns-then-fields-ne0-2
 returns-then-fields-ne0-2 c =

@@ -1,6 +1,6 @@
 use Rattle.std.proofs.Common.{◌*◌}
 use Rattle.mount_scan.specs.Counting.{CountsPages}
-use Rattle.mount_scan.proofs.counting.count_pages.Given as goal
+use Rattle.mount_scan.proofs.counts.count_pages.Given as goal
 
 abbrev pub invariant-loop-page : goal.invariant-loop-page
 invariant-loop-page l =

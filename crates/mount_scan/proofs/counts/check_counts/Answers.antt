@@ -4,7 +4,7 @@ use Rattle.image_reading.specs.Counts.{Count}
 use Rattle.image_reading.specs.Repairs.{IsPointer}
 use Rattle.mount_scan.proofs.Counted.{count_option}
 use Rattle.mount_scan.proofs.Told.{counted}
-use Rattle.mount_scan.proofs.counting.check_counts.Goals as goal
+use Rattle.mount_scan.proofs.counts.check_counts.Goals as goal
 
 pub returns : goal.returns
 returns c =

@@ -6,7 +6,7 @@ use Rattle.image_counts.proofs.Paths.{in_range}
 use Rattle.mount_scan.specs.Counting.{IsReachedDirectory, IsReachedFile, CountsInodes}
 use Rattle.mount_scan.proofs.Counted.{count_begun, count_told, count_fits}
 use Rattle.mount_scan.proofs.Told.{inode_limit}
-use Rattle.mount_scan.proofs.counting.count_inodes.Goals as goal
+use Rattle.mount_scan.proofs.counts.count_inodes.Goals as goal
 
 pub loop-number-init : goal.loop-number-init
 loop-number-init c =
