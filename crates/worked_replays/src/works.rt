@@ -109,7 +109,7 @@ fn on_fresh_volumes(rt: HostRuntime) -> Result<(), Fail> {
         ),
         (
             256,
-            row(
+            telling(
                 (u64::MAX, 100),
                 (104, 35, 69),
                 (47, 64),
@@ -119,7 +119,7 @@ fn on_fresh_volumes(rt: HostRuntime) -> Result<(), Fail> {
         ),
         (
             64,
-            row(
+            telling(
                 (5, 2_000),
                 (2_004, 353, 1_651),
                 (0, 16),
