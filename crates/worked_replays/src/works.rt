@@ -205,9 +205,11 @@ fn script_of(alloc: Global, seed: u64, count: u64) -> Result<Vec<u8>, Fail> {
 
 // How many lines of a text begin so.
 fn lines_with(text: &str, beginning: &str) -> u64 {
-    let mut count = 0;
+    let mut count: u64 = 0;
     for line in text.lines() {
-        count += u64::from(line.starts_with(beginning));
+        if line.starts_with(beginning) {
+            count = count.saturating_add(1);
+        }
     }
     count
 }
