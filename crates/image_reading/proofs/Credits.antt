@@ -1,13 +1,15 @@
 -- The links of each inode, counted slot by slot.
 use Rattle.std.proofs.Common.{◌≡◌, ◌↔◌, ◌⊎◌, inl, inr, ℕ, zero, suc, ◌+◌, ◌<◌, ◌≤◌, List, ◌∷◌, length, get_or, set, replicate, refl, sym, ap, subst, ◌∙◌, arith, eq-eqb, ne_eqb, get_or-set_other, get_or-set_same}
-use Rattle.std.proofs.lemmas.Bool.{cases_eq, cases_lt, cond-true, cond-false}
-use Rattle.layout.specs.Geometry.{inodes_of, slots_of}
+use Rattle.std.proofs.lemmas.Bool.{cases_eq, cond-true, cond-false}
+use Rattle.layout.specs.Geometry.{inodes_of}
 use Rattle.layout.specs.Fields.{inode_kind, inode_links, slot_inode}
 use Rattle.image_reading.specs.Counts.{Count, AtMost}
-use Rattle.image_reading.specs.Reading.{IsDirectory, HasBytes, slot_owner, IsHeld, IsReachedSlot, IsNameOf, IsChildOf}
+use Rattle.image_reading.specs.Reading.{IsDirectory, HasBytes, slot_owner, IsReachedSlot, IsNameOf, IsChildOf}
 use Rattle.image_reading.specs.Soundness.{HasLinks, NamesInode}
 use Rattle.image_reading.specs.Scan.{credited, IsCredit, AreCounted}
-use Rattle.image_reading.proofs.Counts.{length-distinct}
+use Rattle.image_reading.specs.Scanned.{AreNames}
+use Rattle.image_reading.proofs.Counts.{count_none, length-distinct}
+use Rattle.image_reading.proofs.ReachedTable.{in_at, place_of, distinct_at}
 
 -- ---- counts
 
@@ -78,88 +80,84 @@ module _ (P : ℕ) (I : List ℕ) where
 
   -- ---- the tally
 
-  -- what a slot below n counts for i
-  pub record IsEarlyCredit (n i s : ℕ) : Type 0 where
-    pub early : s < n
-    pub credit : IsCredit P I i s
-
-  pub record AreTallied (n : ℕ) (tally : List ℕ) : Type 0 where
-    pub counts : (i : ℕ) → i ≤ inodes_of P → Count (IsEarlyCredit n i) (get_or tally i 0)
-    pub few : (i : ℕ) → get_or tally i 0 ≤ n
-
   zeros : (n k : ℕ) → ◌≡◌ {A = ℕ} (get_or (replicate n 0) k 0) 0
   zeros zero k = refl
   zeros (suc n) zero = refl
   zeros (suc n) (suc k) = zeros n k
 
-  same_early : (n i : ℕ) → (IsCredit P I i n → ⊥) → (s : ℕ) → IsEarlyCredit n i s ↔ IsEarlyCredit (n + 1) i s
-  same_early n i none s = (
-    (λ h. record { early = (let lt = h.early in omega (arith, lt)); credit = h.credit }),
-    (λ h. elim (cases_eq s n) [
-      | inl e ↦ absurd (none (subst (IsCredit P I i) e h.credit))
-      | inr ne ↦ record { early = (let lt = h.early in omega (arith, lt, ne)); credit = h.credit }
-    ]),
-  )
+  -- one of the first k names that counts for i
+  pub record IsEarlyCredit (names : List ℕ) (k i s : ℕ) : Type 0 where
+    pub early : (j : ℕ) × (j < k) × (get_or names j 0 ≡ s)
+    pub credit : IsCredit P I i s
 
-  more_early : (n i : ℕ) → IsCredit P I i n → (s : ℕ) → IsEarlyCredit (n + 1) i s ↔ ((s ≡ n) ⊎ IsEarlyCredit n i s)
-  more_early n i here s = (
-    (λ h. elim (cases_eq s n) [
-      | inl e ↦ inl e
-      | inr ne ↦ inr (record { early = (let lt = h.early in omega (arith, lt, ne)); credit = h.credit })
-    ]),
-    (λ c. elim c [
-      | inl e ↦ record { early = omega (arith, e); credit = subst (IsCredit P I i) (sym e) here }
-      | inr h ↦ record { early = (let lt = h.early in omega (arith, lt)); credit = h.credit }
-    ]),
-  )
+  pub record AreTallied (names : List ℕ) (k : ℕ) (tally : List ℕ) : Type 0 where
+    pub counts : (i : ℕ) → i ≤ inodes_of P → Count (IsEarlyCredit names k i) (get_or tally i 0)
+    pub few : (i : ℕ) → get_or tally i 0 ≤ k
 
-  pub tallied_same : (n : ℕ) (tally : List ℕ) → (IsReachedSlot P I n → ⊥) → AreTallied n tally → AreTallied (n + 1) tally
-  tallied_same n tally un t = record {
-    counts = λ i le. count_same (IsEarlyCredit n i) (IsEarlyCredit (n + 1) i) _ (same_early n i (λ credit. un credit.slot)) (t.counts i le);
-    few = λ i. (let h = t.few i in omega (arith, h));
+  pub tallied_none : (names : List ℕ) (n : ℕ) → AreTallied names 0 (replicate n 0)
+  tallied_none names n = record {
+    counts = λ i le. subst (Count (IsEarlyCredit names 0 i)) (sym (zeros n i)) (count_none (IsEarlyCredit names 0 i) (λ s h. let (j, lt, e) = h.early in omega (arith, lt)));
+    few = λ i. (let h = zeros n i in omega (arith, h));
   }
 
-  -- past slots that aren't held
-  up_to_early : (n m i : ℕ) → n ≤ m → ((x : ℕ) → n ≤ x → x < m → IsHeld P I x → ⊥) → (s : ℕ) → IsEarlyCredit n i s ↔ IsEarlyCredit m i s
-  up_to_early n m i le passed s = (
-    (λ h. record { early = (let lt = h.early in omega (arith, lt, le)); credit = h.credit }),
-    (λ h. elim (cases_lt s n) [
-      | inl before ↦ record { early = before; credit = h.credit }
-      | inr after ↦ absurd (passed s after h.early h.credit.slot.live.held)
-    ]),
-  )
+  module _ (names : List ℕ) (table : AreNames P I names) where
+    same_early : (k i : ℕ) → (IsCredit P I i (get_or names k 0) → ⊥) → (s : ℕ) → IsEarlyCredit names k i s ↔ IsEarlyCredit names (k + 1) i s
+    same_early k i none s = (
+      (λ h. record { early = (let (j, lt, e) = h.early in (j, omega (arith, lt), e)); credit = h.credit }),
+      (λ h. let (j, lt, e) = h.early in elim (cases_eq j k) [
+        | inl same ↦ absurd (none (subst (IsCredit P I i) (sym e ∙ ap (λ m. get_or names m 0) same) h.credit))
+        | inr other ↦ record { early = (j, omega (arith, lt, other), e); credit = h.credit }
+      ]),
+    )
 
-  pub tallied_up_to : (n m : ℕ) (tally : List ℕ) → n ≤ m → ((x : ℕ) → n ≤ x → x < m → IsHeld P I x → ⊥) → AreTallied n tally → AreTallied m tally
-  tallied_up_to n m tally le passed t = record {
-    counts = λ i most. count_same (IsEarlyCredit n i) (IsEarlyCredit m i) _ (up_to_early n m i le passed) (t.counts i most);
-    few = λ i. (let h = t.few i in omega (arith, h, le));
-  }
+    more_early : (k i : ℕ) → IsCredit P I i (get_or names k 0) → (s : ℕ) → IsEarlyCredit names (k + 1) i s ↔ ((s ≡ get_or names k 0) ⊎ IsEarlyCredit names k i s)
+    more_early k i here s = (
+      (λ h. let (j, lt, e) = h.early in elim (cases_eq j k) [
+        | inl same ↦ inl (sym e ∙ ap (λ m. get_or names m 0) same)
+        | inr other ↦ inr (record { early = (j, omega (arith, lt, other), e); credit = h.credit })
+      ]),
+      (λ c. elim c [
+        | inl e ↦ record { early = (k, omega arith, sym e); credit = subst (IsCredit P I i) (sym e) here }
+        | inr h ↦ record { early = (let (j, lt, e) = h.early in (j, omega (arith, lt), e)); credit = h.credit }
+      ]),
+    )
 
-  pub tallied_more : (n : ℕ) (tally : List ℕ) (k : ℕ) → IsReachedSlot P I n → k ≡ credited P I n → k < length tally → AreTallied n tally → AreTallied (n + 1) (set tally k (get_or tally k 0 + 1))
-  tallied_more n tally k slot is within t = record {
-    counts = λ i le. elim (cases_eq i k) [
-      | inl e ↦
-          let here : get_or (set tally k (get_or tally k 0 + 1)) i 0 ≡ get_or tally i 0 + 1 = ap (λ z. get_or (set tally k (get_or tally k 0 + 1)) z 0) e ∙ get_or-set_same tally k (get_or tally k 0 + 1) 0 within ∙ ap (λ z. get_or tally z 0 + 1) (sym e) in
-          let credit : IsCredit P I i n = record { slot = slot; inode = sym is ∙ sym e } in
-          subst (Count (IsEarlyCredit (n + 1) i)) (sym here)
-          (count_more (IsEarlyCredit n i) (IsEarlyCredit (n + 1) i) (get_or tally i 0) n (λ h. let lt = h.early in omega (arith, lt)) (more_early n i credit) (t.counts i le))
-      | inr ne ↦ subst (Count (IsEarlyCredit (n + 1) i)) (sym (get_or-set_other tally k i (get_or tally k 0 + 1) 0 ne))
-          (count_same (IsEarlyCredit n i) (IsEarlyCredit (n + 1) i) _ (same_early n i (λ credit. ne (sym credit.inode ∙ sym is))) (t.counts i le))
-    ];
-    few = λ i. elim (cases_eq i k) [
-      | inl e ↦ (let h = t.few k in let here = ap (λ z. get_or (set tally k (get_or tally k 0 + 1)) z 0) e ∙ get_or-set_same tally k (get_or tally k 0 + 1) 0 within in omega (arith, h, here))
-      | inr ne ↦ (let h = t.few i in let here = get_or-set_other tally k i (get_or tally k 0 + 1) 0 ne in omega (arith, h, here))
-    ];
-  }
+    -- a name stands once
+    new_credit : (k i : ℕ) → k < length names → IsEarlyCredit names k i (get_or names k 0) → ⊥
+    new_credit k i within h = let (j, lt, e) = h.early in distinct_at names j k table.distinct lt within e
 
-  pub tallied_all : (n : ℕ) (tally : List ℕ) → slots_of P ≤ n → length tally ≡ inodes_of P + 1 → AreTallied n tally → AreCounted P I tally
-  tallied_all n tally past inodes t = record {
-    inodes = inodes;
-    each = λ i le. count_same (IsEarlyCredit n i) (IsCredit P I i) _ (λ s. (
-      (λ h. h.credit),
-      (λ credit. record { early = (let lt = credit.slot.live.held.in_range in omega (arith, past, lt)); credit = credit }),
-    )) (t.counts i le);
-  }
+    pub tallied_more : (k : ℕ) (tally : List ℕ) (to : ℕ) → k < length names → to ≡ credited P I (get_or names k 0) → to < length tally → AreTallied names k tally
+        → AreTallied names (k + 1) (set tally to (get_or tally to 0 + 1))
+    tallied_more k tally to inside is within t = record {
+      counts = λ i le. elim (cases_eq i to) [
+        | inl e ↦
+            let here : get_or (set tally to (get_or tally to 0 + 1)) i 0 ≡ get_or tally i 0 + 1 =
+            ap (λ z. get_or (set tally to (get_or tally to 0 + 1)) z 0) e ∙ get_or-set_same tally to (get_or tally to 0 + 1) 0 within ∙ ap (λ z. get_or tally z 0 + 1) (sym e) in
+            let slot = (table.exactly (get_or names k 0)).0 (in_at names k 0 inside) in
+            let credit : IsCredit P I i (get_or names k 0) = record { slot = slot; inode = sym is ∙ sym e } in
+            subst (Count (IsEarlyCredit names (k + 1) i)) (sym here)
+            (count_more (IsEarlyCredit names k i) (IsEarlyCredit names (k + 1) i) (get_or tally i 0) (get_or names k 0) (new_credit k i inside) (more_early k i credit) (t.counts i le))
+        | inr ne ↦ subst (Count (IsEarlyCredit names (k + 1) i)) (sym (get_or-set_other tally to i (get_or tally to 0 + 1) 0 ne))
+            (count_same (IsEarlyCredit names k i) (IsEarlyCredit names (k + 1) i) _ (same_early k i (λ credit. ne (sym credit.inode ∙ sym is))) (t.counts i le))
+      ];
+      few = λ i. elim (cases_eq i to) [
+        | inl e ↦ (
+            let h = t.few to in
+            let here = ap (λ z. get_or (set tally to (get_or tally to 0 + 1)) z 0) e ∙ get_or-set_same tally to (get_or tally to 0 + 1) 0 within in
+            omega (arith, h, here)
+            )
+        | inr ne ↦ (let h = t.few i in let here = get_or-set_other tally to i (get_or tally to 0 + 1) 0 ne in omega (arith, h, here))
+      ];
+    }
+
+    pub tallied_all : (k : ℕ) (tally : List ℕ) → length names ≤ k → length tally ≡ inodes_of P + 1 → AreTallied names k tally → AreCounted P I tally
+    tallied_all k tally past inodes t = record {
+      inodes = inodes;
+      each = λ i le. count_same (IsEarlyCredit names k i) (IsCredit P I i) _ (λ s. (
+        (λ h. h.credit),
+        (λ credit. record { early = (let (j, lt, e) = place_of s names ((table.exactly s).1 credit.slot) in (j, omega (arith, lt, past), e)); credit = credit }),
+      )) (t.counts i le);
+    }
 
   -- ---- the rule
 

@@ -6,7 +6,7 @@ use Rattle.layout.specs.Fields.{slot_pointer}
 use Rattle.image_reading.specs.Reading.{IsHeld, slot_owner}
 use Rattle.std.specs.Option.{is_some}
 use Rattle.image_reading.specs.Repairs.{IsPointer}
-use Rattle.image_reading.specs.Soundness.{PointsAtHeld, IsOnlyPointer, NamesInode, HasName, HasOwnName, HasOwnDirectory}
+use Rattle.image_reading.specs.Soundness.{PointsAtHeld, IsOnlyPointer}
 use Rattle.image_reading.specs.Scan.{IsHeldPage, IsNextHeld, IsPointerAt}
 
 -- the held pages from n on
@@ -55,21 +55,6 @@ module _ (P : ℕ) (I : List ℕ) where
 
   pub only_free : (x : ℕ) → (IsHeld P I x → ⊥) → IsOnlyPointer P I x
   only_free x un r lt first second = absurd (un second)
-
-  pub inodes_free : (x : ℕ) → (IsHeld P I x → ⊥) → NamesInode P I x
-  inodes_free x un = record { least = λ slot. absurd (un slot.live.held); most = λ slot. absurd (un slot.live.held) }
-
-  pub names_free : (x : ℕ) → (IsHeld P I x → ⊥) → HasName P I x
-  names_free x un = λ slot. absurd (un slot.live.held)
-
-  pub own_names_free : (x : ℕ) → (IsHeld P I x → ⊥) → HasOwnName P I x
-  own_names_free x un = λ r lt first other. absurd (un other.live.held)
-
-  pub own_directories_free : (x : ℕ) → (IsHeld P I x → ⊥) → HasOwnDirectory P I x
-  own_directories_free x un = λ r lt first other. absurd (un other.live.held)
-
-  pub not_held_past : (x : ℕ) → slots_of P ≤ x → IsHeld P I x → ⊥
-  not_held_past x past h = let lt = h.in_range in omega (arith, past, lt)
 
   pub pointer_free : (x : ℕ) → (IsHeld P I x → ⊥) → IsPointer P I x → ⊥
   pointer_free x un h = un h.held

@@ -1,10 +1,16 @@
 -- What a scan of the words finds, and what its tables say.
-use Rattle.std.specs.Prelude.{◌≡◌, ◌≢◌, ◌↔◌, ◌⊎◌, ℕ, Bool, true, false, ◌+◌, ◌-◌, ◌<◌, ◌≤◌, List, length, slice_index, Option, MatchOption, ◌==◌, if◌then◌else◌}
+use Rattle.std.specs.Prelude.{◌≡◌, ◌≢◌, ◌↔◌, ◌⊎◌, ℕ, Bool, true, false, ◌+◌, ◌-◌, ◌<◌, ◌≤◌, List, length, slice_index, Option, MatchOption, ◌==◌, nat_lt, if◌then◌else◌}
+use Rattle.std.specs.List.{AllPairs}
+use Rattle.std.specs.List.Sorted.{IsStrictlyIncreasing}
+use Rattle.std.specs.Ordering.{nat_cmp, ordering_then}
+use Rattle.std.specs.declared.cmp.Ordering.{Ordering}
+use Rattle.std.specs.declared.cmp.Ordering.TheVariants.{Less}
 use Rattle.layout.specs.Geometry.{inodes_of, data_pages_of, slots_of}
 use Rattle.layout.specs.Fields.{inode_kind, page_owner, page_kind, slot_inode, slot_pointer, slot_words}
+use Rattle.layout.specs.Name.{name_words_cmp}
 use Rattle.image_reading.specs.Reading.{IsDirectory, IsHeld, IsReachedSlot, IsPageOf, slot_owner}
 use Rattle.image_reading.specs.Repairs.{IsPointer}
-use Rattle.image_reading.specs.Counts.{Count}
+use Rattle.image_reading.specs.Counts.{IsIn, IsDistinct, Count}
 use Rattle.image_reading.specs.Soundness.{Rule, number, Obeys, IsFirstFault}
 use Rattle.image_reading.specs.declared.Violation.{Violation}
 
@@ -104,15 +110,30 @@ pub record AreCounted (P : ℕ) (I tally : List ℕ) : Type 0 where
 
 -- ---- names
 
--- a reached slot before slot s, with the same name
-pub record IsTwin (P : ℕ) (I : List ℕ) (s r : ℕ) : Type 0 where
-  pub earlier : r < s
-  pub slot : IsReachedSlot P I r
-  pub words : slot_words P I r ≡ slot_words P I s
+-- The reached slots, each once, in rising order.
+pub record AreReachedSlots (P : ℕ) (I slots : List ℕ) : Type 0 where
+  pub rising : IsStrictlyIncreasing slots
+  pub exactly : (s : ℕ) → IsIn s slots ↔ IsReachedSlot P I s
 
--- one in a page of the same directory
-abbrev pub HasTwin : ℕ → List ℕ → ℕ → Type 0
-HasTwin P I s = (r : ℕ) × (slot_owner P I r ≡ slot_owner P I s) × IsTwin P I s r
+-- the slot of this number, and the last one for each number past it
+unfoldable pub slot_or_last_of : ℕ → ℕ → ℕ
+slot_or_last_of P s = if nat_lt s (slots_of P) then s else slots_of P - 1
+
+-- the order of slots by directory, and then by the bytes of their names' words
+unfoldable pub entry_cmp : ℕ → List ℕ → ℕ → ℕ → Ordering
+entry_cmp P I r s =
+    ordering_then (nat_cmp (slot_owner P I (slot_or_last_of P r)) (slot_owner P I (slot_or_last_of P s)))
+    (name_words_cmp (slot_words P I (slot_or_last_of P r)) (slot_words P I (slot_or_last_of P s)))
+
+-- and then by number
+abbrev pub slot_cmp : ℕ → List ℕ → ℕ → ℕ → Ordering
+slot_cmp P I r s = ordering_then (entry_cmp P I r s) (nat_cmp r s)
+
+-- The reached slots, each once, in that order.
+pub record AreSortedSlots (P : ℕ) (I slots : List ℕ) : Type 0 where
+  pub distinct : IsDistinct slots
+  pub exactly : (s : ℕ) → IsIn s slots ↔ IsReachedSlot P I s
+  pub ordered : AllPairs (λ r s. slot_cmp P I r s ≡ Less) slots
 
 -- ---- the rules, one after another
 

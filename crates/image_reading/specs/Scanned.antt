@@ -22,15 +22,17 @@ pub record AreNames (P : ℕ) (I names : List ℕ) : Type 0 where
   pub exactly : (s : ℕ) → IsIn s names ↔ IsReachedSlot P I s
   pub ordered : AllPairs (IsNameBefore P I) names
 
--- The walk over the words is done, and the links are counted.
+-- The walk over the words is done, the names stand in order, and the links are counted.
 pub record HasScanned (words : List ℕ) (scan : Scan) : Type 0 where
   pub walk : IsWalkDone scan.geometry.pages words scan.first.items scan.next.items scan.held.items scan.reach
   pub pointer : IsPointerAt scan.geometry.pages words scan.pointer
+  pub names : AreNames scan.geometry.pages words scan.names.items
   pub counted : AreCounted scan.geometry.pages words scan.tally.items
 
--- The image is sound, it is known what is reached, and the links are counted.
+-- The image is sound, it is known what is reached, the names stand in order, and the links are counted.
 pub record IsScanned (scanned : Scanned) : Type 0 where
   pub sound : Sound scanned.image.geometry.pages scanned.image.words.now
   pub known : Knows scanned.image.geometry.pages scanned.image.words.now scanned.reach.now
   pub pointer : IsPointerAt scanned.image.geometry.pages scanned.image.words.now scanned.pointer
+  pub names : AreNames scanned.image.geometry.pages scanned.image.words.now scanned.names.now
   pub counted : AreCounted scanned.image.geometry.pages scanned.image.words.now scanned.tally.now

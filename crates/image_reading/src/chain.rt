@@ -1,6 +1,7 @@
 // The rules, one after another.
 ghost use Rattle.std.specs.Prelude.{◌≡◌, ◌*◌, ◌+◌, None, length};
-ghost use Rattle.image_reading.specs.Scan.{AreCounted, AreHeld, FindsFault, IsPointerAt, KeepsBelow};
+ghost use Rattle.image_reading.specs.Scan.{AreCounted, AreHeld, AreReachedSlots, FindsFault, IsPointerAt, KeepsBelow};
+ghost use Rattle.image_reading.specs.Scanned.{AreNames};
 ghost use Rattle.image_reading.specs.Walk.{IsWalkedBelow};
 
 use crate::Violation;
@@ -13,6 +14,7 @@ use crate::faults::links::links_broken_at;
 use crate::faults::names::own_names_broken_at;
 use crate::faults::pointers::{one_pointer_broken_at, pointers_broken_at};
 use crate::image::{Image, Walked};
+use crate::table::sort_slots;
 
 /// Rules 1 and 2, which are about the head and the root.
 pub fn fault_of_head(image: &Image<'_>) -> Option<Violation>
@@ -47,25 +49,34 @@ pub fn fault_of_pointers(
     None
 }
 
-/// Rules 5 to 9, which are about names. `named` is overwritten.
-pub fn fault_of_names(walked: &Walked<'_>, named: &mut [bool]) -> Option<Violation>
+/// Rules 5 to 9, which are about names. `named` is overwritten. Where they hold, the slots are sorted by directory and name.
+pub fn fault_of_names(
+    walked: &Walked<'_>,
+    named: &mut [bool],
+    slots: &mut [u32],
+) -> Option<Violation>
     requires walked { IsWalkedBelow 5 walked.now }
     requires marks { length named.old ≡ walked.now.image.geometry.inodes + 1 }
-    ensures { FindsFault walked.now.image.geometry.pages walked.now.image.words.now 10 result }
+    requires slots { AreReachedSlots walked.now.image.geometry.pages walked.now.image.words.now slots.old }
+    ensures found { FindsFault walked.now.image.geometry.pages walked.now.image.words.now 10 result }
+    ensures names { result ≡ None → AreNames walked.now.image.geometry.pages walked.now.image.words.now slots.new }
 {
-    if let Some(place) = inodes_broken_at(walked) {
+    if let Some(place) = inodes_broken_at(&walked.image, slots) {
         return Some(Violation { rule: 5, place });
     }
-    if let Some(place) = names_broken_at(walked) {
+    if let Some(place) = names_broken_at(&walked.image, slots) {
         return Some(Violation { rule: 6, place });
     }
     if let Some(place) = kinds_broken_at(walked) {
         return Some(Violation { rule: 7, place });
     }
-    if let Some(place) = own_names_broken_at(walked) {
+    // Rule 9 goes by number, and rule 8 by name.
+    let doubled = own_directories_broken_at(walked, slots, named);
+    sort_slots(&walked.image, slots);
+    if let Some(place) = own_names_broken_at(&walked.image, slots) {
         return Some(Violation { rule: 8, place });
     }
-    if let Some(place) = own_directories_broken_at(walked, named) {
+    if let Some(place) = doubled {
         return Some(Violation { rule: 9, place });
     }
     None
@@ -93,13 +104,14 @@ pub fn fault_of_pages(walked: &Walked<'_>, stamps: &mut [u64]) -> Option<Violati
 }
 
 /// Rule 14, which is about links. `tally` is overwritten with those that are counted.
-pub fn fault_of_links(walked: &Walked<'_>, tally: &mut [u64]) -> Option<Violation>
+pub fn fault_of_links(walked: &Walked<'_>, names: &[u32], tally: &mut [u64]) -> Option<Violation>
     requires walked { IsWalkedBelow 14 walked.now }
+    requires names { AreNames walked.now.image.geometry.pages walked.now.image.words.now names.now }
     requires inodes { length tally.old ≡ walked.now.image.geometry.inodes + 1 }
     ensures found { FindsFault walked.now.image.geometry.pages walked.now.image.words.now 15 result }
     ensures counted { AreCounted walked.now.image.geometry.pages walked.now.image.words.now tally.new }
 {
-    if let Some(place) = links_broken_at(walked, tally) {
+    if let Some(place) = links_broken_at(walked, names, tally) {
         return Some(Violation { rule: 14, place });
     }
     None

@@ -50,6 +50,7 @@ fn held_from(image: &Image<'_>, page: u64, later: u64) -> u64
     requires later { IsNextHeld image.now.geometry.pages image.now.words.now (page + 1) later }
     ensures { IsNextHeld image.now.geometry.pages image.now.words.now page result }
 {
+    // A geometry that is read bounds its pages' numbers.
     let _data_pages = image.geometry.data_pages;
     if is_held_page(image, page) {
         return page + 1;

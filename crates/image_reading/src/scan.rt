@@ -1,5 +1,6 @@
 // The tables of a scan, and the rules that need them.
-ghost use Rattle.std.specs.Prelude.{◌≡◌, ◌+◌, vec_len};
+ghost use Rattle.std.specs.Prelude.{◌≡◌, ◌+◌, ◌≤◌, vec_len, vec_capacity};
+ghost use Rattle.layout.specs.Geometry.{slots_of};
 
 use crate::Violation;
 use crate::chain::{fault_of_links, fault_of_names, fault_of_pages, fault_of_pointers};
@@ -8,6 +9,7 @@ use crate::image::{Image, Walked};
 use crate::pages::{Lists, link_pages};
 use crate::reach::Reach;
 use crate::scanned::Scanned;
+use crate::table::collect_slots;
 use crate::walk::walk_tree;
 use layout::Geometry;
 use pm_trait::NoMemory;
@@ -26,6 +28,8 @@ pub struct Scan {
     // The held slot with a rename pointer.
     pointer: Option<u64>,
     reach: Reach,
+    // The reached slots, by directory and then by name.
+    names: Vec<u32>,
     // For each inode whether a directory's name has been seen, and its counted links.
     named: Vec<bool>,
     tally: Vec<u64>,
@@ -35,6 +39,7 @@ pub struct Scan {
     ghost room_for_next: { vec_len next ≡ geometry.data_pages },
     ghost room_for_held: { vec_len held ≡ geometry.data_pages + 1 },
     ghost room_for_reached: { vec_len reach.reached ≡ geometry.inodes + 1 },
+    ghost room_for_names: { slots_of geometry.pages ≤ vec_capacity names },
     ghost room_for_named: { vec_len named ≡ geometry.inodes + 1 },
     ghost room_for_tally: { vec_len tally ≡ geometry.inodes + 1 },
     ghost room_for_stamps: { vec_len stamps ≡ geometry.data_pages },
@@ -59,6 +64,7 @@ impl Scan {
         let first = vec![in alloc; 0; inodes]?;
         let next = vec![in alloc; 0; pages]?;
         let held = vec![in alloc; 0; pages + 1]?;
+        let names = Vec::with_capacity(alloc, geometry.slots() as usize)?;
         let named = vec![in alloc; false; inodes]?;
         let tally = vec![in alloc; 0; inodes]?;
         let stamps = vec![in alloc; 0; pages]?;
@@ -69,6 +75,7 @@ impl Scan {
             held,
             pointer: None,
             reach,
+            names,
             named,
             tally,
             stamps,
@@ -145,13 +152,15 @@ impl Scan {
             held: self.held.as_slice(),
         };
         let walked = Walked::new(image, lists, &self.reach);
-        if let Some(fault) = fault_of_names(&walked, self.named.as_mut_slice()) {
+        collect_slots(&walked, &mut self.names);
+        let named = self.named.as_mut_slice();
+        if let Some(fault) = fault_of_names(&walked, named, self.names.as_mut_slice()) {
             return Some(fault);
         }
         if let Some(fault) = fault_of_pages(&walked, self.stamps.as_mut_slice()) {
             return Some(fault);
         }
-        fault_of_links(&walked, self.tally.as_mut_slice())
+        fault_of_links(&walked, self.names.as_slice(), self.tally.as_mut_slice())
     }
 
     /// The sound image that these words are, with what the scan knows of it.
@@ -171,6 +180,7 @@ impl Scan {
             image,
             reach: &self.reach,
             pointer: self.pointer,
+            names: self.names.as_slice(),
             tally: self.tally.as_slice(),
         }
     }

@@ -12,6 +12,7 @@ pub struct Scanned<'a> {
     pub(crate) reach: &'a Reach,
     // The held slot with a rename pointer.
     pub(crate) pointer: Option<u64>,
+    pub(crate) names: &'a [u32],
     pub(crate) tally: &'a [u64],
 }
 
@@ -20,7 +21,7 @@ impl<'a> Scanned<'a> {
     ghost use Rattle.image_reading.specs.Images.{In};
     ghost use Rattle.image_reading.specs.Reading.{IsLinkCount, IsLive, Reached};
     ghost use Rattle.image_reading.specs.Repairs.{IsKept, IsLeft, IsPointer};
-    ghost use Rattle.image_reading.specs.Scanned.{IsScanned};
+    ghost use Rattle.image_reading.specs.Scanned.{AreNames, IsScanned};
 
     /// Whether the inode is reached.
     pub fn is_reached(&self, inode: u64) -> bool
@@ -72,6 +73,14 @@ impl<'a> Scanned<'a> {
             return 2 + counted;
         }
         counted
+    }
+
+    /// The reached slots, each once, by directory and then by name.
+    pub fn names(&self) -> &'a [u32]
+        requires { IsScanned self.now }
+        ensures { AreNames self.now.image.geometry.pages self.now.image.words.now result.now }
+    {
+        self.names
     }
 
     /// The one held slot with a rename pointer.

@@ -3,8 +3,7 @@ ghost use Rattle.std.specs.Prelude.{◌≡◌, ◌↔◌, ◌*◌, ◌+◌, ◌<
 ghost use Rattle.layout.specs.Geometry.{data_pages_of, slots_of, page_of_slot};
 ghost use Rattle.image_reading.specs.Images.{In};
 ghost use Rattle.image_reading.specs.Reading.{IsReachedSlot};
-ghost use Rattle.image_reading.specs.Scan.{IsNaming};
-ghost use Rattle.image_reading.specs.Walk.{IsWalked, IsNumbered};
+ghost use Rattle.image_reading.specs.Walk.{IsWalked};
 
 use crate::held::{is_live, owner_of};
 use crate::image::Walked;
@@ -26,27 +25,6 @@ pub fn is_reached_slot(walked: &Walked<'_>, slot: u64) -> bool
         .image
         .geometry
         .inode_at(walked.image.words, owner)
-        .kind
-        == DIRECTORY
-}
-
-/// Whether the slot is reached and names a directory.
-pub fn names_directory(walked: &Walked<'_>, slot: u64) -> bool
-    requires { IsNumbered walked.now }
-    ensures { IsTrue result ↔ In walked.now.image IsNaming slot }
-{
-    if !is_reached_slot(walked, slot) {
-        return false;
-    }
-    let inode = walked
-        .image
-        .geometry
-        .slot_at(walked.image.words, slot)
-        .inode;
-    walked
-        .image
-        .geometry
-        .inode_at(walked.image.words, inode)
         .kind
         == DIRECTORY
 }

@@ -473,3 +473,60 @@ fn places_in_two_directories(rt: HostRuntime) -> Result<(), Fail> {
     }
     Ok(())
 }
+
+// The words of 64 pages with the two directories, after these stores.
+fn directories_after(alloc: Global, stores: Stores<'_>) -> Result<Vec<u64>, Fail>
+    ensures { IfOk result (λ words. vec_len words ≡ 32_768) }
+{
+    let mut words = vec![in alloc; 0u64; 32_768]?;
+    store(&mut words, FORMATTED.as_slice());
+    store(&mut words, OF_64_PAGES.as_slice());
+    store(&mut words, TWO_DIRECTORIES.as_slice());
+    store(&mut words, stores);
+    Ok(words)
+}
+
+// The names of these directories, after these stores, which break no rule.
+fn names_after(rt: &impl Abort, alloc: Global, stores: Stores<'_>) -> Result<Vec<u32>, Fail> {
+    let geometry = Geometry::of(64).ok_or("no volume")?;
+    let mut scan = Scan::new(alloc, &geometry)?;
+    let words = directories_after(alloc, stores)?;
+    assert_eq!(rt; geometry.pages, 64);
+    let words = words.as_slice();
+    if first_fault(words, &mut scan).is_some() {
+        return Err("a broken rule".into());
+    }
+    let scanned = scan.scanned(words);
+    Ok(Vec::from_slice(alloc, scanned.names())?)
+}
+
+#[test]
+fn names_in_order(rt: HostRuntime) -> Result<(), Fail> {
+    for (stores, expected) in [
+        ([].as_slice(), [0, 1, 2, 32, 64].as_slice()),
+        // `/a` is called `z`
+        (
+            [(1_538, 0x7a_0001)].as_slice(),
+            [1, 2, 0, 32, 64].as_slice(),
+        ),
+        // `/a` has page 2, and `/b` page 1
+        (
+            [(1_032, 3), (1_040, 2)].as_slice(),
+            [0, 1, 2, 64, 32].as_slice(),
+        ),
+        // `/x` is called `ab`, which stands before `b`
+        (
+            [(1_570, 0x6261_0002)].as_slice(),
+            [0, 2, 1, 32, 64].as_slice(),
+        ),
+        // slot 0 is what a rename of `/a` to `/b/x` leaves
+        (
+            [(2_560, 2), (2_561, 1), (545, 3)].as_slice(),
+            [1, 2, 32, 64].as_slice(),
+        ),
+    ] {
+        let names = names_after(&rt, rt.alloc(), stores)?;
+        assert_eq!(rt; names.as_slice(), expected);
+    }
+    Ok(())
+}

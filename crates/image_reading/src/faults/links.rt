@@ -3,22 +3,22 @@ ghost use Rattle.std.specs.Prelude.{◌≡◌, ◌↔◌, ◌*◌, ◌+◌, ◌<
 ghost use Rattle.image_reading.specs.Images.{In};
 ghost use Rattle.image_reading.specs.Soundness.{HasEnoughLinks};
 ghost use Rattle.image_reading.specs.Scan.{Finds, HasNumber, credited as credited_of, AreCounted};
+ghost use Rattle.image_reading.specs.Scanned.{AreNames};
 ghost use Rattle.image_reading.specs.Walk.{IsWalked, IsNumbered};
 
 use crate::held::owner_of;
 use crate::image::{Image, Walked};
-use crate::pages::next_held;
-use crate::slots::is_reached_slot;
 use layout::{DIRECTORY, FILE};
 
 /// Rule 14: a reached inode's link word is at least its counted links. `tally` is overwritten with them.
-pub fn links_broken_at(walked: &Walked<'_>, tally: &mut [u64]) -> Option<u64>
+pub fn links_broken_at(walked: &Walked<'_>, names: &[u32], tally: &mut [u64]) -> Option<u64>
     requires walked { IsNumbered walked.now }
+    requires names { AreNames walked.now.image.geometry.pages walked.now.image.words.now names.now }
     requires inodes { length tally.old ≡ walked.now.image.geometry.inodes + 1 }
     ensures found { Finds (In walked.now.image HasEnoughLinks) result }
     ensures counted { AreCounted walked.now.image.geometry.pages walked.now.image.words.now tally.new }
 {
-    count_links(walked, tally);
+    count_links(walked, names, tally);
     let end = walked.image.geometry.inodes + 1;
     for inode in 0..end {
         if !has_enough_links(walked, tally, inode) {
@@ -52,19 +52,16 @@ fn has_enough_links(walked: &Walked<'_>, tally: &[u64], inode: u64) -> bool
 }
 
 /// Counts the links of each inode. `tally` is overwritten with them.
-pub fn count_links(walked: &Walked<'_>, tally: &mut [u64])
+pub fn count_links(walked: &Walked<'_>, names: &[u32], tally: &mut [u64])
     requires walked { IsNumbered walked.now }
+    requires names { AreNames walked.now.image.geometry.pages walked.now.image.words.now names.now }
     requires inodes { length tally.old ≡ walked.now.image.geometry.inodes + 1 }
     ensures { AreCounted walked.now.image.geometry.pages walked.now.image.words.now tally.new }
 {
     tally.fill(0);
-    let mut slot = next_held(&walked.image, walked.lists.held, 0);
-    while slot < walked.image.geometry.slots() {
-        if is_reached_slot(walked, slot) {
-            let inode = credited(&walked.image, slot) as usize;
-            tally[inode] += 1;
-        }
-        slot = next_held(&walked.image, walked.lists.held, slot + 1);
+    for k in 0..names.len() {
+        let inode = credited(&walked.image, u64::from(names[k])) as usize;
+        tally[inode] += 1;
     }
 }
 

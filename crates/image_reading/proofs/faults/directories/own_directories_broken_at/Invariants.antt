@@ -1,15 +1,10 @@
-use Rattle.std.proofs.Common.{ℕ, ◌-◌, ◌<◌, ◌≤◌}
-use Rattle.layout.specs.Geometry.{slots_of}
+use Rattle.std.proofs.Common.{ℕ, ◌<◌, get_or}
 use Rattle.image_reading.specs.Soundness.{HasOwnDirectory}
 use Rattle.image_reading.proofs.Named.{AreNamed}
 use Rattle.image_reading.proofs.faults.directories.own_directories_broken_at.Given as goal
 
-abbrev pub invariant-loop-slot : goal.invariant-loop-slot
-invariant-loop-slot l = record {
-  within : l.slot ≤ slots_of l.walked.image.geometry.pages;
-  kept : (x : ℕ) → x < l.slot → HasOwnDirectory l.walked.image.geometry.pages l.walked.image.words.now x;
-  marks : AreNamed l.walked.image.geometry.pages l.walked.image.words.now l.slot l.named;
+abbrev pub invariant-loop-k : goal.invariant-loop-k
+invariant-loop-k l = record {
+  kept : (j : ℕ) → j < l.k → HasOwnDirectory l.walked.image.geometry.pages l.walked.image.words.now (get_or l.slots j 0);
+  marks : AreNamed l.walked.image.geometry.pages l.walked.image.words.now l.slots l.k l.named;
 }
-
-abbrev pub decreases-loop-slot : goal.decreases-loop-slot
-decreases-loop-slot l = slots_of l.walked.image.geometry.pages - l.slot

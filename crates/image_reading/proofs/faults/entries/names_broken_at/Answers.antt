@@ -1,33 +1,34 @@
-use Rattle.std.proofs.Common.{◌+◌, below_more, arith}
-use Rattle.std.proofs.lemmas.Bool.{iff_false}
-use Rattle.image_reading.proofs.Places.{holds_at_all}
-use Rattle.image_reading.proofs.HeldPages as lemmas
+use Rattle.std.proofs.Common.{◌≡◌, ℕ, ◌<◌, false, not, List, Option, None, Some, MatchOption, is_some, sym, ap, subst, ◌∙◌, arith}
+use Rattle.layout.specs.Name.{IsNameWords}
+use Rattle.image_reading.specs.Reading.{IsReachedSlot}
+use Rattle.image_reading.specs.Soundness.{HasName}
+use Rattle.image_reading.proofs.ReachedTable as lemmas
 use Rattle.image_reading.proofs.faults.entries.names_broken_at.Goals as goal
 
-pub loop-slot-init : goal.loop-slot-init
-loop-slot-init c =
-    let P = c.args.walked.now.image.geometry.pages in
-    let I = c.args.walked.now.image.words.now in
-    record {
-      within = c.next_held-slot.ensures.in_range;
-      kept = lemmas.up_to P I _ (lemmas.names_free P I) 0 _ (λ x lt. absurd (omega (arith, lt))) c.next_held-slot.ensures.passed;
-    }
+-- none is found where the words are no name's
+no_name : (A : Type 0) (B : List ℕ → Type 0) (found : Option (List ℕ)) → is_some found ≡ false → MatchOption found (¬ A) (λ name. A × B name) → ¬ A
+no_name A B None e unnamed = unnamed
+no_name A B (Some name) e there = absurd (let no : ⊥ = cc in no)
 
-pub returns-then-not-has_name : goal.returns-then-not-has_name
-returns-then-not-has_name c = (c.loop-slot.invariant.kept, iff_false c.has_name.ensures c.if-not-has_name.true)
+pub slot_at-requires-clause-slot_in_range : goal.slot_at-requires-clause-slot_in_range
+slot_at-requires-clause-slot_in_range c =
+    let P = c.args.image.now.geometry.pages in
+    let I = c.args.image.now.words.now in
+    let slot = lemmas.reached_at P I c.args.slots.now c.requires c.loop-k.k c.loop-k-test.true in
+    omega (arith, slot.live.held.in_range, c.from-slot.ensures)
 
-pub loop-slot-preserved : goal.loop-slot-preserved
-loop-slot-preserved c =
-    let P = c.args.walked.now.image.geometry.pages in
-    let I = c.args.walked.now.image.words.now in
-    let next = c.next_held-slot-in-loop-slot.ensures in
-    record {
-      within = next.in_range;
-      kept = lemmas.up_to P I _ (lemmas.names_free P I) (c.loop-slot.slot + 1) _ (below_more _ _ c.loop-slot.invariant.kept (c.has_name.ensures.0 c.if-not-has_name.false)) next.passed;
-    }
+pub returns-then-is_none : goal.returns-then-is_none
+returns-then-is_none c =
+    let P = c.args.image.now.geometry.pages in
+    let I = c.args.image.now.words.now in
+    let slot = subst (IsReachedSlot P I) (sym c.from-slot.ensures) (lemmas.reached_at P I c.args.slots.now c.requires c.loop-k.k c.loop-k-test.true) in (
+      (λ x lt. lemmas.holds_before P I c.args.slots.now c.requires (HasName P I) (lemmas.names_free P I) c.loop-k.k c.loop-k-test.true c.loop-k.invariant x
+          (subst (λ (s : ℕ). x < s) c.from-slot.ensures lt)),
+      (λ has. no_name _ _ c.name_of_words-name.result (c.is_none.ensures ∙ ap not c.if-is_none.true) c.name_of_words-name.ensures (subst IsNameWords (sym c.slot_at.ensures.name) (has slot))),
+    )
 
 pub returns : goal.returns
 returns c =
-    let P = c.args.walked.now.image.geometry.pages in
-    let I = c.args.walked.now.image.words.now in
-    holds_at_all _ _ c.loop-slot.invariant.kept (λ x past. lemmas.names_free P I x (lemmas.not_held_past P I x (omega (arith, past, c.loop-slot-test.false, c.slots.ensures))))
+    let P = c.args.image.now.geometry.pages in
+    let I = c.args.image.now.words.now in
+    lemmas.holds_all P I c.args.slots.now c.requires (HasName P I) (lemmas.names_free P I) c.loop-k.k c.loop-k-test.false c.loop-k.invariant

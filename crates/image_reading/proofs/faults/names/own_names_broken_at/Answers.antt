@@ -1,44 +1,38 @@
-use Rattle.std.proofs.Common.{◌+◌, below_more, arith}
-use Rattle.std.proofs.lemmas.Bool.{iff_false}
-use Rattle.image_reading.proofs.Places.{holds_at_all}
-use Rattle.image_reading.proofs.HeldPages.{up_to, own_names_free}
-use Rattle.image_reading.proofs.Twins as lemmas
+use Rattle.std.proofs.Common.{◌≡◌, ℕ, ◌+◌, ◌-◌, get_or, min, Equal, sym, ap, subst, ◌∙◌}
+use Rattle.image_reading.specs.Scan.{entry_cmp}
+use Rattle.image_reading.proofs.NameOrder as lemmas
 use Rattle.image_reading.proofs.faults.names.own_names_broken_at.Goals as goal
-use Rattle.image_reading.proofs.faults.names.own_names_broken_at.Goals.{else-is_reached_slot-via-then-is_reached_slot+else-has_twin, else-is_reached_slot-via-else-is_reached_slot}
+use Rattle.image_reading.proofs.faults.names.own_names_broken_at.Goals.{then-eq, else-eq}
 
-pub loop-slot-init : goal.loop-slot-init
-loop-slot-init c =
-    let P = c.args.walked.now.image.geometry.pages in
-    let I = c.args.walked.now.image.words.now in
-    record {
-      within = c.next_held-slot.ensures.in_range;
-      kept = up_to P I _ (own_names_free P I) 0 _ (λ x lt. absurd (omega (arith, lt))) c.next_held-slot.ensures.passed;
-    }
+pub loop-k-init : goal.loop-k-init
+loop-k-init c =
+    let P = c.args.image.now.geometry.pages in
+    let I = c.args.image.now.words.now in
+    subst (lemmas.IsLeastTwin P I c.args.slots.now 1) (sym c.slots-least.ensures) (lemmas.no_twin P I c.args.slots.now)
 
-pub returns-then-has_twin : goal.returns-then-has_twin
-returns-then-has_twin c = (
-  c.loop-slot.invariant.kept,
-  lemmas.own_name_not c.args.walked.now.image.geometry.pages c.args.walked.now.image.words.now c.requires.named c.loop-slot.slot (c.is_reached_slot.ensures.0 c.if-is_reached_slot.true) (c.has_twin.ensures.0 c.if-has_twin.true),
-)
+pub loop-k-preserved : goal.loop-k-preserved
+loop-k-preserved c =
+    let P = c.args.image.now.geometry.pages in
+    let I = c.args.image.now.words.now in
+    let slots = c.args.slots.now in
+    let k = c.loop-k.k in
+    let tell = c.cmp_entries.ensures in
+    elim c.if-eq.branch [
+      | then-eq w ↦
+          let here : entry_cmp P I (get_or slots (k - 1) 0) (get_or slots k 0) ≡ Equal = sym tell ∙ lemmas.index_same c.cmp_entries.result c.eq.result c.eq.ensures w.if-eq.true in
+          let new = w.min-least.ensures ∙ ap (λ (s : ℕ). min c.loop-k.least s) w.from.ensures in
+          subst (lemmas.IsLeastTwin P I slots (k + 1)) (sym w.least-is) (lemmas.least_more P I slots k c.loop-k.least w.min-least.result new c.loop-k.auto.k c.loop-k-test.true here c.loop-k.invariant)
+      | else-eq w ↦
+          let none : entry_cmp P I (get_or slots (k - 1) 0) (get_or slots k 0) ≡ Equal → ⊥ = λ e. lemmas.index_other c.cmp_entries.result c.eq.result c.eq.ensures w.if-eq.false (tell ∙ e) in
+          subst (lemmas.IsLeastTwin P I slots (k + 1)) (sym w.least-is) (lemmas.least_same P I slots k c.loop-k.least none c.loop-k.invariant)
+    ]
 
-pub loop-slot-preserved : goal.loop-slot-preserved
-loop-slot-preserved c =
-    let P = c.args.walked.now.image.geometry.pages in
-    let I = c.args.walked.now.image.words.now in
-    let s = c.loop-slot.slot in
-    let m = c.next_held-slot-in-loop-slot.result in
-    let next = c.next_held-slot-in-loop-slot.ensures in
-    let before = c.loop-slot.invariant.kept in
-    record {
-      within = next.in_range;
-      kept = up_to P I _ (own_names_free P I) (s + 1) m (elim c.else-is_reached_slot.branch [
-        | else-is_reached_slot-via-then-is_reached_slot+else-has_twin w ↦
-            below_more _ _ before (lemmas.own_name P I c.requires.named s (iff_false w.has_twin.ensures w.if-has_twin.false))
-        | else-is_reached_slot-via-else-is_reached_slot w ↦
-            below_more _ _ before (lemmas.own_name_none P I s (iff_false c.is_reached_slot.ensures w.if-is_reached_slot.false))
-      ]) next.passed;
-    }
+pub returns-then-least-slots : goal.returns-then-least-slots
+returns-then-least-slots c =
+    lemmas.own_all c.args.image.now.geometry.pages c.args.image.now.words.now c.args.slots.now c.requires.named c.requires.slots c.loop-k.k c.loop-k.least c.loop-k-test.false c.loop-k.invariant
+    (c.if-least-slots.true ∙ c.slots.ensures)
 
 pub returns : goal.returns
 returns c =
-    holds_at_all _ _ c.loop-slot.invariant.kept (λ x past. lemmas.own_name_past c.args.walked.now.image.geometry.pages c.args.walked.now.image.words.now x (omega (arith, past, c.loop-slot-test.false, c.slots.ensures)))
+    lemmas.own_least c.args.image.now.geometry.pages c.args.image.now.words.now c.args.slots.now c.requires.named c.requires.slots c.loop-k.k c.loop-k.least c.loop-k-test.false c.loop-k.invariant
+    (λ e. c.if-least-slots.false (e ∙ sym c.slots.ensures))

@@ -1,5 +1,6 @@
 use Rattle.std.proofs.Common.{ℕ, List, sym, subst}
 use Rattle.image_reading.specs.Scan.{AreCounted}
+use Rattle.image_reading.specs.Scanned.{AreNames}
 use Rattle.image_reading.specs.Soundness.{Sound}
 use Rattle.image_reading.proofs.Chained.{pages_are}
 use Rattle.image_reading.proofs.scan.Scan.scanned.Goals as goal
@@ -12,5 +13,6 @@ returns-clause-known c =
       sound = subst (λ (n : ℕ). Sound n I) (pages_are P I c.requires.made_for) c.requires.sound;
       known = c.requires.known.walk.known;
       pointer = c.requires.known.pointer;
-      counted = subst (λ (t : List ℕ). AreCounted P I t) (sym c.as_slice.ensures.value) c.requires.known.counted;
+      names = subst (λ (s : List ℕ). AreNames P I s) (sym c.as_slice.ensures.value) c.requires.known.names;
+      counted = subst (λ (t : List ℕ). AreCounted P I t) (sym c.as_slice-2.ensures.value) c.requires.known.counted;
     }
