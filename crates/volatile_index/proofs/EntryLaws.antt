@@ -5,7 +5,8 @@ use Rattle.std.specs.Cmp.Lexicographic.{nat_list_cmp_total}
 use Rattle.std.specs.Ordering.{ordering_reverse}
 use Rattle.std.proofs.lemmas.List.Elements.{Contains-append_left, Contains-append_right, Contains-append_cases}
 use Rattle.volatile_index.specs.declared.entry.Entry.{Entry}
-use Rattle.volatile_index.specs.Entries.{name_cmp, IsSorted, IsAbsent, IsWithEntry}
+use Rattle.layout.specs.Name.{name_cmp}
+use Rattle.volatile_index.specs.Entries.{IsSorted, IsAbsent, IsWithEntry}
 
 -- ---- names
 
@@ -41,7 +42,7 @@ sorted_head first entries sorted k d lt = sorted 0 (suc k) d (omega arith) (omeg
 pub sorted_tail : (first : Entry) (entries : List Entry) → IsSorted (first ∷ entries) → IsSorted entries
 sorted_tail first entries sorted i j d lt within = sorted (suc i) (suc j) d (omega arith) (omega arith)
 
-less_than_contained : (first : Entry) (entries : List Entry) (entry : Entry) → IsSorted (first ∷ entries) → Contains entries entry → name_cmp first.name entry.name ≡ Less
+pub less_than_contained : (first : Entry) (entries : List Entry) (entry : Entry) → IsSorted (first ∷ entries) → Contains entries entry → name_cmp first.name entry.name ≡ Less
 less_than_contained first entries entry sorted (k, lt, is) = subst (λ later. name_cmp first.name later.name ≡ Less) is (sorted_head first entries sorted k entry lt)
 
 -- ---- one entry of a name

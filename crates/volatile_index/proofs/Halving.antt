@@ -1,17 +1,17 @@
 -- A search by halving: what one comparison tells of the entries on its side, and how many comparisons there are.
-use Rattle.std.proofs.Common.{◌≡◌, ℕ, suc, ◌+◌, ◌-◌, ◌*◌, ◌^◌, ◌<◌, ◌≤◌, List, length, get_or, slice_get, IsSomeAnd, refl, sym, ap, subst, ◌∙◌, arith, true, Ordering, Less, Equal, Greater, is_lt}
+use Rattle.std.proofs.Common.{◌≡◌, ℕ, suc, ◌+◌, ◌-◌, ◌*◌, ◌^◌, ◌≤◌, List, length, get_or, slice_get, IsSomeAnd, Some, refl, sym, ap, subst, ◌∙◌, arith, true, Ordering, Less, Equal, Greater, is_lt}
 use Rattle.std.specs.Cmp.Lexicographic.{nat_list_cmp_total}
 use Rattle.std.specs.FinMap.{nat_cmp-IsAntisymmetric, slice_cmp-IsAntisymmetric}
 use Rattle.std.specs.List.{AllWithin}
 use Rattle.std.specs.List.Sorted.{IsNonDecreasingBy, IsSortedBy}
 use Rattle.std.specs.Ordering.{ordering_index}
 use Rattle.std.proofs.lemmas.Bool.{false≢true}
-use Rattle.std.proofs.lemmas.List.{get_or_default}
 use Rattle.std.proofs.lemmas.List.Sorted.{searchable_from_sorted}
-use Rattle.std.proofs.lemmas.Option.{slice_get-get_or}
+use Rattle.std.proofs.lemmas.Option.{get_or_from_slice_get, slice_get_within}
 use Rattle.std.proofs.Math.Nat.{pow-succ', mul-le-mul_left}
 use Rattle.volatile_index.specs.declared.entry.Entry.{Entry}
-use Rattle.volatile_index.specs.Entries.{name_cmp, IsSorted}
+use Rattle.layout.specs.Name.{name_cmp}
+use Rattle.volatile_index.specs.Entries.{IsSorted}
 use Rattle.volatile_index.specs.Place.{IsGap}
 use Rattle.volatile_index.proofs.EntryLaws.{turned}
 
@@ -42,13 +42,13 @@ is_lt_less Greater is = absurd (false≢true is)
 
 -- ---- one comparison
 
-module _ (name : List ℕ) (entries : List Entry) (middle : ℕ) (found : Entry) (sorted : IsSorted entries) (within : middle < length entries) (is : found ≡ get_or entries middle found) where
+module _ (name : List ℕ) (entries : List Entry) (middle : ℕ) (found : Entry) (sorted : IsSorted entries) (is : slice_get entries middle ≡ Some found) where
   here : (d : Entry) → get_or entries middle d ≡ found
-  here d = get_or_default entries middle d found within ∙ sym is
+  here d = get_or_from_slice_get entries middle found d is
 
   pub less_up_to : name_cmp found.name name ≡ Less → AllWithin (λ entry. name_cmp entry.name name ≡ Less) entries 0 (middle + 1)
   less_up_to less k d low below = is_less (against name (get_or entries k d))
-      (let rising = non_decreasing name entries sorted k middle d (omega arith) within in
+      (let rising = non_decreasing name entries sorted k middle d (omega arith) (slice_get_within entries middle found is) in
       let index = ap (λ entry. ordering_index (against name entry)) (here d) ∙ ap ordering_index less in
       omega (arith, rising, index))
 
@@ -60,14 +60,14 @@ module _ (name : List ℕ) (entries : List Entry) (middle : ℕ) (found : Entry)
 
   pub found_here : name_cmp found.name name ≡ Equal → IsSomeAnd (slice_get entries middle) (λ entry. entry.name ≡ name)
   found_here equal =
-      subst (λ option. IsSomeAnd option (λ entry. entry.name ≡ name)) (sym (slice_get-get_or entries middle found within))
-      (subst (λ entry. entry.name ≡ name) is (slice_cmp-IsAntisymmetric nat_cmp-IsAntisymmetric found.name name equal))
+      subst (λ option. IsSomeAnd option (λ entry. entry.name ≡ name)) (sym is)
+      (slice_cmp-IsAntisymmetric nat_cmp-IsAntisymmetric found.name name equal)
 
 -- where the last name is less, a new one comes behind all
-pub behind_all : (name : List ℕ) (entries : List Entry) (last : Entry) → IsSorted entries → 0 < length entries → last ≡ get_or entries (length entries - 1) last → name_cmp last.name name ≡ Less → IsGap entries (length entries) name
-behind_all name entries last sorted some is less = record {
+pub behind_all : (name : List ℕ) (entries : List Entry) (last : Entry) → IsSorted entries → slice_get entries (length entries - 1) ≡ Some last → name_cmp last.name name ≡ Less → IsGap entries (length entries) name
+behind_all name entries last sorted is less = record {
   within = omega arith;
-  less = λ k d low below. less_up_to name entries (length entries - 1) last sorted (omega arith) is less k d low (omega arith);
+  less = λ k d low below. less_up_to name entries (length entries - 1) last sorted is less k d low (omega arith);
   greater = λ k d reached below. absurd (omega arith);
 }
 

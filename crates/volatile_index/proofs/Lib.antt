@@ -1,4 +1,6 @@
 pub mod EntryLaws
+mod FillCounts
+mod FillLaws
 mod Places
 mod Halving
 mod Nodes

@@ -1,11 +1,12 @@
 -- Where the entry of a name stands in a sorted list, or would stand.
-use Rattle.std.proofs.Common.{◌≡◌, ◌≢◌, ℕ, zero, suc, ◌≤◌, List, [], ◌∷◌, ◌++◌, length, take, drop, take-append-drop, get_or, slice_get, Contains, All, Result, IsSomeAnd, refl, sym, ap, inl, inr, arith, Less, Greater, IsOk, is_ok, cond}
+use Rattle.std.proofs.Common.{◌≡◌, ◌≢◌, ℕ, zero, suc, ◌≤◌, List, [], ◌∷◌, ◌++◌, length, take, drop, take-append-drop, get_or, slice_get, Contains, All, IsSomeAnd, refl, sym, ap, inl, inr, arith, Less, Greater}
 use Rattle.std.specs.List.{AllWithin}
-use Rattle.std.proofs.lemmas.Bool.{cases_lt, cond-true}
+use Rattle.std.proofs.lemmas.Bool.{cases_lt}
 use Rattle.std.proofs.lemmas.List.Elements.{All-contains, All-append, All-cons, All-take, All-drop}
 use Rattle.std.proofs.lemmas.List.Kept.{AllPairs-cons}
 use Rattle.volatile_index.specs.declared.entry.Entry.{Entry}
-use Rattle.volatile_index.specs.Entries.{name_cmp, IsSorted, IsAbsent, IsPresent, IsWithEntry}
+use Rattle.layout.specs.Name.{name_cmp}
+use Rattle.volatile_index.specs.Entries.{IsSorted, IsAbsent, IsPresent, IsWithEntry}
 use Rattle.volatile_index.proofs.EntryLaws.{contains_more, differs, turned_back, sorted_head, sorted_tail}
 use Rattle.volatile_index.specs.Place.{IsGap}
 
@@ -32,9 +33,6 @@ pub gap_not_present : (name : List ℕ) (entries : List Entry) (place : ℕ) →
 gap_not_present name entries place gap (slot, there) = gap_absent name entries place gap (record { name = name; slot = slot }) there refl
 
 -- ---- an entry put in
-
-pub when_ok : {A E X : Type 0} (r : Result A E) (ok err : X) → IsOk r → cond (is_ok r) ok err ≡ ok
-when_ok r ok err is = cond-true (is_ok r) ok err is
 
 put_sorted : (entries : List Entry) (place : ℕ) (entry : Entry) → IsSorted entries → place ≤ length entries
     → AllWithin (λ other. name_cmp other.name entry.name ≡ Less) entries 0 place → AllWithin (λ other. name_cmp other.name entry.name ≡ Greater) entries place (length entries)

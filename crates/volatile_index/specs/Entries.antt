@@ -1,14 +1,10 @@
 -- Entries of a directory, in the order of the bytes of their names.
-use Rattle.std.specs.Prelude.{◌≡◌, ◌≢◌, ℕ, List, ◌∷◌, ◌++◌, Contains}
-use Rattle.std.specs.Ordering.{nat_cmp}
-use Rattle.std.specs.Cmp.Lexicographic.{slice_cmp}
+use Rattle.std.specs.Prelude.{◌≡◌, ◌≢◌, ℕ, ◌<◌, ◌≤◌, ◌==◌, List, ◌∷◌, ◌++◌, Contains, count_by}
 use Rattle.std.specs.List.{AllPairs}
-use Rattle.std.specs.declared.cmp.Ordering.{Ordering}
 use Rattle.std.specs.declared.cmp.Ordering.TheVariants.{Less}
+use Rattle.layout.specs.Geometry.{page_of_slot}
+use Rattle.layout.specs.Name.{name_cmp}
 use Rattle.volatile_index.specs.declared.entry.Entry.{Entry}
-
-abbrev pub name_cmp : List ℕ → List ℕ → Ordering
-name_cmp = slice_cmp nat_cmp
 
 -- each name is less than each later one
 abbrev pub IsSorted : List Entry → Type 0
@@ -28,3 +24,15 @@ pub record IsWithEntry (shorter longer : List Entry) (entry : Entry) : Type 0 wh
   pub back : List Entry
   pub shorter_is : shorter ≡ front ++ back
   pub longer_is : longer ≡ front ++ entry ∷ back
+
+-- how many entries stand in the slots of a page
+abbrev pub names_in : List Entry → ℕ → ℕ
+names_in entries page = count_by (λ (entry : Entry). page_of_slot entry.slot == page) entries
+
+-- some entries stand in the slots of the page, but fewer than 32
+abbrev pub IsOpen : List Entry → ℕ → Type 0
+IsOpen entries page = (0 < names_in entries page) × (names_in entries page < 32)
+
+-- the least page of those
+abbrev pub IsLeastOpen : List Entry → ℕ → Type 0
+IsLeastOpen entries page = IsOpen entries page × ((other : ℕ) → IsOpen entries other → page ≤ other)

@@ -1,17 +1,18 @@
 -- What the index holds of each inode, and what its calls do to that.
-use Rattle.std.specs.Prelude.{◌≡◌, ◌≢◌, ℕ, zero, suc, ◌+◌, ◌<◌, ◌≤◌, List, [], ◌∷◌, ◌++◌, length, slice_index_or, Result, IsOk, OnOk, OnErr}
+use Rattle.std.specs.Prelude.{◌≡◌, ◌≢◌, ℕ, zero, suc, ◌+◌, ◌≤◌, Bool, false, List, [], ◌∷◌, ◌++◌, length, slice_index_or, Result, IsTrue, IsOk, OnOk, OnErr}
 use Rattle.volatile_index.specs.declared.entry.Entry.{Entry}
 use Rattle.volatile_index.specs.Entries.{IsSorted, IsAbsent, IsWithEntry}
 
--- what is held of one inode, and how many entries and pages its lists hold before they need memory
+-- what is held of one inode, whether there is memory for one entry more, wherever it goes, and how many pages the list holds
+-- before it needs memory
 pub record NodeView : Type 0 where
   pub entries : List Entry
-  pub places : ℕ
+  pub has_place : Bool
   pub pages : List ℕ
   pub page_places : ℕ
 
 abbrev pub empty_node : NodeView
-empty_node = record { entries = []; places = 0; pages = []; page_places = 0 }
+empty_node = record { entries = []; has_place = false; pages = []; page_places = 0 }
 
 -- inodes are numbered from 1
 unfoldable pub node_of : List NodeView → ℕ → NodeView
@@ -24,8 +25,8 @@ inodes_of_index index = length index
 abbrev pub entries_of : List NodeView → ℕ → List Entry
 entries_of index inode = (node_of index inode).entries
 
-abbrev pub places_of : List NodeView → ℕ → ℕ
-places_of index inode = (node_of index inode).places
+abbrev pub has_place_of : List NodeView → ℕ → Bool
+has_place_of index inode = (node_of index inode).has_place
 
 abbrev pub pages_of : List NodeView → ℕ → List ℕ
 pages_of index inode = (node_of index inode).pages
@@ -42,28 +43,26 @@ pub record IsEmpty (node : NodeView) : Type 0 where
 
 -- Memory is taken for one more entry, or refused: never where the place is there already.
 pub record ReservesEntry {T E : Type 0} (result : Result T E) (old new : NodeView) : Type 0 where
-  pub ok : OnOk result (length new.entries < new.places)
-  pub err : OnErr result (new.places ≡ old.places)
-  pub enough : length old.entries < old.places → IsOk result
-  pub places : old.places ≤ new.places
+  pub ok : OnOk result (IsTrue new.has_place)
+  pub enough : IsTrue old.has_place → IsOk result
+  pub place : IsTrue old.has_place → IsTrue new.has_place
   pub entries : new.entries ≡ old.entries
   pub pages : new.pages ≡ old.pages
   pub page_places : new.page_places ≡ old.page_places
 
--- The entry is put in, in the order of names and in a place that was there.
+-- The entry is put in, in the order of names. Whether there is a place for another is not told.
 pub record PutsEntry (entry : Entry) (old new : NodeView) : Type 0 where
   pub entries : IsWithEntry old.entries new.entries entry
   pub sorted : IsSorted new.entries
-  pub places : new.places ≡ old.places
   pub pages : new.pages ≡ old.pages
   pub page_places : new.page_places ≡ old.page_places
 
--- The entry of the name is taken out, and there is no other.
+-- The entry of the name is taken out, and there is no other. A place that was there stays.
 pub record RemovesEntry (name : List ℕ) (old new : NodeView) : Type 0 where
   pub entries : (slot : ℕ) × IsWithEntry new.entries old.entries (record { name = name; slot = slot })
   pub absent : IsAbsent new.entries name
   pub sorted : IsSorted new.entries
-  pub places : new.places ≡ old.places
+  pub place : IsTrue old.has_place → IsTrue new.has_place
   pub pages : new.pages ≡ old.pages
   pub page_places : new.page_places ≡ old.page_places
 
@@ -75,14 +74,14 @@ pub record ReservesPages {T E : Type 0} (n : ℕ) (result : Result T E) (old new
   pub page_places : old.page_places ≤ new.page_places
   pub pages : new.pages ≡ old.pages
   pub entries : new.entries ≡ old.entries
-  pub places : new.places ≡ old.places
+  pub place : new.has_place ≡ old.has_place
 
 -- The node has these pages, in the places that were there.
 pub record IsWithPages (pages_now : List ℕ) (old new : NodeView) : Type 0 where
   pub pages : new.pages ≡ pages_now
   pub page_places : new.page_places ≡ old.page_places
   pub entries : new.entries ≡ old.entries
-  pub places : new.places ≡ old.places
+  pub place : new.has_place ≡ old.has_place
 
 -- One page is taken out, wherever it stands, and the others keep their order and their places.
 pub record DropsPage (page : ℕ) (old new : NodeView) : Type 0 where

@@ -1,3 +1,4 @@
 pub mod Entries
+pub mod Fills
 pub mod Index
 pub mod Place

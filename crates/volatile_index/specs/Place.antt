@@ -3,7 +3,7 @@ use Rattle.std.specs.Prelude.{◌≡◌, ℕ, ◌≤◌, List, length}
 use Rattle.std.specs.List.{AllWithin}
 use Rattle.std.specs.declared.cmp.Ordering.TheVariants.{Less, Greater}
 use Rattle.volatile_index.specs.declared.entry.Entry.{Entry}
-use Rattle.volatile_index.specs.Entries.{name_cmp}
+use Rattle.layout.specs.Name.{name_cmp}
 
 -- the names before the place are less, and the others greater
 pub record IsGap (entries : List Entry) (place : ℕ) (name : List ℕ) : Type 0 where

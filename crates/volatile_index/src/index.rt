@@ -1,7 +1,7 @@
 // What is held of each inode.
-ghost use Rattle.std.specs.Prelude.{◌≡◌, ◌+◌, ◌-◌, ◌*◌, ◌^◌, ◌<◌, ◌≤◌, ℕ, [], ◌∷◌, ◌++◌, length, take, slice_get, slice_set, Contains, MatchOption, IfOk, Some};
-ghost use Rattle.volatile_index.specs.Entries.{IsSorted, IsAbsent, IsPresent};
-ghost use Rattle.volatile_index.specs.Index.{inodes_of_index, node_of, entries_of, places_of, pages_of, page_places_of, IsEmpty, ReservesEntry, PutsEntry, RemovesEntry, ReservesPages, IsWithPages, DropsPage, ChangesNode};
+ghost use Rattle.std.specs.Prelude.{◌≡◌, ◌+◌, ◌-◌, ◌*◌, ◌^◌, ◌<◌, ◌≤◌, ℕ, [], ◌∷◌, ◌++◌, length, take, slice_get, slice_set, Contains, MatchOption, IsTrue, IfOk, Some};
+ghost use Rattle.volatile_index.specs.Entries.{IsSorted, IsAbsent, IsPresent, IsOpen, IsLeastOpen};
+ghost use Rattle.volatile_index.specs.Index.{inodes_of_index, node_of, entries_of, has_place_of, pages_of, page_places_of, IsEmpty, ReservesEntry, PutsEntry, RemovesEntry, ReservesPages, IsWithPages, DropsPage, ChangesNode};
 
 use crate::entry::Entry;
 use crate::node::Node;
@@ -105,7 +105,7 @@ impl Index {
         requires from_one { 1 ≤ directory }
         requires in_range { directory ≤ inodes_of_index self.old }
         requires absent { IsAbsent (entries_of self.old directory) name }
-        requires room { length (entries_of self.old directory) < places_of self.old directory }
+        requires room { IsTrue (has_place_of self.old directory) }
         ensures { ChangesNode directory self.old self.new (PutsEntry (record { name = name; slot = slot })) }
     {
         self.nodes[place_of(directory)].put(name, slot);
@@ -119,6 +119,16 @@ impl Index {
         ensures { ChangesNode directory self.old self.new (RemovesEntry name.now) }
     {
         self.nodes[place_of(directory)].remove(name);
+    }
+
+    /// The least page in whose slots some entries of a directory stand, but fewer than 32.
+    pub fn page_with_room(&self, directory: u64) -> Option<u64>
+        requires from_one { 1 ≤ directory }
+        requires in_range { directory ≤ inodes_of_index self.now }
+        ensures { MatchOption result ((page : ℕ) → ¬ IsOpen (entries_of self.now directory) page)
+            (λ page. IsLeastOpen (entries_of self.now directory) page) }
+    {
+        self.nodes[place_of(directory)].page_with_room()
     }
 
     /// The pages of an inode: a file's by offset, a directory's in the order in which they were added.

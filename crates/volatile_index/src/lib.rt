@@ -3,6 +3,7 @@
 #![tactic(auto)]
 
 mod entry;
+mod fills;
 mod index;
 mod laws;
 mod node;

@@ -1,12 +1,14 @@
 // What is held of one inode.
-ghost use Rattle.std.specs.Prelude.{◌≡◌, ◌+◌, ◌-◌, ◌*◌, ◌^◌, ◌<◌, ◌≤◌, ℕ, [], ◌∷◌, ◌++◌, length, take, slice_get, slice_set, Contains, MatchOption, Some};
-ghost use Rattle.volatile_index.specs.Entries.{IsSorted, IsAbsent, IsPresent};
+ghost use Rattle.std.specs.Prelude.{◌≡◌, ◌+◌, ◌-◌, ◌*◌, ◌^◌, ◌<◌, ◌≤◌, ℕ, [], ◌∷◌, ◌++◌, length, take, slice_get, slice_set, Contains, MatchOption, IsTrue, Some};
+ghost use Rattle.volatile_index.specs.Entries.{IsSorted, IsAbsent, IsPresent, IsOpen, IsLeastOpen};
 ghost use Rattle.volatile_index.specs.Index.{IsEmpty, ReservesEntry, PutsEntry, RemovesEntry, ReservesPages, IsWithPages, DropsPage};
 
 use crate::entry::Entry;
+use crate::fills::Fills;
 use crate::search::{search, search_from_end, search_uncounted};
 use counting::Steps;
-use layout::Name;
+use layout::{Name, PAGE_SLOTS};
+use pieces::Pieces;
 use pm_trait::NoMemory;
 use std::alloc::Global;
 use std::marker::{Brand, Model};
@@ -15,20 +17,23 @@ use std::sync::ledger::{Blank, Ledger};
 /// The entries of a directory, sorted by name, and the pages of a file or a directory.
 #[derive(Drop)]
 pub struct Node {
-    entries: Vec<Entry>,
+    entries: Pieces<Entry>,
+    // How many of the entries stand in each page.
+    fills: Fills,
     pages: Vec<u64>,
 }
 
 impl Model for Node {
+    ghost use Rattle.std.specs.Prelude.{◌&&◌};
     ghost use Rattle.std.specs.Vec.{vec_capacity};
-    ghost use Rattle.volatile_index.specs.Entries.{IsSorted};
+    ghost use Rattle.volatile_index.specs.Fills.{AreCounted};
     ghost use Rattle.volatile_index.specs.Index.{NodeView};
 
     ghost Value = { NodeView };
 
-    ghost view = { λ node. record { entries = node.entries.items; places = vec_capacity node.entries; pages = node.pages.items; page_places = vec_capacity node.pages } };
+    ghost view = { λ node. record { entries = node.entries.items; has_place = node.entries.has_room && node.fills.has_room; pages = node.pages.items; page_places = vec_capacity node.pages } };
 
-    ghost invariant = { λ node. IsSorted node.entries.items };
+    ghost invariant = { λ node. AreCounted node.entries.items node.fills.fills };
 }
 
 impl Node {
@@ -37,7 +42,8 @@ impl Node {
         ensures { IsEmpty result }
     {
         Node {
-            entries: Vec::new(alloc),
+            entries: Pieces::new(alloc),
+            fills: Fills::new(alloc),
             pages: Vec::new(alloc),
         }
     }
@@ -56,7 +62,7 @@ impl Node {
         ensures entry { slice_get self.now.entries k ≡ Some result.now }
         ensures sorted { IsSorted self.now.entries }
     {
-        &self.entries[k as usize]
+        self.entries.get(k as usize)
     }
 
     /// The slot of a name. A step is a comparison of two names.
@@ -67,7 +73,7 @@ impl Node {
         ensures cost { 2 ^ (steps.new - steps.old) ≤ 2 * length self.now.entries + 1 }
     {
         match search(&self.entries, name, steps) {
-            Ok(place) => Some(self.entries[place].slot),
+            Ok(place) => Some(self.entries.get(place).slot),
             Err(_) => None,
         }
     }
@@ -76,18 +82,22 @@ impl Node {
     pub fn reserve_one(&mut self) -> Result<(), NoMemory>
         ensures { ReservesEntry result self.old self.new }
     {
-        self.entries.reserve(1)?;
+        self.entries.reserve_one()?;
+        self.fills.reserve_one()?;
         Ok(())
     }
 
     /// Puts an entry in its place.
     pub fn put(&mut self, name: Name, slot: u64)
         requires absent { IsAbsent self.old.entries name }
-        requires room { length self.old.entries < self.old.places }
+        requires room { IsTrue self.old.has_place }
         ensures { PutsEntry (record { name = name; slot = slot }) self.old self.new }
     {
         if let Err(place) = search_from_end::<Brand>(&self.entries, &name, Blank::new(1)) {
-            let _ = self.entries.insert(place, Entry { name, slot });
+            self.entries.insert(place, Entry { name, slot });
+            // The entries can be counted, and so can those of the page.
+            let _count = self.entries.len();
+            self.fills.raise(slot / PAGE_SLOTS);
         }
     }
 
@@ -97,8 +107,16 @@ impl Node {
         ensures { RemovesEntry name.now self.old self.new }
     {
         if let Ok(place) = search_uncounted::<Brand>(&self.entries, name, Blank::new(1)) {
-            let _ = self.entries.remove(place);
+            let entry = self.entries.remove(place);
+            self.fills.lower(entry.slot / PAGE_SLOTS);
         }
+    }
+
+    /// The least page in whose slots some entries stand, but fewer than 32.
+    pub fn page_with_room(&self) -> Option<u64>
+        ensures { MatchOption result ((page : ℕ) → ¬ IsOpen self.now.entries page) (λ page. IsLeastOpen self.now.entries page) }
+    {
+        self.fills.least_open()
     }
 
     /// The pages.

@@ -104,7 +104,9 @@ fn find_in_few_steps<L: Ledger>(index: &Index, name: &Name, steps: &mut Steps<L>
     ensures three { length (entries_of index.now 2) ≤ 3 → steps.new ≤ steps.old + 2 }
     ensures seven { length (entries_of index.now 2) ≤ 7 → steps.new ≤ steps.old + 3 }
     ensures eight { length (entries_of index.now 2) ≤ 8 → steps.new ≤ steps.old + 4 }
-    ensures many { length (entries_of index.now 2) ≤ 65536 → steps.new ≤ steps.old + 17 }
+    ensures fourteen { length (entries_of index.now 2) ≤ 16383 → steps.new ≤ steps.old + 14 }
+    ensures seventeen { length (entries_of index.now 2) ≤ 65536 → steps.new ≤ steps.old + 17 }
+    ensures twenty { length (entries_of index.now 2) ≤ 1000000 → steps.new ≤ steps.old + 20 }
 {
     index.find_counted(2, name, steps)
 }
@@ -127,6 +129,33 @@ fn few_names_take_few_steps(rt: HostRuntime) -> Result<(), Fail> {
     let found = find_from_none::<Brand>(&index, &name("a")?, Blank::new(1));
     let missing = find_from_none::<Brand>(&index, &name("d")?, Blank::new(1));
     assert_eq!(rt; (found, missing), (Some(3), None));
+    Ok(())
+}
+
+// Puts an entry into each of the first slots.
+fn fill(alloc: Global, index: &mut Index, slots: u64) -> Result<(), Fail>
+    requires inodes { inodes_of_index index.old ≡ 4 }
+    ensures inodes { inodes_of_index index.new ≡ 4 }
+{
+    for slot in 0..slots {
+        let text = format!(in alloc; "{slot}")?;
+        add(index, &text, slot)?;
+    }
+    Ok(())
+}
+
+#[test]
+fn a_page_of_32_names_has_no_room(rt: HostRuntime) -> Result<(), Fail> {
+    let mut index = least_index(rt.alloc())?;
+    assert_eq!(rt; index.page_with_room(2), None);
+    fill(rt.alloc(), &mut index, 33)?;
+    assert_eq!(rt; index.page_with_room(2), Some(1));
+    take(&mut index, "7")?;
+    assert_eq!(rt; index.page_with_room(2), Some(0));
+    add(&mut index, "7", 7)?;
+    assert_eq!(rt; index.page_with_room(2), Some(1));
+    take(&mut index, "32")?;
+    assert_eq!(rt; index.page_with_room(2), None);
     Ok(())
 }
 

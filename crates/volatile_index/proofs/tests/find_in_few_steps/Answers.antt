@@ -24,5 +24,11 @@ returns-clause-seven g c = λ few. few_steps _ _ _ 3 c.find_counted.ensures.cost
 pub returns-clause-eight : goal.returns-clause-eight
 returns-clause-eight g c = λ few. few_steps _ _ _ 4 c.find_counted.ensures.cost (omega (arith, few))
 
-pub returns-clause-many : goal.returns-clause-many
-returns-clause-many g c = λ few. few_steps _ _ _ 17 c.find_counted.ensures.cost (omega (arith, few))
+pub returns-clause-fourteen : goal.returns-clause-fourteen
+returns-clause-fourteen g c = λ few. few_steps _ _ _ 14 c.find_counted.ensures.cost (omega (arith, few))
+
+pub returns-clause-seventeen : goal.returns-clause-seventeen
+returns-clause-seventeen g c = λ few. few_steps _ _ _ 17 c.find_counted.ensures.cost (omega (arith, few))
+
+pub returns-clause-twenty : goal.returns-clause-twenty
+returns-clause-twenty g c = λ few. few_steps _ _ _ 20 c.find_counted.ensures.cost (omega (arith, few))

@@ -10,4 +10,4 @@ returns-in-Some c =
     let page = c.args.page in
     let same : c.args.self.now.pages ≡ pages = sym (ap (λ (held : NodeView). held.pages) c.self.view_is) in
     let found = IsFirst-from_position _ _ _ (λ x. x ≡ page) (λ x. x ≢ page) c.in-Some.ensures.ran (YieldsList-from_slice pages cc) (λ x q k. search rules) (λ x q k. search rules) in
-    dropped pages c.in-Some.place page found.0 (found.1 page) _ _ same (record { pages = c.remove.ensures.items; page_places = search rules; entries = search rules; places = search rules })
+    dropped pages c.in-Some.place page found.0 (found.1 page) _ _ same (record { pages = c.remove.ensures.items; page_places = search rules; entries = search rules; place = search rules })

@@ -1,4 +1,4 @@
-use Rattle.std.proofs.Common.{◌≡◌, ap, subst, ◌∙◌}
+use Rattle.std.proofs.Common.{ap, subst}
 use Rattle.volatile_index.specs.Entries.{IsAbsent}
 use Rattle.volatile_index.specs.Index.{NodeView}
 use Rattle.volatile_index.proofs.Places.{gap_absent}
@@ -6,5 +6,5 @@ use Rattle.volatile_index.proofs.node.Node.find_counted.Goals as goal
 
 pub returns-in-Err-clause-slot : goal.returns-in-Err-clause-slot
 returns-in-Err-clause-slot g c =
-    let same : c.deref.result.now ≡ c.args.self.now.entries = c.deref.ensures.value ∙ ap (λ (held : NodeView). held.entries) c.self.view_is in
+    let same = ap (λ (held : NodeView). held.entries) c.self.view_is in
     subst (λ entries. IsAbsent entries c.args.name.now) same (gap_absent _ _ _ c.in-Err.ensures.gap)
