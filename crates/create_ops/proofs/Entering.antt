@@ -3,18 +3,17 @@ use Rattle.std.proofs.Common.{◌≡◌, ℕ, ◌-◌, Bool, false, List, ◌++�
 use Rattle.std.specs.Prelude.{slice_set}
 use Rattle.allocators.specs.Numbers.{IsFree}
 use Rattle.volatile_index.specs.Entries.{IsWithEntry}
-use Rattle.volatile_index.specs.Index.{entries_of, places_of, pages_of, page_places_of, IsSameElsewhere}
+use Rattle.volatile_index.specs.Index.{entries_of, pages_of, page_places_of, IsSameElsewhere}
 use Rattle.volatile_index.specs.declared.entry.Entry.{Entry}
 use Rattle.volume.specs.Volume.{VolumeView}
 use Rattle.volume.specs.Entered.{pages_of_option, with_taken, EntersName, EntersInode}
 use Rattle.volume.specs.declared.plan.NewEntry.{NewEntry}
 
--- The directory has the entry and its new page, in the places that were there, and the inode and the page are taken.
+-- The directory has the entry and its new page, and the inode and the page are taken.
 pub record HasEntered (old new : VolumeView) (entry : NewEntry) : Type 0 where
   pub same_size : new.size ≡ old.size
   pub same_state : new.stopped ≡ old.stopped
   pub entries : IsWithEntry (entries_of old.index entry.directory) (entries_of new.index entry.directory) (record { name = entry.name; slot = entry.slot })
-  pub places : places_of new.index entry.directory ≡ places_of old.index entry.directory
   pub pages : pages_of new.index entry.directory ≡ pages_of old.index entry.directory ++ pages_of_option entry.new_page
   pub page_places : page_places_of new.index entry.directory ≡ page_places_of old.index entry.directory
   pub elsewhere : IsSameElsewhere entry.directory old.index new.index
@@ -30,7 +29,6 @@ module _ (old named : VolumeView) (entry : NewEntry) (name : EntersName old name
         same_size = ap (λ (v : VolumeView). v.size) name.rest ∙ ap (λ (v : VolumeView). v.size) name.page.rest;
         same_state = ap (λ (v : VolumeView). v.stopped) name.rest ∙ ap (λ (v : VolumeView). v.stopped) name.page.rest;
         entries = subst (λ (l : List Entry). IsWithEntry l (entries_of named.index entry.directory) (record { name = entry.name; slot = entry.slot })) page.node.entries entries.node.entries;
-        places = entries.node.places ∙ page.node.places;
         pages = entries.node.pages ∙ page.node.pages;
         page_places = entries.node.page_places ∙ page.node.page_places;
         elsewhere = record {

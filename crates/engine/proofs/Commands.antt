@@ -232,7 +232,7 @@ same_places volume = record {
     each_inode = refl;
     entries = λ i. refl;
     pages = λ i. refl;
-    places = λ i. omega arith;
+    place = λ i there. there;
     page_places = λ i. omega arith;
   };
   inodes = refl;

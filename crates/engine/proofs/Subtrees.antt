@@ -1,12 +1,12 @@
 -- The entries of a path and of the paths below it: the path's own comes first, then what is below each of its names, in their order.
-use Rattle.std.proofs.Common.{◌≡◌, ◌⊎◌, inl, inr, ℕ, Bool, true, false, T, List, [], ◌∷◌, ◌++◌, map, filter, Option, Some, None, is_some, refl, sym, ap, subst, ◌∙◌, append-nil, append_assoc, Ordering, Less, Equal, Greater, is_lt, eq-eqb, eqb-true}
+use Rattle.std.proofs.Common.{◌≡◌, ◌⊎◌, inl, inr, ℕ, Bool, true, false, T, List, [], ◌∷◌, ◌++◌, filter, Option, Some, None, is_some, refl, sym, ap, subst, ◌∙◌, append-nil, append_assoc, Ordering, Less, is_lt, eq-eqb}
 use Rattle.std.specs.Prelude.{flat_map}
 use Rattle.std.specs.Ordering.{ordering_then}
 use Rattle.std.specs.Cmp.{tied_itself}
 use Rattle.std.specs.Cmp.Lexicographic.{nat_list_cmp_total}
 use Rattle.std.specs.FinMap.Entries.{find, below_all, is_sorted, is_sorted-where_key, same_entries}
 use Rattle.tree_model.specs.PathText.{Route}
-use Rattle.tree_model.specs.Tree.{Tree, IsTree, route_cmp, route_cmp_total, is_root, parent, last_name, rest_after, id_at, is_directory, is_in, is_number, entries_in}
+use Rattle.tree_model.specs.Tree.{Tree, IsTree, route_cmp, route_cmp_total, parent, last_name, rest_after, id_at, is_directory, is_in, is_number, entries_in}
 use Rattle.tree_model.specs.Step.{names_in}
 use Rattle.tree_model.proofs.EntryLaws.{both, front, back}
 use Rattle.tree_model.proofs.Lookups.{rest_after-append, rest_after-some}
@@ -15,7 +15,8 @@ use Rattle.tree_model.proofs.TreeLaws.{above, parent-below, not_root-below, is_i
 use Rattle.image_counts.proofs.Counting.{Among}
 use Rattle.image_counts.proofs.Entries.{find_among, among_find}
 use Rattle.image_counts.proofs.Slots.{all_names, some_names}
-use Rattle.volatile_index.specs.Entries.{name_cmp}
+use Rattle.layout.specs.Name.{name_cmp}
+use Rattle.volume.proofs.Listed.{Ascends, among_map, last_of, below_each, tree_ascends, is_this, last-below, below_root}
 use Rattle.volume.proofs.Ways.{whole_path}
 use Rattle.engine.specs.Places.{entries_from}
 
@@ -53,17 +54,6 @@ flat_among f (y ∷ xs) x e among h = elim among [
   | inr later ↦ among_back e (f y) (flat_map f xs) (flat_among f xs x e later h)
 ]
 
-among_map : {E : Type 0} (f : E → List ℕ) (es : List E) (e : E) → Among e es → Among (f e) (map f es)
-among_map f [] e among = absurd among
-among_map f (first ∷ es) e among = elim among [ inl is ↦ inl (ap f is) | inr later ↦ inr (among_map f es e later) ]
-
-of_map : {E : Type 0} (f : E → List ℕ) (es : List E) (name : List ℕ) → Among name (map f es) → (e : E) × Among e es × (name ≡ f e)
-of_map f [] name among = absurd among
-of_map f (first ∷ es) name among = elim among [
-  | inl is ↦ (first, inl refl, is)
-  | inr later ↦ let (e, there, same) = of_map f es name later in (e, inr there, same)
-]
-
 -- ---- the order of paths
 
 below_path : (path : Route) (name : List ℕ) (rest : Route) → route_cmp path (path ++ name ∷ rest) ≡ Less
@@ -76,32 +66,10 @@ below_names [] a b r s less = ap (λ o. ordering_then o (route_cmp r s)) less
 below_names (first ∷ path) a b r s less =
     ap (λ o. ordering_then o (route_cmp (path ++ a ∷ r) (path ++ b ∷ s))) (tied_itself nat_list_cmp_total first) ∙ below_names path a b r s less
 
-then_equal : (r : Ordering) → ordering_then r Equal ≡ r
-then_equal Less = refl
-then_equal Equal = refl
-then_equal Greater = refl
-
--- paths with one parent stand as their last names
-same_front : (path : Route) (a b : List ℕ) → route_cmp (path ++ a ∷ []) (path ++ b ∷ []) ≡ name_cmp a b
-same_front [] a b = then_equal (name_cmp a b)
-same_front (name ∷ path) a b = ap (λ r. ordering_then r (route_cmp (path ++ a ∷ []) (path ++ b ∷ []))) (tied_itself nat_list_cmp_total name) ∙ same_front path a b
-
 -- ---- lists of entries in order
-
-is_less : (r : Ordering) → T (is_lt r) → r ≡ Less
-is_less Less h = refl
-is_less Equal h = absurd h
-is_less Greater h = absurd h
 
 less_is : (r : Ordering) → r ≡ Less → T (is_lt r)
 less_is r e = subst (λ (x : Ordering). T (is_lt x)) (sym e) tt
-
-below_each : (path : Route) (es : List Entry) (e : Entry) → T (below_all route_cmp path es) → Among e es → route_cmp path e.0 ≡ Less
-below_each path [] e below among = absurd among
-below_each path (first ∷ es) e below among = elim among [
-  | inl is ↦ ap (λ (f : Entry). route_cmp path f.0) is ∙ is_less (route_cmp path first.0) (front _ _ below)
-  | inr later ↦ below_each path es e (back _ _ below) later
-]
 
 each_below : (path : Route) (es : List Entry) → ((e : Entry) → Among e es → route_cmp path e.0 ≡ Less) → T (below_all route_cmp path es)
 each_below path [] less = tt
@@ -128,38 +96,7 @@ same_sorted xs ys sx sy to back_to =
         find_among route_cmp route_cmp_total xs (q, j) sx (back_to (q, j) (among_find route_cmp route_cmp_total route_cmp-IsAntisymmetric ys q j other)) ∙ sym other
     alike q None None is other = is ∙ sym other
 
--- ---- names in order
-
-abbrev Ascends : List (List ℕ) → Type 0
-Ascends [] = Unit {0}
-Ascends (name ∷ names) = ((later : List ℕ) → Among later names → name_cmp name later ≡ Less) × Ascends names
-
-abbrev last_of : Entry → List ℕ
-last_of e = last_name e.0
-
-tree_ascends : (path : Route) (es : List Entry) → T (is_sorted route_cmp es) → ((e : Entry) → Among e es → e.0 ≡ path ++ last_name e.0 ∷ []) → Ascends (map last_of es)
-tree_ascends path [] sorted inside = tt
-tree_ascends path (first ∷ es) sorted inside = (
-  (λ later among.
-      let (e, there, same) = of_map last_of es later among in
-      let less = below_each first.0 es e (front _ _ sorted) there in
-      let at_front = (λ i. route_cmp (sym (inside first (inl refl)) i) (sym (inside e (inr there)) i)) ∙ less in
-      ap (name_cmp (last_name first.0)) same ∙ sym (same_front path (last_name first.0) (last_name e.0)) ∙ at_front),
-  tree_ascends path es (back _ _ sorted) (λ e there. inside e (inr there)),
-)
-
-is_this : (o : Option ℕ) (d : ℕ) → is_number o d ≡ true → o ≡ Some d
-is_this None d e = cc
-is_this (Some other) d e = ap Some (eqb-true other d e)
-
-last-below : (path : Route) (name : List ℕ) → last_name (path ++ name ∷ []) ≡ name
-last-below [] name = refl
-last-below (first ∷ []) name = refl
-last-below (first ∷ next ∷ path) name = last-below (next ∷ path) name
-
-below_root : (tree : Tree) (d : ℕ) (path : Route) → is_in tree d path ≡ true → is_root path ≡ false
-below_root tree d [] e = cc
-below_root tree d (name ∷ names) e = refl
+-- ---- what is found
 
 found : (o : Option ℕ) → is_some o ≡ true → (id : ℕ) × (o ≡ Some id)
 found None e = cc

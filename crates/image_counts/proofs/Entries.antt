@@ -8,7 +8,7 @@ use Rattle.tree_model.proofs.EntryLaws.{front, back, find-first}
 use Rattle.tree_model.proofs.TreeLaws.{tied}
 use Rattle.image_counts.proofs.Counting.{Among, AreApart}
 
-is_less : (r : Ordering) → T (is_lt r) → r ≡ Less
+pub is_less : (r : Ordering) → T (is_lt r) → r ≡ Less
 is_less Less h = refl
 is_less Equal h = absurd h
 is_less Greater h = absurd h

@@ -38,7 +38,7 @@ IsWithMore inode pages old new = ChangesNode inode old new (λ old new. IsWithPa
 
 pub none_added : (inode : ℕ) (index : List NodeView) → IsWithMore inode [] index index
 none_added inode index = record {
-  node = record { pages = sym (append-nil (pages_of index inode)); page_places = refl; entries = refl; places = refl };
+  node = record { pages = sym (append-nil (pages_of index inode)); page_places = refl; entries = refl; place = refl };
   elsewhere = record { inodes = refl; others = λ other apart. refl };
 }
 
@@ -48,7 +48,7 @@ one_added inode pages page old mid new before after = record {
     pages = after.node.pages ∙ ap (λ l. l ++ page ∷ []) before.node.pages ∙ append_assoc (pages_of old inode) pages (page ∷ []);
     page_places = after.node.page_places ∙ before.node.page_places;
     entries = after.node.entries ∙ before.node.entries;
-    places = after.node.places ∙ before.node.places;
+    place = after.node.place ∙ before.node.place;
   };
   elsewhere = record {
     inodes = after.elsewhere.inodes ∙ before.elsewhere.inodes;
@@ -99,7 +99,7 @@ none_lost volume inode = record {
   split = sym (append-nil (pages_of volume.index inode));
   count_is = refl;
   index = record {
-    node = record { pages = refl; page_places = refl; entries = refl; places = refl };
+    node = record { pages = refl; page_places = refl; entries = refl; place = refl };
     elsewhere = record { inodes = refl; others = λ other apart. refl };
   };
   rest = refl;

@@ -2,6 +2,7 @@ pub mod Statuses
 pub mod Walked
 pub mod Ways
 pub mod Places
+pub mod PageRooms
 pub mod Reserved
 pub mod Frees
 pub mod Holders

@@ -1,5 +1,5 @@
 -- The names of a directory, in the tree and in the index.
-use Rattle.std.proofs.Common.{◌≡◌, inl, inr, ℕ, zero, suc, ◌≤◌, Bool, true, false, cond, T, ◌&&◌, List, [], ◌∷◌, ◌++◌, length, map, filter, Option, Some, None, refl, sym, ap, subst, ◌∙◌, Ordering, Less, Equal, Greater, is_lt, eq-eqb, eqb-true}
+use Rattle.std.proofs.Common.{◌≡◌, inl, inr, ℕ, zero, suc, ◌≤◌, Bool, true, false, cond, T, List, [], ◌∷◌, ◌++◌, length, map, filter, Option, Some, None, refl, sym, ap, subst, ◌∙◌, Ordering, Less, Equal, Greater, eq-eqb, eqb-true}
 use Rattle.std.specs.Prelude.{slice_get}
 use Rattle.std.proofs.lemmas.List.{length-map}
 use Rattle.std.specs.Ordering.{ordering_then}
@@ -11,27 +11,30 @@ use Rattle.layout.specs.Geometry.{inodes_of}
 use Rattle.layout.specs.Fields.{slot_inode}
 use Rattle.tree_model.specs.PathText.{Route}
 use Rattle.tree_model.specs.Tree.{Tree, IsTree, route_cmp, is_root, parent, last_name, id_at, is_directory, is_in, is_number, entries_in}
+use Rattle.tree_model.proofs.EntryLaws as laws
 use Rattle.tree_model.proofs.TreeLaws.{parent-below, not_root-below, is_in-at}
 use Rattle.tree_model.specs.Step.{names_in}
 use Rattle.tree_model.specs.Run.{State}
 use Rattle.image_counts.proofs.Counting.{Among}
+use Rattle.image_counts.proofs.Entries.{is_less}
 use Rattle.image_counts.proofs.Nodes.{size_law}
 use Rattle.image_counts.proofs.Paths.{entry_law}
 use Rattle.image_counts.proofs.Slots.{all_names, some_names}
-use Rattle.volatile_index.specs.Entries.{name_cmp, IsSorted}
-use Rattle.volatile_index.proofs.EntryLaws.{differs, turned, sorted_tail}
+use Rattle.layout.specs.Name.{name_cmp}
+use Rattle.volatile_index.specs.Entries.{IsSorted}
+use Rattle.volatile_index.proofs.EntryLaws.{differs, turned, sorted_tail, less_than_contained}
 use Rattle.volatile_index.specs.Index.{entries_of}
 use Rattle.volatile_index.specs.declared.entry.Entry.{Entry}
 use Rattle.image_reading.proofs.Tidied.{tidied}
 use Rattle.volume.specs.Volume.{VolumeView}
 use Rattle.volume.specs.Stands.{StandsFor}
 use Rattle.volume.proofs.Walked.{stands_tree, in_table}
-use Rattle.volume.proofs.Statuses.{among_contained, contained_among, less_than_contained}
+use Rattle.volume.proofs.Statuses.{among_contained, contained_among}
 use Rattle.volume.proofs.Ways.{whole_path}
 
 -- ---- names in order
 
-abbrev Ascends : List (List ℕ) → Type 0
+abbrev pub Ascends : List (List ℕ) → Type 0
 Ascends [] = Unit {0}
 Ascends (name ∷ names) = ((later : List ℕ) → Among later names → name_cmp name later ≡ Less) × Ascends names
 
@@ -67,11 +70,11 @@ same_names (a ∷ others) (b ∷ others_too) ascends ascends_too to back =
 
 -- ---- a list of what is read of each element
 
-among_map : {E : Type 0} (f : E → List ℕ) (es : List E) (e : E) → Among e es → Among (f e) (map f es)
+pub among_map : {E : Type 0} (f : E → List ℕ) (es : List E) (e : E) → Among e es → Among (f e) (map f es)
 among_map f [] e among = absurd among
 among_map f (first ∷ es) e among = elim among [ inl is ↦ inl (ap f is) | inr later ↦ inr (among_map f es e later) ]
 
-of_map : {E : Type 0} (f : E → List ℕ) (es : List E) (name : List ℕ) → Among name (map f es) → (e : E) × Among e es × (name ≡ f e)
+pub of_map : {E : Type 0} (f : E → List ℕ) (es : List E) (name : List ℕ) → Among name (map f es) → (e : E) × Among e es × (name ≡ f e)
 of_map f [] name among = absurd among
 of_map f (first ∷ es) name among = elim among [
   | inl is ↦ (first, inl refl, is)
@@ -94,7 +97,7 @@ index_ascends (first ∷ entries) sorted = (
 
 -- ---- and those in the tree
 
-abbrev last_of : Route × ℕ → List ℕ
+abbrev pub last_of : Route × ℕ → List ℕ
 last_of e = last_name e.0
 
 then_equal : (r : Ordering) → ordering_then r Equal ≡ r
@@ -107,35 +110,22 @@ same_front : (front : Route) (a b : List ℕ) → route_cmp (front ++ a ∷ []) 
 same_front [] a b = then_equal (name_cmp a b)
 same_front (name ∷ front) a b = ap (λ r. ordering_then r (route_cmp (front ++ a ∷ []) (front ++ b ∷ []))) (tied_itself nat_list_cmp_total name) ∙ same_front front a b
 
-front_true : (a b : Bool) → T (a && b) → T a
-front_true true b h = tt
-front_true false b h = h
-
-back_true : (a b : Bool) → T (a && b) → T b
-back_true true b h = h
-back_true false b h = absurd h
-
-is_less : (r : Ordering) → T (is_lt r) → r ≡ Less
-is_less Less h = refl
-is_less Equal h = absurd h
-is_less Greater h = absurd h
-
-below_each : (path : Route) (es : List (Route × ℕ)) (e : Route × ℕ) → T (below_all route_cmp path es) → Among e es → route_cmp path e.0 ≡ Less
+pub below_each : (path : Route) (es : List (Route × ℕ)) (e : Route × ℕ) → T (below_all route_cmp path es) → Among e es → route_cmp path e.0 ≡ Less
 below_each path [] e below among = absurd among
 below_each path (first ∷ es) e below among = elim among [
-  | inl is ↦ ap (λ (f : Route × ℕ). route_cmp path f.0) is ∙ is_less (route_cmp path first.0) (front_true _ _ below)
-  | inr later ↦ below_each path es e (back_true _ _ below) later
+  | inl is ↦ ap (λ (f : Route × ℕ). route_cmp path f.0) is ∙ is_less (route_cmp path first.0) (laws.front _ _ below)
+  | inr later ↦ below_each path es e (laws.back _ _ below) later
 ]
 
-tree_ascends : (front : Route) (es : List (Route × ℕ)) → T (is_sorted route_cmp es) → ((e : Route × ℕ) → Among e es → e.0 ≡ front ++ last_name e.0 ∷ []) → Ascends (map last_of es)
+pub tree_ascends : (front : Route) (es : List (Route × ℕ)) → T (is_sorted route_cmp es) → ((e : Route × ℕ) → Among e es → e.0 ≡ front ++ last_name e.0 ∷ []) → Ascends (map last_of es)
 tree_ascends front [] sorted inside = tt
 tree_ascends front (first ∷ es) sorted inside = (
   (λ later among.
       let (e, there, same) = of_map last_of es later among in
-      let less = below_each first.0 es e (front_true _ _ sorted) there in
+      let less = below_each first.0 es e (laws.front _ _ sorted) there in
       let at_front = (λ i. route_cmp (sym (inside first (inl refl)) i) (sym (inside e (inr there)) i)) ∙ less in
       ap (name_cmp (last_name first.0)) same ∙ sym (same_front front (last_name first.0) (last_name e.0)) ∙ at_front),
-  tree_ascends front es (back_true _ _ sorted) (λ e there. inside e (inr there)),
+  tree_ascends front es (laws.back _ _ sorted) (λ e there. inside e (inr there)),
 )
 
 -- ---- the entries of the tree in a directory
@@ -144,16 +134,16 @@ filter_is : (p : Route → Bool) (es : List (Route × ℕ)) → filter (λ e. p 
 filter_is p [] = refl
 filter_is p (e ∷ es) = ap (λ rest. cond (p e.0) (e ∷ rest) rest) (filter_is p es)
 
-is_this : (o : Option ℕ) (d : ℕ) → is_number o d ≡ true → o ≡ Some d
+pub is_this : (o : Option ℕ) (d : ℕ) → is_number o d ≡ true → o ≡ Some d
 is_this None d e = cc
 is_this (Some other) d e = ap Some (eqb-true other d e)
 
-last-below : (front : Route) (name : List ℕ) → last_name (front ++ name ∷ []) ≡ name
+pub last-below : (front : Route) (name : List ℕ) → last_name (front ++ name ∷ []) ≡ name
 last-below [] name = refl
 last-below (first ∷ []) name = refl
 last-below (first ∷ next ∷ front) name = last-below (next ∷ front) name
 
-below_root : (T : Tree) (d : ℕ) (path : Route) → is_in T d path ≡ true → is_root path ≡ false
+pub below_root : (T : Tree) (d : ℕ) (path : Route) → is_in T d path ≡ true → is_root path ≡ false
 below_root T d [] e = cc
 below_root T d (name ∷ names) e = refl
 

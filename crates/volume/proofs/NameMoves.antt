@@ -1,5 +1,5 @@
 -- What a planned move takes away is there, and what it adds has its place.
-use Rattle.std.proofs.Common.{◌≡◌, ◌≢◌, inl, inr, refl, ℕ, ◌<◌, ◌≤◌, ◌&&◌, ◌==◌, Bool, true, false, true≢false, List, [], ◌∷◌, ◌++◌, length, length-append, Contains, Option, Some, None, is_some, unwrap_or, sym, ap, subst, ◌∙◌, arith}
+use Rattle.std.proofs.Common.{◌≡◌, ◌≢◌, inl, inr, refl, ℕ, ◌<◌, ◌≤◌, ◌&&◌, ◌==◌, Bool, true, false, true≢false, List, [], ◌∷◌, ◌++◌, length, Contains, Option, Some, None, IsTrue, is_some, unwrap_or, sym, ap, subst, ◌∙◌, arith}
 use Rattle.std.specs.Prelude.{slice_set}
 use Rattle.std.proofs.lemmas.Bool.{cases_eq}
 use Rattle.std.proofs.lemmas.Bool.Decides.{nat_tests}
@@ -22,7 +22,7 @@ use Rattle.image_counts.specs.Entries.{IsPageIn}
 use Rattle.allocators.specs.Numbers.{IsFree}
 use Rattle.allocators.proofs.NumbersLaws.{free_before, taken_after_take}
 use Rattle.volatile_index.specs.declared.entry.Entry.{Entry}
-use Rattle.volatile_index.specs.Entries.{IsAbsent, IsPresent, IsWithEntry}
+use Rattle.volatile_index.specs.Entries.{IsAbsent, IsPresent}
 use Rattle.volatile_index.specs.Index.{NodeView, node_of, inodes_of_index, entries_of, pages_of, RemovesEntry, ChangesNode}
 use Rattle.volatile_index.proofs.EntryLaws.{contains_still}
 use Rattle.volume.specs.Volume.{VolumeView}
@@ -65,31 +65,23 @@ taken_among free numbers k other taken = (
   (λ is. taken.1 (free_before_given free numbers k other is)),
 )
 
--- ---- a node without a name has no more entries, and the same places
+-- ---- a node without a name has no more entries, and a place that was there
 
 record IsLess (old new : NodeView) : Type 0 where
   pub entries : (entry : Entry) → Contains new.entries entry → Contains old.entries entry
-  pub fewer : length new.entries ≤ length old.entries
-  pub places : new.places ≡ old.places
+  pub place : IsTrue old.has_place → IsTrue new.has_place
   pub pages : new.pages ≡ old.pages
   pub page_places : new.page_places ≡ old.page_places
 
-fewer_without : (shorter longer : List Entry) (entry : Entry) → IsWithEntry shorter longer entry → length shorter ≤ length longer
-fewer_without shorter longer entry with =
-    let short = ap length with.shorter_is ∙ length-append with.front with.back in
-    let long = ap length with.longer_is ∙ length-append with.front (entry ∷ with.back) in
-    omega (arith, short, long)
-
 less_itself : (node : NodeView) → IsLess node node
-less_itself node = record { entries = λ entry there. there; fewer = omega arith; places = refl; pages = refl; page_places = refl }
+less_itself node = record { entries = λ entry there. there; place = λ there. there; pages = refl; page_places = refl }
 
 less_removed : (name : List ℕ) (old new : NodeView) → RemovesEntry name old new → IsLess old new
 less_removed name old new removes =
     let (slot, with) = removes.entries in
     record {
       entries = λ entry there. contains_still new.entries old.entries (record { name = name; slot = slot }) entry with there;
-      fewer = fewer_without new.entries old.entries (record { name = name; slot = slot }) with;
-      places = removes.places;
+      place = removes.place;
       pages = removes.pages;
       page_places = removes.page_places;
     }
@@ -181,7 +173,7 @@ module _ (volume : VolumeView) (device : DeviceView) (state : State) (command : 
 
     pub still_reserved : (d : ℕ) (new_page : Option ℕ) → HasNamePlace volume d new_page → HasNamePlace (record volume { index = index }) d new_page
     still_reserved d new_page has = record {
-      entry = let place = has.entry in let fewer = (less d).fewer in let places = (less d).places in omega (arith, place, fewer, places);
+      entry = (less d).place has.entry;
       page = page_places d new_page has.page;
     }
 

@@ -16,8 +16,8 @@ use Rattle.image_counts.proofs.Counting.{Among, AreApart, IsMatching, IsMatched,
 use Rattle.image_counts.proofs.Links.{link_word_law}
 use Rattle.image_counts.proofs.Nodes.{size_law}
 use Rattle.image_counts.proofs.Slots.{name_count_law}
-use Rattle.volatile_index.specs.Entries.{name_cmp, IsSorted}
-use Rattle.volatile_index.proofs.EntryLaws.{differs, sorted_head, sorted_tail, contains_here, contains_more, contains_none, contains_cases}
+use Rattle.volatile_index.specs.Entries.{IsSorted}
+use Rattle.volatile_index.proofs.EntryLaws.{differs, sorted_tail, contains_here, contains_more, contains_none, contains_cases, less_than_contained}
 use Rattle.volatile_index.specs.Index.{entries_of}
 use Rattle.volatile_index.specs.declared.entry.Entry.{Entry}
 use Rattle.volume.specs.Volume.{VolumeView}
@@ -37,9 +37,6 @@ pub contained_among : (entry : Entry) (entries : List Entry) → Contains entrie
 contained_among entry [] there = absurd (contains_none entry there)
 contained_among entry (first ∷ entries) there = elim (contains_cases first entries entry there) [ inl is ↦ inl is | inr later ↦ inr (contained_among entry entries later) ]
 
-pub less_than_contained : (first : Entry) (entries : List Entry) (entry : Entry) → IsSorted (first ∷ entries) → Contains entries entry → name_cmp first.name entry.name ≡ Less
-less_than_contained first entries entry sorted (k, lt, is) = subst (λ (later : Entry). name_cmp first.name later.name ≡ Less) is (sorted_head first entries sorted k entry lt)
-
 sorted_apart : (entries : List Entry) → IsSorted entries → AreApart entries
 sorted_apart [] sorted = tt
 sorted_apart (first ∷ entries) sorted = (
@@ -51,7 +48,7 @@ sorted_apart (first ∷ entries) sorted = (
 
 module _ (volume : VolumeView) (device : DeviceView) (state : State) (stands : StandsFor volume device state) where
   -- the entries of a directory are matched with their slots
-  matching : (d : ℕ) → 1 ≤ d → d ≤ inodes_of volume.size → IsSorted (entries_of volume.index d) → IsMatching (λ (entry : Entry) s. entry.slot ≡ s) (entries_of volume.index d)
+  pub matching : (d : ℕ) → 1 ≤ d → d ≤ inodes_of volume.size → IsSorted (entries_of volume.index d) → IsMatching (λ (entry : Entry) s. entry.slot ≡ s) (entries_of volume.index d)
   matching d least most sorted = record {
     apart = sorted_apart (entries_of volume.index d) sorted;
     each = λ entry among. (entry.slot, refl);

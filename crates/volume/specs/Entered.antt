@@ -1,9 +1,9 @@
 -- What a volume knows once an action is done: what its index and its sets of free numbers gained and lost.
-use Rattle.std.specs.Prelude.{◌≡◌, ℕ, ◌+◌, ◌-◌, ◌<◌, ◌≤◌, Bool, true, false, List, [], ◌∷◌, ◌++◌, length, Contains, Option, Some, None, slice_set}
+use Rattle.std.specs.Prelude.{◌≡◌, ℕ, ◌+◌, ◌-◌, ◌<◌, ◌≤◌, Bool, true, false, List, [], ◌∷◌, ◌++◌, length, IsTrue, Contains, Option, Some, None, slice_set}
 use Rattle.image_reading.specs.Counts.{IsDistinct}
 use Rattle.allocators.specs.Numbers.{IsFree}
 use Rattle.volatile_index.specs.Entries.{IsAbsent}
-use Rattle.volatile_index.specs.Index.{inodes_of_index, entries_of, places_of, pages_of, page_places_of, IsWithPages, DropsPage, PutsEntry, RemovesEntry, ChangesNode}
+use Rattle.volatile_index.specs.Index.{inodes_of_index, entries_of, has_place_of, pages_of, page_places_of, IsWithPages, DropsPage, PutsEntry, RemovesEntry, ChangesNode}
 use Rattle.volume.specs.Volume.{VolumeView}
 use Rattle.volume.specs.declared.plan.Moving.{Moving}
 use Rattle.volume.specs.declared.plan.Action.{Action}
@@ -32,7 +32,7 @@ with_given free (page ∷ pages) = with_given (slice_set free page true) pages
 
 -- the index has room for one more name of a directory, and for so many more pages of an inode
 abbrev pub HasPlace : VolumeView → ℕ → Type 0
-HasPlace volume directory = length (entries_of volume.index directory) < places_of volume.index directory
+HasPlace volume directory = IsTrue (has_place_of volume.index directory)
 
 abbrev pub HasPagePlaces : VolumeView → ℕ → List ℕ → Type 0
 HasPagePlaces volume inode [] = Unit {0}

@@ -11,7 +11,7 @@ use Rattle.tree_model.specs.declared.command.Command.{Command}
 use Rattle.tree_model.specs.declared.command.Command.TheVariants.{Create, Mkdir}
 use Rattle.tree_model.specs.declared.reply.Refusal.{Refusal}
 use Rattle.tree_model.specs.declared.reply.Refusal.TheVariants.{NoPages, NoMemory}
-use Rattle.volatile_index.specs.Index.{NodeView, inodes_of_index, entries_of, places_of, pages_of, page_places_of}
+use Rattle.volatile_index.specs.Index.{NodeView, inodes_of_index, entries_of, has_place_of, pages_of, page_places_of}
 use Rattle.volume.specs.Volume.{VolumeView}
 use Rattle.volume.specs.Costs.{events_of, pages_of_loss}
 use Rattle.allocators.specs.Numbers.{IsFree, free_in}
@@ -177,12 +177,12 @@ pub record IsShort (action : Action) (before after : DeviceView) : Type 0 where
   pub change : IsChange action
   pub cause : TakesPlace action ⊎ HasRisen before.refused after.refused
 
--- the same entries and pages of each inode, and no fewer places for more
+-- the same entries and pages of each inode; a place for one entry more stays, and there are no fewer for pages
 pub record HasSameContents (old new : List NodeView) : Type 0 where
   pub each_inode : inodes_of_index new ≡ inodes_of_index old
   pub entries : (i : ℕ) → entries_of new i ≡ entries_of old i
   pub pages : (i : ℕ) → pages_of new i ≡ pages_of old i
-  pub places : (i : ℕ) → places_of old i ≤ places_of new i
+  pub place : (i : ℕ) → IsTrue (has_place_of old i) → IsTrue (has_place_of new i)
   pub page_places : (i : ℕ) → page_places_of old i ≤ page_places_of new i
 
 -- all is as before but for places in the index

@@ -9,6 +9,11 @@ use Rattle.volume.proofs.NameMoves.{source_in_index, source_present, may_enter, 
 use Rattle.volume.proofs.volume.Volume.move_entry.Goals.{in-None, in-Some}
 use Rattle.volume.proofs.volume.Volume.move_entry.Goals as goal
 
+pub remove-requires-clause-from_one : goal.remove-requires-clause-from_one
+remove-requires-clause-from_one c =
+    let (device, state, command, planned) = c.requires.planned in
+    (source_in_index _ device state command c.args.moving planned).0
+
 pub remove-requires-clause-in_range : goal.remove-requires-clause-in_range
 remove-requires-clause-in_range c =
     let (device, state, command, planned) = c.requires.planned in
