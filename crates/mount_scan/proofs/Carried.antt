@@ -1,12 +1,15 @@
 -- What the words of a sound image say of those that recovery makes of them. P is the number of pages, W the words.
-use Rattle.std.proofs.Common.{◌≡◌, ◌≢◌, ◌↔◌, inl, inr, ℕ, ◌+◌, ◌-◌, ◌*◌, ◌<◌, ◌≤◌, Bool, false, List, [], ◌∷◌, ◌++◌, length, set, refl, sym, ap, subst, ◌∙◌, arith}
-use Rattle.layout.specs.Geometry.{inodes_of, data_pages_of}
+use Rattle.std.proofs.Common.{◌≡◌, ◌≢◌, ◌↔◌, inl, inr, ℕ, ◌+◌, ◌-◌, ◌*◌, ◌<◌, ◌≤◌, Bool, false, List, [], ◌∷◌, ◌++◌, length, get_or, set, refl, sym, ap, subst, ◌∙◌, arith}
+use Rattle.layout.specs.Geometry.{inodes_of, data_pages_of, page_of_slot}
 use Rattle.layout.specs.Name.{IsNameWords, name_in_words}
 use Rattle.layout.specs.Fields.{inode_kind, inode_size, page_owner, page_kind, page_offset, slot_name, slot_words}
-use Rattle.image_reading.specs.Reading.{IsDirectory, IsLive, Reached, IsReachedSlot}
+use Rattle.image_reading.specs.Counts.{IsIn}
+use Rattle.image_reading.specs.Reading.{slot_owner, Reached, IsReachedSlot}
 use Rattle.image_reading.specs.Repairs.{IsKept}
+use Rattle.image_reading.specs.Scanned.{AreNames}
 use Rattle.image_reading.specs.Soundness.{Rule, Sound}
 use Rattle.image_reading.specs.Tidy.{Tidy}
+use Rattle.image_reading.proofs.ReachedTable.{in_at}
 use Rattle.image_counts.specs.Entries.{IsEntryOf}
 use Rattle.image_counts.proofs.Paths.{in_range}
 use Rattle.repair_laws.specs.Mended.{IsMended}
@@ -16,9 +19,9 @@ use Rattle.repair_laws.proofs.Mended.{some_law, mended_law, index_law}
 use Rattle.allocators.specs.Numbers.{IsFree}
 use Rattle.volatile_index.specs.Index.{NodeView, node_of, inodes_of_index, IsSameElsewhere}
 use Rattle.volume.specs.Stands.{KnowsNodes, Knows}
-use Rattle.mount_scan.specs.Building.{IsDirectorysPage, IsDirectorysSlot, Holds}
+use Rattle.mount_scan.specs.Building.{Holds}
 use Rattle.mount_scan.proofs.Facts.{offset_below}
-use Rattle.mount_scan.proofs.Holding.{page_skipped, file_page_set, page_pushed, slot_skipped}
+use Rattle.mount_scan.proofs.Holding.{page_skipped, file_page_set, page_pushed}
 
 module _ (P : ℕ) (W : List ℕ) (sound : Sound P W) where
   -- ---- pages
@@ -41,33 +44,27 @@ module _ (P : ℕ) (W : List ℕ) (sound : Sound P W) where
     | inr directory ↦ directory
   ]
 
-  pub directory_page : (j d : ℕ) → j < data_pages_of P → IsKept P W j → d ≡ page_owner P W j → page_kind P W j ≢ 1 → IsDirectorysPage P W d j
-  directory_page j d within kept owner kind = record {
-    reached = subst (Reached P W) (sym owner) (owner_reached j kept);
-    directory = subst (IsDirectory W) (sym owner) (directory_owner j within kept kind);
-    page = record { in_range = within; owner = sym owner };
-  }
-
   -- ---- slots
 
-  pub directory_in_table : (s d : ℕ) → IsDirectorysSlot P W d s → (1 ≤ d) × (d ≤ inodes_of P)
-  directory_in_table s d slot = in_range P W sound d slot.reached
+  pub name_reached : (names : List ℕ) (k s : ℕ) → AreNames P W names → k < length names → s ≡ get_or names k 0 → IsReachedSlot P W s
+  name_reached names k s are within is = subst (IsReachedSlot P W) (sym is) ((are.exactly (get_or names k 0)).0 (in_at names k 0 within))
 
-  slot_reached : (s d : ℕ) → IsDirectorysSlot P W d s → IsLive P W s → IsReachedSlot P W s
-  slot_reached s d slot live = record {
-    owner = subst (Reached P W) (sym slot.owner) slot.reached;
-    directory = subst (IsDirectory W) (sym slot.owner) slot.directory;
-    live = live;
-  }
+  -- the directory that a name stands in, as the owner of its page
+  pub name_owner : (names : List ℕ) (k s j d : ℕ) → AreNames P W names → k < length names → s ≡ get_or names k 0 → j ≡ page_of_slot s → d ≡ page_owner P W j → (d ≡ slot_owner P W s) × (1 ≤ d) × (d ≤ inodes_of P)
+  unfolding slot_owner
+  name_owner names k s j d are within is page owner =
+      let same : d ≡ slot_owner P W s = owner ∙ ap (page_owner P W) page in
+      let (least, most) = in_range P W sound d (subst (Reached P W) (sym same) (name_reached names k s are within is).owner) in
+      (same, least, most)
 
-  pub slot_named : (s d : ℕ) → IsDirectorysSlot P W d s → IsLive P W s → IsNameWords (slot_words P W s)
-  slot_named s d slot live = sound Rule.names s (slot_reached s d slot live)
+  pub slot_named : (s : ℕ) → IsReachedSlot P W s → IsNameWords (slot_words P W s)
+  slot_named s slot = sound Rule.names s slot
 
-  named_entry : (s d : ℕ) (words name : List ℕ) → IsDirectorysSlot P W d s → IsLive P W s → words ≡ slot_words P W s → name ≡ name_in_words words → IsEntryOf P W d name s
+  named_entry : (s d : ℕ) (words name : List ℕ) → IsReachedSlot P W s → d ≡ slot_owner P W s → words ≡ slot_words P W s → name ≡ name_in_words words → IsEntryOf P W d name s
   unfolding slot_name
-  named_entry s d words name slot live words_are name_is = record {
-    slot = slot_reached s d slot live;
-    owner = slot.owner;
+  named_entry s d words name slot owner words_are name_is = record {
+    slot = slot;
+    owner = sym owner;
     name = sym (name_is ∙ ap name_in_words words_are);
   }
 
@@ -77,8 +74,8 @@ module _ (P : ℕ) (W : List ℕ) (sound : Sound P W) where
   some_mended = let (A, B, C, K, repair) = some_law P W sound in (K, end_law P W A B C K sound repair)
 
   -- what holds of an index at each of them
-  pub each_inode : (p s : ℕ) (index : List NodeView) → ((K : List ℕ) → IsMended P W K → Holds P K p s index) → inodes_of_index index ≡ inodes_of P
-  each_inode p s index holds = let (K, mended) = some_mended in (holds K mended).each_inode
+  pub each_inode : (p : ℕ) (names : List ℕ) (put : ℕ) (index : List NodeView) → ((K : List ℕ) → IsMended P W K → Holds P K p names put index) → inodes_of_index index ≡ inodes_of P
+  each_inode p names put index holds = let (K, mended) = some_mended in (holds K mended).each_inode
 
   pub owner_in_index : (p d : ℕ) (index : List NodeView) → IsKept P W p → d ≡ page_owner P W p → inodes_of_index index ≡ inodes_of P → (1 ≤ d) × (d ≤ inodes_of_index index)
   owner_in_index p d index kept owner size = let (least, most) = owner_in_table p kept in (omega (arith, least, owner), omega (arith, most, owner, size))
@@ -123,7 +120,7 @@ module _ (P : ℕ) (W : List ℕ) (sound : Sound P W) where
     owned : (j : ℕ) → IsKept P W j → page_owner P K j ≢ 0
     owned j kept zero = let least = (owner_in_table j kept).0 in let same = same_owner j kept in omega (arith, least, same, zero)
 
-    pub page_free : (p : ℕ) (index : List NodeView) → p < data_pages_of P → ¬ IsKept P W p → Holds P K p (32 * p) index → Holds P K (p + 1) (32 * (p + 1)) index
+    pub page_free : (p : ℕ) (index : List NodeView) → p < data_pages_of P → ¬ IsKept P W p → Holds P K p [] 0 index → Holds P K (p + 1) [] 0 index
     page_free p index within none = page_skipped P K p index ((free_page p within).0 none)
 
     module _ (p d : ℕ) (within : p < data_pages_of P) (kept : IsKept P W p) (owner : d ≡ page_owner P W p) where
@@ -131,7 +128,7 @@ module _ (P : ℕ) (W : List ℕ) (sound : Sound P W) where
       owner_after = owner ∙ sym (same_owner p kept)
 
       -- a file's page has a place in its offset
-      pub offset_in_file : (offset : ℕ) (index : List NodeView) → page_kind P W p ≡ 1 → offset ≡ page_offset P W p → Holds P K p (32 * p) index → offset < length (node_of index d).pages
+      pub offset_in_file : (offset : ℕ) (index : List NodeView) → page_kind P W p ≡ 1 → offset ≡ page_offset P W p → Holds P K p [] 0 index → offset < length (node_of index d).pages
       offset_in_file offset index kind offset_is holds =
           let (least, most) = owner_in_table p kept in
           let same = same_owner p kept in
@@ -144,7 +141,7 @@ module _ (P : ℕ) (W : List ℕ) (sound : Sound P W) where
           omega (arith, below, long, there, offset_is, offset_after)
 
       pub page_set : (offset : ℕ) (old new : List NodeView) → page_kind P W p ≡ 1 → offset ≡ page_offset P W p → IsSameElsewhere d old new
-          → (node_of new d).pages ≡ set (node_of old d).pages offset p → (node_of new d).entries ≡ (node_of old d).entries → Holds P K p (32 * p) old → Holds P K (p + 1) (32 * (p + 1)) new
+          → (node_of new d).pages ≡ set (node_of old d).pages offset p → (node_of new d).entries ≡ (node_of old d).entries → Holds P K p [] 0 old → Holds P K (p + 1) [] 0 new
       page_set offset old new kind offset_is elsewhere pages entries =
           file_page_set P K p old new tidy within (owned p kept) (owner_kind p 1 kept (file_owner p within kept kind))
           (subst (λ (k : ℕ). IsSameElsewhere k old new) owner_after elsewhere)
@@ -153,7 +150,7 @@ module _ (P : ℕ) (W : List ℕ) (sound : Sound P W) where
           (subst (λ (k : ℕ). (node_of new k).entries ≡ (node_of old k).entries) owner_after entries)
 
       pub page_added : (old new : List NodeView) → page_kind P W p ≢ 1 → IsSameElsewhere d old new
-          → (node_of new d).pages ≡ (node_of old d).pages ++ p ∷ [] → (node_of new d).entries ≡ (node_of old d).entries → Holds P K p (32 * p) old → Holds P K (p + 1) (32 * p) new
+          → (node_of new d).pages ≡ (node_of old d).pages ++ p ∷ [] → (node_of new d).entries ≡ (node_of old d).entries → Holds P K p [] 0 old → Holds P K (p + 1) [] 0 new
       page_added old new kind elsewhere pages entries =
           page_pushed P K p old new tidy within (owned p kept) (owner_kind p 2 kept (directory_owner p within kept kind))
           (subst (λ (k : ℕ). IsSameElsewhere k old new) owner_after elsewhere)
@@ -162,11 +159,11 @@ module _ (P : ℕ) (W : List ℕ) (sound : Sound P W) where
 
     -- ---- slots
 
-    pub slot_dead : (p s : ℕ) (index : List NodeView) → ¬ IsLive P W s → Holds P K p s index → Holds P K p (s + 1) index
-    slot_dead p s index dead = slot_skipped P K p s index (λ i bytes entry. dead ((index_of.entries i s bytes).0 entry).slot.live)
+    pub entry_after : (s d : ℕ) (words name : List ℕ) → IsReachedSlot P W s → d ≡ slot_owner P W s → words ≡ slot_words P W s → name ≡ name_in_words words → IsEntryOf P K d name s
+    entry_after s d words name slot owner words_are name_is = (index_of.entries d s name).1 (named_entry s d words name slot owner words_are name_is)
 
-    pub entry_after : (s d : ℕ) (words name : List ℕ) → IsDirectorysSlot P W d s → IsLive P W s → words ≡ slot_words P W s → name ≡ name_in_words words → IsEntryOf P K d name s
-    entry_after s d words name slot live words_are name_is = (index_of.entries d s name).1 (named_entry s d words name slot live words_are name_is)
+    pub all_named : (names : List ℕ) → AreNames P W names → (d slot : ℕ) (bytes : List ℕ) → IsEntryOf P K d bytes slot → IsIn slot names
+    all_named names are d slot bytes entry = (are.exactly slot).1 ((index_of.entries d slot bytes).0 entry).slot
 
     -- ---- all of it
 

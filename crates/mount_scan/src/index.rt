@@ -1,17 +1,17 @@
 // The index of a volume, made from its words. What it holds is said of the words that recovery makes of them.
-ghost use Rattle.std.specs.Prelude.{◌≡◌, ◌≢◌, ℕ, ◌+◌, ◌*◌, ◌<◌, ◌≤◌, length, IfOk, OnOk};
-ghost use Rattle.layout.specs.Geometry.{inodes_of, data_pages_of, page_of_slot};
+ghost use Rattle.std.specs.Prelude.{◌≡◌, ◌≢◌, ℕ, ◌+◌, ◌<◌, ◌≤◌, [], length, IfOk, OnOk};
+ghost use Rattle.layout.specs.Geometry.{inodes_of, data_pages_of};
 ghost use Rattle.layout.specs.Fields.{inode_kind, inode_size};
 ghost use Rattle.image_reading.specs.Images.{In};
 ghost use Rattle.image_reading.specs.Litter.{IsInode};
 ghost use Rattle.image_reading.specs.Reading.{pages_of_size};
-ghost use Rattle.image_reading.specs.Scanned.{IsScanned};
+ghost use Rattle.image_reading.specs.Scanned.{AreNames, IsScanned};
 ghost use Rattle.volatile_index.specs.Index.{inodes_of_index, entries_of, pages_of, IsSameElsewhere};
 ghost use Rattle.volume.specs.Stands.{KnowsNodes};
-ghost use Rattle.mount_scan.specs.Building.{OfMended, IsDirectorysPage, IsDirectorysSlot, HasPlaces, Holds};
+ghost use Rattle.mount_scan.specs.Building.{OfMended, HasPlaces, Holds};
 
 use image_reading::Scanned;
-use layout::{BYTES, FILE, PAGE_BYTES, PAGE_SLOTS, name_of_words};
+use layout::{BYTES, FILE, PAGE_BYTES, name_of_words};
 use pm_trait::NoMemory;
 use std::alloc::Global;
 use volatile_index::Index;
@@ -22,9 +22,8 @@ pub(crate) fn index_of_words(alloc: Global, scanned: &Scanned<'_>) -> Result<Ind
     ensures { IfOk result (λ index. OfMended scanned.now (λ P K. KnowsNodes P index K)) }
 {
     let mut index = index_with_places(alloc, scanned)?;
-    for page in 0..scanned.image.geometry.data_pages {
-        add_page(&mut index, scanned, page)?;
-    }
+    add_pages(&mut index, scanned)?;
+    add_entries(&mut index, scanned, scanned.names())?;
     Ok(index)
 }
 
@@ -73,12 +72,24 @@ fn add_places(index: &mut Index, inode: u64, count: u64) -> Result<(), NoMemory>
     Ok(())
 }
 
-// Adds a page that is kept, and a directory's entries in it.
+// Adds the pages that are kept.
+fn add_pages(index: &mut Index, scanned: &Scanned<'_>) -> Result<(), NoMemory>
+    requires scanned { IsScanned scanned.now }
+    requires places { OfMended scanned.now (λ P K. HasPlaces P K (inodes_of P) index.old) }
+    ensures { OnOk result (OfMended scanned.now (λ P K. Holds P K (data_pages_of P) [] 0 index.new)) }
+{
+    for page in 0..scanned.image.geometry.data_pages {
+        add_page(index, scanned, page)?;
+    }
+    Ok(())
+}
+
+// Adds a page, if it is kept.
 fn add_page(index: &mut Index, scanned: &Scanned<'_>, page: u64) -> Result<(), NoMemory>
     requires scanned { IsScanned scanned.now }
     requires in_range { page < data_pages_of scanned.now.image.geometry.pages }
-    requires holds { OfMended scanned.now (λ P K. Holds P K page (32 * page) index.old) }
-    ensures { OnOk result (OfMended scanned.now (λ P K. Holds P K (page + 1) (32 * (page + 1)) index.new)) }
+    requires holds { OfMended scanned.now (λ P K. Holds P K page [] 0 index.old) }
+    ensures { OnOk result (OfMended scanned.now (λ P K. Holds P K (page + 1) [] 0 index.new)) }
 {
     if !scanned.is_kept(page) {
         return Ok(());
@@ -93,47 +104,45 @@ fn add_page(index: &mut Index, scanned: &Scanned<'_>, page: u64) -> Result<(), N
     }
     index.reserve_pages(fields.owner, 1)?;
     index.push_page(fields.owner, page);
-    add_entries(index, scanned, fields.owner, page)
+    Ok(())
 }
 
-// Adds the entries of a directory in one of its pages.
-fn add_entries(
-    index: &mut Index,
-    scanned: &Scanned<'_>,
-    directory: u64,
-    page: u64,
-) -> Result<(), NoMemory>
+// Adds the entries of these names: each goes to the end of its directory's list.
+fn add_entries(index: &mut Index, scanned: &Scanned<'_>, names: &[u32]) -> Result<(), NoMemory>
     requires scanned { IsScanned scanned.now }
-    requires page { IsDirectorysPage scanned.now.image.geometry.pages scanned.now.image.words.now directory page }
-    requires holds { OfMended scanned.now (λ P K. Holds P K (page + 1) (32 * page) index.old) }
-    ensures { OnOk result (OfMended scanned.now (λ P K. Holds P K (page + 1) (32 * (page + 1)) index.new)) }
+    requires names { AreNames scanned.now.image.geometry.pages scanned.now.image.words.now names.now }
+    requires holds { OfMended scanned.now (λ P K. Holds P K (data_pages_of P) [] 0 index.old) }
+    ensures { OnOk result (OfMended scanned.now (λ P K.
+        Holds P K (data_pages_of P) names.now (length names.now) index.new)) }
 {
-    for place in 0..PAGE_SLOTS {
-        let slot = scanned.image.geometry.slot_in(page, place);
-        add_entry(index, scanned, directory, slot)?;
+    for place in 0..names.len() {
+        add_entry(index, scanned, names, place)?;
     }
     Ok(())
 }
 
-// Adds the entry of a directory in a slot, if it is live.
+// Adds the entry of one of the names.
 fn add_entry(
     index: &mut Index,
     scanned: &Scanned<'_>,
-    directory: u64,
-    slot: u64,
+    names: &[u32],
+    place: usize,
 ) -> Result<(), NoMemory>
     requires scanned { IsScanned scanned.now }
-    requires slot { IsDirectorysSlot scanned.now.image.geometry.pages scanned.now.image.words.now directory slot }
-    requires holds { OfMended scanned.now (λ P K. Holds P K (page_of_slot slot + 1) slot index.old) }
-    ensures { OnOk result (OfMended scanned.now (λ P K. Holds P K (page_of_slot slot + 1) (slot + 1) index.new)) }
+    requires names { AreNames scanned.now.image.geometry.pages scanned.now.image.words.now names.now }
+    requires place { place < length names.now }
+    requires holds { OfMended scanned.now (λ P K. Holds P K (data_pages_of P) names.now place index.old) }
+    ensures { OnOk result (OfMended scanned.now (λ P K.
+        Holds P K (data_pages_of P) names.now (place + 1) index.new)) }
 {
-    if !scanned.is_live(slot) {
-        return Ok(());
-    }
-    let fields = scanned.image.geometry.slot_at(scanned.image.words, slot);
+    let geometry = &scanned.image.geometry;
+    let slot = u64::from(names[place]);
+    let fields = geometry.slot_at(scanned.image.words, slot);
     let Some(name) = name_of_words(&fields.name) else {
         return Ok(());
     };
+    let page = geometry.page_of(slot);
+    let directory = geometry.descriptor_at(scanned.image.words, page).owner;
     index.reserve_one(directory)?;
     index.put(directory, name, slot);
     Ok(())

@@ -1,6 +1,0 @@
-use Rattle.std.proofs.Common.{◌*◌}
-use Rattle.mount_scan.specs.Building.{OfMended, Holds}
-use Rattle.mount_scan.proofs.index.index_of_words.Given as goal
-
-abbrev pub invariant-loop-page : goal.invariant-loop-page
-invariant-loop-page l = OfMended l.scanned (λ P K. Holds P K l.page (32 * l.page) l.index)
