@@ -71,8 +71,7 @@ impl Numbers {
         next_one(&self.words, self.lowest_word, 0, steps)
     }
 
-    /// The least free number at or after `from`, or `None` where none is free there. It looks at the words of 64 numbers from that
-    /// of `from` on, or from the first one that may have a free number.
+    /// The least free number at or after `from`, or `None` where none is free there.
     pub fn next_free(&self, from: u64) -> Option<u64>
         ensures { MatchOption result ((k : ℕ) → from ≤ k → ¬ IsFree self.now k) (λ k. IsNextFree self.now from k) }
     {

@@ -1,8 +1,11 @@
 // What no clause says: that `new` succeeds, and the lowest number after each call.
-ghost use Rattle.std.specs.Prelude.{◌≡◌, ◌<◌, length};
+ghost use Rattle.std.specs.Prelude.{◌≡◌, ◌+◌, ◌<◌, ◌≤◌, length};
 
 use crate::Numbers;
+use counting::Steps;
 use std::alloc::Global;
+use std::marker::Brand;
+use std::sync::ledger::{Blank, Ledger};
 use std::test::Fail;
 
 #[test]
@@ -135,5 +138,36 @@ fn words_meet_without_a_gap(rt: HostRuntime) -> Result<(), Fail> {
         (numbers.lowest(), numbers.next_free(63)),
         (Some(129), Some(129))
     );
+    Ok(())
+}
+
+// The least free number, in no more steps than so many numbers may take.
+fn lowest_in_few_steps<L: Ledger>(numbers: &Numbers, steps: &mut Steps<L>) -> Option<u64>
+    ensures none { length numbers.now ≡ 0 → steps.new ≤ steps.old }
+    ensures one { length numbers.now ≤ 64 → steps.new ≤ steps.old + 1 }
+    ensures two { length numbers.now ≤ 128 → steps.new ≤ steps.old + 2 }
+    ensures many { length numbers.now ≤ 64000 → steps.new ≤ steps.old + 1000 }
+{
+    numbers.lowest_counted(steps)
+}
+
+fn lowest_from_none<L: Ledger>(numbers: &Numbers, blank: Blank) -> Option<u64>
+    requires name { blank.name ≡ L.name }
+    requires parts { blank.parts ≡ L.parts }
+    requires some { 0 < blank.parts }
+{
+    lowest_in_few_steps(numbers, &mut Steps::<L>::new(blank))
+}
+
+fn lowest_of(numbers: &Numbers) -> Option<u64> {
+    lowest_from_none::<Brand>(numbers, Blank::new(1))
+}
+
+#[test]
+fn few_words_take_few_steps(rt: HostRuntime) -> Result<(), Fail> {
+    let mut numbers = Numbers::new(rt.alloc(), 65)?;
+    assert_eq!(rt; lowest_of(&numbers), Some(0));
+    take_each(&mut numbers, 0, 64)?;
+    assert_eq!(rt; lowest_of(&numbers), Some(64));
     Ok(())
 }

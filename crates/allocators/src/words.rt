@@ -46,7 +46,7 @@ pub fn next_one<L: Ledger>(
     None
 }
 
-// The lowest bit of a word from one on that is 1. No search looks at a word but here, and each look is a step.
+// The lowest bit of a word from one on that is 1. A search for a free number looks at words here alone, and each look is a step.
 fn lowest_one<L: Ledger>(word: u64, low: u32, steps: &mut Steps<L>) -> Option<u32>
     requires { low < 64 }
     ensures found { MatchOption result ((bit : ℕ) → low ≤ bit → bit < 64 → bit_at word bit ≡ 0)

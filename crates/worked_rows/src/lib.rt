@@ -10,6 +10,8 @@ mod lines;
 #[cfg(test)]
 mod links;
 #[cfg(test)]
+mod names;
+#[cfg(test)]
 mod removals;
 #[cfg(test)]
 mod space;

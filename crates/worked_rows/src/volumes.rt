@@ -113,8 +113,8 @@ fn words_that_ask_for_no_job(rt: HostRuntime) -> Result<(), Fail> {
     Ok(())
 }
 
-// Runs a script on words that can't be mounted: it is told so, and nothing is done.
-fn compare(alloc: Global, image: &[u64], told: &str) -> Result<(), Fail> {
+/// Runs a script on words that can't be mounted: it is told so, and nothing is done.
+pub(crate) fn compare(alloc: Global, image: &[u64], told: &str) -> Result<(), Fail> {
     let left = job_on(alloc, "squirrel run v", image, b"create /b\n")?;
     same(text_of(&left.told), told, told)?;
     same(left.status.number(), 4, told)?;
