@@ -125,8 +125,9 @@ impl Index {
     pub fn page_with_room(&self, directory: u64) -> Option<u64>
         requires from_one { 1 ≤ directory }
         requires in_range { directory ≤ inodes_of_index self.now }
-        ensures { MatchOption result ((page : ℕ) → ¬ IsOpen (entries_of self.now directory) page)
+        ensures page { MatchOption result ((page : ℕ) → ¬ IsOpen (entries_of self.now directory) page)
             (λ page. IsLeastOpen (entries_of self.now directory) page) }
+        ensures sorted { IsSorted (entries_of self.now directory) }
     {
         self.nodes[place_of(directory)].page_with_room()
     }

@@ -114,7 +114,8 @@ impl Node {
 
     /// The least page in whose slots some entries stand, but fewer than 32.
     pub fn page_with_room(&self) -> Option<u64>
-        ensures { MatchOption result ((page : ℕ) → ¬ IsOpen self.now.entries page) (λ page. IsLeastOpen self.now.entries page) }
+        ensures page { MatchOption result ((page : ℕ) → ¬ IsOpen self.now.entries page) (λ page. IsLeastOpen self.now.entries page) }
+        ensures sorted { IsSorted self.now.entries }
     {
         self.fills.least_open()
     }

@@ -62,7 +62,7 @@ module _ (volume : VolumeView) (device : DeviceView) (state : State) (stands : S
   pub held : (id_at state.tree (parent path) ≡ Some d) × (is_directory state.tree d ≡ true)
   held = holder-from_walk state.tree path (record { path = parent path; id = d }) (stands_tree volume device state stands) holder.walked
 
-  is_here : Reached volume.size device.words d × IsDirectory device.words d
+  pub is_here : Reached volume.size device.words d × IsDirectory device.words d
   is_here = ((size_law volume.size device.words state (tidied stands.tidy).coherent stands.reads).directories d).0 held.1
 
   pub in_inodes : (1 ≤ d) × (d ≤ inodes_of volume.size)

@@ -1,8 +1,7 @@
 -- Which pages of a directory have a slot that names nothing, told by how many of its entries stand in each.
-use Rattle.std.proofs.Common.{◌≡◌, ◌≢◌, inl, inr, ℕ, ◌+◌, ◌*◌, ◌<◌, ◌≤◌, ◌==◌, Bool, true, List, [], ◌∷◌, length, get_or, filter, Contains, Option, Some, None, refl, sym, ap, subst, ◌∙◌, arith}
+use Rattle.std.proofs.Common.{◌≡◌, ◌≢◌, inl, inr, ℕ, ◌+◌, ◌*◌, ◌<◌, ◌≤◌, ◌==◌, Bool, true, List, [], ◌∷◌, length, filter, Option, Some, None, refl, sym, ap, subst, ◌∙◌, arith}
 use Rattle.std.proofs.lemmas.Bool.{cases_eq}
 use Rattle.std.proofs.lemmas.Bool.Decides.{nat_tests}
-use Rattle.std.proofs.lemmas.List.Elements.{Contains-get_or}
 use Rattle.std.proofs.lemmas.List.Sums.{length-filter}
 use Rattle.pm_trait.specs.DeviceView.{DeviceView}
 use Rattle.layout.specs.Geometry.{inodes_of, data_pages_of, page_of_slot}
@@ -83,18 +82,6 @@ module _ (volume : VolumeView) (device : DeviceView) (state : State) (stands : S
           let entry : Entry = record { name = slot_name P W s; slot = s } in
           let there = contained_among entry entries ((stands.knows.nodes.entries d s (slot_name P W s) least most).1 (record { slot = slot; owner = owner; name = refl })) in
           (entry, filter_among (stands_in page) entries entry there (passes_in entry page at), refl)
-
-  -- an inode with an entry is a directory
-  entry_directory : (entry : Entry) → Contains entries entry → Reached P W d × IsDirectory W d
-  entry_directory entry there =
-      let entered = (stands.knows.nodes.entries d entry.slot entry.name least most).0 there in
-      (subst (Reached P W) entered.owner entered.slot.owner, subst (IsDirectory W) entered.owner entered.slot.directory)
-
-  pub some_directory : length entries ≢ 0 → Reached P W d × IsDirectory W d
-  some_directory some = entry_directory (get_or entries 0 none) (Contains-get_or entries 0 none (omega (arith, some)))
-    where
-      none : Entry
-      none = record { name = []; slot = 0 }
 
   pub page_owned : (page : ℕ) → IsOpen entries page → IsPageIn P W d page
   page_owned page room =

@@ -1,20 +1,16 @@
 -- The lowest slot of a directory that names nothing, and the lowest free page.
-use Rattle.std.proofs.Common.{◌≡◌, ◌⊎◌, inl, inr, ℕ, zero, suc, ◌+◌, ◌*◌, ◌<◌, ◌≤◌, true, false, cond, List, [], ◌∷◌, ◌++◌, Contains, Option, Some, None, nat_lt, refl, sym, subst, ◌∙◌, arith}
-use Rattle.std.proofs.lemmas.Bool.Decides.{nat_tests}
-use Rattle.std.proofs.lemmas.List.Elements.{Contains-append_left, Contains-append_right, Contains-append_cases}
+use Rattle.std.proofs.Common.{◌≡◌, ℕ, zero, suc, ◌+◌, ◌*◌, ◌<◌, ◌≤◌, true, List, [], ◌∷◌, Contains, Option, Some, None, refl, sym, subst, arith}
 use Rattle.std.proofs.lemmas.Option.{slice_get_within}
 use Rattle.pm_trait.specs.DeviceView.{DeviceView}
-use Rattle.layout.specs.Geometry.{inodes_of, data_pages_of, slots_of, page_of_slot}
-use Rattle.layout.proofs.GeometryLaws.{page_of_slot_below, slot_below}
+use Rattle.layout.specs.Geometry.{data_pages_of, slots_of, page_of_slot}
+use Rattle.layout.proofs.GeometryLaws.{slot_below}
 use Rattle.layout.specs.Fields.{page_owner}
 use Rattle.image_reading.specs.Reading.{slot_owner}
 use Rattle.image_counts.specs.Entries.{IsFreePage}
 use Rattle.allocators.specs.Numbers.{IsFree, IsLowest}
-use Rattle.volatile_index.specs.Index.{pages_of}
 use Rattle.volume.specs.Volume.{VolumeView}
 use Rattle.volume.specs.Stands.{IsStanding}
-use Rattle.volume.specs.Planned.{IsVacantSlot, IsLowestPage, IsPlace}
-use Rattle.volume.specs.Lowest.{IsLowestOf, lower_of, IsVacantAmong}
+use Rattle.volume.specs.Planned.{IsLowestPage, IsPlace}
 
 -- ---- a slot's page
 
@@ -46,63 +42,7 @@ pub in_one : (page other : ℕ) → Contains (page ∷ []) other → other ≡ p
 in_one page other (zero, lt, is) = sym is
 in_one page other (suc k, lt, is) = absurd (omega arith)
 
--- ---- the lowest of some
-
-less : (k other : ℕ) → nat_lt k other ≡ true → k < other
-less k other is = grind (arith, nat_tests)
-
-not_less : (k other : ℕ) → nat_lt k other ≡ false → other ≤ k
-not_less k other is = grind (arith, nat_tests)
-
-lower_is : (Q R : ℕ → Type 0) (a b : Option ℕ) → IsLowestOf Q a → IsLowestOf R b → IsLowestOf (λ x. Q x ⊎ R x) (lower_of a b)
-lower_is Q R None None none none_too = λ k either. elim either [ inl q ↦ none k q | inr r ↦ none_too k r ]
-lower_is Q R None (Some l) none (here, before) = (inr here, (λ k lt either. elim either [ inl q ↦ none k q | inr r ↦ before k lt r ]))
-lower_is Q R (Some k) None (here, before) none = (inl here, (λ l lt either. elim either [ inl q ↦ before l lt q | inr r ↦ none l r ]))
-lower_is Q R (Some k) (Some l) (here, before) (there, below) =
-    elim (nat_lt k l) as (λ t. nat_lt k l ≡ t → IsLowestOf (λ x. Q x ⊎ R x) (cond t (Some k) (Some l))) [
-      | true ↦ λ is. (inl here, (λ x lt either. elim either [ inl q ↦ before x lt q | inr r ↦ below x (let lower = less k l is in omega (arith, lower, lt)) r ]))
-      | false ↦ λ is. (inr there, (λ x lt either. elim either [ inl q ↦ before x (let lower = not_less k l is in omega (arith, lower, lt)) q | inr r ↦ below x lt r ]))
-    ] refl
-
-lowest_alike : (Q R : ℕ → Type 0) (o : Option ℕ) → ((x : ℕ) → Q x → R x) → ((x : ℕ) → R x → Q x) → IsLowestOf Q o → IsLowestOf R o
-lowest_alike Q R None to from none = λ k r. none k (from k r)
-lowest_alike Q R (Some k) to from (here, before) = (to k here, (λ x lt r. before x lt (from x r)))
-
--- ---- slots that name nothing
-
-pub vacant_in_more : (P : ℕ) (I pages more : List ℕ) (a b : Option ℕ) → IsLowestOf (IsVacantAmong P I pages) a → IsLowestOf (IsVacantAmong P I more) b → IsLowestOf (IsVacantAmong P I (pages ++ more)) (lower_of a b)
-vacant_in_more P I pages more a b lowest lowest_too =
-    lowest_alike (λ x. IsVacantAmong P I pages x ⊎ IsVacantAmong P I more x) (IsVacantAmong P I (pages ++ more)) (lower_of a b)
-    (λ x either. elim either [
-      | inl (there, unnamed) ↦ (Contains-append_left pages more (page_of_slot x) there, unnamed)
-      | inr (there, unnamed) ↦ (Contains-append_right pages more (page_of_slot x) there, unnamed)
-    ])
-    (λ x (there, unnamed). elim (Contains-append_cases pages more (page_of_slot x) there) [ inl front ↦ inl (front, unnamed) | inr back ↦ inr (back, unnamed) ])
-    (lower_is (IsVacantAmong P I pages) (IsVacantAmong P I more) a b lowest lowest_too)
-
 module _ (volume : VolumeView) (device : DeviceView) (standing : IsStanding volume device) where
-  pub known_page : (d page : ℕ) → 1 ≤ d → d ≤ inodes_of volume.size → Contains (pages_of volume.index d) page → page < data_pages_of volume.size
-  known_page d page least most there = ((standing.1.knows.nodes.pages d page least most).0 there).in_range
-
-  pub vacant_in_directory : (d : ℕ) (o : Option ℕ) → 1 ≤ d → d ≤ inodes_of volume.size → IsLowestOf (IsVacantAmong volume.size device.words (pages_of volume.index d)) o → IsLowestOf (IsVacantSlot volume.size device.words d) o
-  vacant_in_directory d o least most lowest =
-      lowest_alike (IsVacantAmong volume.size device.words (pages_of volume.index d)) (IsVacantSlot volume.size device.words d) o to from lowest
-    where
-      to : (slot : ℕ) → IsVacantAmong volume.size device.words (pages_of volume.index d) slot → IsVacantSlot volume.size device.words d slot
-      to slot (there, unnamed) =
-          let page = (standing.1.knows.nodes.pages d (page_of_slot slot) least most).0 there in
-          record {
-            page = record { in_range = slot_below volume.size slot page.in_range; owner = owner_is volume.size device.words slot ∙ page.owner };
-            vacant = unnamed;
-          }
-
-      from : (slot : ℕ) → IsVacantSlot volume.size device.words d slot → IsVacantAmong volume.size device.words (pages_of volume.index d) slot
-      from slot vacant = (
-        (standing.1.knows.nodes.pages d (page_of_slot slot) least most).1
-            (record { in_range = page_of_slot_below volume.size slot vacant.page.in_range; owner = sym (owner_is volume.size device.words slot) ∙ vacant.page.owner }),
-        vacant.vacant,
-      )
-
   -- ---- free pages
 
   pub free_page : (page : ℕ) → IsFree volume.data_pages page → IsFreePage volume.size device.words page

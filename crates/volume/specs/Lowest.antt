@@ -1,5 +1,5 @@
 -- The lowest numbers of some.
-use Rattle.std.specs.Prelude.{◌≡◌, ℕ, ◌<◌, List, length, Contains, Option, Some, None, nat_lt, if◌then◌else◌}
+use Rattle.std.specs.Prelude.{◌≡◌, ℕ, ◌<◌, List, length, Contains, Option, Some, None}
 use Rattle.std.specs.List.{AllPairs}
 use Rattle.layout.specs.Geometry.{page_of_slot}
 use Rattle.layout.specs.Fields.{slot_inode}
@@ -15,12 +15,6 @@ pub record AreLowestOf (Q : ℕ → Type 0) (count : ℕ) (numbers : List ℕ) :
   pub rising : AllPairs (λ earlier later. earlier < later) numbers
   pub each : (k : ℕ) → Contains numbers k → Q k
   pub lowest : (k other : ℕ) → Contains numbers k → other < k → Q other → Contains numbers other
-
--- the lower of two numbers, where there are two
-abbrev pub lower_of : Option ℕ → Option ℕ → Option ℕ
-lower_of None other = other
-lower_of (Some k) None = Some k
-lower_of (Some k) (Some other) = if nat_lt k other then Some k else Some other
 
 -- a slot of one of these pages that names nothing
 abbrev pub IsVacantAmong : ℕ → List ℕ → List ℕ → ℕ → Type 0

@@ -5,7 +5,7 @@ use Rattle.volume.specs.declared.plan.Action.TheVariants.{Move}
 use Rattle.volume.specs.Planned.{IsPlanned}
 use Rattle.volume.proofs.Walked.{stands_tree}
 use Rattle.volume.proofs.Places.{place_within}
-use Rattle.volume.proofs.Holders.{in_inodes}
+use Rattle.volume.proofs.Holders.{is_here, in_inodes}
 use Rattle.volume.proofs.RenameRows.{new_into_itself, new_no_page, new_planned}
 use Rattle.volume.proofs.volume.Volume.move_to_new_name.Goals as goal
 
@@ -33,6 +33,11 @@ pub place_for_name-requires-clause-most : goal.place_for_name-requires-clause-mo
 place_for_name-requires-clause-most g c =
     let (state, stands) = c.requires.stands in
     (in_inodes c.args.self.now (g.P.Pm.view c.args.pm.now) state stands c.args.to.now _ _ (c.requires.target state stands)).1
+
+pub place_for_name-requires-clause-directory : goal.place_for_name-requires-clause-directory
+place_for_name-requires-clause-directory g c =
+    let (state, stands) = c.requires.stands in
+    is_here c.args.self.now (g.P.Pm.view c.args.pm.now) state stands c.args.to.now _ _ (c.requires.target state stands)
 
 pub returns-in_default : goal.returns-in_default
 returns-in_default g c = λ state stands.

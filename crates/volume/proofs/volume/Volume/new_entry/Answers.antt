@@ -8,6 +8,7 @@ use Rattle.volume.specs.Walks.{place_of_parent, IsLastName}
 use Rattle.volume.specs.declared.resolve.LastName.{LastName}
 use Rattle.volume.proofs.Walked.{stands_tree, reached_at, in_table}
 use Rattle.volume.proofs.Frees.{least_inode}
+use Rattle.volume.proofs.Holders.{would_hold, is_here}
 use Rattle.volume.proofs.Rows.{new_exists, new_no_inode, new_no_page, new_planned}
 use Rattle.volume.proofs.volume.Volume.new_entry.Goals as goal
 
@@ -57,6 +58,12 @@ place_for_name-requires-clause-most g c =
     let held = holder-from_walk state.tree c.args.path.now _ (stands_tree c.args.self.now (g.P.Pm.view c.args.pm.now) state stands) walked in
     let reached = reached_at c.args.self.now (g.P.Pm.view c.args.pm.now) state _ c.in-Some.last.directory stands held.0 in
     (in_table c.args.self.now (g.P.Pm.view c.args.pm.now) c.in-Some.last.directory c.requires.stands reached).1
+
+pub place_for_name-requires-clause-directory : goal.place_for_name-requires-clause-directory
+place_for_name-requires-clause-directory g c =
+    let (state, stands) = c.requires.stands in
+    let holder = would_hold state.tree c.args.path.now c.in_ok-last.field-0 c.in-Some.last (c.in_ok-last.ensures.directory state stands) c.in_ok-last.ensures.name c.in-Some.is in
+    is_here c.args.self.now (g.P.Pm.view c.args.pm.now) state stands c.args.path.now _ _ holder
 
 pub overflow_add-result : goal.overflow_add-result
 overflow_add-result g c =

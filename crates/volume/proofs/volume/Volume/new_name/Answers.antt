@@ -1,7 +1,7 @@
 use Rattle.std.proofs.Common.{refl, sym}
 use Rattle.tree_model.proofs.WalkLaws.{id_at-from_walk}
 use Rattle.volume.proofs.Walked.{stands_tree, reached_at}
-use Rattle.volume.proofs.Holders.{would_hold, in_inodes, in_entries}
+use Rattle.volume.proofs.Holders.{would_hold, is_here, in_inodes, in_entries}
 use Rattle.volume.proofs.LinkRows.{link_exists, link_directory, link_no_page, link_planned}
 use Rattle.volume.proofs.volume.Volume.new_name.Goals as goal
 
@@ -46,6 +46,12 @@ place_for_name-requires-clause-most g c =
     let (state, stands) = c.requires.stands in
     let holder = would_hold state.tree c.args.to.now c.in_ok-last.field-0 c.in-Some.last (c.in_ok-last.ensures.directory state stands) c.in_ok-last.ensures.name c.in-Some.is in
     (in_inodes c.args.self.now (g.P.Pm.view c.args.pm.now) state stands c.args.to.now _ _ holder).1
+
+pub place_for_name-requires-clause-directory : goal.place_for_name-requires-clause-directory
+place_for_name-requires-clause-directory g c =
+    let (state, stands) = c.requires.stands in
+    let holder = would_hold state.tree c.args.to.now c.in_ok-last.field-0 c.in-Some.last (c.in_ok-last.ensures.directory state stands) c.in_ok-last.ensures.name c.in-Some.is in
+    is_here c.args.self.now (g.P.Pm.view c.args.pm.now) state stands c.args.to.now _ _ holder
 
 pub returns-in_default-place_for_name : goal.returns-in_default-place_for_name
 returns-in_default-place_for_name g c = λ state stands.
