@@ -10,7 +10,8 @@ use Rattle.image_reading.specs.Tidy.{IsTidied}
 use Rattle.volume.specs.declared.plan.Action.{Action}
 use Rattle.volume.specs.declared.plan.Action.TheVariants.{Make, Name, Remove, Move, Write as WriteBytes, WriteNothing, Resize, KeepSize, KeepNames, Read as ReadBytes, Status, Names, Space}
 use Rattle.volume.specs.Planned.{IsPlanned}
-use Rattle.volume.specs.Costs.{fences_of_plan}
+use Rattle.volume.specs.Costs.{events_of, fences_of_plan}
+use Rattle.volume.specs.LineEvents.{events_of_line}
 
 -- a directory gives a page back
 abbrev pub gives_back : Action → Bool
@@ -33,6 +34,16 @@ pub record IsLeftBy (P : ℕ) (state : State) (command : Command) (action : Acti
   pub tree : later.tree ≡ (step P state.tree state.room command).tree
   pub room : later.room ≡ room_after (least_free_id state.tree) state.tree state.room (resolved state.tree command) (gives_back action)
   pub fits : IsRoom later.tree later.room
+
+-- The room where a page is given back exactly as the action does fits the tree that the command leaves.
+abbrev pub PlanRoomLaw : Type 0
+PlanRoomLaw = (P : ℕ) (I : List ℕ) (state : State) (command : Command) (action : Action) → IsTidied P I → ReadsAs P I state → IsPlanned P I state command action
+    → IsRoom (step P state.tree state.room command).tree (room_after (least_free_id state.tree) state.tree state.room (resolved state.tree command) (gives_back action))
+
+-- The events of a plan are those that its command takes between the two states.
+abbrev pub PlanEventsLaw : Type 0
+PlanEventsLaw = (P : ℕ) (I : List ℕ) (state later : State) (command : Command) (action : Action) → IsTidied P I → ReadsAs P I state → IsPlanned P I state command action → IsLeftBy P state command action later
+    → events_of action ≡ events_of_line state (Ok command) (step P state.tree state.room command).answer later
 
 -- The fences of a plan are those that its command takes between the two states.
 abbrev pub PlanFencesLaw : Type 0
