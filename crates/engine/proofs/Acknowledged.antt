@@ -1,11 +1,11 @@
 -- A line that was executed, and then acknowledged.
-use Rattle.std.proofs.Common.{◌≡◌, ◌⊎◌, inl, inr, ℕ, List, [], ◌∷◌, refl, sym, ap, subst, ◌∙◌}
+use Rattle.std.proofs.Common.{◌≡◌, ◌⊎◌, inl, inr, ℕ, List, [], ◌∷◌, refl, sym, ap, subst, ◌∙◌, arith}
 use Rattle.std.specs.Prelude.{Option, Some, None, Ok, Err, IsTrue}
 use Rattle.pm_trait.specs.declared.event.Event.TheVariants.{Ack}
 use Rattle.pm_trait.specs.Trail.{Trail}
 use Rattle.pm_trait.specs.Device.{HasRisen, with_event, acks_from, moment_of}
 use Rattle.pm_trait.specs.DeviceView.{DeviceView}
-use Rattle.pm_trait.proofs.ContinuesLaws.{acks_from-all, continues_by}
+use Rattle.pm_trait.proofs.ContinuesLaws.{acks_from-all, continues_by, moment_of-grown}
 use Rattle.pm_trait.proofs.DeviceLaws.{leaves_weaker, leaves_next}
 use Rattle.pm_trait.proofs.AckLaws.{leaves_ack, acks_none, acks_next, acks_ack, settled_ack}
 use Rattle.tree_model.specs.Step.{Answer, Done, Count, Status, Bytes, Listed, Space, Refused, Unread, Fault, Stopped}
@@ -106,5 +106,6 @@ module _ {P : ℕ} {old : State} {line : Line} {session : SessionView} {replied 
     quiet = acts_answered (fences_of old line done.answer done.new) done.any_moment.continues (continues_by Ack acks.trail) done.no_ack (λ none. (done.quiet none).1) acks.trail;
     one_ack = λ told is_told. acked_then 0 1 done.any_moment.continues (leaves_ack (λ k image. Unit {0}) done.stands.settled acks.trail tt tt).continues (λ t i. done.no_ack) (ack_counts after.trail acks.trail) told is_told;
     fences = acks.fences ∙ done.fences;
+    events = let before = done.events in let ack = moment_of-grown _ _ (Ack ∷ []) acks.trail in omega (arith, before, ack);
     no_memory = λ is. subst (λ (refused : ℕ). IsTrue (line_needs_places old line) ⊎ HasRisen before.refused refused) (sym acks.refused) (done.no_memory is);
   }

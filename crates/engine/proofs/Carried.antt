@@ -16,6 +16,8 @@ use Rattle.volume.specs.Costs.{events_of, fences_for_loss, fences_for_growth, fe
 use Rattle.volume.specs.declared.plan.Action.TheVariants.{Make, Name, Remove, Move, Write as WriteBytes, WriteNothing, Resize, KeepSize, KeepNames, Read as ReadBytes, Status, Names, Space}
 use Rattle.volume.specs.declared.plan.Action.{Action}
 use Rattle.volume.proofs.Plans.{change_is, fences_of_plan-le}
+use Rattle.image_reading.proofs.Tidied.{tidied}
+use Rattle.engine.proofs.Might.{might_take}
 use Rattle.engine.specs.Exec.{Executed, HasFailed, Does, LeavesVolume, KeepsBytes}
 use Rattle.engine.specs.Replies.{IsTold, IsChangeReply}
 use Rattle.engine.specs.Session.{SessionView}
@@ -94,6 +96,7 @@ module _ (old new : SessionView) (before after : DeviceView) (action : Action) (
         any_moment = follows.any_moment;
         no_ack = carries.device.no_ack;
         fences = left.fences;
+        events = left.events;
         quiet = λ none. let took = left.fences in elim (change_fences action change) [
           | inl some ↦ absurd (some (omega (arith, took, none, made)))
           | inr idle ↦ let same = (carries.idle idle).0 in (ap (λ (d : DeviceView). d.words) same, ap (λ (d : DeviceView). d.trail) same)
@@ -112,7 +115,9 @@ module _ (old new : SessionView) (before after : DeviceView) (action : Action) (
         last = last;
         action = action;
         planned = plan_for.planned;
+        might = might_take old.volume.size before.words state c action (tidied plan_for.stands.tidy) plan_for.stands.reads plan_for.planned;
         fewer = fewer;
+        events = carries.device.grown;
       }
 
 module _ (old new : VolumeView) (before after : DeviceView) (action : Action) (answer : Answer) {IsOurs : Command → Type 0} (told : IsChangeReply (reply_of answer)) where

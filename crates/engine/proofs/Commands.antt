@@ -25,7 +25,8 @@ use Rattle.volume.specs.Stands.{StandsFor}
 use Rattle.volume.specs.Crashes.{MayReadAs}
 use Rattle.volume.specs.Prepared.{IsRefusal, IsSameButPlaces, IsSameButRoom, Prepares}
 use Rattle.volume.specs.declared.plan.Action.{Action}
-use Rattle.engine.specs.Exec.{Executed, HasFailed, IsPlannedFor, Does, LeavesVolume}
+use Rattle.volume.specs.Costs.{events_of, fences_of_plan}
+use Rattle.engine.specs.Exec.{Executed, HasFailed, IsPlannedFor, MightTake, Does, LeavesVolume}
 use Rattle.engine.specs.Replies.{IsReplyOf, IsChangeReply}
 use Rattle.engine.specs.Session.{SessionView}
 use Rattle.engine.specs.Run.{command_of, tree_after_line, IsAt}
@@ -70,6 +71,7 @@ module _ (old new : SessionView) (before after : DeviceView) (size : new.volume.
           (leaves_here _ stands.settled (refl, may_more old.volume.size state line after.words (may_be_there old.volume.size state after.words (subst (λ (p : ℕ). IsAt p state after.words) size (stands_at new.volume after stands)))));
       no_ack = subst (λ (t : Option Trail). acks_from t after.trail (moment_of after.trail) ≡ 0) told (acks_from-here (continues_here after.trail));
       fences = omega (arith, none, same);
+      events = let still = ap moment_of told in omega (arith, still);
       quiet = λ few. (words, told);
       no_memory = cause;
     };
@@ -125,6 +127,7 @@ module _ (old mid new : SessionView) (before between after : DeviceView) where
         any_moment = moments done.any_moment;
         no_ack = none_acked done.no_ack;
         fences = let more = done.fences in let same = device.fences in omega (arith, more, same);
+        events = let more = done.events in let same = ap moment_of device.trail in omega (arith, more, same);
         quiet = λ none. let still = done.quiet none in (still.0 ∙ device.words, still.1 ∙ device.trail);
         no_memory = λ is. subst (λ (refused : ℕ). IsTrue (line_needs_places state line) ⊎ HasRisen refused after.refused) same_refused (done.no_memory is);
       }
@@ -141,7 +144,9 @@ module _ (old mid new : SessionView) (before between after : DeviceView) where
         planned =
             subst (λ (words : List ℕ). IsPlannedFor old.volume.size words state line fails.action) device.words
             (subst (λ (p : ℕ). IsPlannedFor p between.words state line fails.action) view.same_size fails.planned);
+        might = subst (λ (p : ℕ). MightTake p state line (fences_of_plan fails.action) (events_of fails.action)) view.same_size fails.might;
         fewer = let few = fails.fewer in let same = device.fences in omega (arith, few, same);
+        events = let few = fails.events in let same = ap moment_of device.trail in omega (arith, few, same);
       }
 
 module _ (old mid new : VolumeView) (before between after : DeviceView) where

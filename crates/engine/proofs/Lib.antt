@@ -12,6 +12,7 @@ pub mod Acknowledged
 pub mod Told
 pub mod Causes
 pub mod Commands
+pub mod Might
 pub mod Carried
 pub mod Removals
 pub mod Asked

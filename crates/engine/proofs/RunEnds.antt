@@ -47,6 +47,8 @@ run_ends {start = start} {now = now} so_far end left written ends executes write
       subst (λ (p : ℕ). IsAt p (last_state start so_far.states) now.device.words) so_far.size
       (stands_at now.volume now.device (so_far.going (going same)).stands);
   fences = λ same. so_far.fences (going same);
+  events = λ same. so_far.events (going same);
+  cut = λ fewer. so_far.cut (halted fewer);
   any_moment = so_far.any_moment;
   no_memory = so_far.no_memory;
   refused = so_far.refused;

@@ -5,6 +5,7 @@ use Rattle.tree_model.specs.Step.{Answer, Stopped}
 use Rattle.tree_model.specs.Run.{Line, State, LineStep, LineFails}
 use Rattle.tree_model.specs.Fences.{fences_of, fences_of_run}
 use Rattle.tree_model.proofs.FenceLaws.{last_left, fences_of_run-more}
+use Rattle.volume.specs.LineEvents.{events_of_line, events_of_run}
 use Rattle.engine.specs.Run.{Run, state_after, last_state}
 use Rattle.engine.proofs.Lists.{get_front}
 
@@ -68,7 +69,38 @@ last_state-append start (s ∷ states) new = last_state-append s states new
 pub state_stays : (start : State) (states : List State) (new : State) (k : ℕ) (state : State) → state_after start states k ≡ Some state → state_after start (states ++ new ∷ []) k ≡ Some state
 state_stays start states new k state is = get_front (start ∷ states) (new ∷ []) k state is
 
--- ---- fences
+-- a line that leaves no state takes no fence, and no event
+pub fences_still : (P : ℕ) (start : State) (lines : List Line) (answers : List Answer) (states : List State) (line : Line) (answer : Answer) → Run P start lines answers states
+    → fences_of_run start (lines ++ line ∷ []) (answers ++ answer ∷ []) states ≡ fences_of_run start lines answers states
+fences_still P start [] [] [] line answer run = refl
+fences_still P start [] [] (s ∷ states) line answer run = absurd run
+fences_still P start [] (a ∷ answers) states line answer run = absurd run
+fences_still P start (l ∷ lines) [] states line answer run = absurd run
+fences_still P start (l ∷ lines) (a ∷ answers) [] line answer run = refl
+fences_still P start (l ∷ lines) (a ∷ answers) (s ∷ states) line answer run = ap (λ (n : ℕ). fences_of start l a s + n) (fences_still P s lines answers states line answer run.1)
+
+pub events_still : (P : ℕ) (start : State) (lines : List Line) (answers : List Answer) (states : List State) (line : Line) (answer : Answer) → Run P start lines answers states
+    → events_of_run start (lines ++ line ∷ []) (answers ++ answer ∷ []) states ≡ events_of_run start lines answers states
+events_still P start [] [] [] line answer run = refl
+events_still P start [] [] (s ∷ states) line answer run = absurd run
+events_still P start [] (a ∷ answers) states line answer run = absurd run
+events_still P start (l ∷ lines) [] states line answer run = absurd run
+events_still P start (l ∷ lines) (a ∷ answers) [] line answer run = refl
+events_still P start (l ∷ lines) (a ∷ answers) (s ∷ states) line answer run = ap (λ (n : ℕ). events_of_line start l a s + 1 + n) (events_still P s lines answers states line answer run.1)
+
+-- ---- fences and events
+
+-- a run goes on by a line, and its acknowledgement
+pub events_more : (start : State) (lines : List Line) (answers : List Answer) (states : List State) (line : Line) (answer : Answer) (new : State) → length lines ≡ length states → length states ≡ length answers
+    → events_of_run start (lines ++ line ∷ []) (answers ++ answer ∷ []) (states ++ new ∷ []) ≡ events_of_run start lines answers states + (events_of_line (last_state start states) line answer new + 1)
+events_more start [] [] [] line answer new many same = omega arith
+events_more start [] [] (s ∷ states) line answer new many same = absurd (omega (arith, many))
+events_more start [] (a ∷ answers) [] line answer new many same = absurd (omega (arith, same))
+events_more start [] (a ∷ answers) (s ∷ states) line answer new many same = absurd (omega (arith, many))
+events_more start (l ∷ lines) answers [] line answer new many same = absurd (omega (arith, many))
+events_more start (l ∷ lines) [] (s ∷ states) line answer new many same = absurd (omega (arith, same))
+events_more start (l ∷ lines) (a ∷ answers) (s ∷ states) line answer new many same =
+    let rest = events_more s lines answers states line answer new (omega (arith, many)) (omega (arith, same)) in omega (arith, rest)
 
 last_is : (start : State) (states : List State) → last_left start states ≡ last_state start states
 last_is start [] = refl

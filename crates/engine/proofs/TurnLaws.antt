@@ -10,21 +10,24 @@ use Rattle.io_edge.specs.Bytes.{Takes}
 use Rattle.io_edge.proofs.BytesLaws.{takes_none, takes_as, takes_then}
 use Rattle.tree_model.specs.Step.{Answer, Fault, Stopped}
 use Rattle.tree_model.specs.Run.{Line, State}
+use Rattle.tree_model.specs.Fences.{fences_of_run}
+use Rattle.volume.specs.Costs.{events_of, fences_of_plan}
+use Rattle.volume.specs.LineEvents.{events_of_run}
 use Rattle.tree_model.specs.declared.reply.Reply.{Reply}
 use Rattle.script.specs.Texts.{answer_text}
 use Rattle.volume.specs.Crashes.{MayReadAs}
 use Rattle.engine.specs.Run.{state_after, last_state, command_of, IsAt, IsBetween, IsStateAfter}
-use Rattle.engine.specs.Script.{texts_of}
+use Rattle.engine.specs.Script.{texts_of, IsCutShort}
 use Rattle.engine.specs.Exec.{HasAnswered, HasFailed}
 use Rattle.engine.specs.Session.{Mounted}
 use Rattle.volume.specs.Stands.{StandsFor}
 use Rattle.engine.specs.Turns.{Input, IsGoing, HasTaken, CountsFaults, MovesOn, RanSoFar}
 use Rattle.engine.proofs.Acknowledged.{may_more, may_be_there, stands_at}
 use Rattle.engine.proofs.Faults.{apart, counts_on}
-use Rattle.engine.proofs.Runs.{fences_more}
+use Rattle.engine.proofs.Runs.{events_more, events_still, fences_more, fences_still}
 use Rattle.engine.proofs.After.{leaves_after, acks_after, acked_then}
 use Rattle.engine.proofs.Fences.{may_store_more, may_store_still, may_store_now, may_store_failed}
-use Rattle.engine.proofs.Lists.{get_last}
+use Rattle.engine.proofs.Lists.{get_front, get_last}
 use Rattle.engine.proofs.Memory.{fault_is_none, stopped_is_none, one_answer, other_answer}
 use Rattle.engine.proofs.Quiet.{acts_weaker, acts_here, acts_after, acts_unacknowledged}
 use Rattle.engine.proofs.Runs.{answers_as_lines, run_step, run_fails, run_stopped, state_after_last, last_state-append, state_stays}
@@ -172,6 +175,12 @@ module _ {P : ℕ} {start : State} {first : DeviceView} {script : Option (List �
         halts = λ halts. absurd (apart halts is);
         counted = λ told is_told. acked_then (length so_far.states) 1 so_far.any_moment.continues done.any_moment.continues so_far.counted done.one_ack told is_told ∙ sym (one_more so_far.states done.new);
         fences = λ goes. fences_more start so_far.lines so_far.answers so_far.states line done.answer done.new first.fences old.device.fences _ many going.each (so_far.fences was) done.fences;
+        events = λ goes.
+            let before = so_far.events was in
+            let one = done.events in
+            let more = events_more start so_far.lines so_far.answers so_far.states line done.answer done.new many going.each in
+            omega (arith, before, one, more);
+        cut = λ halts. absurd (apart halts is);
         ack_count = ack_more so_far.states done.new first.acks old.device.acks _ so_far.ack_count acks_are;
       }
 
@@ -179,6 +188,27 @@ module _ {P : ℕ} {start : State} {first : DeviceView} {script : Option (List �
       pub while_failing : (k : ℕ) (image : List ℕ) → (k ≡ 0) × MayReadAs P (last_state start so_far.states) (command_of (Some line)) image → IsBetween P start so_far.states (so_far.lines ++ line ∷ []) (length so_far.states + k) image
       while_failing k image (none, may) =
           between_now P start so_far.states so_far.lines line (length so_far.states + k) image (omega (arith, many, none)) (omega (arith, none)) may
+
+      pub cut_here : IsCutShort P start (so_far.lines ++ line ∷ []) so_far.states
+          (fences_of_run start (so_far.lines ++ line ∷ []) (so_far.answers ++ Fault ∷ []) so_far.states)
+          (events_of_run start (so_far.lines ++ line ∷ []) (so_far.answers ++ Fault ∷ []) so_far.states) first new.device
+      cut_here = record {
+        line = line;
+        next = ap (λ (k : ℕ). slice_get (so_far.lines ++ line ∷ []) k) (sym many) ∙ get_last so_far.lines line;
+        its_fences = fences_of_plan failed.action;
+        its_events = events_of failed.action;
+        might = failed.might;
+        fewer =
+            let before = so_far.fences was in
+            let few = failed.fewer in
+            let still = fences_still P start so_far.lines so_far.answers so_far.states line Fault so_far.run in
+            omega (arith, before, few, still);
+        grown =
+            let before = so_far.events was in
+            let few = failed.events in
+            let still = events_still P start so_far.lines so_far.answers so_far.states line Fault so_far.run in
+            omega (arith, before, few, still);
+      }
 
       abbrev pub ran_failed : {input_after : Input} {after : List ℕ → Type 0} → HasTaken (so_far.lines ++ line ∷ []) script input_after
           → Takes before (answer_text Fault) after → new.device.acks ≡ old.device.acks
@@ -208,6 +238,8 @@ module _ {P : ℕ} {start : State} {first : DeviceView} {script : Option (List �
         halts = λ halts. failed.last;
         counted = λ told is_told. acked_then (length so_far.states) 0 so_far.any_moment.continues failed.any_moment.continues so_far.counted (λ t i. failed.no_ack) told is_told ∙ omega arith;
         fences = λ goes. absurd (apart is goes);
+        events = λ goes. absurd (apart is goes);
+        cut = λ halts. cut_here;
         ack_count = acks_are ∙ so_far.ack_count;
       }
 
@@ -238,6 +270,18 @@ ran_stopped {P = P} {start = start} {first = first} {taken = taken} {old = old} 
   halts = so_far.halts;
   counted = so_far.counted;
   fences = λ goes. absurd (apart is goes);
+  events = λ goes. absurd (apart is goes);
+  cut = λ halts.
+      let cut = so_far.cut halts in
+      record {
+        line = cut.line;
+        next = get_front so_far.lines (line ∷ []) (length so_far.states) cut.line cut.next;
+        its_fences = cut.its_fences;
+        its_events = cut.its_events;
+        might = cut.might;
+        fewer = let few = cut.fewer in let still = fences_still P start so_far.lines so_far.answers so_far.states line Stopped so_far.run in omega (arith, few, still);
+        grown = let few = cut.grown in let still = events_still P start so_far.lines so_far.answers so_far.states line Stopped so_far.run in omega (arith, few, still);
+      };
   ack_count = so_far.ack_count;
 }
 
@@ -266,5 +310,7 @@ ran_none {start = start} now script taken goes stands has_taken = record {
   halts = λ is. absurd (apart is goes);
   counted = λ told is. acks_from-here (continues_here now.device.trail);
   fences = λ is. omega arith;
+  events = λ is. omega arith;
+  cut = λ is. absurd (apart is goes);
   ack_count = omega arith;
 }

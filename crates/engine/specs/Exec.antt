@@ -4,7 +4,7 @@ use Rattle.pm_trait.specs.declared.event.Event.TheVariants.{Ack}
 use Rattle.pm_trait.specs.declared.event.PmFault.{PmFault}
 use Rattle.pm_trait.specs.Trail.{Trail}
 use Rattle.pm_trait.specs.Device.{HasRisen, LeavesOnly, AcksSettled, StaysOnce, EndsInFault, acks_from, moment_of, with_event}
-use Rattle.pm_trait.specs.DeviceView.{DeviceView}
+use Rattle.pm_trait.specs.DeviceView.{DeviceView, GrowsBy}
 use Rattle.tree_model.specs.Step.{Answer, Refused, Fault}
 use Rattle.tree_model.specs.Run.{Line, State, LineStep, LineFails}
 use Rattle.tree_model.specs.declared.reply.Refusal.TheVariants.{NoMemory}
@@ -12,7 +12,8 @@ use Rattle.tree_model.specs.declared.reply.Reply.{Reply}
 use Rattle.tree_model.specs.declared.reply.Reply.TheVariants as replies
 use Rattle.image_reading.specs.Reading.{Reads}
 use Rattle.volume.specs.Volume.{VolumeView}
-use Rattle.volume.specs.Costs.{fences_of_plan}
+use Rattle.volume.specs.Costs.{events_of, fences_of_plan}
+use Rattle.volume.specs.LineEvents.{events_of_line}
 use Rattle.volume.specs.declared.plan.Action.{Action}
 use Rattle.volume.specs.Planned.{IsPlanned}
 use Rattle.volume.specs.Prepared.{IsSameButPlaces}
@@ -38,6 +39,7 @@ pub record Executed (P : ℕ) (old : State) (line : Line) (session : SessionView
   pub any_moment : LeavesOnly before.trail after.trail (λ acks image. (acks ≡ 0) × MayReadAs P old (command_of (Some line)) image)
   pub no_ack : acks_from before.trail after.trail (moment_of after.trail) ≡ 0
   pub fences : after.fences ≡ before.fences + fences_of old line answer new
+  pub events : GrowsBy (events_of_line old line answer new) before after
   -- a line that takes no fence does nothing to the device
   pub quiet : fences_of old line answer new ≡ 0 → (after.words ≡ before.words) × (after.trail ≡ before.trail)
   -- one that needs no place of a table is answered NoMemory only where the device refused room
@@ -48,8 +50,15 @@ abbrev pub IsPlannedFor : ℕ → List ℕ → State → Line → Action → Typ
 IsPlannedFor P words old (Ok command) action = IsPlanned P words old command action
 IsPlannedFor P words old (Err fault) action = ⊥
 
--- A fence failed in it, and nothing was done after that. Fewer fences were made than the line's plan has; those of a plan are
--- what its command takes between two states (`PlanFencesLaw`).
+-- So many fences and events are what the line takes with some answer and state that it might have had.
+pub record MightTake (P : ℕ) (old : State) (line : Line) (fences events : ℕ) : Type 0 where
+  pub answer : Answer
+  pub new : State
+  pub step : LineStep P old line answer new
+  pub fences_are : fences ≡ fences_of old line answer new
+  pub events_are : events ≡ events_of_line old line answer new
+
+-- A fence failed in it, and nothing was done after that. Fewer fences were made than the line's plan has, and no more events.
 pub record HasFailed (P : ℕ) (old : State) (line : Line) (before after : DeviceView) : Type 0 where
   pub fails : LineFails P old line Fault
   pub any_moment : LeavesOnly before.trail after.trail (λ acks image. (acks ≡ 0) × MayReadAs P old (command_of (Some line)) image)
@@ -57,7 +66,9 @@ pub record HasFailed (P : ℕ) (old : State) (line : Line) (before after : Devic
   pub last : EndsInFault after.trail
   pub action : Action
   pub planned : IsPlannedFor P before.words old line action
+  pub might : MightTake P old line (fences_of_plan action) (events_of action)
   pub fewer : after.fences < before.fences + fences_of_plan action
+  pub events : GrowsBy (events_of action) before after
 
 -- Once all that a crash may leave reads as the tree that the line leaves, it stays so.
 abbrev pub StaysAsAfter : ℕ → State → Line → DeviceView → DeviceView → Type 0
@@ -112,6 +123,8 @@ pub record HasAnswered (P : ℕ) (old : State) (line : Line) (session : SessionV
   pub quiet : ActsOnly before.trail after.trail (λ acks. (acks ≡ 0) × (0 < fences_of old line answer new))
   pub one_ack : (trail : Trail) → after.trail ≡ Some trail → acks_from before.trail after.trail (moment_of after.trail) ≡ 1
   pub fences : after.fences ≡ before.fences + fences_of old line answer new
+  -- its own events and the acknowledgement
+  pub events : GrowsBy (events_of_line old line answer new + 1) before after
   -- a line that needs no place of a table is answered NoMemory only where the device refused room
   pub no_memory : answer ≡ Refused NoMemory → IsTrue (line_needs_places old line) ⊎ HasRisen before.refused after.refused
 

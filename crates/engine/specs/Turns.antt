@@ -4,7 +4,7 @@ use Rattle.std.specs.declared.ops.ControlFlow.{ControlFlow}
 use Rattle.std.specs.declared.ops.ControlFlow.TheVariants.{Continue, Break}
 use Rattle.pm_trait.specs.Trail.{Trail}
 use Rattle.pm_trait.specs.Device.{HasRisen, LeavesOnly, AcksSettled, EndsInFault, acks_from, moment_of}
-use Rattle.pm_trait.specs.DeviceView.{DeviceView}
+use Rattle.pm_trait.specs.DeviceView.{DeviceView, GrowsBy}
 use Rattle.io_edge.specs.declared.sink.WriteFault.{WriteFault}
 use Rattle.io_edge.specs.Bytes.{Takes, TakesPrefix}
 use Rattle.tree_model.specs.Step.{Answer, Refused, Fault, Stopped}
@@ -24,7 +24,8 @@ use Rattle.tree_model.specs.Fences.{fences_of_run, most_fences}
 use Rattle.engine.specs.Memory.{needs_places_at}
 use Rattle.engine.specs.Quiet.{MayStore, ActsOnly}
 use Rattle.engine.specs.Run.{Run, last_state, IsBetween, IsStateAfter}
-use Rattle.engine.specs.Script.{texts_of}
+use Rattle.engine.specs.Script.{texts_of, IsCutShort}
+use Rattle.volume.specs.LineEvents.{events_of_run}
 use Rattle.engine.specs.Session.{Mounted}
 use Rattle.volume.specs.Stands.{StandsFor, IsStanding}
 
@@ -151,4 +152,6 @@ pub record RanSoFar (P : ℕ) (start : State) (first : DeviceView) (script : Opt
   pub no_memory : (k : ℕ) → slice_get answers k ≡ Some (Refused NoMemory) → IsTrue (needs_places_at start lines states k) ⊎ HasRisen first.refused now.device.refused
   pub refused : first.refused ≤ now.device.refused
   pub fences : now.volume.stopped ≡ false → now.device.fences ≡ first.fences + fences_of_run start lines answers states
+  pub events : now.volume.stopped ≡ false → GrowsBy (events_of_run start lines answers states) first now.device
+  pub cut : now.volume.stopped ≡ true → IsCutShort P start lines states (fences_of_run start lines answers states) (events_of_run start lines answers states) first now.device
   pub ack_count : now.device.acks ≡ first.acks + length states

@@ -133,7 +133,7 @@ goes_on_events {Owns} now trail events local none = record {
 
 -- flushes of lines are an interval without stores
 pub lines_stores : {a b : DeviceView} {line count : ℕ} → FlushesLines a b line count → Stores (λ _. ⊥) a b count
-lines_stores flushes = record { stores = flushes.stores_none; room = flushes.room; counts = flushes.counts }
+lines_stores flushes = record { stores = flushes.stores_none; grown = flushes.grown; room = flushes.room; counts = flushes.counts }
 
 -- the words and the trail by whatever names
 pub goes_on_as : {Owns : ℕ → Type 0} {Reads : List ℕ → Type 0} {a b : List ℕ} {ta tb : Option Trail} (events : List Event) → IsLocal Owns Reads → StoreNoneOf Owns events → b ≡ after_stores a events → tb ≡ with_events ta events → GoesOn Owns Reads a ta b tb

@@ -2,7 +2,7 @@
 use Rattle.std.proofs.Common.{◌≡◌, inl, inr, ℕ, ◌+◌, ◌*◌, ◌<◌, List, length, slice_set, refl, sym, ◌∙◌, ap, subst, arith}
 use Rattle.std.specs.Prelude.{Option, Result, Ok, OnOk, OnErr}
 use Rattle.pm_trait.specs.Trail.{Trail}
-use Rattle.pm_trait.specs.Device.{LeavesOnly, IsFenced, HasRisen}
+use Rattle.pm_trait.specs.Device.{LeavesOnly, IsFenced, HasRisen, moment_of}
 use Rattle.pm_trait.specs.DeviceView.{DeviceView, IsSettledView, Reserves, StoresAndFences, MakesIntervals}
 use Rattle.pm_trait.specs.Unfolds.{InTurn, Unfolds, Along, Through}
 use Rattle.pm_trait.proofs.DeviceLaws.{leaves_weaker}
@@ -60,6 +60,7 @@ first_reserved : {T E R F : Type 0} {a b c : DeviceView} {events few : ℕ} {val
 first_reserved {a = a} {b = b} {c = c} {events = events} {result = result} reserved one = record {
   fenced = subst (λ (words : List ℕ). IsFenced words a.trail c.words c.trail result) reserved.words (subst (λ (trail : Option Trail). IsFenced b.words trail c.words c.trail result) reserved.trail one.fenced);
   long = one.long ∙ ap length reserved.words;
+  grown = let before = ap moment_of reserved.trail in let after = one.grown in omega (arith, before, after);
   counts = record {
     room = let before = reserved.room in let after = one.room in omega (arith, before, after);
     faults = let before = reserved.faults in let after = one.faults in omega (arith, before, after);

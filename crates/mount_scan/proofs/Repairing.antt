@@ -3,7 +3,9 @@ use Rattle.std.proofs.Common.{◌≡◌, ℕ, ◌+◌, ◌-◌, List, Option, re
 use Rattle.std.specs.Prelude.{Result, Ok, Err, OnOk}
 use Rattle.pm_trait.specs.Trail.{Trail}
 use Rattle.pm_trait.specs.Device.{HasRisen, LeavesOnly, acks_from, moment_of}
-use Rattle.pm_trait.specs.DeviceView.{DeviceView, Reserves, MakesIntervals}
+use Rattle.pm_trait.specs.DeviceView.{DeviceView, GrowsBy, Reserves, MakesIntervals}
+use Rattle.pm_trait.specs.Unfolds.{Unfolds}
+use Rattle.pm_trait.proofs.Unfolding.{unfolds_as, unfolds_failed_as}
 use Rattle.tree_model.specs.Run.{State}
 use Rattle.image_reading.specs.Reading.{ReadsAs}
 use Rattle.image_reading.specs.Soundness.{Sound, pages_in_image}
@@ -13,7 +15,7 @@ use Rattle.repair_laws.specs.Mended.{IsMended}
 use Rattle.repair_laws.proofs.Mended.{mended_law}
 use Rattle.recovery.specs.declared.repairs.Repairs.{Repairs}
 use Rattle.recovery.specs.Plans.{IsPlanOf}
-use Rattle.recovery.specs.Repairs.{events_of_repairs, fences_of_repairs}
+use Rattle.recovery.specs.Repairs.{steps_of, events_of_repairs, fences_of_repairs}
 use Rattle.volume.specs.Stands.{StandsFor}
 use Rattle.mount_scan.specs.declared.look.Found.{Found}
 use Rattle.mount_scan.specs.Looking.{HasFound}
@@ -27,6 +29,7 @@ pub record Repaired {T E : Type 0} (r : Repairs) (before reserved after : Device
   pub planned : IsPlanOf before.words r
   pub room : IsLeftAlone before reserved
   pub refused : reserved.refused ≡ before.refused
+  pub in_turn : Unfolds (steps_of r) reserved after result
   pub any_moment : LeavesOnly reserved.trail after.trail (λ acks image. (acks ≡ 0) × SameMeaning r.geometry.pages reserved.words image)
   pub mended : OnOk result (IsMended r.geometry.pages reserved.words after.words)
   pub device : MakesIntervals reserved after (events_of_repairs r) (fences_of_repairs r) result
@@ -46,6 +49,9 @@ module _ {T E : Type 0} (r : Repairs) (before reserved after : DeviceView) (resu
     no_ack = subst (λ (trail : Option Trail). acks_from trail after.trail (moment_of after.trail) ≡ 0) repaired.room.trail repaired.device.no_ack;
     acks = repaired.device.acks ∙ repaired.room.acks;
   }
+
+  pub grown : GrowsBy (events_of_repairs r) before after
+  grown = let same = ap moment_of repaired.room.trail in let more = repaired.device.grown in omega (arith, same, more)
 
   alone : fences_of_repairs r ≡ 0 → IsLeftAlone before after
   alone none =
@@ -76,9 +82,13 @@ module _ {T E : Type 0} (r : Repairs) (before reserved after : DeviceView) (done
           repairs = r;
           size = refl;
           planned = repaired.planned;
+          ready = reserved;
+          left_alone = repaired.room;
+          in_turn = unfolds_as tt repaired.in_turn;
           mended = mended;
           fences = repaired.device.counted ∙ ap (λ (fences : ℕ). fences + fences_of_repairs r) repaired.room.fences;
           few = few_fences r;
+          events = grown r before reserved after (Ok done) repaired;
         };
         faults = repaired.device.no_fault ∙ repaired.room.faults;
         refused = repaired.device.refused ∙ repaired.refused;
@@ -104,9 +114,13 @@ fails r before reserved after fault repaired =
       repairs = r;
       size = refl;
       planned = repaired.planned;
+      ready = reserved;
+      left_alone = repaired.room;
+      in_turn = unfolds_failed_as tt repaired.in_turn;
       made = after.fences - before.fences;
       fences = omega (arith, least, fences);
       fewer = omega (arith, fewer, fences, least);
+      events = grown r before reserved after (Err fault) repaired;
     }
 
 -- What was found in the words stands on the device once the repairs are made.

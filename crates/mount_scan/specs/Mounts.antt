@@ -1,7 +1,8 @@
 -- What a mount does to the device. P is its number of pages.
-use Rattle.std.specs.Prelude.{◌≡◌, ℕ, ◌+◌, ◌<◌, ◌≤◌, List}
+use Rattle.std.specs.Prelude.{◌≡◌, ℕ, ◌+◌, ◌<◌, ◌≤◌, List, Ok, Err}
 use Rattle.pm_trait.specs.Device.{HasRisen, LeavesOnly, EndsInFault, acks_from, moment_of}
-use Rattle.pm_trait.specs.DeviceView.{DeviceView, IsSettledView}
+use Rattle.pm_trait.specs.DeviceView.{DeviceView, GrowsBy, IsSettledView}
+use Rattle.pm_trait.specs.Unfolds.{Unfolds}
 use Rattle.tree_model.specs.Run.{State}
 use Rattle.image_reading.specs.Reading.{ReadsAs}
 use Rattle.image_reading.specs.Soundness.{Sound}
@@ -10,7 +11,7 @@ use Rattle.image_laws.specs.Frame.{SameMeaning}
 use Rattle.repair_laws.specs.Mended.{IsMended}
 use Rattle.recovery.specs.declared.repairs.Repairs.{Repairs}
 use Rattle.recovery.specs.Plans.{IsPlanOf}
-use Rattle.recovery.specs.Repairs.{fences_of_repairs}
+use Rattle.recovery.specs.Repairs.{steps_of, events_of_repairs, fences_of_repairs}
 use Rattle.volume.specs.Crashes.{MeansState}
 
 -- a mount makes at most so many fences
@@ -41,15 +42,19 @@ KeepsMeaning P before after = KeepsImages (SameMeaning P before.words) before af
 abbrev pub KeepsState : ℕ → State → DeviceView → DeviceView → Type 0
 KeepsState P state before after = KeepsImages (MeansState P state) before after
 
--- The words are those that recovery makes of the words at entry, by the repairs that these need: a fence for each step of
--- them that has a store.
+-- The words are those that recovery makes of the words at entry, by the repairs that these need: their steps in turn once the device,
+-- left alone but for that, has room for them; a fence for each that has a store.
 pub record MakesRepairs (P : ℕ) (before mounted : DeviceView) : Type 0 where
   pub repairs : Repairs
   pub size : repairs.geometry.pages ≡ P
   pub planned : IsPlanOf before.words repairs
+  pub ready : DeviceView
+  pub left_alone : IsLeftAlone before ready
+  pub in_turn : Unfolds {T = Unit {0}} {E = Unit {0}} (steps_of repairs) ready mounted (Ok tt)
   pub mended : IsMended P before.words mounted.words
   pub fences : mounted.fences ≡ before.fences + fences_of_repairs repairs
   pub few : fences_of_repairs repairs ≤ mount_fences
+  pub events : GrowsBy (events_of_repairs repairs) before mounted
 
 -- What a mount of words that read as this state leaves: the device before and after it.
 pub record Mounts (P : ℕ) (state : State) (before mounted : DeviceView) : Type 0 where
@@ -80,7 +85,11 @@ pub record FailsToMount (P : ℕ) (before after : DeviceView) : Type 0 where
   pub repairs : Repairs
   pub size : repairs.geometry.pages ≡ P
   pub planned : IsPlanOf before.words repairs
-  -- the fences that it made before the one that failed are fewer than those of the repairs
+  pub ready : DeviceView
+  pub left_alone : IsLeftAlone before ready
+  pub in_turn : Unfolds {T = Unit {0}} {E = Unit {0}} (steps_of repairs) ready after (Err tt)
+  -- the fences that it made before the one that failed are fewer than those of the repairs, and its events no more
   pub made : ℕ
   pub fences : after.fences ≡ before.fences + made
   pub fewer : made < fences_of_repairs repairs
+  pub events : GrowsBy (events_of_repairs repairs) before after

@@ -43,6 +43,14 @@ pub moment_of-more : (trail : Option Trail) (more : List Event) → moment_of tr
 moment_of-more None more = omega arith
 moment_of-more (Some trail) more = omega (arith, length-append trail.events more)
 
+grown_at : (trail : Option Trail) (more : List Event) → moment_of (with_events trail more) ≤ moment_of trail + length more
+grown_at None more = omega arith
+grown_at (Some trail) more = omega (arith, length-append trail.events more)
+
+-- and by these events it has grown by at most so many
+pub moment_of-grown : (old new : Option Trail) (more : List Event) → new ≡ with_events old more → moment_of new ≤ moment_of old + length more
+moment_of-grown old new more appended = subst (λ (t : Option Trail). moment_of t ≤ moment_of old + length more) (sym appended) (grown_at old more)
+
 pub moment_of-continues : {old new : Option Trail} → Continues old new → moment_of old ≤ moment_of new
 moment_of-continues {old} {new} run = subst (λ (t : Option Trail). moment_of old ≤ moment_of t) (sym run.appended) (moment_of-more old run.more)
 

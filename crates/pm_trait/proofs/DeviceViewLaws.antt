@@ -2,10 +2,10 @@
 use Rattle.std.proofs.Common.{◌≡◌, ◌⊎◌, ℕ, ◌+◌, ◌≤◌, List, [], ◌∷◌, ◌++◌, length, refl, sym, ◌∙◌, ap, subst, arith, length-append}
 use Rattle.std.specs.Prelude.{Result, Ok, Err, IsErr}
 use Rattle.pm_trait.specs.declared.event.Event.{Event}
-use Rattle.pm_trait.specs.declared.event.Event.TheVariants.{Store, Flush}
+use Rattle.pm_trait.specs.declared.event.Event.TheVariants.{Store, Flush, Fence, BadFence}
 use Rattle.pm_trait.specs.Trail.{after_stores}
 use Rattle.pm_trait.proofs.TrailLaws.{after_stores-append}
-use Rattle.pm_trait.proofs.ContinuesLaws.{with_events-nil, with_events-append, continues_then, acks_from-here, acks_from-then}
+use Rattle.pm_trait.proofs.ContinuesLaws.{with_events-nil, with_events-append, continues_then, moment_of-grown, acks_from-here, acks_from-then}
 use Rattle.pm_trait.specs.Device.{with_events, HasRisen, Continues, IsInterval, IsFlushed}
 use Rattle.pm_trait.proofs.DeviceLaws.{interval_empty, interval_store, interval_flush, interval_joined, interval_weaker, interval_length, then_nothing, fence_ends}
 use Rattle.pm_trait.specs.DeviceView.{DeviceView, SameCounts, Performs, CountsFences, Fences, IsSettledView, Stores, StoresAndFences, MakesIntervals}
@@ -39,13 +39,14 @@ performs_then {a} {b} {c} {first} {second} one two = record {
 pub stores_nothing : (device : DeviceView) → Stores (λ _. ⊥) device device 0
 stores_nothing device = record {
   stores = interval_empty device.words device.trail;
+  grown = omega arith;
   room = omega arith;
   counts = record { faults = refl; refused = refl; fences = refl; acks = refl };
 }
 
 -- what was carried out is an interval, of so many events
 pub stores_of : {W : ℕ → Type 0} {a b : DeviceView} {events : List Event} → IsInterval W a.words a.trail b.words b.trail → Performs a b events → Stores W a b (length events)
-stores_of interval performed = record { stores = interval; room = performed.room; counts = performed.counts }
+stores_of {events = events} interval performed = record { stores = interval; grown = moment_of-grown _ _ events performed.trail; room = performed.room; counts = performed.counts }
 
 -- so is a flush, and a store
 pub flush_stores : {a b : DeviceView} {line : ℕ} → Performs a b (Flush line ∷ []) → Stores (λ _. ⊥) a b 1
@@ -57,6 +58,7 @@ store_stores {word = word} {value = value} performed = stores_of (interval_store
 pub stores_weaker : {V W : ℕ → Type 0} {a b : DeviceView} {fewer : ℕ} (events : ℕ) → ((word : ℕ) → V word → W word) → fewer ≤ events → Stores V a b fewer → Stores W a b events
 stores_weaker events implies most one = record {
   stores = interval_weaker implies one.stores;
+  grown = let before = one.grown in omega (arith, before, most);
   room = let before = one.room in omega (arith, before, most);
   counts = one.counts;
 }
@@ -65,6 +67,7 @@ stores_weaker events implies most one = record {
 pub stores_then : {V W : ℕ → Type 0} {a b c : DeviceView} {first second : ℕ} → Stores V a b first → Stores W b c second → ((word : ℕ) → V word → W word → ⊥) → Stores (λ word. V word ⊎ W word) a c (first + second)
 stores_then one two apart = record {
   stores = interval_joined one.stores two.stores apart;
+  grown = let before = one.grown in let after = two.grown in omega (arith, before, after);
   room = let before = one.room in let after = two.room in omega (arith, before, after);
   counts = same_counts_then one.counts two.counts;
 }
@@ -73,6 +76,7 @@ stores_then one two apart = record {
 pub stores_flushed : {V : ℕ → Type 0} {a b c : DeviceView} {first second : ℕ} → Stores V a b first → Stores (λ _. ⊥) b c second → Stores V a c (first + second)
 stores_flushed one two = record {
   stores = then_nothing one.stores two.stores;
+  grown = let before = one.grown in let after = two.grown in omega (arith, before, after);
   room = let before = one.room in let after = two.room in omega (arith, before, after);
   counts = same_counts_then one.counts two.counts;
 }
@@ -83,6 +87,7 @@ pub ok_ends : {T E U F : Type 0} {W : ℕ → Type 0} {a b c : DeviceView} {even
 ok_ends value settled one flushed fence = record {
   fenced = fence_ends (Ok value) settled one.stores flushed fence.words fence.ok tt;
   long = ap length fence.words ∙ interval_length one.stores;
+  grown = let before = one.grown in let after = moment_of-grown _ _ (Fence ∷ []) fence.ok in omega (arith, before, after);
   counts = record {
     room = let before = one.room in let after = fence.room in omega (arith, before, after);
     faults = let before = one.faults in let after = fence.no_fault in omega (arith, before, after);
@@ -101,6 +106,7 @@ pub err_ends : {T E U F : Type 0} {W : ℕ → Type 0} {a b c : DeviceView} {eve
 err_ends {c = c} fault settled one flushed fence = record {
   fenced = fence_ends (Err fault) settled one.stores flushed fence.words tt fence.err;
   long = ap length fence.words ∙ interval_length one.stores;
+  grown = let before = one.grown in let after = moment_of-grown _ _ (BadFence ∷ []) fence.err in omega (arith, before, after);
   counts = record {
     room = let before = one.room in let after = fence.room in omega (arith, before, after);
     faults = let before = one.faults in let after = fence.faults in omega (arith, before, after);
@@ -184,6 +190,7 @@ intervals_none device value settled =
       long = refl;
       settled = settled;
       halts = tt;
+      grown = omega arith;
       counts = record {
         room = omega arith;
         faults = omega arith;
@@ -205,6 +212,7 @@ intervals_one one = record {
   long = one.long;
   settled = one.fenced.settled;
   halts = one.fenced.halts;
+  grown = one.grown;
   counts = one.counts;
 }
 
@@ -216,6 +224,7 @@ intervals_then result before after = record {
   long = after.long ∙ before.long;
   settled = after.settled;
   halts = after.halts;
+  grown = let early = before.grown in let late = after.grown in omega (arith, early, late);
   counts = counts_then result before.counts after.counts;
 }
 
@@ -228,6 +237,7 @@ intervals_failed events made (Err fault) is fits fewer before = record {
   long = before.long;
   settled = tt;
   halts = before.halts;
+  grown = let early = before.grown in omega (arith, early, fits);
   counts = counts_failed events made fault fits fewer before.counts;
 }
 
@@ -238,6 +248,7 @@ intervals_within events fits before = record {
   long = before.long;
   settled = before.settled;
   halts = before.halts;
+  grown = let early = before.grown in omega (arith, early, fits);
   counts = counts_within events fits before.counts;
 }
 
@@ -249,6 +260,7 @@ intervals_as value before = record {
   long = before.long;
   settled = before.settled;
   halts = tt;
+  grown = before.grown;
   counts = record {
     room = before.room;
     faults = before.faults;

@@ -12,7 +12,7 @@ use Rattle.fence_token.specs.Flushes.{FlushesLines}
 use Rattle.recovery.specs.Changes.{Changes, IsInSpan, span_events}
 
 pub flushes_stores : {a b : DeviceView} {line count : ℕ} → FlushesLines a b line count → Stores (λ _. ⊥) a b count
-flushes_stores flushes = record { stores = flushes.stores_none; room = flushes.room; counts = flushes.counts }
+flushes_stores flushes = record { stores = flushes.stores_none; grown = flushes.grown; room = flushes.room; counts = flushes.counts }
 
 -- nothing was changed
 pub changes_none : (device : DeviceView) {N : ℕ → ℕ → Type 0} → ((x v : ℕ) → N x v → ⊥) → Changes N device device 0

@@ -7,6 +7,7 @@ use Rattle.std.specs.Prelude.{Option, Some, None, IfSome, Result, Ok, Err, IsOk,
 use Rattle.pm_trait.specs.Trail.{Trail, IsCrashImage, trail_at}
 use Rattle.pm_trait.specs.Device.{Continues, HasRisen, MayLeave, moment_of}
 use Rattle.pm_trait.specs.DeviceView.{DeviceView}
+use Rattle.pm_trait.proofs.DeviceLaws.{settled_leaves}
 use Rattle.pm_memory.specs.Chosen.{IsChosenImage}
 use Rattle.pm_memory.specs.Fresh.{IsNew}
 use Rattle.tree_model.specs.Run.{State}
@@ -15,6 +16,7 @@ use Rattle.image_reading.specs.Soundness.{IsFirstViolation, Rule, Sound, pages_i
 use Rattle.image_reading.proofs.Violations.{pages_law}
 use Rattle.image_reading.specs.declared.Violation.{Violation}
 use Rattle.image_laws.specs.Frame.{SameMeaning}
+use Rattle.repair_laws.specs.Mended.{IsMended}
 use Rattle.mount_scan.specs.Mounting.{HoldsVolume, IsSound}
 use Rattle.mount_scan.specs.Mounts.{FailsToMount, Mounts}
 use Rattle.mount_scan.specs.declared.error.MountError.{MountError}
@@ -23,7 +25,7 @@ use Rattle.mount_scan.proofs.States.{some_state}
 use Rattle.remounts.specs.Follow.{CrashLeaves, MayFollow}
 use Rattle.remounts.specs.Follow.WasMounted.{mounted}
 use Rattle.remounts.specs.Follow.MayFollow.{itself, crashed}
-use Rattle.remounts.specs.InTurn.{keep_of, LeavesImage, LeaveInTurn, IsRefusedAs}
+use Rattle.remounts.specs.InTurn.{keep_of, LeavesImage, LateCrashLaw, LeaveInTurn, IsRefusedAs}
 use Rattle.remounts.specs.declared.Crash.{Crash}
 use Rattle.remounts.proofs.Followed.{crash_keeps, follow_law}
 
@@ -175,6 +177,18 @@ pub turns_sound : (crashes : List Crash) (words last : List ℕ) → LeaveInTurn
 turns_sound crashes words last in_turn sound =
     let means = turns_mean crashes words last in_turn sound in
     subst (λ (n : ℕ). Sound n last) (sym (pages_law (pages_in_image words) last (means.coherent Rule.head))) means.coherent
+
+-- a crash behind the last event leaves the mended words
+pub late_crash : LateCrashLaw
+late_crash crash words image left late =
+    let P = pages_in_image words in
+    let moment = min crash.moment (length left.trail.events) in
+    let start : moment_of left.before.trail ≡ 0 = ap moment_of left.new.trail in
+    let end : moment_of left.mounted.trail ≡ length left.trail.events = ap moment_of left.recorded in
+    let most = left.mount.events in
+    let last : moment ≡ moment_of left.mounted.trail = omega (arith, start, end, most, late) in
+    let is = settled_leaves left.mounted.words left.mounted.trail moment image left.mount.settled last (subst (λ (t : Option Trail). MayLeave t moment image) (sym left.recorded) left.left) in
+    subst (λ (w : List ℕ). IsMended P w image) left.new.words (subst (IsMended P left.before.words) (sym is) left.mount.mended)
 
 -- ---- how one of them is refused
 

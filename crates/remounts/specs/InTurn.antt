@@ -1,5 +1,5 @@
 -- Crashes in mounts, one after the other: what each of them leaves, and how a mount is refused.
-use Rattle.std.specs.Prelude.{◌≡◌, ℕ, min, List, [], ◌∷◌, length, Some}
+use Rattle.std.specs.Prelude.{◌≡◌, ℕ, ◌≤◌, min, List, [], ◌∷◌, length, Some}
 use Rattle.pm_trait.specs.Trail.{Trail, IsCrashImage, trail_at}
 use Rattle.pm_trait.specs.DeviceView.{DeviceView}
 use Rattle.pm_memory.specs.Chosen.{IsChosenImage}
@@ -7,6 +7,8 @@ use Rattle.pm_memory.specs.Fresh.{IsNew}
 use Rattle.tree_model.specs.Run.{State}
 use Rattle.image_reading.specs.Reading.{ReadsAs}
 use Rattle.image_reading.specs.Soundness.{IsFirstViolation, pages_in_image}
+use Rattle.repair_laws.specs.Mended.{IsMended}
+use Rattle.recovery.specs.Repairs.{events_of_repairs}
 use Rattle.mount_scan.specs.Mounting.{HoldsVolume, IsSound}
 use Rattle.mount_scan.specs.Mounts.{Mounts}
 use Rattle.mount_scan.specs.declared.error.MountError.{MountError}
@@ -32,6 +34,10 @@ pub record LeavesImage (crash : Crash) (words image : List ℕ) : Type 0 where
   pub recorded : mounted.trail ≡ Some trail
   pub left : IsCrashImage (trail_at trail (min crash.moment (length trail.events))) image
   pub chosen : IsChosenImage (trail_at trail (min crash.moment (length trail.events))) (keep_of crash.keep.now) image
+
+-- A crash at the bound of the mount's events or later leaves the words that recovery makes.
+abbrev pub LateCrashLaw : Type 0
+LateCrashLaw = (crash : Crash) (words image : List ℕ) (left : LeavesImage crash words image) → events_of_repairs left.mount.repairs ≤ crash.moment → IsMended (pages_in_image words) words image
 
 -- the words of each mount but the first are those that the crash in the one before left
 abbrev pub LeaveInTurn : List Crash → List ℕ → List ℕ → Type 0

@@ -7,7 +7,7 @@ ghost use Rattle.image_laws.specs.Frame.{SameMeaning};
 ghost use Rattle.mount_scan.specs.Mounting.{IsSound};
 ghost use Rattle.mount_scan.specs.declared.error.MountError.{MountError};
 ghost use Rattle.remounts.specs.Follow.{FollowLaw, MayFollow};
-ghost use Rattle.remounts.specs.InTurn.{IsRefusedAs, LeaveInTurn, LeavesImage};
+ghost use Rattle.remounts.specs.InTurn.{IsRefusedAs, LateCrashLaw, LeaveInTurn, LeavesImage};
 
 use mount_scan::{MountError, mount};
 use pm_memory::{Recorded, SteadyPm};
@@ -27,6 +27,11 @@ pub struct Crash<'a> {
 /// What may follow sound words, by mounts and crashes at any moments of them, means what they mean.
 pub fn follow_law()
     ensures { FollowLaw }
+{}
+
+/// A crash in a mount that comes as late as the repairs' events, or later, leaves the words that recovery makes.
+pub fn late_crash_law()
+    ensures { LateCrashLaw }
 {}
 
 /// A device of these words is mounted, and a crash comes; a device of the words that it leaves is mounted, and the next

@@ -87,6 +87,18 @@ mounts_and_runs {P} {before} {mounted} {after} run reads mount = record {
     | inr risen ↦ inr (subst (λ (refused : ℕ). HasRisen refused after.refused) mount.refused risen)
   ];
   fences = λ each. let was = mount.fences in let more = run.fences each in omega (arith, was, more);
+  events = λ each. let was = mount.events in let more = run.events each in omega (arith, was, more);
+  cut = λ fewer.
+      let cut = run.cut fewer in
+      record {
+        line = cut.line;
+        next = cut.next;
+        its_fences = cut.its_fences;
+        its_events = cut.its_events;
+        might = cut.might;
+        fewer = let was = mount.fences in let few = cut.fewer in omega (arith, was, few);
+        grown = let was = mount.events in let few = cut.grown in omega (arith, was, few);
+      };
 }
 
 -- ---- the state that a run starts with

@@ -24,7 +24,7 @@ use Rattle.crash_replay.specs.Replay.{PlacesTell, acked_at, acked_in_all}
 use Rattle.crash_replay.specs.declared.moment.Moment.{Moment}
 use Rattle.crash_replay.specs.declared.moment.Moment.TheVariants.{At, Before}
 use Rattle.crash_replay.proofs.Replays.{replay_law-holds as places_law}
-use Rattle.squirrel_cli.specs.ReplayLaw.{IsTreeAfter, MayBeLeftAfter, ReplayLaw}
+use Rattle.squirrel_cli.specs.ReplayLaw.{IsTreeAfter, MayBeLeftAfter, ReplayEndLaw, ReplayLaw}
 use Rattle.squirrel_cli.specs.Replays.{IsUnbegun, Replayed, acked_before}
 use Rattle.squirrel_cli.proofs.Leaving.{own_pages}
 
@@ -279,3 +279,10 @@ replay_law-holds moment keep P before after script rest unbegun replay = record 
       let all = all_before unbegun replay (Before call fence) placed here.acked in
       (all, behind_all unbegun replay all);
 }
+
+pub replay_end_law-holds : ReplayEndLaw
+replay_end_law-holds k keep P before after script rest unbegun replay late =
+    let start : moment_of before.trail ≡ 0 = ap moment_of unbegun.recorded in
+    let end : moment_of after.trail ≡ length replay.trail.events = ap moment_of replay.recorded in
+    let most = replay.ran.events replay.unfailed in
+    (replay_law-holds (At k) keep P before after script rest unbegun replay).at_end k refl (omega (arith, start, end, most, late))

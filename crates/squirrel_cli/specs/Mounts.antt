@@ -2,19 +2,20 @@
 use Rattle.std.specs.Prelude.{◌≡◌, ◌⊎◌, ℕ, ◌+◌, ◌<◌, ◌≤◌, IsTrue, List, length, slice_get, Option, Some}
 use Rattle.pm_trait.specs.Trail.{Trail}
 use Rattle.pm_trait.specs.Device.{HasRisen, LeavesOnly, AcksSettled, EndsInFault, IsAckAt, acks_from, moment_of}
-use Rattle.pm_trait.specs.DeviceView.{DeviceView}
+use Rattle.pm_trait.specs.DeviceView.{DeviceView, GrowsBy}
 use Rattle.tree_model.specs.Run.{State}
 use Rattle.tree_model.specs.Step.{Refused}
 use Rattle.tree_model.specs.declared.reply.Refusal.TheVariants.{NoMemory}
 use Rattle.tree_model.specs.Fences.{fences_of_run}
 use Rattle.image_reading.specs.Reading.{ReadsAs}
 use Rattle.script.specs.declared.run_end.RunEnd.{RunEnd}
-use Rattle.recovery.specs.Repairs.{fences_of_repairs}
+use Rattle.recovery.specs.Repairs.{events_of_repairs, fences_of_repairs}
+use Rattle.volume.specs.LineEvents.{events_of_run}
 use Rattle.mount_scan.specs.Mounts.{Mounts, FailsToMount}
 use Rattle.engine.specs.Memory.{needs_places_at}
 use Rattle.engine.specs.Quiet.{MayStore}
 use Rattle.engine.specs.Run.{IsBetween, IsStateAfter}
-use Rattle.engine.specs.Script.{RunsScript}
+use Rattle.engine.specs.Script.{IsCutShort, RunsScript}
 
 -- The device was mounted, and no line was executed on it.
 pub record IsOnlyMounted (P : ℕ) (before after : DeviceView) : Type 0 where
@@ -56,6 +57,13 @@ pub record MountsAndRuns (P : ℕ) (before after : DeviceView) (end : RunEnd) (s
   -- where none was, the fences are those of the mount and those of the lines
   pub fences : length run.states ≡ length run.answers
       → after.fences ≡ before.fences + fences_of_repairs mount.repairs + fences_of_run run.start run.lines run.answers run.states
+  -- and the events are no more than those, the acknowledgements among them
+  pub events : length run.states ≡ length run.answers
+      → GrowsBy (events_of_repairs mount.repairs + events_of_run run.start run.lines run.answers run.states) before after
+  -- where one was, the fences are fewer, and the events no more, than with those of that line
+  pub cut : length run.states < length run.answers → IsCutShort P run.start run.lines run.states
+      (fences_of_repairs mount.repairs + fences_of_run run.start run.lines run.answers run.states)
+      (events_of_repairs mount.repairs + events_of_run run.start run.lines run.answers run.states) before after
   -- a line that needs no place of a table was answered NoMemory only where the device refused room
   pub refused : before.refused ≤ after.refused
   pub no_memory : (k : ℕ) → slice_get run.answers k ≡ Some (Refused NoMemory)

@@ -1,8 +1,13 @@
-// What a caller may rest on of replays, as a contract.
-ghost use Rattle.squirrel_cli.specs.ReplayLaw.{ReplayLaw};
+// What a caller may rest on of replays, as contracts.
+ghost use Rattle.squirrel_cli.specs.ReplayLaw.{ReplayEndLaw, ReplayLaw};
 
 /// What the number and the tree that a replay tells say of the lines of its script: the tree is one that a crash in the line
 /// behind the acknowledged ones may leave; which of them it is where the moment is no fence inside a line.
 pub fn replay_law()
     ensures { ReplayLaw }
+{}
+
+/// A crash behind as many events as the mount and the lines may make leaves the last tree, with all lines acknowledged.
+pub fn replay_end_law()
+    ensures { ReplayEndLaw }
 {}
