@@ -17,7 +17,7 @@ mod wanted;
 mod words;
 mod working;
 
-pub use laws::replay_law;
+pub use laws::{replay_end_law, replay_law};
 pub use replaying::replay;
 pub use status::Status;
 pub use top_call::squirrel;
