@@ -19,6 +19,7 @@ use Rattle.data_ops.proofs.CutLeft
 use Rattle.data_ops.proofs.GrownLeft
 use Rattle.data_ops.proofs.Resizes.{growth_by}
 use Rattle.data_ops.proofs.Truncations
+use Rattle.entry_steps.proofs.Left.{IsCountedBy}
 
 module _ (volume : VolumeView) (device : DeviceView) (state : State) (path : Route) (resizing : Resizing) (plan : IsPlanFor volume device state (Truncate path resizing.new_size) (Resize resizing)) (new : VolumeView) (takes : TakesIn volume new resizing) where
   -- it has grown or is cut, and not both
@@ -28,7 +29,7 @@ module _ (volume : VolumeView) (device : DeviceView) (state : State) (path : Rou
     | inr most ↦ has_grown volume new resizing (takes.grown most) (Truncations.none_cut volume device state path resizing plan most)
   ]
 
-  pub leaves_state : (after : DeviceView) → StoresSize volume.size device.words after.words resizing → IsSettledView after → after.fences ≡ device.fences + fences_of_plan (Resize resizing)
+  pub leaves_state : (after : DeviceView) → StoresSize volume.size device.words after.words resizing → IsSettledView after → IsCountedBy (Resize resizing) device after
       → LeavesState volume new device after state (Truncate path resizing.new_size) Done
   leaves_state after resized settled counted = elim (cases_lt resizing.new_size resizing.old_size) [
     | inl less ↦ CutLeft.leaves_state volume device state path resizing plan less after.words (resized.cut less) new (takes.cut less) after refl settled counted

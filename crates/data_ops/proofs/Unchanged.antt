@@ -109,7 +109,7 @@ module _ (volume : VolumeView) (device : DeviceView) (state : State) (path : Rou
       (resized_tree state.tree path found.source.id size (least_free_id state.tree) named) refl refl
 
   made : LeavesState volume volume device device state (Truncate path size) Done
-  made = Stepping.leaves_state volume device state (Truncate path size) Done KeepSize stands plan.planned refl (λ gives. refl) device.words stands.tidy is_stepped volume device refl stands.knows refl stands.settled (omega arith)
+  made = Stepping.leaves_state volume device state (Truncate path size) Done KeepSize stands plan.planned refl (λ gives. refl) device.words stands.tidy is_stepped volume device refl stands.knows refl stands.settled (omega arith, omega arith)
 
   reads_after : Reads volume.size device.words (step volume.size state.tree state.room (Truncate path size)).tree
   reads_after =

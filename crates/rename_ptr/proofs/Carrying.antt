@@ -108,7 +108,7 @@ module _ (volume after : VolumeView) (old new : DeviceView) (moving : Moving) (i
         let all = device (Ok done) made in
         let at = moving_at state from to plan in
         record {
-          made = MovedState.leaves_state from to at new.words renamed volume after refl plan.stands.knows has old new refl all.settled all.counted;
+          made = MovedState.leaves_state from to at new.words renamed volume after refl plan.stands.knows has old new refl all.settled (all.counted, all.grown);
           atomic = atomic (Ok done) made state from to at;
         }
 

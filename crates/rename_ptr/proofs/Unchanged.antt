@@ -130,6 +130,7 @@ module _ (volume : VolumeView) (device : DeviceView) (state : State) (from to : 
       room = subst (λ (o : Option Refusal). RoomAfter o state.tree state.room (Rename from to) state.room) (sym plan.planned.accepted) room_follows;
     };
     fences = let none = fences in omega (arith, none);
+    events = omega arith;
   }
 
   reads_after : Reads volume.size device.words (step volume.size state.tree state.room (Rename from to)).tree

@@ -66,7 +66,7 @@ returns-in-Ok g c =
     let size = stores_size volume.size old new resizing pages (Ok tt) may settled made in
     record {
       carries = carried volume after old new resizing (λ state path at. is_atomic volume.size old new resizing pages (Ok tt) may settled made at) _
-          (λ state path plan. leaves_state volume old state path resizing plan after c.take_in.ensures new size device.settled device.counted)
+          (λ state path plan. leaves_state volume old state path resizing plan after c.take_in.ensures new size device.settled (device.counted, device.grown))
           (has_resized volume old state path resizing plan after c.take_in.ensures) device c.requires.ready.going;
       stored = stored_as Told (has_stored volume.size old new resizing pages (Ok tt) may settled made (Truncations.cut_at volume old state path resizing plan));
     }

@@ -66,7 +66,7 @@ returns-in-Ok g c =
     record {
       carries = carried volume after old new writing bytes (λ state path at. is_atomic volume.size old new writing bytes pages (Ok tt) may settled made at)
           _ writing.count (Writings.for_writing volume old state path bytes writing plan).count_is
-          (λ state path plan. leaves_state volume old state path bytes writing plan new stores after enters device.settled device.counted)
+          (λ state path plan. leaves_state volume old state path bytes writing plan new stores after enters device.settled (device.counted, device.grown))
           enters device c.requires.ready.going;
       stored = stored_as (Told writing.count) (has_stored volume.size old new writing bytes pages (Ok tt) may settled made (record { reads = plan.stands.reads; planned = plan.planned }));
     }
