@@ -1,5 +1,5 @@
 -- What a device over a file reads as.
-use Rattle.std.specs.Prelude.{ℕ, ◌-◌, ◌^◌, ◌<◌, List, [], Option, Some, None, ⊤}
+use Rattle.std.specs.Prelude.{ℕ, ◌-◌, ◌*◌, ◌^◌, ◌<◌, List, [], length, Option, Some, None, ⊤}
 use Rattle.pm_file.specs.declared.mirror.Mirror.{Mirror}
 use Rattle.pm_file.specs.Given.{HasLines}
 
@@ -29,3 +29,8 @@ HasNextRound (Some mirror) = mirror.round < 2 ^ 64 - 1
 abbrev pub faults_behind : {F : Type 0} → (F → ℕ) → Option (Mirror F) → ℕ
 faults_behind faults None = 0
 faults_behind faults (Some mirror) = faults mirror.medium
+
+-- the medium has just the bytes of the words, where there is one
+abbrev pub IsWhole : {F : Type 0} → (F → ℕ → Type 0) → Option (Mirror F) → Type 0
+IsWhole is_length None = ⊤
+IsWhole is_length (Some mirror) = is_length mirror.medium (8 * length mirror.words.items)

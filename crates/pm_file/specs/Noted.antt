@@ -2,7 +2,7 @@
 use Rattle.std.specs.Prelude.{ℕ, List}
 use Rattle.pm_file.specs.declared.device.FilePm.{FilePm}
 use Rattle.pm_file.specs.Calls.{failed_calls}
-use Rattle.pm_file.specs.Mirrored.{listed_lines, HasNextRound, faults_behind}
+use Rattle.pm_file.specs.Mirrored.{listed_lines, HasNextRound, faults_behind, IsWhole}
 
 -- the lines that were flushed since the last fence that succeeded, which the next fence writes
 abbrev pub noted_lines : {R F E : Type 0} → FilePm R F E → List ℕ
@@ -15,3 +15,7 @@ CanForget pm = HasNextRound pm.mirror
 -- how many calls to its file failed
 abbrev pub file_faults : {R F E : Type 0} → FilePm R F E → ℕ
 file_faults pm = faults_behind failed_calls pm.mirror
+
+-- its file has just the bytes of its words, which only the file's own answer gives
+abbrev pub HasWholeFile : {R F E : Type 0} → (F → ℕ → Type 0) → FilePm R F E → Type 0
+HasWholeFile is_length pm = IsWhole (λ medium. is_length medium.file.file) pm.mirror

@@ -15,12 +15,10 @@ use std::fs::OpenFile;
 use std::io;
 use std::io::ErrorKind;
 
-/// A locked file of a known length, whose bytes go through a buffer. Its calls that fail are counted.
+/// A locked file, whose bytes go through a buffer. Its calls that fail are counted.
 #[derive(Drop)]
 pub struct FileMedium<F> {
     file: Locked<F>,
-    /// The bytes that the file is to have.
-    file_bytes: u64,
     /// A read takes up to a mebibyte. What an earlier call left in it is never written.
     buffer: Vec<u8>,
     faults: u64,
@@ -35,15 +33,13 @@ pub fn take_buffer(alloc: Global) -> Result<Vec<u8>, AllocError>
 }
 
 impl<F> FileMedium<F> {
-    /// A file that is to have so many bytes, with its buffer.
-    pub fn new(file: Locked<F>, file_bytes: u64, buffer: Vec<u8>) -> FileMedium<F>
+    /// A file with its buffer.
+    pub fn new(file: Locked<F>, buffer: Vec<u8>) -> FileMedium<F>
         requires buffer { length buffer.items ≡ 1048576 }
         ensures file { result.file ≡ file }
-        ensures bytes { result.file_bytes ≡ file_bytes }
     {
         FileMedium {
             file,
-            file_bytes,
             buffer,
             faults: 0,
         }
@@ -96,13 +92,13 @@ impl<F: ImageFile> FileMedium<F> {
 impl<F: ImageFile + OpenFile + Drop> FileMedium<F> {
     // Waits until what was written is safe. It fails where the file has another length by then: another program cut or
     // lengthened it.
-    fn sync_whole(&mut self) -> io::Result<()>
-        ensures whole { OnOk result (F.is_length self.new.file.file self.old.file_bytes) }
+    fn sync_whole(&mut self, bytes: u64) -> io::Result<()>
+        ensures whole { OnOk result (F.is_length self.new.file.file bytes) }
         ensures bytes { F.bytes self.new.file.file ≡ F.bytes self.old.file.file }
         ensures faults { self.new.faults ≡ self.old.faults }
     {
         self.file.sync()?;
-        if self.file.end()? != self.file_bytes {
+        if self.file.end()? != bytes {
             return Err(io::Error::from(ErrorKind::InvalidData));
         }
         Ok(())
@@ -118,6 +114,8 @@ impl<F: ImageFile + OpenFile + Drop> Medium for FileMedium<F> {
     ghost safe = { λ _. None };
 
     ghost faults = { failed_calls };
+
+    ghost is_length = { λ medium. F.is_length medium.file.file };
 
     fn read_pages(&mut self, page: u64, count: usize, words: &mut Vec<u64>) -> io::Result<()>
         requires settled { (⟦<FileMedium<F> as Medium>⟧.safe self.old) ≡ (⟦<FileMedium<F> as Medium>⟧.held self.old) }
@@ -144,12 +142,12 @@ impl<F: ImageFile + OpenFile + Drop> Medium for FileMedium<F> {
         self.counted(written)
     }
 
-    fn sync(&mut self) -> io::Result<()>
-        ensures whole { OnOk result (F.is_length self.new.file.file self.old.file_bytes) }
+    fn sync(&mut self, bytes: u64) -> io::Result<()>
+        ensures whole { OnOk result (F.is_length self.new.file.file bytes) }
         ensures bytes { F.bytes self.new.file.file ≡ F.bytes self.old.file.file }
         ensures faults { CountsFaults self.old.faults self.new.faults result }
     {
-        let synced = self.sync_whole();
+        let synced = self.sync_whole(bytes);
         self.counted(synced)
     }
 }

@@ -17,6 +17,9 @@ pub trait Medium {
     /// How many of its calls failed, as far as that can be counted.
     ghost faults: { Self → ℕ };
 
+    /// It has so many bytes, which only its own answer gives.
+    ghost is_length: { Self → ℕ → Type 0 };
+
     /// Appends the words of so many pages, at most 256, from a page on, where there is room for them. They are settled:
     /// no crash takes them from the medium.
     fn read_pages(&mut self, page: u64, count: usize, words: &mut Vec<u64>) -> io::Result<()>
@@ -38,9 +41,10 @@ pub trait Medium {
         ensures run { OnOk result (HasRun (held self.old) (held self.new) line words.now) }
         ensures faults { CountsFaults (faults self.old) (faults self.new) result };
 
-    /// Waits until what was written is safe.
-    fn sync(&mut self) -> io::Result<()>
+    /// Waits until what was written is safe. It fails where the medium hasn't just so many bytes by then.
+    fn sync(&mut self, bytes: u64) -> io::Result<()>
         ensures held { held self.new ≡ held self.old }
         ensures ok { OnOk result (safe self.new ≡ held self.old) }
+        ensures whole { OnOk result (is_length self.new bytes) }
         ensures faults { CountsFaults (faults self.old) (faults self.new) result };
 }

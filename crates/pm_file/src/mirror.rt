@@ -8,8 +8,10 @@ ghost use Rattle.pm_file.specs.Room.{IsRoomFor};
 use crate::FileFault;
 use crate::medium::Medium;
 use crate::sizes::{
-    LINES_OF_A_PAGE, LINES_OF_A_RUN, PAGES_OF_A_READ, WORDS_OF_A_LINE, WORDS_OF_A_PAGE,
+    BYTES_OF_A_WORD, LINES_OF_A_PAGE, LINES_OF_A_RUN, PAGES_OF_A_READ, WORDS_OF_A_LINE,
+    WORDS_OF_A_PAGE,
 };
+use layout::PAGE_BYTES;
 use std::alloc::{AllocError, Global};
 use std::io;
 
@@ -137,7 +139,7 @@ impl<F: Medium + Drop> Mirror<F> {
             rounds,
             flushed,
         } = room;
-        medium.sync()?;
+        medium.sync(PAGE_BYTES * pages as u64)?;
         read_all(&mut medium, &mut words, pages)?;
         Ok(Mirror {
             medium,
@@ -186,10 +188,12 @@ impl<F: Medium + Drop> Mirror<F> {
             (HasLines (F.held self.old.medium) (F.safe self.new.medium) self.old.words.items self.old.flushed.items) }
         ensures forgotten { OnOk result (self.old.round < 2 ^ 64 - 1 → self.new.flushed.items ≡ []) }
         ensures err { OnErr result (self.new.flushed.items ≡ self.old.flushed.items) }
+        ensures whole { OnOk result (F.is_length self.new.medium (8 * length self.new.words.items)) }
         ensures faults { CountsFaults (F.faults self.old.medium) (F.faults self.new.medium) result }
     {
         write_lines(&mut self.medium, &self.words, &self.flushed)?;
-        self.medium.sync()?;
+        let bytes = BYTES_OF_A_WORD * self.words.len();
+        self.medium.sync(bytes as u64)?;
         self.end_round();
         Ok(())
     }

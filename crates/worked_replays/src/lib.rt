@@ -14,4 +14,6 @@ mod moments;
 #[cfg(test)]
 mod torn;
 #[cfg(test)]
+mod trees;
+#[cfg(test)]
 mod works;

@@ -191,12 +191,12 @@ fn fences_of_work(rt: HostRuntime) -> Result<(), Fail> {
     Ok(())
 }
 
-// The bytes of a generated script of at most 400 lines. A read gives no more than the rest of a line.
-fn script_of(alloc: Global, seed: u64, count: u64) -> Result<Vec<u8>, Fail> {
+/// The bytes of a generated script. A read gives no more than the rest of a line, and the first one the lines before them.
+pub fn script_of(alloc: Global, seed: u64, count: u64) -> Result<Vec<u8>, Fail> {
     let mut work = Work::new(seed, count);
     let mut script = Vec::new(alloc);
     let mut piece = [0u8; 4_096];
-    for _read in 0..500 {
+    for _read in 0..count.saturating_add(1) {
         let given = work.read(&mut piece)?;
         script.extend_from_slice(piece.get(..given).ok_or("too many bytes")?)?;
     }

@@ -1,10 +1,10 @@
 // Over a medium in memory, which tells what it holds.
-ghost use Rattle.std.specs.Prelude.{◌≡◌, ◌+◌, ◌≤◌, ◌++◌, take, drop, length, Some};
+ghost use Rattle.std.specs.Prelude.{◌≡◌, ◌+◌, ◌*◌, ◌≤◌, ◌++◌, take, drop, length, Some};
 
 use super::{Mirror, take_room};
 use crate::FileFault;
 use crate::medium::Medium;
-use crate::sizes::{WORDS_OF_A_LINE, WORDS_OF_A_PAGE};
+use crate::sizes::{BYTES_OF_A_WORD, WORDS_OF_A_LINE, WORDS_OF_A_PAGE};
 use std::alloc::Global;
 use std::io;
 use std::io::{Error, ErrorKind};
@@ -28,6 +28,8 @@ impl Medium for Ram {
 
     ghost faults = { λ ram. ram.faults };
 
+    ghost is_length = { λ ram bytes. bytes ≡ 8 * length ram.words.items };
+
     fn read_pages(&mut self, page: u64, count: usize, words: &mut Vec<u64>) -> io::Result<()> {
         let first = WORDS_OF_A_PAGE * page as usize;
         let end = first + WORDS_OF_A_PAGE * count;
@@ -49,8 +51,8 @@ impl Medium for Ram {
         Ok(())
     }
 
-    fn sync(&mut self) -> io::Result<()> {
-        if self.syncs_left == 0 {
+    fn sync(&mut self, bytes: u64) -> io::Result<()> {
+        if self.syncs_left == 0 || bytes != (BYTES_OF_A_WORD * self.words.len()) as u64 {
             self.faults = self.faults.saturating_add(1);
             return Err(Error::from(ErrorKind::Other));
         }
