@@ -2,7 +2,7 @@
 #![tactic(auto)]
 
 ghost use Rattle.std.specs.Prelude.{◌≡◌, ◌⊎◌, None};
-ghost use Rattle.squirrel_cli.specs.Job.{job_of};
+ghost use Rattle.command_line.specs.Job.{job_of};
 
 mod device;
 mod faults;

@@ -18,9 +18,9 @@ use Rattle.mount_scan.specs.declared.error.MountError.{MountError}
 use Rattle.mount_scan.specs.declared.error.MountError.TheVariants as refused
 use Rattle.script.specs.declared.run_end.RunEnd.{RunEnd}
 use Rattle.script.specs.declared.run_end.RunEnd.TheVariants.{Faulted}
-use Rattle.squirrel_cli.specs.declared.job.Job.{Job}
+use Rattle.command_line.specs.declared.job.Job.{Job}
 use Rattle.squirrel_cli.specs.Asked.{Asks}
-use Rattle.squirrel_cli.specs.Job.{TakesVolume}
+use Rattle.command_line.specs.Job.{TakesVolume}
 use Rattle.squirrel_cli.specs.declared.status.Status.{Status}
 use Rattle.squirrel_cli.specs.declared.status.Status.TheVariants as status
 use Rattle.squirrel_cli.specs.Answers.{StatusTells, Refuses, IsShortOfMemory}

@@ -15,12 +15,12 @@ use Rattle.format_ops.specs.Crashes.{IsOldHiddenOrFormatted}
 use Rattle.mount_scan.specs.Mounting.{HoldsVolume}
 use Rattle.mount_scan.specs.Mounts.{IsLeftAlone}
 use Rattle.mount_scan.specs.Reports.{report_text}
-use Rattle.squirrel_cli.specs.declared.job.Job.{Job}
+use Rattle.command_line.specs.declared.job.Job.{Job}
 use Rattle.squirrel_cli.specs.declared.status.Status.{Status}
 use Rattle.squirrel_cli.specs.declared.status.Status.TheVariants.{Done, NoMemory, NotVolume, Damaged, DeviceFault, WriteFault}
 use Rattle.squirrel_cli.specs.Ends.{IsMountable, end_of}
 use Rattle.squirrel_cli.specs.Asked.{Asks, MountsDevice, IsCrash}
-use Rattle.squirrel_cli.specs.Job.{TakesVolume}
+use Rattle.command_line.specs.Job.{TakesVolume}
 use Rattle.squirrel_cli.specs.Mounts.{IsOnlyMounted}
 use Rattle.squirrel_cli.specs.Told.{IsToldOrCut}
 

@@ -1,8 +1,8 @@
 -- What kind of job is asked.
-use Rattle.std.specs.Prelude.{◌≡◌, true, Option, Some, None}
-use Rattle.squirrel_cli.specs.declared.job.Job.{Job}
-use Rattle.squirrel_cli.specs.declared.job.Job.TheVariants.{Mkfs, Run, Tree, Check, Crash, Work}
-use Rattle.squirrel_cli.specs.Job.{stores_of}
+use Rattle.std.specs.Prelude.{◌≡◌, ◌≢◌, ℕ, ◌*◌, true, Option, Some, None}
+use Rattle.command_line.specs.declared.job.Job.{Job}
+use Rattle.command_line.specs.declared.job.Job.TheVariants.{Mkfs, Run, Tree, Check, Crash, Work}
+use Rattle.command_line.specs.Job.{stores_of}
 
 -- a job is asked, and it is of this kind
 abbrev pub Asks : (Job → Type 0) → Option Job → Type 0
@@ -39,3 +39,13 @@ IsCrash (Work seed count) = ⊥
 -- it may change the device
 abbrev pub Stores : Job → Type 0
 Stores job = stores_of job ≡ true
+
+-- no job is asked, or one that makes a volume of another size than the device
+abbrev pub IsUnusable : Option Job → ℕ → Type 0
+IsUnusable None words = Unit {0}
+IsUnusable (Some (Mkfs pages)) words = words ≢ 512 * pages
+IsUnusable (Some Run) words = ⊥
+IsUnusable (Some Tree) words = ⊥
+IsUnusable (Some Check) words = ⊥
+IsUnusable (Some (Crash moment keep again)) words = ⊥
+IsUnusable (Some (Work seed count)) words = ⊥

@@ -1,8 +1,8 @@
 -- How the ends of a job are told, and which starts a job needs.
 use Rattle.std.specs.Prelude.{◌≡◌, ℕ, ◌*◌, ◌^◌, ◌<◌, ◌≤◌, ◌++◌, List, length, Option, Some, None}
 use Rattle.pm_trait.specs.DeviceView.{DeviceView, IsSettledView}
-use Rattle.squirrel_cli.specs.declared.job.Job.{Job}
-use Rattle.squirrel_cli.specs.declared.job.Job.TheVariants.{Mkfs, Run, Tree, Check, Crash, Work}
+use Rattle.command_line.specs.declared.job.Job.{Job}
+use Rattle.command_line.specs.declared.job.Job.TheVariants.{Mkfs, Run, Tree, Check, Crash, Work}
 use Rattle.script.specs.declared.run_end.RunEnd.{RunEnd}
 use Rattle.script.specs.declared.run_end.RunEnd.TheVariants as ends
 use Rattle.squirrel_cli.specs.declared.status.Status.{Status}

@@ -1,6 +1,3 @@
-pub mod CommandLine
-pub mod Job
-pub mod Wanted
 pub mod Status
 pub mod Ends
 pub mod Told

@@ -1,7 +1,7 @@
 -- Which job asks for a task.
 use Rattle.std.specs.Prelude.{◌≤◌, Option, Some}
-use Rattle.squirrel_cli.specs.declared.job.Job.{Job}
-use Rattle.squirrel_cli.specs.declared.job.Job.TheVariants.{Run, Tree, Work}
+use Rattle.command_line.specs.declared.job.Job.{Job}
+use Rattle.command_line.specs.declared.job.Job.TheVariants.{Run, Tree, Work}
 use Rattle.squirrel_cli.specs.declared.tasks.Task.{Task}
 use Rattle.squirrel_cli.specs.declared.tasks.Task.TheVariants.{Answer, Generate, List}
 

@@ -1,11 +1,11 @@
 // Tells what a volume holds, and what a mount would repair.
 ghost use Rattle.std.specs.Prelude.{◌≡◌, ◌≢◌, ◌⊎◌, Option};
 ghost use Rattle.pm_trait.specs.Device.{HasRisen};
-ghost use Rattle.squirrel_cli.specs.declared.job.Job.{Job};
+ghost use Rattle.command_line.specs.Job.{TakesVolume};
+ghost use Rattle.command_line.specs.declared.job.Job.{Job};
 ghost use Rattle.squirrel_cli.specs.Answers.{Refuses, StatusTells, TellsRepairs};
 ghost use Rattle.squirrel_cli.specs.Asked.{Asks};
 ghost use Rattle.squirrel_cli.specs.Ends.{IsMountable};
-ghost use Rattle.squirrel_cli.specs.Job.{TakesVolume};
 ghost use Rattle.squirrel_cli.specs.Told.{refusal_of as told_refusal};
 
 use crate::refused::refuse;

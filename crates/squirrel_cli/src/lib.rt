@@ -2,24 +2,18 @@
 #![tactic(auto)]
 
 mod checking;
-mod job;
-mod keep;
 mod laws;
 mod mkfs;
 mod refused;
 mod replaying;
 mod scripted;
-mod split;
 mod status;
 mod tasks;
 mod top_call;
-mod wanted;
-mod words;
 mod working;
 
+pub use command_line::{ImagePath, Wanted, Words, device_of};
 pub use laws::{replay_end_law, replay_law};
 pub use replaying::replay;
 pub use status::Status;
 pub use top_call::squirrel;
-pub use wanted::{Wanted, device_of};
-pub use words::{ImagePath, Words};

@@ -1,10 +1,8 @@
-//! Worked rows of crashes that are replayed, of listings, of what a check tells, of generated scripts, and of the words of a command line.
+//! Worked rows of crashes that are replayed, of listings, of what a check tells, and of generated scripts.
 #![tactic(auto)]
 
 #[cfg(test)]
 mod checks;
-#[cfg(test)]
-mod command_lines;
 #[cfg(test)]
 mod cuts;
 #[cfg(test)]

@@ -1,8 +1,7 @@
-// The words of a command line, and the device that they need.
-use squirrel_cli::{Wanted, Words, device_of};
+// Which device the words of a command line need.
+use crate::{Wanted, Words, device_of};
 use std::alloc::Global;
 use std::test::Fail;
-use worked_drivers::jobs::same;
 
 // A device: none, a file that is made of so many pages, one that may be changed, or one that is only read.
 #[derive(Clone, Copy, PartialEq, Debug)]
@@ -35,7 +34,11 @@ fn compare_words(
         words.push(word)?;
     }
     let found = device_of(alloc, &words)?;
-    same(needed_by(&found), wanted, place)
+    let found = needed_by(&found);
+    if found == wanted {
+        return Ok(());
+    }
+    Err(Fail::new(format_args!("{found:?}, and not {wanted:?}: {place}")))
 }
 
 // A line, each space of which stands between two words, of which either may be empty.

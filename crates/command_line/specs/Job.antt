@@ -1,13 +1,13 @@
 -- What a command line asks for.
-use Rattle.std.specs.Prelude.{◌≢◌, ℕ, ◌*◌, Bool, true, false, ◌&&◌, nat_le, if◌then◌else◌, List, [], ◌∷◌, Option, Some, None, codes, unwrap_or, option_map, option_and_then}
+use Rattle.std.specs.Prelude.{ℕ, Bool, true, false, ◌&&◌, nat_le, if◌then◌else◌, List, [], ◌∷◌, Option, Some, None, codes, unwrap_or, option_map, option_and_then}
 use Rattle.clap.specs.Walk.{Row}
 use Rattle.script.specs.Lines.{is_word, number_of, bytes_of_hex}
 use Rattle.crash_replay.specs.declared.moment.Moment.{Moment}
 use Rattle.crash_replay.specs.declared.moment.Moment.TheVariants.{At, Before}
-use Rattle.squirrel_cli.specs.CommandLine.{Word, split_of, value_in}
-use Rattle.squirrel_cli.specs.declared.job.Again.{Again}
-use Rattle.squirrel_cli.specs.declared.job.Job.{Job}
-use Rattle.squirrel_cli.specs.declared.job.Job.TheVariants.{Mkfs, Run, Tree, Check, Crash, Work}
+use Rattle.command_line.specs.CommandLine.{Word, split_of, value_in}
+use Rattle.command_line.specs.declared.job.Again.{Again}
+use Rattle.command_line.specs.declared.job.Job.{Job}
+use Rattle.command_line.specs.declared.job.Job.TheVariants.{Mkfs, Run, Tree, Check, Crash, Work}
 
 -- both, where there are both
 abbrev pub both : {A B C : Type 0} → (A → B → C) → Option A → Option B → Option C
@@ -121,13 +121,3 @@ stores_of Tree = true
 stores_of Check = false
 stores_of (Crash moment keep again) = false
 stores_of (Work seed count) = true
-
--- no job is asked, or one that makes a volume of another size than the device
-abbrev pub IsUnusable : Option Job → ℕ → Type 0
-IsUnusable None words = Unit {0}
-IsUnusable (Some (Mkfs pages)) words = words ≢ 512 * pages
-IsUnusable (Some Run) words = ⊥
-IsUnusable (Some Tree) words = ⊥
-IsUnusable (Some Check) words = ⊥
-IsUnusable (Some (Crash moment keep again)) words = ⊥
-IsUnusable (Some (Work seed count)) words = ⊥

@@ -14,7 +14,7 @@ use Rattle.clap.specs.declared.error.Error.{Error}
 use Rattle.clap.specs.declared.error.kind.ErrorKind.TheVariants.{OutOfMemory}
 use Rattle.clap.specs.declared.parser.matches.Found.{Found}
 use Rattle.clap.proofs.WalkLemmas.{first_value-rows}
-use Rattle.squirrel_cli.specs.CommandLine.{Word, squirrel_app, if_faultless, split_of, value_in}
+use Rattle.command_line.specs.CommandLine.{Word, squirrel_app, if_faultless, split_of, value_in}
 
 -- one more argument
 pub more_rules : {old new : Command} {a : Arg} {app : App} {rule : Rule} → AddsArg old a new → a.global ≡ false → rule_of a ≡ rule → app_of old ≡ app

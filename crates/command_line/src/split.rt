@@ -3,8 +3,8 @@ ghost use Rattle.std.specs.Prelude.{◌≡◌, false, IfOk};
 ghost use Rattle.clap.specs.Simple.{app_of};
 ghost use Rattle.clap.specs.Walk.{rule_of};
 ghost use Rattle.clap.specs.declared.builder.command.Command.TheViews.{out-Command as fields_of};
-ghost use Rattle.squirrel_cli.specs.CommandLine.{split_of, verb_in, value_in, given, argument as argument_rule, option as option_rule, needed_option as needed_rule, mkfs_app, run_app, tree_app, check_app, crash_app, work_app, squirrel_app};
-ghost use Rattle.squirrel_cli.specs.Job.{image_in};
+ghost use Rattle.command_line.specs.CommandLine.{split_of, verb_in, value_in, given, argument as argument_rule, option as option_rule, needed_option as needed_rule, mkfs_app, run_app, tree_app, check_app, crash_app, work_app, squirrel_app};
+ghost use Rattle.command_line.specs.Job.{image_in};
 
 use crate::words::Words;
 use clap::error::ErrorKind;
@@ -23,7 +23,7 @@ impl<'a> Model for Split<'a> {
     ghost use Rattle.std.specs.Prelude.{List, Option, option_and_then};
     ghost use Rattle.clap.specs.Walk.{Row};
     ghost use Rattle.clap.specs.Simple.{subcommand_rows_of};
-    ghost use Rattle.squirrel_cli.specs.CommandLine.{Word};
+    ghost use Rattle.command_line.specs.CommandLine.{Word};
 
     ghost Value = { Option (Word × List Row) };
 

@@ -1,8 +1,8 @@
 use Rattle.std.proofs.Common.{rules, ◌≡◌, ◌∙◌, Some, option_map}
 use Rattle.clap.specs.Matches.{found_of}
 use Rattle.clap.specs.Walk.{rows_of}
-use Rattle.squirrel_cli.proofs.CommandLines.{value_of_rows}
-use Rattle.squirrel_cli.proofs.split.Split.value.Goals as goal
+use Rattle.command_line.proofs.CommandLines.{value_of_rows}
+use Rattle.command_line.proofs.split.Split.value.Goals as goal
 
 pub returns : goal.returns
 returns c =

@@ -7,10 +7,10 @@ use Rattle.hex.proofs.OnLiterals.{hex_on_literals}
 use Rattle.clap.proofs.OnLiterals.{clap_on_literals}
 use Rattle.script.specs.Lines.{is_space}
 use Rattle.crash_replay.specs.declared.moment.Moment.TheVariants.{At, Before}
-use Rattle.squirrel_cli.specs.declared.job.Job.{Job}
-use Rattle.squirrel_cli.specs.declared.job.Job.TheVariants.{Mkfs, Run, Tree, Check, Crash, Work}
-use Rattle.squirrel_cli.specs.CommandLine.{Word, split_of}
-use Rattle.squirrel_cli.specs.Job.{again_at, image_of, job_of}
+use Rattle.command_line.specs.declared.job.Job.{Job}
+use Rattle.command_line.specs.declared.job.Job.TheVariants.{Mkfs, Run, Tree, Check, Crash, Work}
+use Rattle.command_line.specs.CommandLine.{Word, split_of}
+use Rattle.command_line.specs.Job.{again_at, image_of, job_of}
 
 abbrev words : Word → List Word
 words line = codes "squirrel" ∷ slice_split is_space line

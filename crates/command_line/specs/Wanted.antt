@@ -1,11 +1,11 @@
 -- Which device the words of a command line need.
 use Rattle.std.specs.Prelude.{◌≡◌, Bool, List, Some, None}
-use Rattle.squirrel_cli.specs.declared.job.Job.{Job}
-use Rattle.squirrel_cli.specs.declared.job.Job.TheVariants.{Mkfs}
-use Rattle.squirrel_cli.specs.declared.wanted.Wanted.{Wanted}
-use Rattle.squirrel_cli.specs.declared.wanted.Wanted.TheVariants.{Nothing, Make, Existing}
-use Rattle.squirrel_cli.specs.CommandLine.{Word}
-use Rattle.squirrel_cli.specs.Job.{job_of, image_of, stores_of, TakesVolume}
+use Rattle.command_line.specs.declared.job.Job.{Job}
+use Rattle.command_line.specs.declared.job.Job.TheVariants.{Mkfs}
+use Rattle.command_line.specs.declared.wanted.Wanted.{Wanted}
+use Rattle.command_line.specs.declared.wanted.Wanted.TheVariants.{Nothing, Make, Existing}
+use Rattle.command_line.specs.CommandLine.{Word}
+use Rattle.command_line.specs.Job.{job_of, image_of, stores_of, TakesVolume}
 
 -- An image that is there, for this job: it says whether the job stores.
 pub record WantsExisting (words : List Word) (path : Word) (stores : Bool) : Type 0 where

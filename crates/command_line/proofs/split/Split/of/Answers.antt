@@ -2,9 +2,9 @@ use Rattle.std.proofs.Common.{rules, ◌≡◌, ◌∙◌, ap, ap₂, subst, sym
 use Rattle.clap.specs.Faults.{fault_of, is_simple_and_free}
 use Rattle.clap.specs.Kinds.{HasKind, Kinds}
 use Rattle.clap.specs.Simple.{is_simple, subcommand_of}
-use Rattle.squirrel_cli.specs.CommandLine.{squirrel_app}
-use Rattle.squirrel_cli.proofs.CommandLines.{is_simple-squirrel_app, is_simple_and_free-squirrel_app, split_taken, split_refused}
-use Rattle.squirrel_cli.proofs.split.Split.of.Goals as goal
+use Rattle.command_line.specs.CommandLine.{squirrel_app}
+use Rattle.command_line.proofs.CommandLines.{is_simple-squirrel_app, is_simple_and_free-squirrel_app, split_taken, split_refused}
+use Rattle.command_line.proofs.split.Split.of.Goals as goal
 
 pub returns-in-Ok : goal.returns-in-Ok
 returns-in-Ok c =

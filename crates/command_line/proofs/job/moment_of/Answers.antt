@@ -1,6 +1,6 @@
 use Rattle.std.proofs.Common.{rules, ◌≡◌, Some, None}
 use Rattle.script.specs.Lines.{number_of}
-use Rattle.squirrel_cli.proofs.job.moment_of.Goals as goal
+use Rattle.command_line.proofs.job.moment_of.Goals as goal
 
 pub returns-in_err-number_of-in-None-Some-Some-2 : goal.returns-in_err-number_of-in-None-Some-Some-2
 returns-in_err-number_of-in-None-Some-Some-2 c =

@@ -1,6 +1,6 @@
 // The bytes by which a crash chooses among the words of a device.
 ghost use Rattle.std.specs.Prelude.{◌≡◌, ◌≢◌, [], IfOk};
-ghost use Rattle.squirrel_cli.specs.Job.{keep_of};
+ghost use Rattle.command_line.specs.Job.{keep_of};
 
 use hex::{FromHexError, decode};
 use pm_trait::NoMemory;

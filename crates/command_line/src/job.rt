@@ -1,7 +1,7 @@
 // What the words of a command line ask for.
 ghost use Rattle.std.specs.Prelude.{◌≡◌, IfOk, option_and_then};
-ghost use Rattle.squirrel_cli.specs.CommandLine.{given};
-ghost use Rattle.squirrel_cli.specs.Job.{job_of as job_of_words, job_in, mkfs_of, crash_in, moment_of as moment_of_options, again_of as again_of_options, keep_of as keep_of_hex, stores_of, is_volume_size as has_volume_size, is_line_count as may_be_line_count, work_of};
+ghost use Rattle.command_line.specs.CommandLine.{given};
+ghost use Rattle.command_line.specs.Job.{job_of as job_of_words, job_in, mkfs_of, crash_in, moment_of as moment_of_options, again_of as again_of_options, keep_of as keep_of_hex, stores_of, is_volume_size as has_volume_size, is_line_count as may_be_line_count, work_of};
 
 use crate::keep::Keep;
 use crate::split::Split;
@@ -71,7 +71,7 @@ pub fn job_of(alloc: Global, words: &Words) -> Result<Option<Job>, NoMemory>
 }
 
 /// The job of a command line that was split.
-pub fn job_of_split(alloc: Global, split: &Split) -> Result<Option<Job>, NoMemory>
+pub(crate) fn job_of_split(alloc: Global, split: &Split) -> Result<Option<Job>, NoMemory>
     ensures { IfOk result (λ job. job ≡ job_in split.now) }
 {
     match split.verb() {

@@ -1,8 +1,8 @@
 use Rattle.std.proofs.Common.{◌≡◌, ◌∙◌, ap, true, codes}
 use Rattle.std.proofs.lemmas.Result.{IfOk-weaker}
 use Rattle.clap.specs.Simple.{App, Shape, app_of, app_of_fields, new_app, on_top}
-use Rattle.squirrel_cli.proofs.CommandLines.{more_commands}
-use Rattle.squirrel_cli.proofs.split.squirrel_command.Goals as goal
+use Rattle.command_line.proofs.CommandLines.{more_commands}
+use Rattle.command_line.proofs.split.squirrel_command.Goals as goal
 
 abbrev needs_one : App → App
 needs_one = on_top (λ (s : Shape). record s { subcommand_required = true })

@@ -1,6 +1,6 @@
 use Rattle.std.proofs.lemmas.Result.{IfOk-weaker}
-use Rattle.squirrel_cli.proofs.CommandLines.{more_rules, still_local}
-use Rattle.squirrel_cli.proofs.split.crash_command.Goals as goal
+use Rattle.command_line.proofs.CommandLines.{more_rules, still_local}
+use Rattle.command_line.proofs.split.crash_command.Goals as goal
 
 pub returns-clause-app : goal.returns-clause-app
 returns-clause-app c =

@@ -1,6 +1,6 @@
 // The device that the words of a command line need.
 ghost use Rattle.std.specs.Prelude.{◌≡◌, IfOk};
-ghost use Rattle.squirrel_cli.specs.Wanted.{Wants};
+ghost use Rattle.command_line.specs.Wanted.{Wants};
 
 use crate::job::{Job, job_of_split};
 use crate::split::Split;

@@ -1,0 +1,3 @@
+pub mod CommandLines
+mod CommandLineRows
+pub mod Ranges
