@@ -24,6 +24,9 @@ pub mod PlanActions
 pub mod Listed
 pub mod PlanRows
 pub mod Staying
+pub mod PlanFacts
 pub mod PlanFences
+pub mod PlanEvents
+pub mod EventRows
 pub mod NameMoves
 pub mod Summed
