@@ -6,6 +6,9 @@
 #include <stdlib.h>
 #include <string.h>
 
+/* An id has the inode number below, then the generation, and one bit for the kind. */
+enum { GENERATION_AT = 32, DIRECTORY_AT = 63 };
+
 static const char hidden_prefix[] = ".squirrel-";
 
 static struct timespec time_now(void)
@@ -23,7 +26,7 @@ bool nodes_make(struct nodes *nodes, uint64_t last)
     nodes->buckets = calloc(NAME_BUCKETS, sizeof *nodes->buckets);
     nodes->hidden = 0;
     nodes->mounted = (struct times){now, now, now};
-    if (nodes->list == NULL || nodes->buckets == NULL)
+    if (nodes->list == NULL || nodes->buckets == NULL || last > UINT32_MAX)
         return false;
     nodes->list[ROOT].is_directory = true;
     return true;
@@ -32,6 +35,29 @@ bool nodes_make(struct nodes *nodes, uint64_t last)
 struct node *nodes_at(struct nodes *nodes, uint64_t inode)
 {
     return &nodes->list[inode <= nodes->last ? inode : 0];
+}
+
+uint64_t nodes_id(struct nodes *nodes, uint64_t inode)
+{
+    const struct node *node = nodes_at(nodes, inode);
+    uint64_t generation = (uint64_t)(node->generation & INT32_MAX) << GENERATION_AT;
+    return inode == ROOT ? ROOT : (uint64_t)node->is_directory << DIRECTORY_AT | generation | inode;
+}
+
+uint64_t id_inode(uint64_t id)
+{
+    return id & UINT32_MAX;
+}
+
+bool id_is_directory(uint64_t id)
+{
+    return id == ROOT || id >> DIRECTORY_AT != 0;
+}
+
+uint64_t nodes_inode(struct nodes *nodes, uint64_t id)
+{
+    uint64_t inode = id_inode(id);
+    return nodes_id(nodes, inode) == id ? inode : 0;
 }
 
 /* Where the chain begins that has the name. */
@@ -122,9 +148,11 @@ void nodes_renew(struct nodes *nodes, uint64_t inode)
     while (node->names != NULL)
         remove_name(nodes, node->names);
     node->generation++;
+    node->lookups = 0;
     node->opens = 0;
     node->is_hidden = false;
     node->has_times = false;
+    node->last = node->other = (struct told){0};
     nodes_touch(nodes, inode);
     node->times.accessed = node->times.modified;
 }
@@ -133,7 +161,34 @@ void nodes_forget(struct nodes *nodes, uint64_t inode, uint64_t count)
 {
     struct node *node = nodes_at(nodes, inode);
     node->lookups -= count < node->lookups ? count : node->lookups;
-    nodes_let_go(nodes, inode);
+}
+
+bool nodes_is_left(struct nodes *nodes, uint64_t inode)
+{
+    const struct node *node = nodes_at(nodes, inode);
+    return node->is_hidden && node->opens == 0 && node->lookups == 0;
+}
+
+static time_t seconds_now(void)
+{
+    struct timespec now;
+    clock_gettime(CLOCK_MONOTONIC_COARSE, &now);
+    return now.tv_sec;
+}
+
+void nodes_tell(struct nodes *nodes, uint64_t inode, pid_t thread)
+{
+    struct node *node = nodes_at(nodes, inode);
+    if (thread == 0 || thread != node->last.thread)
+        node->other = node->last;
+    node->last = (struct told){.thread = thread, .until = seconds_now() + SOUGHT_SECONDS};
+}
+
+bool nodes_is_sought(struct nodes *nodes, uint64_t inode, pid_t thread)
+{
+    const struct node *node = nodes_at(nodes, inode);
+    bool is_own = thread != 0 && thread == node->last.thread;
+    return (is_own ? node->other : node->last).until > seconds_now();
 }
 
 bool nodes_is_last_name(struct nodes *nodes, const struct name *name)

@@ -123,7 +123,7 @@ void line_add_node(struct volume *volume, uint64_t inode)
     if (inode == ROOT)
         add_text(volume, " /", 2);
     else if (name == NULL)
-        volume->line_error = ENOENT;
+        volume->line_error = ESTALE;
     else
         line_add_name(volume, name->directory, name->bytes);
 }

@@ -35,7 +35,7 @@ struct space {
     uint64_t free_inodes, inodes, free_pages, pages;
 };
 
-/* A line is built word by word, and asked. */
+/* A line is built word by word, and asked. What names a node that has gone is ESTALE, and what is in one ENOENT. */
 void line_begin(struct volume *volume, const char *command);
 void line_add_node(struct volume *volume, uint64_t inode);
 void line_add_name(struct volume *volume, uint64_t directory, const char *name);
@@ -73,7 +73,7 @@ int volume_list(struct volume *volume, uint64_t inode, char **names, size_t *len
 /* Removes all hidden names: at a mount, and at its end. */
 int volume_remove_hidden(struct volume *volume);
 
-/* The last name of an open file is to go: it gets a hidden one in its place, or beside it. */
+/* The last name of a file is to go: it gets a hidden one in its place, or beside it. */
 int volume_hide(struct volume *volume, const struct name *name);
 int volume_link_hidden(struct volume *volume, uint64_t inode);
 

@@ -1,6 +1,8 @@
 """Files that are open without a name, and programs that are killed behind each line of what takes it."""
+import concurrent.futures
 import contextlib
 import os
+import time
 
 from mounts import (
     KILLED, PAGE, await_so, error_of, expect_equal, expect_error, listed, opened, read, replies, stand_in, write,
@@ -39,6 +41,49 @@ def hidden_over(trial, mount):
         expect_equal("the bytes", (os.pread(file, 9, 0), read(trial.at("N"))), (b"old", b"newer"))
     await_so(lambda: trial.free()[0] == free - 1, "the inode of a closed file")
     os.unlink(trial.at("N"))
+
+
+def held_by_another(path):
+    """The file at a path as another thread was told of it, which has not opened it yet."""
+    with concurrent.futures.ThreadPoolExecutor(1) as another:
+        return another.submit(os.open, path, os.O_PATH).result()
+
+
+def sought(trial, mount):
+    """A file that another thread may be about to open outlives its name; one that nobody looked for has no hidden name."""
+    free = trial.free()[0]
+    for take_name in (os.unlink, lambda path: os.rename(trial.at("O"), path)):
+        write(trial.at("N"), b"old")
+        write(trial.at("O"), b"new")
+        time.sleep(1.1)
+        held = held_by_another(trial.at("N"))
+        take_name(trial.at("N"))
+        expect_equal("what was looked up is opened", read(f"/proc/self/fd/{held}"), b"old")
+        expect_equal("links", os.fstat(held).st_nlink, 0)
+        os.close(held)
+        await_so(lambda: trial.free()[0] == free - len(os.listdir(trial.folder)), "the inode of a closed file")
+        for name in os.listdir(trial.folder):
+            os.unlink(trial.at(name))
+    write(trial.at("N"), b"old")
+    held = os.open(trial.at("N"), os.O_PATH)
+    os.unlink(trial.at("N"))
+    expect_error("ESTALE", os.open, f"/proc/self/fd/{held}", os.O_RDONLY)
+    os.close(held)
+
+
+def no_page_for_sought(trial):
+    """Where there is no page for the hidden name of what was only looked up, its name goes all the same."""
+    for take_name in (os.unlink, lambda path: os.rename(trial.at("O"), path)):
+        trial.make(16)
+        lines = ["create /O", "create /N", *(f"link /O /n{number}" for number in range(30)), f"truncate /O {12 * PAGE}", "df"]
+        expect_equal("df", replies(trial.program, trial.image, *lines)[-1], "ok inodes 1 4 pages 0 13")
+        with trial.mount() as mount:
+            held = held_by_another(trial.at("N"))
+            take_name(trial.at("N"))
+            expect_error("ESTALE", os.open, f"/proc/self/fd/{held}", os.O_RDONLY)
+            expect_error("ESTALE", os.fstat, held)
+            os.close(held)
+            mount.end()
 
 
 def unknown_name(trial):
@@ -110,7 +155,9 @@ def hidden(trial):
     with trial.mount() as mount:
         hidden_unlink(trial, mount)
         hidden_over(trial, mount)
+        sought(trial, mount)
         mount.end()
     unknown_name(trial)
+    no_page_for_sought(trial)
     no_page_for_hidden(trial)
     hidden_killed(trial)
