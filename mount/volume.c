@@ -1,4 +1,5 @@
 #include "volume.h"
+#include "digits.h"
 
 #include <errno.h>
 #include <inttypes.h>
@@ -141,7 +142,6 @@ static size_t piece_for(const struct volume *volume, size_t length)
 
 size_t line_add_bytes(struct volume *volume, const char *bytes, size_t length)
 {
-    static const char digits[] = "0123456789abcdef";
     size_t count = piece_for(volume, length);
     if (volume->line_error != 0)
         return 0;
@@ -149,13 +149,8 @@ size_t line_add_bytes(struct volume *volume, const char *bytes, size_t length)
         volume->line_error = ENAMETOOLONG;
         return 0;
     }
-    char *at = volume->line + volume->length;
-    *at++ = ' ';
-    for (size_t index = 0; index < count; index++) {
-        unsigned char byte = (unsigned char)bytes[index];
-        *at++ = digits[byte >> 4];
-        *at++ = digits[byte & 15];
-    }
+    volume->line[volume->length] = ' ';
+    digits_write(volume->line + volume->length + 1, bytes, count);
     volume->length += 1 + 2 * count;
     return count;
 }
@@ -293,31 +288,10 @@ int volume_space(struct volume *volume, struct space *space)
     return is_read ? 0 : volume_bad_reply(volume);
 }
 
-/* Of each digit its value and one more, and nothing of all other bytes. */
-static const signed char digit_values[256] = {
-    ['0'] = 1,  ['1'] = 2,  ['2'] = 3,  ['3'] = 4,  ['4'] = 5,  ['5'] = 6,  ['6'] = 7,  ['7'] = 8,
-    ['8'] = 9,  ['9'] = 10, ['a'] = 11, ['b'] = 12, ['c'] = 13, ['d'] = 14, ['e'] = 15, ['f'] = 16,
-    ['A'] = 11, ['B'] = 12, ['C'] = 13, ['D'] = 14, ['E'] = 15, ['F'] = 16,
-};
-
-/* The byte that two digits stand for, or less than 0. */
-static int byte_of(const char *digits)
-{
-    return (digit_values[(unsigned char)digits[0]] - 1) * 16 | (digit_values[(unsigned char)digits[1]] - 1);
-}
-
 /* So many bytes of two digits each, and nothing behind them. */
 static bool take_bytes(const char *at, char *bytes, size_t count)
 {
-    int all = 0;
-    if (strlen(at) != 2 * count)
-        return false;
-    for (size_t index = 0; index < count; index++) {
-        int byte = byte_of(at + 2 * index);
-        all |= byte;
-        bytes[index] = (char)byte;
-    }
-    return all >= 0;
+    return strlen(at) == 2 * count && digits_read(bytes, at, count);
 }
 
 static int read_piece(struct volume *volume, uint64_t inode, uint64_t offset, char *bytes, size_t length, size_t *count)
@@ -394,10 +368,9 @@ static char *decode_names(const char *at, uint64_t number, char *names)
                 *names++ = *at++;
                 continue;
             }
-            int byte = at[1] == '\0' ? -1 : byte_of(at + 1);
-            if (byte <= 0)
+            if (at[1] == '\0' || !digits_read(names, at + 1, 1) || *names == '\0')
                 return NULL;
-            *names++ = (char)byte;
+            names++;
             at += 3;
         }
         *names++ = '\0';
