@@ -1,5 +1,6 @@
 #define _GNU_SOURCE
 #include "calls.h"
+#include "contents.h"
 #include "volume.h"
 
 #include <errno.h>
@@ -270,13 +271,10 @@ static int make(struct volume *volume, const char *command, uint64_t directory, 
     struct status status;
     if (nodes_is_hidden_name(directory, name))
         return EPERM;
-    int error = volume_ask_name(volume, command, directory, name);
+    int error = volume_make(volume, command, directory, name, &status);
     if (error != 0)
         return error;
     nodes_touch(&volume->nodes, directory);
-    error = volume_stat_name(volume, directory, name, &status);
-    if (error != 0)
-        return error;
     nodes_renew(&volume->nodes, status.inode);
     return hand_out(volume, directory, name, &status, entry);
 }
@@ -438,13 +436,12 @@ static int link_error(struct volume *volume, uint64_t inode, uint64_t directory,
     struct status status;
     if (nodes_is_hidden_name(directory, name))
         return EPERM;
-    int error = volume_link(volume, inode, directory, name);
+    int error = volume_link(volume, inode, directory, name, &status);
     if (error != 0)
         return error == EISDIR ? EPERM : error;
     nodes_touch(&volume->nodes, directory);
     nodes_touch_status(&volume->nodes, inode);
-    error = volume_stat_name(volume, directory, name, &status);
-    return error != 0 ? error : hand_out(volume, directory, name, &status, entry);
+    return hand_out(volume, directory, name, &status, entry);
 }
 
 static void call_link(fuse_req_t request, fuse_ino_t id, fuse_ino_t new_parent, const char *new_name)
@@ -507,17 +504,29 @@ static void call_open(fuse_req_t request, fuse_ino_t id, struct fuse_file_info *
         enter_closed(volume, inode);
 }
 
+/* Room for so many bytes, which stays for the next call. */
+static bool has_bytes(struct volume *volume, size_t size)
+{
+    if (size <= volume->room)
+        return true;
+    free(volume->bytes);
+    volume->bytes = malloc(size);
+    volume->room = volume->bytes != NULL ? size : 0;
+    return volume->bytes != NULL;
+}
+
 static void call_read(fuse_req_t request, fuse_ino_t id, size_t size, off_t offset, struct fuse_file_info *file)
 {
     (void)file;
     size_t count;
-    char *bytes = malloc(size);
-    int error = bytes == NULL ? ENOMEM : volume_read(volume_of(request), inode_of(request, id), (uint64_t)offset, bytes, size, &count);
+    struct volume *volume = volume_of(request);
+    int error = ENOMEM;
+    if (has_bytes(volume, size))
+        error = volume_read(volume, inode_of(request, id), (uint64_t)offset, volume->bytes, size, &count);
     if (error != 0)
         fuse_reply_err(request, error);
     else
-        fuse_reply_buf(request, bytes, count);
-    free(bytes);
+        fuse_reply_buf(request, volume->bytes, count);
 }
 
 static void call_write(fuse_req_t request, fuse_ino_t id, const char *bytes, size_t size, off_t offset,
@@ -534,12 +543,6 @@ static void call_write(fuse_req_t request, fuse_ino_t id, const char *bytes, siz
         fuse_reply_err(request, error);
     else
         fuse_reply_write(request, count);
-}
-
-static void call_flush(fuse_req_t request, fuse_ino_t id, struct fuse_file_info *file)
-{
-    (void)id, (void)file;
-    reply_up(request);
 }
 
 static void call_fsync(fuse_req_t request, fuse_ino_t id, int is_data, struct fuse_file_info *file)
@@ -726,7 +729,6 @@ const struct fuse_lowlevel_ops calls = {
     .open = call_open,
     .read = call_read,
     .write = call_write,
-    .flush = call_flush,
     .fsync = call_fsync,
     .release = call_release,
     .opendir = call_opendir,

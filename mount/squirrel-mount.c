@@ -155,19 +155,19 @@ static void hold_signals(sigset_t *waiting)
         sigdelset(waiting, ending[index]);
 }
 
-/* Waits for a call or for what the program writes to standard error, which is passed on. Whether there may be a call. */
+/* Waits for a call, for what the program writes to standard error, or for its end. Whether there may be a call. */
 static bool await_call(struct fuse_session *session, struct volume *volume, const sigset_t *waiting)
 {
+    struct program *program = &volume->program;
     struct pollfd files[] = {
         {.fd = fuse_session_fd(session), .events = POLLIN},
-        {.fd = volume->program.errors, .events = POLLIN},
+        {.fd = program->errors, .events = POLLIN},
+        {.fd = program_is_up(program) ? program->replies : -1},
     };
-    if (ppoll(files, 2, NULL, waiting) < 0)
+    if (ppoll(files, 3, NULL, waiting) < 0)
         return false;
-    if (files[1].revents != 0) {
-        program_pass_errors(&volume->program);
-        program_is_up(&volume->program);
-    }
+    if (files[1].revents != 0 || files[2].revents != 0)
+        program_look(program);
     return files[0].revents != 0;
 }
 

@@ -1,5 +1,6 @@
 #include "volume.h"
 #include "digits.h"
+#include "replies.h"
 
 #include <errno.h>
 #include <inttypes.h>
@@ -129,20 +130,18 @@ void line_add_node(struct volume *volume, uint64_t inode)
         line_add_name(volume, name->directory, name->bytes);
 }
 
-/* How many bytes of a piece the line has room for: whole pages where it has room for one. */
-static size_t piece_for(const struct volume *volume, size_t length)
+/* How many bytes of these the line has room for: whole pages where it has room for one. */
+static size_t room_for(const struct volume *volume, size_t length)
 {
     size_t room = volume->length + 1 < LONGEST_LINE ? (LONGEST_LINE - volume->length - 1) / 2 : 0;
     if (room > PAGE)
         room -= room % PAGE;
-    if (room > WRITE_PIECE)
-        room = WRITE_PIECE;
     return length < room ? length : room;
 }
 
 size_t line_add_bytes(struct volume *volume, const char *bytes, size_t length)
 {
-    size_t count = piece_for(volume, length);
+    size_t count = room_for(volume, length);
     if (volume->line_error != 0)
         return 0;
     if (count == 0) {
@@ -178,39 +177,35 @@ int volume_bad_reply(struct volume *volume)
     return EIO;
 }
 
-int line_ask(struct volume *volume)
+int line_send(struct volume *volume)
 {
     if (volume->program.is_broken)
         return EIO;
     if (volume->line_error != 0)
         return volume->line_error;
     volume->line[volume->length] = '\n';
-    volume->reply = program_ask(&volume->program, volume->line, volume->length + 1);
-    if (volume->reply == NULL)
+    return program_send(&volume->program, volume->line, volume->length + 1) ? 0 : EIO;
+}
+
+int line_take(struct volume *volume)
+{
+    volume->reply = program_take(&volume->program);
+    if (volume->reply == NULL || volume->program.is_broken)
         return EIO;
     if (strncmp(volume->reply, "error ", 6) == 0)
         return error_of(volume, volume->reply + 6);
     return strcmp(volume->reply, "ok") == 0 || strncmp(volume->reply, "ok ", 3) == 0 ? 0 : volume_bad_reply(volume);
 }
 
-/* A reply is read from left to right: this text, or a number. */
-
-static bool take_text(const char **at, const char *text)
+int line_ask(struct volume *volume)
 {
-    size_t length = strlen(text);
-    if (strncmp(*at, text, length) != 0)
-        return false;
-    *at += length;
-    return true;
+    int error = line_send(volume);
+    return error != 0 ? error : line_take(volume);
 }
 
-static bool take_number(const char **at, uint64_t *number)
+bool line_may_wait(const struct volume *volume)
 {
-    const char *begin = *at;
-    *number = 0;
-    for (; **at >= '0' && **at <= '9'; (*at)++)
-        *number = *number * 10 + (uint64_t)(**at - '0');
-    return *at != begin;
+    return volume->program.asked == 0 || program_has_room(&volume->program, volume->length + 1);
 }
 
 static bool takes_status(const struct volume *volume, struct status *status)
@@ -259,12 +254,40 @@ int volume_rename(struct volume *volume, uint64_t directory, const char *name, u
     return line_ask(volume);
 }
 
-int volume_link(struct volume *volume, uint64_t inode, uint64_t directory, const char *name)
+/* Asks the line, and the status of the name that it makes, which goes out ahead where the script has room for both. */
+static int ask_with_status(struct volume *volume, uint64_t directory, const char *name, struct status *status)
+{
+    int error = line_send(volume);
+    if (error != 0)
+        return error;
+    line_begin(volume, "stat");
+    line_add_name(volume, directory, name);
+    if (!line_may_wait(volume)) {
+        error = line_take(volume);
+        return error != 0 ? error : volume_stat_name(volume, directory, name, status);
+    }
+    int status_error = line_send(volume);
+    error = line_take(volume);
+    if (status_error == 0)
+        status_error = line_take(volume);
+    if (error == 0 && status_error == 0 && !takes_status(volume, status))
+        error = volume_bad_reply(volume);
+    return error != 0 ? error : status_error;
+}
+
+int volume_make(struct volume *volume, const char *command, uint64_t directory, const char *name, struct status *status)
+{
+    line_begin(volume, command);
+    line_add_name(volume, directory, name);
+    return ask_with_status(volume, directory, name, status);
+}
+
+int volume_link(struct volume *volume, uint64_t inode, uint64_t directory, const char *name, struct status *status)
 {
     line_begin(volume, "link");
     line_add_node(volume, inode);
     line_add_name(volume, directory, name);
-    return line_ask(volume);
+    return ask_with_status(volume, directory, name, status);
 }
 
 int volume_truncate(struct volume *volume, uint64_t inode, uint64_t size)
@@ -286,75 +309,6 @@ int volume_space(struct volume *volume, struct space *space)
                    take_number(&at, &space->inodes) && take_text(&at, " pages ") && take_number(&at, &space->free_pages) &&
                    take_text(&at, " ") && take_number(&at, &space->pages) && *at == '\0';
     return is_read ? 0 : volume_bad_reply(volume);
-}
-
-/* So many bytes of two digits each, and nothing behind them. */
-static bool take_bytes(const char *at, char *bytes, size_t count)
-{
-    return strlen(at) == 2 * count && digits_read(bytes, at, count);
-}
-
-static int read_piece(struct volume *volume, uint64_t inode, uint64_t offset, char *bytes, size_t length, size_t *count)
-{
-    line_begin(volume, "read");
-    line_add_node(volume, inode);
-    line_add_number(volume, offset);
-    line_add_number(volume, length);
-    int error = line_ask(volume);
-    if (error != 0)
-        return error;
-    uint64_t number;
-    const char *at = volume->reply;
-    if (!take_text(&at, "ok ") || !take_number(&at, &number) || number > length || !take_text(&at, " "))
-        return volume_bad_reply(volume);
-    if (number == 0 ? strcmp(at, "-") != 0 : !take_bytes(at, bytes, number))
-        return volume_bad_reply(volume);
-    *count = number;
-    return 0;
-}
-
-int volume_read(struct volume *volume, uint64_t inode, uint64_t offset, char *bytes, size_t length, size_t *count)
-{
-    size_t piece = READ_PIECE, got = READ_PIECE;
-    *count = 0;
-    while (*count < length && got == piece) {
-        piece = length - *count < READ_PIECE ? length - *count : READ_PIECE;
-        int error = read_piece(volume, inode, offset + *count, bytes + *count, piece, &got);
-        if (error != 0)
-            return error;
-        *count += got;
-    }
-    return 0;
-}
-
-static int write_piece(struct volume *volume, uint64_t inode, uint64_t offset, const char *bytes, size_t length, size_t *count)
-{
-    line_begin(volume, "write");
-    line_add_node(volume, inode);
-    line_add_number(volume, offset);
-    *count = line_add_bytes(volume, bytes, length);
-    int error = line_ask(volume);
-    if (error != 0)
-        return error;
-    uint64_t number;
-    const char *at = volume->reply;
-    bool is_read = take_text(&at, "ok ") && take_number(&at, &number) && *at == '\0' && number == *count;
-    return is_read ? 0 : volume_bad_reply(volume);
-}
-
-int volume_write(struct volume *volume, uint64_t inode, uint64_t offset, const char *bytes, size_t length, size_t *count)
-{
-    *count = 0;
-    while (*count < length) {
-        size_t written;
-        int error = write_piece(volume, inode, offset + *count, bytes + *count, length - *count, &written);
-        if (error == EIO || (error != 0 && *count == 0))
-            return error;
-        if (error != 0)
-            return 0;
-        *count += written;
-    }
-    return 0;
 }
 
 /* Decodes the written names behind the count of a listing into as many bytes or fewer. Returns where they end, or NULL. */
@@ -445,7 +399,10 @@ int volume_link_hidden(struct volume *volume, uint64_t inode)
 {
     char hidden[HIDDEN_ROOM];
     nodes_hidden_name(inode, hidden);
-    int error = volume_link(volume, inode, ROOT, hidden);
+    line_begin(volume, "link");
+    line_add_node(volume, inode);
+    line_add_name(volume, ROOT, hidden);
+    int error = line_ask(volume);
     return error != 0 ? error : enter_hidden(volume, inode);
 }
 

@@ -10,7 +10,7 @@
 #include <stdint.h>
 #include <sys/types.h>
 
-enum { READ_PIECE = 16384, WRITE_PIECE = 24576, PAGE = 4096 };
+enum { PAGE = 4096 };
 
 struct volume {
     struct program program;
@@ -22,6 +22,8 @@ struct volume {
     size_t length;              /* of the line */
     int line_error;             /* why it can't be asked, or 0 */
     const char *reply;
+    char *bytes;                /* what was read last */
+    size_t room;                /* for them */
 };
 
 struct status {
@@ -41,11 +43,18 @@ void line_add_node(struct volume *volume, uint64_t inode);
 void line_add_name(struct volume *volume, uint64_t directory, const char *name);
 void line_add_number(struct volume *volume, uint64_t number);
 
-/* As many bytes as fit into one piece and into the line. Returns their number, 0 where there is room for none. */
+/* As many bytes as the line has room for, whole pages where it has room for one. Returns their number, 0 where there is none. */
 size_t line_add_bytes(struct volume *volume, const char *bytes, size_t length);
 
 /* Asks the line. 0 where it is done, or the error that stands for the refusal. */
 int line_ask(struct volume *volume);
+
+/* The same in two steps: several lines may go out before the first reply is taken, and each reply is taken. */
+int line_send(struct volume *volume);
+int line_take(struct volume *volume);
+
+/* Whether the line may be sent now. Else the replies of those before it are taken first. */
+bool line_may_wait(const struct volume *volume);
 
 /* A reply that is none of those that were to come: EIO from now on. */
 int volume_bad_reply(struct volume *volume);
@@ -57,15 +66,13 @@ int volume_ask_name(struct volume *volume, const char *command, uint64_t directo
 int volume_stat_node(struct volume *volume, uint64_t inode, struct status *status);
 int volume_stat_name(struct volume *volume, uint64_t directory, const char *name, struct status *status);
 int volume_rename(struct volume *volume, uint64_t directory, const char *name, uint64_t new_directory, const char *new_name);
-int volume_link(struct volume *volume, uint64_t inode, uint64_t directory, const char *name);
+
+/* A name is made, of a new file or directory or of a file that is there; and what it names then. */
+int volume_make(struct volume *volume, const char *command, uint64_t directory, const char *name, struct status *status);
+int volume_link(struct volume *volume, uint64_t inode, uint64_t directory, const char *name, struct status *status);
+
 int volume_truncate(struct volume *volume, uint64_t inode, uint64_t size);
 int volume_space(struct volume *volume, struct space *space);
-
-/* At most so many bytes from an offset on. `count` gets how many there are. */
-int volume_read(struct volume *volume, uint64_t inode, uint64_t offset, char *bytes, size_t length, size_t *count);
-
-/* The bytes from an offset on. `count` gets how many were written: fewer only where a later piece is refused. */
-int volume_write(struct volume *volume, uint64_t inode, uint64_t offset, const char *bytes, size_t length, size_t *count);
 
 /* The names of a directory, decoded, each behind the last one's zero byte, in memory to be freed. */
 int volume_list(struct volume *volume, uint64_t inode, char **names, size_t *length);

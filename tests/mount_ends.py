@@ -6,7 +6,7 @@ import subprocess
 import time
 
 from mounts import (
-    KILLED, await_so, environment, expect, expect_equal, expect_error, listed, read, replies, start_in_background, start_words,
+    KILLED, await_so, environment, error_of, expect, expect_equal, expect_error, listed, read, replies, start_in_background, start_words,
     unmount, write,
 )
 
@@ -26,7 +26,6 @@ def killed(trial):
         mount.kill_program()
         for call, words in [(os.fsync, ()), (os.fdatasync, ()), (os.write, (b"more",)), (os.ftruncate, (1,))]:
             expect_error("EIO", call, file, *words)
-        expect_error("EIO", os.close, os.dup(file))
         for call, words in [(os.mkdir, ()), (os.open, (os.O_CREAT | os.O_RDWR,)), (os.stat, ())]:
             expect_error("EIO", call, trial.at("new"), *words)
         expect_error("EIO", os.unlink, trial.at("d", "there"))
@@ -39,7 +38,7 @@ def killed(trial):
         time.sleep(1.1)
         expect_error("EIO", os.fstat, file)
         expect_error("EIO", os.stat, trial.at("d"))
-        expect_error("EIO", os.close, file)
+        os.close(file)
         mount.end(KILLED)
 
 
@@ -133,7 +132,8 @@ def interrupts(trial):
             expect_equal("what is read", os.read(file, 9), b"a")
             mount.job.send_signal(number)
             expect_equal("the end by a signal", mount.ended(), (0, "", ""))
-            expect_error("ENOTCONN", os.close, file)
+            expect_error("ENOTCONN", os.fsync, file)
+            error_of(os.close, file)
             expect(not os.path.ismount(trial.folder), "it is still mounted")
         expect_equal("the names", listed(trial.program, trial.image), ["b"])
         replies(trial.program, trial.image, "create /a", "write /a 0 61")

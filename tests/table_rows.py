@@ -37,7 +37,7 @@ def told_replies(trial):
                 expect_error("EIO", os.mkdir, trial.at(word))
                 expect_error("EIO", os.mkdir, trial.at("NotFound"))
             expect_error("EIO", os.fsync, file)
-            expect_error("EIO", os.close, file)
+            error_of(os.close, file)
             mount.end((0, "", f"squirrel-mount: {cause}: {EACH_CALL_FAILS}\n"))
 
 
