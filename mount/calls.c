@@ -1,6 +1,7 @@
 #define _GNU_SOURCE
 #include "calls.h"
 #include "contents.h"
+#include "hidden.h"
 #include "volume.h"
 
 #include <errno.h>
@@ -41,7 +42,7 @@ static struct stat attributes_of(struct volume *volume, const struct status *sta
 {
     const struct times *times = nodes_times(&volume->nodes, status->inode);
     uint64_t hidden_links = nodes_at(&volume->nodes, status->inode)->is_hidden ? 1 : 0;
-    uint64_t hidden_names = status->inode == ROOT ? volume->nodes.hidden : 0;
+    uint64_t hidden_names = status->inode == ROOT ? volume->hidden_names : 0;
     struct stat attributes = {
         .st_ino = status->inode,
         .st_mode = mode_of(status->is_directory),
@@ -115,7 +116,7 @@ static int hand_out(struct volume *volume, uint64_t directory, const char *name,
 static int look_up(struct volume *volume, uint64_t directory, const char *name, pid_t thread, struct fuse_entry_param *entry)
 {
     struct status status;
-    if (nodes_is_hidden_name(directory, name))
+    if (hidden_is_name(volume, directory, name))
         return program_is_up(&volume->program) ? ENOENT : EIO;
     int error = volume_stat_name(volume, directory, name, &status);
     if (error == 0)
@@ -129,7 +130,7 @@ static int look_up(struct volume *volume, uint64_t directory, const char *name, 
 static void let_go(struct volume *volume, uint64_t inode)
 {
     if (nodes_is_left(&volume->nodes, inode))
-        volume_unhide(volume, inode);
+        hidden_unlink(volume, inode);
     nodes_let_go(&volume->nodes, inode);
 }
 
@@ -269,7 +270,7 @@ static void call_readlink(fuse_req_t request, fuse_ino_t id)
 static int make(struct volume *volume, const char *command, uint64_t directory, const char *name, struct fuse_entry_param *entry)
 {
     struct status status;
-    if (nodes_is_hidden_name(directory, name))
+    if (hidden_is_form(directory, name))
         return EPERM;
     int error = volume_make(volume, command, directory, name, &status);
     if (error != 0)
@@ -323,10 +324,10 @@ static void enter_gone(struct volume *volume, uint64_t directory, const char *na
 static int unlink_error(struct volume *volume, uint64_t directory, const char *name, pid_t thread)
 {
     const struct name *known = nodes_find(&volume->nodes, directory, name);
-    if (nodes_is_hidden_name(directory, name))
+    if (hidden_is_name(volume, directory, name))
         return ENOENT;
     if (needs_hiding(volume, known, thread)) {
-        int error = volume_hide(volume, known);
+        int error = hidden_rename(volume, known);
         if (error == 0 || !may_go(volume, known->node, error))
             return error;
     }
@@ -347,7 +348,7 @@ static void call_rmdir(fuse_req_t request, fuse_ino_t parent, const char *name)
 {
     struct volume *volume = volume_of(request);
     uint64_t directory = inode_of(request, parent);
-    int error = nodes_is_hidden_name(directory, name) ? ENOENT : volume_ask_name(volume, "rmdir", directory, name);
+    int error = hidden_is_name(volume, directory, name) ? ENOENT : volume_ask_name(volume, "rmdir", directory, name);
     if (error == 0)
         enter_gone(volume, directory, name);
     fuse_reply_err(request, error);
@@ -395,13 +396,13 @@ static int move_name(struct volume *volume, const struct move *move)
 {
     bool is_same = is_same_file(volume, move);
     uint64_t hidden = is_same ? 0 : hidden_by(volume, move);
-    int error = hidden != 0 ? volume_link_hidden(volume, hidden) : 0;
+    int error = hidden != 0 ? hidden_link(volume, hidden) : 0;
     if (error != 0 && !may_go(volume, hidden, error))
         return error;
     bool is_hidden = hidden != 0 && error == 0;
     error = volume_rename(volume, move->directory, move->name, move->new_directory, move->new_name);
     if (error != 0 && is_hidden)
-        volume_unhide(volume, hidden);
+        hidden_unlink(volume, hidden);
     if (error != 0 || is_same)
         return error;
     return enter_moved(volume, move);
@@ -412,9 +413,9 @@ static int rename_error(struct volume *volume, const struct move *move, unsigned
     struct status status;
     if (flags & ~(unsigned)RENAME_NOREPLACE)
         return EINVAL;
-    if (nodes_is_hidden_name(move->directory, move->name))
+    if (hidden_is_name(volume, move->directory, move->name))
         return ENOENT;
-    if (nodes_is_hidden_name(move->new_directory, move->new_name))
+    if (hidden_is_form(move->new_directory, move->new_name))
         return EPERM;
     if (flags & RENAME_NOREPLACE) {
         int error = volume_stat_name(volume, move->new_directory, move->new_name, &status);
@@ -434,9 +435,9 @@ static void call_rename(fuse_req_t request, fuse_ino_t parent, const char *name,
 static int link_error(struct volume *volume, uint64_t inode, uint64_t directory, const char *name, struct fuse_entry_param *entry)
 {
     struct status status;
-    if (nodes_is_hidden_name(directory, name))
+    if (hidden_is_form(directory, name))
         return EPERM;
-    int error = volume_link(volume, inode, directory, name, &status);
+    int error = volume_make_link(volume, inode, directory, name, &status);
     if (error != 0)
         return error == EISDIR ? EPERM : error;
     nodes_touch(&volume->nodes, directory);
@@ -663,7 +664,7 @@ static void fill_piece(fuse_req_t request, struct listing *listing, uint64_t ino
     while (listing->at < listing->length) {
         const char *name = listing->names + listing->at;
         struct stat attributes = listed_attributes(volume, inode, name);
-        if (!nodes_is_hidden_name(inode, name) && !add_listed(request, piece, name, &attributes, listing->number + 3))
+        if (!hidden_is_name(volume, inode, name) && !add_listed(request, piece, name, &attributes, listing->number + 3))
             return;
         listing->at += strlen(name) + 1;
         listing->number++;

@@ -1,15 +1,11 @@
 #define _GNU_SOURCE
 #include "nodes.h"
 
-#include <inttypes.h>
-#include <stdio.h>
 #include <stdlib.h>
 #include <string.h>
 
 /* An id has the inode number below, then the generation, and one bit for the kind. */
 enum { GENERATION_AT = 32, DIRECTORY_AT = 63 };
-
-static const char hidden_prefix[] = ".squirrel-";
 
 static struct timespec time_now(void)
 {
@@ -24,7 +20,6 @@ bool nodes_make(struct nodes *nodes, uint64_t last)
     nodes->last = last;
     nodes->list = calloc(last + 1, sizeof *nodes->list);
     nodes->buckets = calloc(NAME_BUCKETS, sizeof *nodes->buckets);
-    nodes->hidden = 0;
     nodes->mounted = (struct times){now, now, now};
     if (nodes->list == NULL || nodes->buckets == NULL || last > UINT32_MAX)
         return false;
@@ -114,24 +109,24 @@ void nodes_let_go(struct nodes *nodes, uint64_t inode)
     }
 }
 
-bool nodes_name(struct nodes *nodes, uint64_t directory, const char *bytes, uint64_t inode)
+struct name *nodes_name(struct nodes *nodes, uint64_t directory, const char *bytes, uint64_t inode)
 {
     struct name *known = nodes_find(nodes, directory, bytes);
     if (known != NULL && known->node == inode)
-        return true;
+        return known;
     size_t length = strlen(bytes);
     struct name *name = malloc(sizeof *name + length + 1);
     if (name == NULL)
-        return false;
+        return NULL;
     if (known != NULL)
         remove_name(nodes, known);
     struct name **bucket = bucket_of(nodes, directory, bytes);
-    *name = (struct name){nodes->list[inode].names, *bucket, inode, directory, length};
+    *name = (struct name){nodes->list[inode].names, *bucket, inode, directory, false};
     memcpy(name->bytes, bytes, length + 1);
     nodes->list[inode].names = name;
     nodes->list[directory].children++;
     *bucket = name;
-    return true;
+    return name;
 }
 
 void nodes_unname(struct nodes *nodes, uint64_t directory, const char *bytes)
@@ -230,17 +225,4 @@ void nodes_set_times(struct nodes *nodes, uint64_t inode, const struct timespec 
         times->accessed = *accessed;
     if (modified != NULL)
         times->modified = *modified;
-}
-
-void nodes_hidden_name(uint64_t inode, char bytes[HIDDEN_ROOM])
-{
-    snprintf(bytes, HIDDEN_ROOM, "%s%" PRIu64, hidden_prefix, inode);
-}
-
-bool nodes_is_hidden_name(uint64_t directory, const char *bytes)
-{
-    size_t length = sizeof hidden_prefix - 1;
-    if (directory != ROOT || strncmp(bytes, hidden_prefix, length) != 0)
-        return false;
-    return bytes[length] != '\0' && bytes[length + strspn(bytes + length, "0123456789")] == '\0';
 }

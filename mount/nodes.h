@@ -8,7 +8,7 @@
 #include <sys/types.h>
 #include <time.h>
 
-enum { ROOT = 1, NAME_BUCKETS = 65536, HIDDEN_ROOM = 32 };
+enum { ROOT = 1, NAME_BUCKETS = 65536 };
 
 /* For so many seconds a thread that was told of a node by its name may be about to call it. */
 enum { SOUGHT_SECONDS = 5 };
@@ -18,7 +18,7 @@ struct name {
     struct name *next_in_bucket;
     uint64_t node;
     uint64_t directory;
-    size_t length;
+    bool is_hidden;
     char bytes[];
 };
 
@@ -50,7 +50,6 @@ struct nodes {
     uint64_t last;          /* the greatest inode number */
     struct node *list;
     struct name **buckets;
-    uint64_t hidden;        /* how many hidden names there are */
     struct times mounted;
 };
 
@@ -73,8 +72,8 @@ bool id_is_directory(uint64_t id);
 /* The name in a directory, or NULL where it isn't known. */
 struct name *nodes_find(struct nodes *nodes, uint64_t directory, const char *bytes);
 
-/* A name is known to name a node, and nothing else. False where memory is out. */
-bool nodes_name(struct nodes *nodes, uint64_t directory, const char *bytes, uint64_t inode);
+/* A name is known to name a node, and nothing else. NULL where memory is out. */
+struct name *nodes_name(struct nodes *nodes, uint64_t directory, const char *bytes, uint64_t inode);
 
 /* A name is no longer there. */
 void nodes_unname(struct nodes *nodes, uint64_t directory, const char *bytes);
@@ -108,11 +107,5 @@ void nodes_touch_status(struct nodes *nodes, uint64_t inode);
 
 /* Times that were set: those that aren't NULL. */
 void nodes_set_times(struct nodes *nodes, uint64_t inode, const struct timespec *accessed, const struct timespec *modified);
-
-/* The hidden name of a node, in the root. */
-void nodes_hidden_name(uint64_t inode, char bytes[HIDDEN_ROOM]);
-
-/* Whether a name in a directory is a hidden one. */
-bool nodes_is_hidden_name(uint64_t directory, const char *bytes);
 
 #endif

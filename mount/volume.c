@@ -1,4 +1,5 @@
 #include "volume.h"
+#include "causes.h"
 #include "digits.h"
 #include "replies.h"
 
@@ -163,7 +164,9 @@ static int error_of(struct volume *volume, const char *word)
             return refusals[index].error;
     }
     if (strcmp(word, "Fault") == 0 || strcmp(word, "Stopped") == 0) {
-        program_give_up(&volume->program, "a fence of the device failed");
+        char cause[CAUSE_ROOM];
+        cause_of_fault(volume->program.image, volume->image_bytes, cause);
+        program_give_up(&volume->program, cause);
         return EIO;
     }
     return volume_bad_reply(volume);
@@ -254,7 +257,15 @@ int volume_rename(struct volume *volume, uint64_t directory, const char *name, u
     return line_ask(volume);
 }
 
-/* Asks the line, and the status of the name that it makes, which goes out ahead where the script has room for both. */
+int volume_link(struct volume *volume, uint64_t inode, uint64_t directory, const char *name)
+{
+    line_begin(volume, "link");
+    line_add_node(volume, inode);
+    line_add_name(volume, directory, name);
+    return line_ask(volume);
+}
+
+/* Sends the line, and behind it, where the script has room for both, that of the status of the name that it makes. */
 static int ask_with_status(struct volume *volume, uint64_t directory, const char *name, struct status *status)
 {
     int error = line_send(volume);
@@ -282,7 +293,7 @@ int volume_make(struct volume *volume, const char *command, uint64_t directory, 
     return ask_with_status(volume, directory, name, status);
 }
 
-int volume_link(struct volume *volume, uint64_t inode, uint64_t directory, const char *name, struct status *status)
+int volume_make_link(struct volume *volume, uint64_t inode, uint64_t directory, const char *name, struct status *status)
 {
     line_begin(volume, "link");
     line_add_node(volume, inode);
@@ -351,67 +362,4 @@ int volume_list(struct volume *volume, uint64_t inode, char **names, size_t *len
     }
     *length = (size_t)(end - *names);
     return 0;
-}
-
-/* Hidden names. */
-
-int volume_remove_hidden(struct volume *volume)
-{
-    char *names;
-    size_t length;
-    int error = volume_list(volume, ROOT, &names, &length);
-    if (error != 0)
-        return error;
-    for (const char *name = names; error == 0 && name < names + length; name += strlen(name) + 1) {
-        if (nodes_is_hidden_name(ROOT, name))
-            error = volume_ask_name(volume, "unlink", ROOT, name);
-        /* a directory of such a name is none of those that a mount makes */
-        if (error == EISDIR) {
-            volume->nodes.hidden++;
-            error = 0;
-        }
-    }
-    free(names);
-    return error;
-}
-
-/* The hidden name is known from now on. */
-static int enter_hidden(struct volume *volume, uint64_t inode)
-{
-    char hidden[HIDDEN_ROOM];
-    nodes_hidden_name(inode, hidden);
-    if (!nodes_name(&volume->nodes, ROOT, hidden, inode))
-        return ENOMEM;
-    nodes_at(&volume->nodes, inode)->is_hidden = true;
-    volume->nodes.hidden++;
-    return 0;
-}
-
-int volume_hide(struct volume *volume, const struct name *name)
-{
-    char hidden[HIDDEN_ROOM];
-    nodes_hidden_name(name->node, hidden);
-    int error = volume_rename(volume, name->directory, name->bytes, ROOT, hidden);
-    return error != 0 ? error : enter_hidden(volume, name->node);
-}
-
-int volume_link_hidden(struct volume *volume, uint64_t inode)
-{
-    char hidden[HIDDEN_ROOM];
-    nodes_hidden_name(inode, hidden);
-    line_begin(volume, "link");
-    line_add_node(volume, inode);
-    line_add_name(volume, ROOT, hidden);
-    int error = line_ask(volume);
-    return error != 0 ? error : enter_hidden(volume, inode);
-}
-
-void volume_unhide(struct volume *volume, uint64_t inode)
-{
-    char hidden[HIDDEN_ROOM];
-    nodes_hidden_name(inode, hidden);
-    volume_ask_name(volume, "unlink", ROOT, hidden);
-    nodes_unname(&volume->nodes, ROOT, hidden);
-    nodes_at(&volume->nodes, inode)->is_hidden = false;
-    volume->nodes.hidden--;
 }

@@ -17,6 +17,9 @@ struct volume {
     struct nodes nodes;
     uid_t user;
     gid_t group;
+    uint64_t image_bytes;       /* when the program started */
+    uint64_t hidden_names;      /* how many there are */
+    bool has_others;            /* names of their form that are none */
     bool is_quiet;              /* modes and owners that can't be kept are no error */
     char line[LONGEST_LINE + 1];
     size_t length;              /* of the line */
@@ -66,25 +69,16 @@ int volume_ask_name(struct volume *volume, const char *command, uint64_t directo
 int volume_stat_node(struct volume *volume, uint64_t inode, struct status *status);
 int volume_stat_name(struct volume *volume, uint64_t directory, const char *name, struct status *status);
 int volume_rename(struct volume *volume, uint64_t directory, const char *name, uint64_t new_directory, const char *new_name);
+int volume_link(struct volume *volume, uint64_t inode, uint64_t directory, const char *name);
 
 /* A name is made, of a new file or directory or of a file that is there; and what it names then. */
 int volume_make(struct volume *volume, const char *command, uint64_t directory, const char *name, struct status *status);
-int volume_link(struct volume *volume, uint64_t inode, uint64_t directory, const char *name, struct status *status);
+int volume_make_link(struct volume *volume, uint64_t inode, uint64_t directory, const char *name, struct status *status);
 
 int volume_truncate(struct volume *volume, uint64_t inode, uint64_t size);
 int volume_space(struct volume *volume, struct space *space);
 
 /* The names of a directory, decoded, each behind the last one's zero byte, in memory to be freed. */
 int volume_list(struct volume *volume, uint64_t inode, char **names, size_t *length);
-
-/* Removes all hidden names: at a mount, and at its end. */
-int volume_remove_hidden(struct volume *volume);
-
-/* The last name of a file is to go: it gets a hidden one in its place, or beside it. */
-int volume_hide(struct volume *volume, const struct name *name);
-int volume_link_hidden(struct volume *volume, uint64_t inode);
-
-/* The hidden name of a file goes, and the file with it where it has no other. */
-void volume_unhide(struct volume *volume, uint64_t inode);
 
 #endif

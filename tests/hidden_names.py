@@ -5,7 +5,7 @@ import os
 import time
 
 from mounts import (
-    KILLED, PAGE, await_so, error_of, expect_equal, expect_error, listed, opened, read, replies, stand_in, write,
+    KILLED, PAGE, await_so, error_of, expect, expect_equal, expect_error, listed, opened, read, replies, stand_in, write,
 )
 
 
@@ -137,6 +137,51 @@ def after_kill(trial, wanted):
     expect_equal("the names", sorted(set(listed(trial.program, trial.image)) - {"more"}), sorted(wanted))
 
 
+def others(trial):
+    """Of names that look like hidden ones a mount removes a file's whose inode number it has, and no others."""
+    trial.make(64)
+    lines = ["create /.squirrel-2", "create /.squirrel-4", "mkdir /.squirrel-9", "create /.squirrel-5-3", "create /.squirrel-02",
+             "create /a", "create /.squirrel-5", "stat /a", "stat /.squirrel-5-3"]
+    numbers = [reply.split()[3] for reply in replies(trial.program, trial.image, *lines)[-2:]]
+    expect_equal("inode numbers", numbers, ["7", "5"])
+    kept = [".squirrel-4", ".squirrel-5", ".squirrel-9", ".squirrel-02"]
+    with trial.mount() as mount:
+        expect_equal("the names", sorted(os.listdir(trial.folder)), sorted([*kept, "a"]))
+        write(trial.at(".squirrel-4"), b"of others")
+        os.mkdir(trial.at(".squirrel-9", "d"))
+        expect_error("EPERM", os.rename, trial.at("a"), trial.at(".squirrel-4"))
+        os.rename(trial.at(".squirrel-5"), trial.at("b"))
+        expect_error("EPERM", os.rename, trial.at("b"), trial.at(".squirrel-5"))
+        expect_equal("links of the root", os.stat(trial.folder).st_size, 5)
+        mount.end()
+    taken_names(trial)
+
+
+def taken_names(trial):
+    """Where the hidden name of an open file is taken it gets the next free one."""
+    lines = ["rename /b /.squirrel-7", "mkdir /.squirrel-7-1", "write /a 0 61"]
+    replies(trial.program, trial.image, *lines)
+    before = listed(trial.program, trial.image)
+    for take_name in (os.unlink, lambda path: os.rename(trial.at("O"), path)):
+        with trial.mount() as mount:
+            number = os.stat(trial.at("a")).st_ino
+            expect_equal("the inode number of the open file", number, 7)
+            write(trial.at("O"), b"new")
+            with opened(trial.at("a")) as file:
+                take_name(trial.at("a"))
+                expect_equal("the bytes", os.pread(file, 9, 0), b"a")
+                expect(".squirrel-7" in os.listdir(trial.folder), "a name of others went")
+                mount.kill_program()
+            mount.end(KILLED)
+        expect(".squirrel-7-2" in listed(trial.program, trial.image), "the hidden name isn't the next free one")
+        with trial.mount() as mount:
+            mount.end()
+        if take_name is os.unlink:
+            replies(trial.program, trial.image, "rename /O /a", "write /a 0 61")
+            replies(trial.program, trial.image, "unlink /a", "create /a", "write /a 0 61")
+        expect_equal("the names", listed(trial.program, trial.image), before)
+
+
 def hidden_killed(trial):
     for lines in range(3):
         trial.make(256)
@@ -160,4 +205,5 @@ def hidden(trial):
     unknown_name(trial)
     no_page_for_sought(trial)
     no_page_for_hidden(trial)
+    others(trial)
     hidden_killed(trial)

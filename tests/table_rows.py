@@ -184,5 +184,6 @@ def rows_of_tables(trial):
         os.chmod(trial.at("a"), 0o600)
         os.chown(trial.at("a"), 1, 1)
         expect_equal("a mode that was set quietly", oct(os.stat(trial.at("a")).st_mode), oct(stat.S_IFREG | 0o644))
+        expect_equal("times of two files after a new mount", os.stat(trial.at("node")).st_mtime, os.stat(trial.at("s")).st_mtime)
         deep_paths(trial)
         mount.end()
