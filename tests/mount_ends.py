@@ -168,7 +168,7 @@ def adapter_killed(trial):
             mount.job.kill()
             mount.job.communicate()
             if options:
-                await_so(lambda: not os.path.ismount(trial.folder), "the unmount by itself")
+                await_so(lambda: error_of(os.listdir, trial.folder) is None, "the unmount by itself")
             else:
                 expect_error("ENOTCONN", os.listdir, trial.folder)
                 expect(unmount(trial.folder), "it can't be unmounted")
