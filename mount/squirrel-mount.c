@@ -284,6 +284,20 @@ static int mount_volume(struct fuse_args *words, struct options *options)
     return status;
 }
 
+/* Does what the words ask for. The exit status. */
+static int do_words(struct fuse_args *words, struct options *options)
+{
+    if (!read_options(words, options))
+        return STATUS_USAGE;
+    if (options->is_help)
+        tell_help();
+    else if (options->is_version)
+        tell_version();
+    else
+        return mount_volume(words, options);
+    return 0;
+}
+
 int main(int count, char **arguments)
 {
     struct fuse_args words = FUSE_ARGS_INIT(count, arguments);
@@ -292,15 +306,9 @@ int main(int count, char **arguments)
     signal(SIGCHLD, SIG_DFL);
     if (!has_streams())
         return STATUS_FAILED;
-    if (!read_options(&words, &options))
-        return STATUS_USAGE;
-    int status = 0;
-    if (options.is_help)
-        tell_help();
-    else if (options.is_version)
-        tell_version();
-    else
-        status = mount_volume(&words, &options);
+    int status = do_words(&words, &options);
+    free(options.image);
+    free(options.folder);
     fuse_opt_free_args(&words);
     return status;
 }
