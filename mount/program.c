@@ -100,6 +100,7 @@ static bool start_process(struct program *program)
     program->errors = pipes[2][0];
     program->script_bytes = 0;
     program->asked = 0;
+    program->held = 0;
     program->begin = program->end = 0;
     if (program->process > 0) {
         fcntl(program->script, F_SETFL, O_WRONLY | O_NONBLOCK);
@@ -258,14 +259,12 @@ static bool await_script(struct program *program)
 }
 
 /* What can't be written has no reply: the program ends its replies, or has ended them. */
-static void send_line(struct program *program, const char *line, size_t length)
+static void write_lines(struct program *program, const char *lines, size_t length)
 {
-    program->script_bytes += length;
-    program->asked++;
     while (length > 0) {
-        ssize_t count = write(program->script, line, length);
+        ssize_t count = write(program->script, lines, length);
         if (count > 0) {
-            line += count;
+            lines += count;
             length -= (size_t)count;
         } else if (errno != EINTR && (errno != EAGAIN || !await_script(program))) {
             close_file(&program->script);
@@ -274,12 +273,40 @@ static void send_line(struct program *program, const char *line, size_t length)
     }
 }
 
+/* Writes the lines that are held. */
+static void let_go_lines(struct program *program)
+{
+    write_lines(program, program->lines, program->held);
+    program->held = 0;
+}
+
+static void send_line(struct program *program, const char *line, size_t length)
+{
+    program->script_bytes += length;
+    program->asked++;
+    if (length > sizeof program->lines - program->held)
+        let_go_lines(program);
+    if (length > sizeof program->lines) {
+        write_lines(program, line, length);
+    } else {
+        memcpy(program->lines + program->held, line, length);
+        program->held += length;
+    }
+}
+
+/* The reply to the first line that has none yet, without its newline, or NULL at the end of the replies. */
+static const char *take_reply(struct program *program)
+{
+    let_go_lines(program);
+    program->asked--;
+    return next_reply(program);
+}
+
 /* What stands in place of a reply to `df` is a text of the program, which goes where it would have gone. */
 static bool is_answering(struct program *program)
 {
     send_line(program, "df\n", 3);
-    const char *reply = next_reply(program);
-    program->asked = 0;
+    const char *reply = take_reply(program);
     if (reply != NULL && strncmp(reply, "ok ", 3) == 0)
         return true;
     if (reply != NULL) {
@@ -359,8 +386,7 @@ static void take_end(struct program *program)
 
 const char *program_take(struct program *program)
 {
-    const char *reply = next_reply(program);
-    program->asked--;
+    const char *reply = take_reply(program);
     if (reply == NULL && !program->is_broken)
         take_end(program);
     return reply;

@@ -7,7 +7,7 @@
 #include <stdint.h>
 #include <sys/types.h>
 
-enum { LONGEST_LINE = 65536 };
+enum { LONGEST_LINE = 65536, SHORT_LINES = 4096 };
 
 /* A script may not have so many bytes. */
 #define SCRIPT_LIMIT (UINT64_C(1) << 32)
@@ -17,7 +17,9 @@ struct program {
     const char *image;
     uint64_t script_limit;
     uint64_t script_bytes;
-    unsigned asked;     /* how many lines went out whose reply hasn't been taken */
+    unsigned asked;     /* how many lines were sent whose reply hasn't been taken */
+    char lines[SHORT_LINES];    /* short ones that go out together, with the next long one or before a reply is taken */
+    size_t held;                /* how many bytes of them there are */
     pid_t process;      /* 0 where none runs */
     int script;         /* the descriptor that takes lines, and doesn't wait */
     int replies;        /* the one that gives replies */
