@@ -98,6 +98,7 @@ static int hand_out(struct volume *volume, uint64_t directory, const char *name,
                     struct fuse_entry_param *entry)
 {
     struct node *node = nodes_at(&volume->nodes, status->inode);
+    /* between two scripts another job may have given the number to a node of the other kind */
     if (node->lookups > 0 && node->is_directory != status->is_directory)
         nodes_renew(&volume->nodes, status->inode);
     if (!nodes_name(&volume->nodes, directory, name, status->inode))
