@@ -1,5 +1,7 @@
 #define _GNU_SOURCE
 #include "calls.h"
+#include "contents.h"
+#include "hidden.h"
 #include "volume.h"
 
 #include <errno.h>
@@ -18,6 +20,18 @@ static struct volume *volume_of(fuse_req_t request)
     return fuse_req_userdata(request);
 }
 
+/* The inode number of a node that the system names, or 0 where the node has gone and another has it. */
+static uint64_t inode_of(fuse_req_t request, fuse_ino_t id)
+{
+    return nodes_inode(&volume_of(request)->nodes, id);
+}
+
+/* The thread that waits for the answer, 0 where it isn't known here. */
+static pid_t thread_of(fuse_req_t request)
+{
+    return fuse_req_ctx(request)->pid;
+}
+
 static mode_t mode_of(bool is_directory)
 {
     return is_directory ? S_IFDIR | 0755 : S_IFREG | 0644;
@@ -28,7 +42,7 @@ static struct stat attributes_of(struct volume *volume, const struct status *sta
 {
     const struct times *times = nodes_times(&volume->nodes, status->inode);
     uint64_t hidden_links = nodes_at(&volume->nodes, status->inode)->is_hidden ? 1 : 0;
-    uint64_t hidden_names = status->inode == ROOT ? volume->nodes.hidden : 0;
+    uint64_t hidden_names = status->inode == ROOT ? volume->hidden_names : 0;
     struct stat attributes = {
         .st_ino = status->inode,
         .st_mode = mode_of(status->is_directory),
@@ -46,16 +60,37 @@ static struct stat attributes_of(struct volume *volume, const struct status *sta
     return attributes;
 }
 
-/* The status of a node. A directory that was removed while it is in use is empty and has no links. */
-static int status_of(struct volume *volume, uint64_t inode, struct status *status)
+/* Whether a directory was removed while it is in use. Another node may have its number. */
+static bool is_removed(struct volume *volume, fuse_ino_t id)
 {
-    const struct node *node = nodes_at(&volume->nodes, inode);
-    if (inode != ROOT && node->names == NULL && node->is_directory) {
-        *status = (struct status){.is_directory = true, .inode = inode};
+    uint64_t inode = nodes_inode(&volume->nodes, id);
+    return inode != ROOT && id_is_directory(id) && nodes_at(&volume->nodes, inode)->names == NULL;
+}
+
+/* A directory that was removed is empty and has no links. */
+static struct stat removed_attributes(struct volume *volume, fuse_ino_t id)
+{
+    struct status status = {.is_directory = true};
+    struct stat attributes = attributes_of(volume, &status);
+    attributes.st_ino = id_inode(id);
+    return attributes;
+}
+
+/* What the system is told of a node that it names. */
+static int attributes_by_id(struct volume *volume, fuse_ino_t id, struct stat *attributes)
+{
+    struct status status;
+    uint64_t inode = nodes_inode(&volume->nodes, id);
+    if (is_removed(volume, id)) {
+        *attributes = removed_attributes(volume, id);
         return program_is_up(&volume->program) ? 0 : EIO;
     }
-    int error = volume_stat_node(volume, inode, status);
-    return error == 0 && status->inode != inode ? ESTALE : error;
+    int error = volume_stat_node(volume, inode, &status);
+    if (error == 0 && status.inode != inode)
+        return ESTALE;
+    if (error == 0)
+        *attributes = attributes_of(volume, &status);
+    return error;
 }
 
 /* What is handed out of a node that a name was found to name. */
@@ -63,13 +98,15 @@ static int hand_out(struct volume *volume, uint64_t directory, const char *name,
                     struct fuse_entry_param *entry)
 {
     struct node *node = nodes_at(&volume->nodes, status->inode);
+    /* between two scripts another job may have given the number to a node of the other kind */
+    if (node->lookups > 0 && node->is_directory != status->is_directory)
+        nodes_renew(&volume->nodes, status->inode);
     if (!nodes_name(&volume->nodes, directory, name, status->inode))
         return ENOMEM;
     node->is_directory = status->is_directory;
     node->lookups++;
     *entry = (struct fuse_entry_param){
-        .ino = status->inode,
-        .generation = node->generation,
+        .ino = nodes_id(&volume->nodes, status->inode),
         .attr = attributes_of(volume, status),
         .attr_timeout = believed,
         .entry_timeout = believed,
@@ -77,13 +114,33 @@ static int hand_out(struct volume *volume, uint64_t directory, const char *name,
     return 0;
 }
 
-static int look_up(struct volume *volume, uint64_t directory, const char *name, struct fuse_entry_param *entry)
+static int look_up(struct volume *volume, uint64_t directory, const char *name, pid_t thread, struct fuse_entry_param *entry)
 {
     struct status status;
-    if (nodes_is_hidden_name(directory, name))
+    if (hidden_is_name(volume, directory, name))
         return program_is_up(&volume->program) ? ENOENT : EIO;
     int error = volume_stat_name(volume, directory, name, &status);
-    return error != 0 ? error : hand_out(volume, directory, name, &status, entry);
+    if (error == 0)
+        error = hand_out(volume, directory, name, &status, entry);
+    if (error == 0)
+        nodes_tell(&volume->nodes, status.inode, thread);
+    return error;
+}
+
+/* A node is used by one less. A file that only its hidden name keeps then goes, and names go that nobody uses. */
+static void let_go(struct volume *volume, uint64_t inode)
+{
+    if (nodes_is_left(&volume->nodes, inode))
+        hidden_unlink(volume, inode);
+    nodes_let_go(&volume->nodes, inode);
+}
+
+/* The system has forgotten a node so many times. */
+static void forget(struct volume *volume, fuse_ino_t id, uint64_t count)
+{
+    uint64_t inode = nodes_inode(&volume->nodes, id);
+    nodes_forget(&volume->nodes, inode, count);
+    let_go(volume, inode);
 }
 
 /* Answers with a node that is handed out, which the system has not where it no longer waits for it. */
@@ -93,20 +150,17 @@ static void reply_entry(fuse_req_t request, int error, const struct fuse_entry_p
     if (error != 0)
         fuse_reply_err(request, error);
     else if (fuse_reply_entry(request, entry) != 0)
-        nodes_forget(&volume->nodes, entry->ino, 1);
+        forget(volume, entry->ino, 1);
 }
 
-static void reply_attributes(fuse_req_t request, uint64_t inode)
+static void reply_attributes(fuse_req_t request, fuse_ino_t id)
 {
-    struct volume *volume = volume_of(request);
-    struct status status;
-    int error = status_of(volume, inode, &status);
-    if (error != 0) {
+    struct stat attributes;
+    int error = attributes_by_id(volume_of(request), id, &attributes);
+    if (error != 0)
         fuse_reply_err(request, error);
-        return;
-    }
-    struct stat attributes = attributes_of(volume, &status);
-    fuse_reply_attr(request, &attributes, believed);
+    else
+        fuse_reply_attr(request, &attributes, believed);
 }
 
 /* Answers a call that has no line of its own. */
@@ -129,27 +183,27 @@ static void call_init(void *user, struct fuse_conn_info *connection)
 static void call_lookup(fuse_req_t request, fuse_ino_t parent, const char *name)
 {
     struct fuse_entry_param entry;
-    int error = look_up(volume_of(request), parent, name, &entry);
+    int error = look_up(volume_of(request), inode_of(request, parent), name, thread_of(request), &entry);
     reply_entry(request, error, &entry);
 }
 
-static void call_forget(fuse_req_t request, fuse_ino_t inode, uint64_t count)
+static void call_forget(fuse_req_t request, fuse_ino_t id, uint64_t count)
 {
-    nodes_forget(&volume_of(request)->nodes, inode, count);
+    forget(volume_of(request), id, count);
     fuse_reply_none(request);
 }
 
 static void call_forget_multi(fuse_req_t request, size_t count, struct fuse_forget_data *forgets)
 {
     for (size_t index = 0; index < count; index++)
-        nodes_forget(&volume_of(request)->nodes, forgets[index].ino, forgets[index].nlookup);
+        forget(volume_of(request), forgets[index].ino, forgets[index].nlookup);
     fuse_reply_none(request);
 }
 
-static void call_getattr(fuse_req_t request, fuse_ino_t inode, struct fuse_file_info *file)
+static void call_getattr(fuse_req_t request, fuse_ino_t id, struct fuse_file_info *file)
 {
     (void)file;
-    reply_attributes(request, inode);
+    reply_attributes(request, id);
 }
 
 /* Whether a mode or an owner is to be set that no node can have. */
@@ -181,10 +235,11 @@ static void set_times(struct volume *volume, uint64_t inode, const struct stat *
         nodes_set_times(&volume->nodes, inode, sets_accessed ? accessed : NULL, sets_modified ? modified : NULL);
 }
 
-static void call_setattr(fuse_req_t request, fuse_ino_t inode, struct stat *wanted, int which, struct fuse_file_info *file)
+static void call_setattr(fuse_req_t request, fuse_ino_t id, struct stat *wanted, int which, struct fuse_file_info *file)
 {
     (void)file;
     struct volume *volume = volume_of(request);
+    uint64_t inode = inode_of(request, id);
     int error = program_is_up(&volume->program) ? 0 : EIO;
     if (error == 0 && !volume->is_quiet && is_changing(volume, inode, wanted, which))
         error = EPERM;
@@ -195,7 +250,7 @@ static void call_setattr(fuse_req_t request, fuse_ino_t inode, struct stat *want
         return;
     }
     set_times(volume, inode, wanted, which);
-    reply_attributes(request, inode);
+    reply_attributes(request, id);
 }
 
 static void call_symlink(fuse_req_t request, const char *target, fuse_ino_t parent, const char *name)
@@ -204,9 +259,9 @@ static void call_symlink(fuse_req_t request, const char *target, fuse_ino_t pare
     fuse_reply_err(request, program_is_up(&volume_of(request)->program) ? ENOTSUP : EIO);
 }
 
-static void call_readlink(fuse_req_t request, fuse_ino_t inode)
+static void call_readlink(fuse_req_t request, fuse_ino_t id)
 {
-    (void)inode;
+    (void)id;
     fuse_reply_err(request, ENOTSUP);
 }
 
@@ -216,15 +271,12 @@ static void call_readlink(fuse_req_t request, fuse_ino_t inode)
 static int make(struct volume *volume, const char *command, uint64_t directory, const char *name, struct fuse_entry_param *entry)
 {
     struct status status;
-    if (nodes_is_hidden_name(directory, name))
+    if (hidden_is_form(directory, name))
         return EPERM;
-    int error = volume_ask_name(volume, command, directory, name);
+    int error = volume_make(volume, command, directory, name, &status);
     if (error != 0)
         return error;
     nodes_touch(&volume->nodes, directory);
-    error = volume_stat_name(volume, directory, name, &status);
-    if (error != 0)
-        return error;
     nodes_renew(&volume->nodes, status.inode);
     return hand_out(volume, directory, name, &status, entry);
 }
@@ -233,7 +285,7 @@ static void call_mknod(fuse_req_t request, fuse_ino_t parent, const char *name, 
 {
     (void)device;
     struct fuse_entry_param entry;
-    int error = S_ISREG(mode) ? make(volume_of(request), "create", parent, name, &entry) : EPERM;
+    int error = S_ISREG(mode) ? make(volume_of(request), "create", inode_of(request, parent), name, &entry) : EPERM;
     reply_entry(request, error, &entry);
 }
 
@@ -241,14 +293,23 @@ static void call_mkdir(fuse_req_t request, fuse_ino_t parent, const char *name, 
 {
     (void)mode;
     struct fuse_entry_param entry;
-    int error = make(volume_of(request), "mkdir", parent, name, &entry);
+    int error = make(volume_of(request), "mkdir", inode_of(request, parent), name, &entry);
     reply_entry(request, error, &entry);
 }
 
-/* Whether the file that a name names is open, and no other name of it is known. */
-static bool needs_hiding(struct volume *volume, const struct name *name)
+/* Whether a name is the only one known of a file that is open, or that another thread may be about to call by its node. */
+static bool needs_hiding(struct volume *volume, const struct name *name, pid_t thread)
 {
-    return name != NULL && nodes_at(&volume->nodes, name->node)->opens > 0 && nodes_is_last_name(&volume->nodes, name);
+    if (name == NULL || !nodes_is_last_name(&volume->nodes, name))
+        return false;
+    const struct node *node = nodes_at(&volume->nodes, name->node);
+    return node->opens > 0 || (!node->is_directory && nodes_is_sought(&volume->nodes, name->node, thread));
+}
+
+/* Whether the name of a file may go that got no hidden one: nothing has the file open, and the program is up. */
+static bool may_go(struct volume *volume, uint64_t inode, int error)
+{
+    return error != EIO && nodes_at(&volume->nodes, inode)->opens == 0;
 }
 
 /* A name has gone from its directory, and from the node that it named. */
@@ -261,104 +322,134 @@ static void enter_gone(struct volume *volume, uint64_t directory, const char *na
     nodes_unname(&volume->nodes, directory, name);
 }
 
+static int unlink_error(struct volume *volume, uint64_t directory, const char *name, pid_t thread)
+{
+    const struct name *known = nodes_find(&volume->nodes, directory, name);
+    if (hidden_is_name(volume, directory, name))
+        return ENOENT;
+    if (needs_hiding(volume, known, thread)) {
+        int error = hidden_rename(volume, known);
+        if (error == 0 || !may_go(volume, known->node, error))
+            return error;
+    }
+    return volume_ask_name(volume, "unlink", directory, name);
+}
+
 static void call_unlink(fuse_req_t request, fuse_ino_t parent, const char *name)
 {
     struct volume *volume = volume_of(request);
-    const struct name *known = nodes_find(&volume->nodes, parent, name);
-    int error;
-    if (nodes_is_hidden_name(parent, name))
-        error = ENOENT;
-    else if (needs_hiding(volume, known))
-        error = volume_hide(volume, known);
-    else
-        error = volume_ask_name(volume, "unlink", parent, name);
+    uint64_t directory = inode_of(request, parent);
+    int error = unlink_error(volume, directory, name, thread_of(request));
     if (error == 0)
-        enter_gone(volume, parent, name);
+        enter_gone(volume, directory, name);
     fuse_reply_err(request, error);
 }
 
 static void call_rmdir(fuse_req_t request, fuse_ino_t parent, const char *name)
 {
     struct volume *volume = volume_of(request);
-    int error = nodes_is_hidden_name(parent, name) ? ENOENT : volume_ask_name(volume, "rmdir", parent, name);
+    uint64_t directory = inode_of(request, parent);
+    int error = hidden_is_name(volume, directory, name) ? ENOENT : volume_ask_name(volume, "rmdir", directory, name);
     if (error == 0)
-        enter_gone(volume, parent, name);
+        enter_gone(volume, directory, name);
     fuse_reply_err(request, error);
 }
 
+/* A name, and where it goes to. */
+struct move {
+    uint64_t directory;
+    const char *name;
+    uint64_t new_directory;
+    const char *new_name;
+    pid_t thread;
+};
+
 /* A name that was moved, over what had the new one. */
-static int enter_moved(struct volume *volume, uint64_t directory, const char *name, uint64_t new_directory, const char *new_name)
+static int enter_moved(struct volume *volume, const struct move *move)
 {
-    const struct name *known = nodes_find(&volume->nodes, directory, name);
+    const struct name *known = nodes_find(&volume->nodes, move->directory, move->name);
     uint64_t inode = known != NULL ? known->node : 0;
     bool is_named = true;
-    enter_gone(volume, new_directory, new_name);
+    enter_gone(volume, move->new_directory, move->new_name);
     if (inode != 0)
-        is_named = nodes_name(&volume->nodes, new_directory, new_name, inode);
-    enter_gone(volume, directory, name);
+        is_named = nodes_name(&volume->nodes, move->new_directory, move->new_name, inode);
+    enter_gone(volume, move->directory, move->name);
     return is_named ? 0 : ENOMEM;
 }
 
-/* Moves a name. What is open and loses its last name by that gets a hidden one first, so that the new name always names one. */
-static int move(struct volume *volume, uint64_t directory, const char *name, uint64_t new_directory, const char *new_name)
+/* The file that is to get a hidden name before another takes its last one, or 0. */
+static uint64_t hidden_by(struct volume *volume, const struct move *move)
 {
-    const struct name *old = nodes_find(&volume->nodes, new_directory, new_name);
-    const struct name *moved = nodes_find(&volume->nodes, directory, name);
-    bool is_same = old != NULL && moved != NULL && old->node == moved->node;
-    uint64_t hidden = !is_same && needs_hiding(volume, old) ? old->node : 0;
-    int error = hidden != 0 ? volume_link_hidden(volume, hidden) : 0;
-    if (error != 0)
-        return error;
-    error = volume_rename(volume, directory, name, new_directory, new_name);
-    if (error != 0 && hidden != 0)
-        volume_unhide(volume, hidden);
-    if (error != 0 || is_same)
-        return error;
-    return enter_moved(volume, directory, name, new_directory, new_name);
+    const struct name *old = nodes_find(&volume->nodes, move->new_directory, move->new_name);
+    return needs_hiding(volume, old, move->thread) ? old->node : 0;
 }
 
-static int rename_error(struct volume *volume, uint64_t directory, const char *name, uint64_t new_directory,
-                        const char *new_name, unsigned flags)
+/* Whether both names are one file's, so that nothing changes. */
+static bool is_same_file(struct volume *volume, const struct move *move)
+{
+    const struct name *old = nodes_find(&volume->nodes, move->new_directory, move->new_name);
+    const struct name *moved = nodes_find(&volume->nodes, move->directory, move->name);
+    return old != NULL && moved != NULL && old->node == moved->node;
+}
+
+/* Moves a name. A file that needs a hidden one gets it first, so that the new name always names one. */
+static int move_name(struct volume *volume, const struct move *move)
+{
+    bool is_same = is_same_file(volume, move);
+    uint64_t hidden = is_same ? 0 : hidden_by(volume, move);
+    int error = hidden != 0 ? hidden_link(volume, hidden) : 0;
+    if (error != 0 && !may_go(volume, hidden, error))
+        return error;
+    bool is_hidden = hidden != 0 && error == 0;
+    error = volume_rename(volume, move->directory, move->name, move->new_directory, move->new_name);
+    if (error != 0 && is_hidden)
+        hidden_unlink(volume, hidden);
+    if (error != 0 || is_same)
+        return error;
+    return enter_moved(volume, move);
+}
+
+static int rename_error(struct volume *volume, const struct move *move, unsigned flags)
 {
     struct status status;
     if (flags & ~(unsigned)RENAME_NOREPLACE)
         return EINVAL;
-    if (nodes_is_hidden_name(directory, name))
+    if (hidden_is_name(volume, move->directory, move->name))
         return ENOENT;
-    if (nodes_is_hidden_name(new_directory, new_name))
+    if (hidden_is_form(move->new_directory, move->new_name))
         return EPERM;
     if (flags & RENAME_NOREPLACE) {
-        int error = volume_stat_name(volume, new_directory, new_name, &status);
+        int error = volume_stat_name(volume, move->new_directory, move->new_name, &status);
         if (error != ENOENT)
             return error == 0 ? EEXIST : error;
     }
-    return move(volume, directory, name, new_directory, new_name);
+    return move_name(volume, move);
 }
 
 static void call_rename(fuse_req_t request, fuse_ino_t parent, const char *name, fuse_ino_t new_parent, const char *new_name,
                         unsigned flags)
 {
-    fuse_reply_err(request, rename_error(volume_of(request), parent, name, new_parent, new_name, flags));
+    struct move move = {inode_of(request, parent), name, inode_of(request, new_parent), new_name, thread_of(request)};
+    fuse_reply_err(request, rename_error(volume_of(request), &move, flags));
 }
 
 static int link_error(struct volume *volume, uint64_t inode, uint64_t directory, const char *name, struct fuse_entry_param *entry)
 {
     struct status status;
-    if (nodes_is_hidden_name(directory, name))
+    if (hidden_is_form(directory, name))
         return EPERM;
-    int error = volume_link(volume, inode, directory, name);
+    int error = volume_make_link(volume, inode, directory, name, &status);
     if (error != 0)
         return error == EISDIR ? EPERM : error;
     nodes_touch(&volume->nodes, directory);
     nodes_touch_status(&volume->nodes, inode);
-    error = volume_stat_name(volume, directory, name, &status);
-    return error != 0 ? error : hand_out(volume, directory, name, &status, entry);
+    return hand_out(volume, directory, name, &status, entry);
 }
 
-static void call_link(fuse_req_t request, fuse_ino_t inode, fuse_ino_t new_parent, const char *new_name)
+static void call_link(fuse_req_t request, fuse_ino_t id, fuse_ino_t new_parent, const char *new_name)
 {
     struct fuse_entry_param entry;
-    int error = link_error(volume_of(request), inode, new_parent, new_name, &entry);
+    int error = link_error(volume_of(request), inode_of(request, id), inode_of(request, new_parent), new_name, &entry);
     reply_entry(request, error, &entry);
 }
 
@@ -375,9 +466,7 @@ static void enter_closed(struct volume *volume, uint64_t inode)
     struct node *node = nodes_at(&volume->nodes, inode);
     if (node->opens > 0)
         node->opens--;
-    if (node->opens == 0 && node->is_hidden)
-        volume_unhide(volume, inode);
-    nodes_let_go(&volume->nodes, inode);
+    let_go(volume, inode);
 }
 
 static void call_create(fuse_req_t request, fuse_ino_t parent, const char *name, mode_t mode, struct fuse_file_info *file)
@@ -385,24 +474,27 @@ static void call_create(fuse_req_t request, fuse_ino_t parent, const char *name,
     (void)mode;
     struct volume *volume = volume_of(request);
     struct fuse_entry_param entry;
-    int error = make(volume, "create", parent, name, &entry);
+    int error = make(volume, "create", inode_of(request, parent), name, &entry);
     if (error != 0) {
         fuse_reply_err(request, error);
         return;
     }
-    enter_open(volume, entry.ino, file);
+    uint64_t inode = inode_of(request, entry.ino);
+    enter_open(volume, inode, file);
     if (fuse_reply_create(request, &entry, file) != 0) {
-        enter_closed(volume, entry.ino);
-        nodes_forget(&volume->nodes, entry.ino, 1);
+        enter_closed(volume, inode);
+        forget(volume, entry.ino, 1);
     }
 }
 
-static void call_open(fuse_req_t request, fuse_ino_t inode, struct fuse_file_info *file)
+/* Opens a node. One that has gone is ESTALE: the system walks the path anew, and finds what the name names now. */
+static void call_open(fuse_req_t request, fuse_ino_t id, struct fuse_file_info *file)
 {
     struct volume *volume = volume_of(request);
+    uint64_t inode = inode_of(request, id);
     int error = program_is_up(&volume->program) ? 0 : EIO;
     if (error == 0 && nodes_at(&volume->nodes, inode)->names == NULL)
-        error = ENOENT;
+        error = ESTALE;
     if (error == 0 && (file->flags & O_TRUNC))
         error = set_size(volume, inode, 0);
     if (error != 0) {
@@ -414,25 +506,38 @@ static void call_open(fuse_req_t request, fuse_ino_t inode, struct fuse_file_inf
         enter_closed(volume, inode);
 }
 
-static void call_read(fuse_req_t request, fuse_ino_t inode, size_t size, off_t offset, struct fuse_file_info *file)
+/* Room for so many bytes, which stays for the next call. */
+static bool has_bytes(struct volume *volume, size_t size)
+{
+    if (size <= volume->room)
+        return true;
+    free(volume->bytes);
+    volume->bytes = malloc(size);
+    volume->room = volume->bytes != NULL ? size : 0;
+    return volume->bytes != NULL;
+}
+
+static void call_read(fuse_req_t request, fuse_ino_t id, size_t size, off_t offset, struct fuse_file_info *file)
 {
     (void)file;
     size_t count;
-    char *bytes = malloc(size);
-    int error = bytes == NULL ? ENOMEM : volume_read(volume_of(request), inode, (uint64_t)offset, bytes, size, &count);
+    struct volume *volume = volume_of(request);
+    int error = ENOMEM;
+    if (has_bytes(volume, size))
+        error = volume_read(volume, inode_of(request, id), (uint64_t)offset, volume->bytes, size, &count);
     if (error != 0)
         fuse_reply_err(request, error);
     else
-        fuse_reply_buf(request, bytes, count);
-    free(bytes);
+        fuse_reply_buf(request, volume->bytes, count);
 }
 
-static void call_write(fuse_req_t request, fuse_ino_t inode, const char *bytes, size_t size, off_t offset,
+static void call_write(fuse_req_t request, fuse_ino_t id, const char *bytes, size_t size, off_t offset,
                        struct fuse_file_info *file)
 {
     (void)file;
     size_t count;
     struct volume *volume = volume_of(request);
+    uint64_t inode = inode_of(request, id);
     int error = volume_write(volume, inode, (uint64_t)offset, bytes, size, &count);
     if (count > 0)
         nodes_touch(&volume->nodes, inode);
@@ -442,22 +547,16 @@ static void call_write(fuse_req_t request, fuse_ino_t inode, const char *bytes, 
         fuse_reply_write(request, count);
 }
 
-static void call_flush(fuse_req_t request, fuse_ino_t inode, struct fuse_file_info *file)
+static void call_fsync(fuse_req_t request, fuse_ino_t id, int is_data, struct fuse_file_info *file)
 {
-    (void)inode, (void)file;
+    (void)id, (void)is_data, (void)file;
     reply_up(request);
 }
 
-static void call_fsync(fuse_req_t request, fuse_ino_t inode, int is_data, struct fuse_file_info *file)
-{
-    (void)inode, (void)is_data, (void)file;
-    reply_up(request);
-}
-
-static void call_release(fuse_req_t request, fuse_ino_t inode, struct fuse_file_info *file)
+static void call_release(fuse_req_t request, fuse_ino_t id, struct fuse_file_info *file)
 {
     (void)file;
-    enter_closed(volume_of(request), inode);
+    enter_closed(volume_of(request), inode_of(request, id));
     fuse_reply_err(request, 0);
 }
 
@@ -470,9 +569,9 @@ struct listing {
     size_t at;
 };
 
-static void call_opendir(fuse_req_t request, fuse_ino_t inode, struct fuse_file_info *file)
+static void call_opendir(fuse_req_t request, fuse_ino_t id, struct fuse_file_info *file)
 {
-    (void)inode;
+    (void)id;
     struct listing *listing = calloc(1, sizeof *listing);
     int error = !program_is_up(&volume_of(request)->program) ? EIO : listing == NULL ? ENOMEM : 0;
     if (error != 0) {
@@ -490,9 +589,9 @@ static struct listing *listing_of(const struct fuse_file_info *file)
     return (struct listing *)(uintptr_t)file->fh;
 }
 
-static void call_releasedir(fuse_req_t request, fuse_ino_t inode, struct fuse_file_info *file)
+static void call_releasedir(fuse_req_t request, fuse_ino_t id, struct fuse_file_info *file)
 {
-    (void)inode;
+    (void)id;
     struct listing *listing = listing_of(file);
     free(listing->names);
     free(listing);
@@ -500,15 +599,13 @@ static void call_releasedir(fuse_req_t request, fuse_ino_t inode, struct fuse_fi
 }
 
 /* Takes the names anew. A directory that was removed has none. */
-static int begin_listing(struct volume *volume, uint64_t inode, struct listing *listing)
+static int begin_listing(struct volume *volume, fuse_ino_t id, struct listing *listing)
 {
-    struct status status;
     free(listing->names);
     *listing = (struct listing){0};
-    int error = status_of(volume, inode, &status);
-    if (error != 0 || status.links == 0)
-        return error;
-    return volume_list(volume, inode, &listing->names, &listing->length);
+    if (is_removed(volume, id))
+        return 0;
+    return volume_list(volume, nodes_inode(&volume->nodes, id), &listing->names, &listing->length);
 }
 
 /* What is told of a name in a listing: its number and kind where they are known. */
@@ -568,23 +665,23 @@ static void fill_piece(fuse_req_t request, struct listing *listing, uint64_t ino
     while (listing->at < listing->length) {
         const char *name = listing->names + listing->at;
         struct stat attributes = listed_attributes(volume, inode, name);
-        if (!nodes_is_hidden_name(inode, name) && !add_listed(request, piece, name, &attributes, listing->number + 3))
+        if (!hidden_is_name(volume, inode, name) && !add_listed(request, piece, name, &attributes, listing->number + 3))
             return;
         listing->at += strlen(name) + 1;
         listing->number++;
     }
 }
 
-static void call_readdir(fuse_req_t request, fuse_ino_t inode, size_t size, off_t offset, struct fuse_file_info *file)
+static void call_readdir(fuse_req_t request, fuse_ino_t id, size_t size, off_t offset, struct fuse_file_info *file)
 {
     struct volume *volume = volume_of(request);
     struct listing *listing = listing_of(file);
     struct piece piece = {.bytes = malloc(size), .room = size};
     int error = piece.bytes == NULL ? ENOMEM : program_is_up(&volume->program) ? 0 : EIO;
     if (error == 0 && offset == 0)
-        error = begin_listing(volume, inode, listing);
+        error = begin_listing(volume, id, listing);
     if (error == 0 && listing->names != NULL)
-        fill_piece(request, listing, inode, offset, &piece);
+        fill_piece(request, listing, inode_of(request, id), offset, &piece);
     if (error != 0)
         fuse_reply_err(request, error);
     else
@@ -592,9 +689,9 @@ static void call_readdir(fuse_req_t request, fuse_ino_t inode, size_t size, off_
     free(piece.bytes);
 }
 
-static void call_statfs(fuse_req_t request, fuse_ino_t inode)
+static void call_statfs(fuse_req_t request, fuse_ino_t id)
 {
-    (void)inode;
+    (void)id;
     struct space space;
     int error = volume_space(volume_of(request), &space);
     if (error != 0) {
@@ -634,7 +731,6 @@ const struct fuse_lowlevel_ops calls = {
     .open = call_open,
     .read = call_read,
     .write = call_write,
-    .flush = call_flush,
     .fsync = call_fsync,
     .release = call_release,
     .opendir = call_opendir,

@@ -1,12 +1,11 @@
 #define _GNU_SOURCE
 #include "nodes.h"
 
-#include <inttypes.h>
-#include <stdio.h>
 #include <stdlib.h>
 #include <string.h>
 
-static const char hidden_prefix[] = ".squirrel-";
+/* An id has the inode number below, then the generation, and one bit for the kind. */
+enum { GENERATION_AT = 32, DIRECTORY_AT = 63 };
 
 static struct timespec time_now(void)
 {
@@ -21,9 +20,8 @@ bool nodes_make(struct nodes *nodes, uint64_t last)
     nodes->last = last;
     nodes->list = calloc(last + 1, sizeof *nodes->list);
     nodes->buckets = calloc(NAME_BUCKETS, sizeof *nodes->buckets);
-    nodes->hidden = 0;
     nodes->mounted = (struct times){now, now, now};
-    if (nodes->list == NULL || nodes->buckets == NULL)
+    if (nodes->list == NULL || nodes->buckets == NULL || last > UINT32_MAX)
         return false;
     nodes->list[ROOT].is_directory = true;
     return true;
@@ -32,6 +30,29 @@ bool nodes_make(struct nodes *nodes, uint64_t last)
 struct node *nodes_at(struct nodes *nodes, uint64_t inode)
 {
     return &nodes->list[inode <= nodes->last ? inode : 0];
+}
+
+uint64_t nodes_id(struct nodes *nodes, uint64_t inode)
+{
+    const struct node *node = nodes_at(nodes, inode);
+    uint64_t generation = (uint64_t)(node->generation & INT32_MAX) << GENERATION_AT;
+    return inode == ROOT ? ROOT : (uint64_t)node->is_directory << DIRECTORY_AT | generation | inode;
+}
+
+uint64_t id_inode(uint64_t id)
+{
+    return id & UINT32_MAX;
+}
+
+bool id_is_directory(uint64_t id)
+{
+    return id == ROOT || id >> DIRECTORY_AT != 0;
+}
+
+uint64_t nodes_inode(struct nodes *nodes, uint64_t id)
+{
+    uint64_t inode = id_inode(id);
+    return nodes_id(nodes, inode) == id ? inode : 0;
 }
 
 /* Where the chain begins that has the name. */
@@ -88,24 +109,24 @@ void nodes_let_go(struct nodes *nodes, uint64_t inode)
     }
 }
 
-bool nodes_name(struct nodes *nodes, uint64_t directory, const char *bytes, uint64_t inode)
+struct name *nodes_name(struct nodes *nodes, uint64_t directory, const char *bytes, uint64_t inode)
 {
     struct name *known = nodes_find(nodes, directory, bytes);
     if (known != NULL && known->node == inode)
-        return true;
+        return known;
     size_t length = strlen(bytes);
     struct name *name = malloc(sizeof *name + length + 1);
     if (name == NULL)
-        return false;
+        return NULL;
     if (known != NULL)
         remove_name(nodes, known);
     struct name **bucket = bucket_of(nodes, directory, bytes);
-    *name = (struct name){nodes->list[inode].names, *bucket, inode, directory, length};
+    *name = (struct name){nodes->list[inode].names, *bucket, inode, directory, false};
     memcpy(name->bytes, bytes, length + 1);
     nodes->list[inode].names = name;
     nodes->list[directory].children++;
     *bucket = name;
-    return true;
+    return name;
 }
 
 void nodes_unname(struct nodes *nodes, uint64_t directory, const char *bytes)
@@ -122,9 +143,11 @@ void nodes_renew(struct nodes *nodes, uint64_t inode)
     while (node->names != NULL)
         remove_name(nodes, node->names);
     node->generation++;
+    node->lookups = 0;
     node->opens = 0;
     node->is_hidden = false;
     node->has_times = false;
+    node->last = node->other = (struct told){0};
     nodes_touch(nodes, inode);
     node->times.accessed = node->times.modified;
 }
@@ -133,7 +156,34 @@ void nodes_forget(struct nodes *nodes, uint64_t inode, uint64_t count)
 {
     struct node *node = nodes_at(nodes, inode);
     node->lookups -= count < node->lookups ? count : node->lookups;
-    nodes_let_go(nodes, inode);
+}
+
+bool nodes_is_left(struct nodes *nodes, uint64_t inode)
+{
+    const struct node *node = nodes_at(nodes, inode);
+    return node->is_hidden && node->opens == 0 && node->lookups == 0;
+}
+
+static time_t seconds_now(void)
+{
+    struct timespec now;
+    clock_gettime(CLOCK_MONOTONIC_COARSE, &now);
+    return now.tv_sec;
+}
+
+void nodes_tell(struct nodes *nodes, uint64_t inode, pid_t thread)
+{
+    struct node *node = nodes_at(nodes, inode);
+    if (thread == 0 || thread != node->last.thread)
+        node->other = node->last;
+    node->last = (struct told){.thread = thread, .until = seconds_now() + SOUGHT_SECONDS};
+}
+
+bool nodes_is_sought(struct nodes *nodes, uint64_t inode, pid_t thread)
+{
+    const struct node *node = nodes_at(nodes, inode);
+    bool is_own = thread != 0 && thread == node->last.thread;
+    return (is_own ? node->other : node->last).until > seconds_now();
 }
 
 bool nodes_is_last_name(struct nodes *nodes, const struct name *name)
@@ -175,17 +225,4 @@ void nodes_set_times(struct nodes *nodes, uint64_t inode, const struct timespec 
         times->accessed = *accessed;
     if (modified != NULL)
         times->modified = *modified;
-}
-
-void nodes_hidden_name(uint64_t inode, char bytes[HIDDEN_ROOM])
-{
-    snprintf(bytes, HIDDEN_ROOM, "%s%" PRIu64, hidden_prefix, inode);
-}
-
-bool nodes_is_hidden_name(uint64_t directory, const char *bytes)
-{
-    size_t length = sizeof hidden_prefix - 1;
-    if (directory != ROOT || strncmp(bytes, hidden_prefix, length) != 0)
-        return false;
-    return bytes[length] != '\0' && bytes[length + strspn(bytes + length, "0123456789")] == '\0';
 }

@@ -99,9 +99,13 @@ static bool start_process(struct program *program)
     program->replies = pipes[1][0];
     program->errors = pipes[2][0];
     program->script_bytes = 0;
+    program->asked = 0;
+    program->held = 0;
     program->begin = program->end = 0;
-    if (program->process > 0)
+    if (program->process > 0) {
+        fcntl(program->script, F_SETFL, O_WRONLY | O_NONBLOCK);
         return true;
+    }
     program->process = 0;
     close_file(&program->script);
     close_file(&program->replies);
@@ -128,6 +132,18 @@ static bool make_room(struct program *program)
     return true;
 }
 
+/* Keeps what there is of the replies, waiting where there is nothing. False at their end. */
+static bool read_replies(struct program *program)
+{
+    if (!make_room(program))
+        return false;
+    ssize_t count = read_some(program->replies, program->buffer + program->end, program->room - program->end);
+    if (count <= 0)
+        return false;
+    program->end += (size_t)count;
+    return true;
+}
+
 /* The next reply without its newline, or NULL at the end of the replies. */
 static const char *next_reply(struct program *program)
 {
@@ -142,16 +158,13 @@ static const char *next_reply(struct program *program)
             return begin;
         }
         seen = length;
-        if (!make_room(program))
+        if (!read_replies(program))
             return NULL;
-        ssize_t count = read_some(program->replies, program->buffer + program->end, program->room - program->end);
-        if (count <= 0)
-            return NULL;
-        program->end += (size_t)count;
     }
 }
 
-void program_pass_errors(struct program *program)
+/* Passes on what the program has written to standard error. */
+static void pass_errors(struct program *program)
 {
     char bytes[4096];
     struct pollfd errors = {.fd = program->errors, .events = POLLIN};
@@ -169,21 +182,18 @@ static int exit_status(int status)
     return WIFSIGNALED(status) ? 128 + WTERMSIG(status) : WEXITSTATUS(status);
 }
 
-/* Takes the process's end, waiting for it or not. Whether it has ended. */
-static bool reap(struct program *program, int flags)
+/* Waits for the process's end. */
+static void reap(struct program *program)
 {
     int status;
     if (program->process == 0)
-        return true;
+        return;
     pid_t ended;
     do
-        ended = waitpid(program->process, &status, flags);
+        ended = waitpid(program->process, &status, 0);
     while (ended < 0 && errno == EINTR);
-    if (ended == 0)
-        return false;
     program->process = 0;
     program->status = ended > 0 ? exit_status(status) : STATUS_NOT_STARTED;
-    return true;
 }
 
 /* What it wrote to standard output behind its last reply. */
@@ -205,9 +215,9 @@ static void end_process(struct program *program, bool is_told)
     if (program->replies >= 0 && is_told)
         pass_replies(program);
     close_file(&program->replies);
-    reap(program, 0);
+    reap(program);
     if (is_told)
-        program_pass_errors(program);
+        pass_errors(program);
     close_file(&program->errors);
 }
 
@@ -229,21 +239,74 @@ static void tell_end(struct program *program)
 {
     char cause[64];
     /* the end of its replies may come a moment before its own */
-    reap(program, 0);
+    reap(program);
     snprintf(cause, sizeof cause, "the program ended with status %d", program->status);
     program_give_up(program, cause);
 }
 
-static bool send_line(struct program *program, const char *line, size_t length)
+/* Waits until the script takes bytes. Replies are kept meanwhile, so that the program never waits for the adapter. */
+static bool await_script(struct program *program)
+{
+    struct pollfd files[] = {
+        {.fd = program->script, .events = POLLOUT},
+        {.fd = program->replies, .events = POLLIN},
+    };
+    while (poll(files, 2, -1) < 0) {
+        if (errno != EINTR)
+            return false;
+    }
+    return files[1].revents == 0 || read_replies(program);
+}
+
+/* What can't be written has no reply: the program ends its replies, or has ended them. */
+static void write_lines(struct program *program, const char *lines, size_t length)
+{
+    while (length > 0) {
+        ssize_t count = write(program->script, lines, length);
+        if (count > 0) {
+            lines += count;
+            length -= (size_t)count;
+        } else if (errno != EINTR && (errno != EAGAIN || !await_script(program))) {
+            close_file(&program->script);
+            return;
+        }
+    }
+}
+
+/* Writes the lines that are held. */
+static void let_go_lines(struct program *program)
+{
+    write_lines(program, program->lines, program->held);
+    program->held = 0;
+}
+
+static void send_line(struct program *program, const char *line, size_t length)
 {
     program->script_bytes += length;
-    return write_all(program->script, line, length);
+    program->asked++;
+    if (length > sizeof program->lines - program->held)
+        let_go_lines(program);
+    if (length > sizeof program->lines) {
+        write_lines(program, line, length);
+    } else {
+        memcpy(program->lines + program->held, line, length);
+        program->held += length;
+    }
+}
+
+/* The reply to the first line that has none yet, without its newline, or NULL at the end of the replies. */
+static const char *take_reply(struct program *program)
+{
+    let_go_lines(program);
+    program->asked--;
+    return next_reply(program);
 }
 
 /* What stands in place of a reply to `df` is a text of the program, which goes where it would have gone. */
 static bool is_answering(struct program *program)
 {
-    const char *reply = send_line(program, "df\n", 3) ? next_reply(program) : NULL;
+    send_line(program, "df\n", 3);
+    const char *reply = take_reply(program);
     if (reply != NULL && strncmp(reply, "ok ", 3) == 0)
         return true;
     if (reply != NULL) {
@@ -290,7 +353,7 @@ static bool start_anew(struct program *program)
 /* Before a line would reach the limit, the script is ended and another begun. */
 static bool has_script_for(struct program *program, size_t length)
 {
-    if (program->process != 0 && program->script_bytes + length >= program->script_limit) {
+    if (program->process != 0 && !program_has_room(program, length)) {
         end_process(program, true);
         if (program->status != 0) {
             tell_end(program);
@@ -300,25 +363,44 @@ static bool has_script_for(struct program *program, size_t length)
     return program->process != 0 || start_anew(program);
 }
 
-
-const char *program_ask(struct program *program, const char *line, size_t length)
+bool program_has_room(const struct program *program, size_t length)
 {
-    if (program->is_broken || !has_script_for(program, length))
-        return NULL;
-    const char *reply = send_line(program, line, length) ? next_reply(program) : NULL;
-    if (reply == NULL) {
-        close_file(&program->script);
-        program_pass_errors(program);
-        tell_end(program);
-    }
+    return program->script_bytes + length < program->script_limit;
+}
+
+bool program_send(struct program *program, const char *line, size_t length)
+{
+    if (program->is_broken || (program->asked == 0 && !has_script_for(program, length)))
+        return false;
+    send_line(program, line, length);
+    return true;
+}
+
+/* The end of the replies: what the program wrote besides them, and how it ended. */
+static void take_end(struct program *program)
+{
+    close_file(&program->script);
+    pass_errors(program);
+    tell_end(program);
+}
+
+const char *program_take(struct program *program)
+{
+    const char *reply = take_reply(program);
+    if (reply == NULL && !program->is_broken)
+        take_end(program);
     return reply;
 }
 
-bool program_is_up(struct program *program)
+bool program_is_up(const struct program *program)
 {
-    if (!program->is_broken && program->process != 0 && reap(program, WNOHANG)) {
-        program_pass_errors(program);
-        tell_end(program);
-    }
     return !program->is_broken;
+}
+
+void program_look(struct program *program)
+{
+    struct pollfd replies = {.fd = program->replies};
+    pass_errors(program);
+    if (!program->is_broken && poll(&replies, 1, 0) == 1)
+        take_end(program);
 }

@@ -1,72 +1,28 @@
 /* Mounts a volume as a folder: squirrel-mount IMAGE FOLDER [-f] [-o OPTIONS] */
 #define _GNU_SOURCE
 #include "calls.h"
+#include "causes.h"
+#include "hidden.h"
 #include "volume.h"
+#include "words.h"
 
 #include <errno.h>
 #include <fcntl.h>
-#include <inttypes.h>
 #include <libgen.h>
 #include <poll.h>
 #include <signal.h>
-#include <stddef.h>
 #include <stdio.h>
 #include <stdlib.h>
 #include <string.h>
 #include <sys/stat.h>
 #include <unistd.h>
 
-enum { STATUS_FAILED = 1, STATUS_USAGE = 2 };
-
-struct options {
-    int is_foreground;
-    int is_quiet;
-    unsigned long long script_limit;
-    char *image;
-    char *folder;
-};
-
-static const struct fuse_opt option_words[] = {
-    {"-f", offsetof(struct options, is_foreground), 1},
-    {"quiet", offsetof(struct options, is_quiet), 1},
-    {"script=%llu", offsetof(struct options, script_limit), 0},
-    FUSE_OPT_END,
-};
+enum { STATUS_FAILED = 1, STATUS_USAGE = 2, STATUS_NO_VOLUME = 4, STATUS_NO_DEVICE = 5 };
 
 static int fail(const char *what, const char *cause)
 {
     fprintf(stderr, "squirrel-mount: %s: %s\n", what, cause);
     return STATUS_FAILED;
-}
-
-/* The two words that are no options; of the others only mount options are left to libfuse. */
-static int take_word(void *data, const char *word, int kind, struct fuse_args *rest)
-{
-    (void)rest;
-    struct options *options = data;
-    if (kind != FUSE_OPT_KEY_NONOPT)
-        return word[0] == '-' ? -1 : 1;
-    char **place = options->image == NULL ? &options->image : &options->folder;
-    if (*place != NULL)
-        return -1;
-    *place = strdup(word);
-    return 0;
-}
-
-/* The least limit of a script has room for the question at its start and the longest line. */
-static bool is_possible(const struct options *options)
-{
-    return options->image != NULL && options->folder != NULL && options->script_limit > LONGEST_LINE + 16 &&
-           options->script_limit <= SCRIPT_LIMIT;
-}
-
-static bool read_options(struct fuse_args *words, struct options *options)
-{
-    *options = (struct options){.script_limit = SCRIPT_LIMIT};
-    if (fuse_opt_parse(words, options, option_words, take_word) == 0 && is_possible(options))
-        return true;
-    fprintf(stderr, "squirrel-mount: usage: squirrel-mount IMAGE FOLDER [-f] [-o OPTIONS]\n");
-    return false;
 }
 
 /* A path from the root, also of a file that isn't there, or whose folder isn't. NULL where memory is out. */
@@ -155,19 +111,19 @@ static void hold_signals(sigset_t *waiting)
         sigdelset(waiting, ending[index]);
 }
 
-/* Waits for a call or for what the program writes to standard error, which is passed on. Whether there may be a call. */
+/* Waits for a call, for what the program writes to standard error, or for its end. Whether there may be a call. */
 static bool await_call(struct fuse_session *session, struct volume *volume, const sigset_t *waiting)
 {
+    struct program *program = &volume->program;
     struct pollfd files[] = {
         {.fd = fuse_session_fd(session), .events = POLLIN},
-        {.fd = volume->program.errors, .events = POLLIN},
+        {.fd = program->errors, .events = POLLIN},
+        {.fd = program_is_up(program) ? program->replies : -1},
     };
-    if (ppoll(files, 2, NULL, waiting) < 0)
+    if (ppoll(files, 3, NULL, waiting) < 0)
         return false;
-    if (files[1].revents != 0) {
-        program_pass_errors(&volume->program);
-        program_is_up(&volume->program);
-    }
+    if (files[1].revents != 0 || files[2].revents != 0)
+        program_look(program);
     return files[0].revents != 0;
 }
 
@@ -187,13 +143,24 @@ static void answer_calls(struct fuse_session *session, struct volume *volume, co
     free(call.mem);
 }
 
+/* The program didn't start: what stands in the way of its image is told, where that can be found. */
+static int fail_start(const struct program *program)
+{
+    char cause[CAUSE_ROOM];
+    bool is_image = program->status == STATUS_NO_DEVICE || program->status == STATUS_NO_VOLUME;
+    if (is_image && cause_at_start(program->image, cause))
+        fail(program->image, cause);
+    return program->status != 0 ? program->status : STATUS_FAILED;
+}
+
 /* Starts the program, and looks what is in the volume. 0, or the exit status. */
 static int start_volume(struct volume *volume)
 {
     struct space space;
     if (!program_start(&volume->program))
-        return volume->program.status != 0 ? volume->program.status : STATUS_FAILED;
-    if (volume_space(volume, &space) == 0 && nodes_make(&volume->nodes, space.inodes) && volume_remove_hidden(volume) == 0)
+        return fail_start(&volume->program);
+    volume->image_bytes = bytes_of_image(volume->program.image);
+    if (volume_space(volume, &space) == 0 && nodes_make(&volume->nodes, space.inodes) && hidden_remove_all(volume) == 0)
         return 0;
     int status = program_end(&volume->program);
     return status != 0 ? status : fail(volume->program.image, "the volume can't be used");
@@ -202,8 +169,8 @@ static int start_volume(struct volume *volume)
 /* Ends the script. Files that are still open lose their hidden names before. */
 static int end_volume(struct volume *volume)
 {
-    if (program_is_up(&volume->program) && volume->nodes.hidden > 0)
-        volume_remove_hidden(volume);
+    if (program_is_up(&volume->program) && volume->hidden_names > 0)
+        hidden_remove_all(volume);
     return program_end(&volume->program);
 }
 
@@ -275,42 +242,73 @@ static bool fork_to_background(int *waiting)
     _exit((unsigned char)status);
 }
 
-/* The words for libfuse: mount options that always hold before those of the caller. */
+/* The words for libfuse: mount options that always hold before those of the caller. The mount's source is the image. */
 static struct fuse_session *make_session(struct fuse_args *words, struct volume *volume)
 {
-    static const char always[] = "-odefault_permissions,fsname=squirrel,subtype=squirrel";
-    if (fuse_opt_insert_arg(words, 1, always) != 0)
-        return NULL;
-    return fuse_session_new(words, &calls, sizeof calls, volume);
+    char *source = NULL, *always = NULL;
+    bool is_made = asprintf(&source, "fsname=%s", volume->program.image) >= 0 &&
+                   fuse_opt_add_opt(&always, "default_permissions,subtype=squirrel") == 0 &&
+                   fuse_opt_add_opt_escaped(&always, source) == 0 && fuse_opt_insert_arg(words, 1, "-o") == 0 &&
+                   fuse_opt_insert_arg(words, 2, always) == 0;
+    free(source);
+    free(always);
+    return is_made ? fuse_session_new(words, &calls, sizeof calls, volume) : NULL;
+}
+
+/* The volume that the words name. */
+static void set_volume(struct volume *volume, const struct options *options)
+{
+    volume->program = (struct program){.path = program_path(), .image = options->image, .script_limit = options->script_limit,
+                                       .script = -1, .replies = -1, .errors = -1};
+    volume->is_quiet = options->is_quiet;
+    volume->user = getuid();
+    volume->group = getgid();
+}
+
+/* Mounts the volume, in the background where that is asked for. */
+static int mount_volume(struct fuse_args *words, struct options *options)
+{
+    static struct volume volume;
+    int waiting = -1;
+    if (find_paths(options) != 0)
+        return STATUS_FAILED;
+    set_volume(&volume, options);
+    struct fuse_session *session = make_session(words, &volume);
+    if (session == NULL)
+        return STATUS_FAILED;
+    if (!options->is_foreground && !fork_to_background(&waiting))
+        return fail("it can't go on in the background", strerror(errno));
+    int status = serve(session, &volume, options, &waiting);
+    tell_caller(&waiting, status);
+    fuse_session_destroy(session);
+    return status;
+}
+
+/* Does what the words ask for. The exit status. */
+static int do_words(struct fuse_args *words, struct options *options)
+{
+    if (!read_options(words, options))
+        return STATUS_USAGE;
+    if (options->is_help)
+        tell_help();
+    else if (options->is_version)
+        tell_version();
+    else
+        return mount_volume(words, options);
+    return 0;
 }
 
 int main(int count, char **arguments)
 {
-    static struct volume volume;
     struct fuse_args words = FUSE_ARGS_INIT(count, arguments);
     struct options options;
-    int waiting = -1;
     signal(SIGPIPE, SIG_IGN);
     signal(SIGCHLD, SIG_DFL);
     if (!has_streams())
         return STATUS_FAILED;
-    if (!read_options(&words, &options))
-        return STATUS_USAGE;
-    if (find_paths(&options) != 0)
-        return STATUS_FAILED;
-    volume.program = (struct program){.path = program_path(), .image = options.image, .script_limit = options.script_limit,
-                                      .script = -1, .replies = -1, .errors = -1};
-    volume.is_quiet = options.is_quiet;
-    volume.user = getuid();
-    volume.group = getgid();
-    struct fuse_session *session = make_session(&words, &volume);
-    if (session == NULL)
-        return STATUS_FAILED;
-    if (!options.is_foreground && !fork_to_background(&waiting))
-        return fail("it can't go on in the background", strerror(errno));
-    int status = serve(session, &volume, &options, &waiting);
-    tell_caller(&waiting, status);
-    fuse_session_destroy(session);
+    int status = do_words(&words, &options);
+    free(options.image);
+    free(options.folder);
     fuse_opt_free_args(&words);
     return status;
 }

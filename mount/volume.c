@@ -1,4 +1,7 @@
 #include "volume.h"
+#include "causes.h"
+#include "digits.h"
+#include "replies.h"
 
 #include <errno.h>
 #include <inttypes.h>
@@ -123,39 +126,31 @@ void line_add_node(struct volume *volume, uint64_t inode)
     if (inode == ROOT)
         add_text(volume, " /", 2);
     else if (name == NULL)
-        volume->line_error = ENOENT;
+        volume->line_error = ESTALE;
     else
         line_add_name(volume, name->directory, name->bytes);
 }
 
-/* How many bytes of a piece the line has room for: whole pages where it has room for one. */
-static size_t piece_for(const struct volume *volume, size_t length)
+/* How many bytes of these the line has room for: whole pages where it has room for one. */
+static size_t room_for(const struct volume *volume, size_t length)
 {
     size_t room = volume->length + 1 < LONGEST_LINE ? (LONGEST_LINE - volume->length - 1) / 2 : 0;
     if (room > PAGE)
         room -= room % PAGE;
-    if (room > WRITE_PIECE)
-        room = WRITE_PIECE;
     return length < room ? length : room;
 }
 
 size_t line_add_bytes(struct volume *volume, const char *bytes, size_t length)
 {
-    static const char digits[] = "0123456789abcdef";
-    size_t count = piece_for(volume, length);
+    size_t count = room_for(volume, length);
     if (volume->line_error != 0)
         return 0;
     if (count == 0) {
         volume->line_error = ENAMETOOLONG;
         return 0;
     }
-    char *at = volume->line + volume->length;
-    *at++ = ' ';
-    for (size_t index = 0; index < count; index++) {
-        unsigned char byte = (unsigned char)bytes[index];
-        *at++ = digits[byte >> 4];
-        *at++ = digits[byte & 15];
-    }
+    volume->line[volume->length] = ' ';
+    digits_write(volume->line + volume->length + 1, bytes, count);
     volume->length += 1 + 2 * count;
     return count;
 }
@@ -169,7 +164,9 @@ static int error_of(struct volume *volume, const char *word)
             return refusals[index].error;
     }
     if (strcmp(word, "Fault") == 0 || strcmp(word, "Stopped") == 0) {
-        program_give_up(&volume->program, "a fence of the device failed");
+        char cause[CAUSE_ROOM];
+        cause_of_fault(volume->program.image, volume->image_bytes, cause);
+        program_give_up(&volume->program, cause);
         return EIO;
     }
     return volume_bad_reply(volume);
@@ -183,39 +180,35 @@ int volume_bad_reply(struct volume *volume)
     return EIO;
 }
 
-int line_ask(struct volume *volume)
+int line_send(struct volume *volume)
 {
     if (volume->program.is_broken)
         return EIO;
     if (volume->line_error != 0)
         return volume->line_error;
     volume->line[volume->length] = '\n';
-    volume->reply = program_ask(&volume->program, volume->line, volume->length + 1);
-    if (volume->reply == NULL)
+    return program_send(&volume->program, volume->line, volume->length + 1) ? 0 : EIO;
+}
+
+int line_take(struct volume *volume)
+{
+    volume->reply = program_take(&volume->program);
+    if (volume->reply == NULL || volume->program.is_broken)
         return EIO;
     if (strncmp(volume->reply, "error ", 6) == 0)
         return error_of(volume, volume->reply + 6);
     return strcmp(volume->reply, "ok") == 0 || strncmp(volume->reply, "ok ", 3) == 0 ? 0 : volume_bad_reply(volume);
 }
 
-/* A reply is read from left to right: this text, or a number. */
-
-static bool take_text(const char **at, const char *text)
+int line_ask(struct volume *volume)
 {
-    size_t length = strlen(text);
-    if (strncmp(*at, text, length) != 0)
-        return false;
-    *at += length;
-    return true;
+    int error = line_send(volume);
+    return error != 0 ? error : line_take(volume);
 }
 
-static bool take_number(const char **at, uint64_t *number)
+bool line_may_wait(const struct volume *volume)
 {
-    const char *begin = *at;
-    *number = 0;
-    for (; **at >= '0' && **at <= '9'; (*at)++)
-        *number = *number * 10 + (uint64_t)(**at - '0');
-    return *at != begin;
+    return volume->program.asked == 0 || program_has_room(&volume->program, volume->length + 1);
 }
 
 static bool takes_status(const struct volume *volume, struct status *status)
@@ -272,6 +265,42 @@ int volume_link(struct volume *volume, uint64_t inode, uint64_t directory, const
     return line_ask(volume);
 }
 
+/* Sends the line, and behind it, where the script has room for both, that of the status of the name that it makes. */
+static int ask_with_status(struct volume *volume, uint64_t directory, const char *name, struct status *status)
+{
+    int error = line_send(volume);
+    if (error != 0)
+        return error;
+    line_begin(volume, "stat");
+    line_add_name(volume, directory, name);
+    if (!line_may_wait(volume)) {
+        error = line_take(volume);
+        return error != 0 ? error : volume_stat_name(volume, directory, name, status);
+    }
+    int status_error = line_send(volume);
+    error = line_take(volume);
+    if (status_error == 0)
+        status_error = line_take(volume);
+    if (error == 0 && status_error == 0 && !takes_status(volume, status))
+        error = volume_bad_reply(volume);
+    return error != 0 ? error : status_error;
+}
+
+int volume_make(struct volume *volume, const char *command, uint64_t directory, const char *name, struct status *status)
+{
+    line_begin(volume, command);
+    line_add_name(volume, directory, name);
+    return ask_with_status(volume, directory, name, status);
+}
+
+int volume_make_link(struct volume *volume, uint64_t inode, uint64_t directory, const char *name, struct status *status)
+{
+    line_begin(volume, "link");
+    line_add_node(volume, inode);
+    line_add_name(volume, directory, name);
+    return ask_with_status(volume, directory, name, status);
+}
+
 int volume_truncate(struct volume *volume, uint64_t inode, uint64_t size)
 {
     line_begin(volume, "truncate");
@@ -293,96 +322,6 @@ int volume_space(struct volume *volume, struct space *space)
     return is_read ? 0 : volume_bad_reply(volume);
 }
 
-/* Of each digit its value and one more, and nothing of all other bytes. */
-static const signed char digit_values[256] = {
-    ['0'] = 1,  ['1'] = 2,  ['2'] = 3,  ['3'] = 4,  ['4'] = 5,  ['5'] = 6,  ['6'] = 7,  ['7'] = 8,
-    ['8'] = 9,  ['9'] = 10, ['a'] = 11, ['b'] = 12, ['c'] = 13, ['d'] = 14, ['e'] = 15, ['f'] = 16,
-    ['A'] = 11, ['B'] = 12, ['C'] = 13, ['D'] = 14, ['E'] = 15, ['F'] = 16,
-};
-
-/* The byte that two digits stand for, or less than 0. */
-static int byte_of(const char *digits)
-{
-    return (digit_values[(unsigned char)digits[0]] - 1) * 16 | (digit_values[(unsigned char)digits[1]] - 1);
-}
-
-/* So many bytes of two digits each, and nothing behind them. */
-static bool take_bytes(const char *at, char *bytes, size_t count)
-{
-    int all = 0;
-    if (strlen(at) != 2 * count)
-        return false;
-    for (size_t index = 0; index < count; index++) {
-        int byte = byte_of(at + 2 * index);
-        all |= byte;
-        bytes[index] = (char)byte;
-    }
-    return all >= 0;
-}
-
-static int read_piece(struct volume *volume, uint64_t inode, uint64_t offset, char *bytes, size_t length, size_t *count)
-{
-    line_begin(volume, "read");
-    line_add_node(volume, inode);
-    line_add_number(volume, offset);
-    line_add_number(volume, length);
-    int error = line_ask(volume);
-    if (error != 0)
-        return error;
-    uint64_t number;
-    const char *at = volume->reply;
-    if (!take_text(&at, "ok ") || !take_number(&at, &number) || number > length || !take_text(&at, " "))
-        return volume_bad_reply(volume);
-    if (number == 0 ? strcmp(at, "-") != 0 : !take_bytes(at, bytes, number))
-        return volume_bad_reply(volume);
-    *count = number;
-    return 0;
-}
-
-int volume_read(struct volume *volume, uint64_t inode, uint64_t offset, char *bytes, size_t length, size_t *count)
-{
-    size_t piece = READ_PIECE, got = READ_PIECE;
-    *count = 0;
-    while (*count < length && got == piece) {
-        piece = length - *count < READ_PIECE ? length - *count : READ_PIECE;
-        int error = read_piece(volume, inode, offset + *count, bytes + *count, piece, &got);
-        if (error != 0)
-            return error;
-        *count += got;
-    }
-    return 0;
-}
-
-static int write_piece(struct volume *volume, uint64_t inode, uint64_t offset, const char *bytes, size_t length, size_t *count)
-{
-    line_begin(volume, "write");
-    line_add_node(volume, inode);
-    line_add_number(volume, offset);
-    *count = line_add_bytes(volume, bytes, length);
-    int error = line_ask(volume);
-    if (error != 0)
-        return error;
-    uint64_t number;
-    const char *at = volume->reply;
-    bool is_read = take_text(&at, "ok ") && take_number(&at, &number) && *at == '\0' && number == *count;
-    return is_read ? 0 : volume_bad_reply(volume);
-}
-
-int volume_write(struct volume *volume, uint64_t inode, uint64_t offset, const char *bytes, size_t length, size_t *count)
-{
-    *count = 0;
-    while (*count < length) {
-        size_t written;
-        int error = write_piece(volume, inode, offset + *count, bytes + *count, length - *count, &written);
-        if (error == EIO || (error != 0 && *count == 0))
-            return error;
-        if (error != 0)
-            return 0;
-        *count += written;
-    }
-    return 0;
-}
-
 /* Decodes the written names behind the count of a listing into as many bytes or fewer. Returns where they end, or NULL. */
 static char *decode_names(const char *at, uint64_t number, char *names)
 {
@@ -394,10 +333,9 @@ static char *decode_names(const char *at, uint64_t number, char *names)
                 *names++ = *at++;
                 continue;
             }
-            int byte = at[1] == '\0' ? -1 : byte_of(at + 1);
-            if (byte <= 0)
+            if (at[1] == '\0' || !digits_read(names, at + 1, 1) || *names == '\0')
                 return NULL;
-            *names++ = (char)byte;
+            names++;
             at += 3;
         }
         *names++ = '\0';
@@ -424,64 +362,4 @@ int volume_list(struct volume *volume, uint64_t inode, char **names, size_t *len
     }
     *length = (size_t)(end - *names);
     return 0;
-}
-
-/* Hidden names. */
-
-int volume_remove_hidden(struct volume *volume)
-{
-    char *names;
-    size_t length;
-    int error = volume_list(volume, ROOT, &names, &length);
-    if (error != 0)
-        return error;
-    for (const char *name = names; error == 0 && name < names + length; name += strlen(name) + 1) {
-        if (nodes_is_hidden_name(ROOT, name))
-            error = volume_ask_name(volume, "unlink", ROOT, name);
-        /* a directory of such a name is none of those that a mount makes */
-        if (error == EISDIR) {
-            volume->nodes.hidden++;
-            error = 0;
-        }
-    }
-    free(names);
-    return error;
-}
-
-/* The hidden name is known from now on. */
-static int enter_hidden(struct volume *volume, uint64_t inode)
-{
-    char hidden[HIDDEN_ROOM];
-    nodes_hidden_name(inode, hidden);
-    if (!nodes_name(&volume->nodes, ROOT, hidden, inode))
-        return ENOMEM;
-    nodes_at(&volume->nodes, inode)->is_hidden = true;
-    volume->nodes.hidden++;
-    return 0;
-}
-
-int volume_hide(struct volume *volume, const struct name *name)
-{
-    char hidden[HIDDEN_ROOM];
-    nodes_hidden_name(name->node, hidden);
-    int error = volume_rename(volume, name->directory, name->bytes, ROOT, hidden);
-    return error != 0 ? error : enter_hidden(volume, name->node);
-}
-
-int volume_link_hidden(struct volume *volume, uint64_t inode)
-{
-    char hidden[HIDDEN_ROOM];
-    nodes_hidden_name(inode, hidden);
-    int error = volume_link(volume, inode, ROOT, hidden);
-    return error != 0 ? error : enter_hidden(volume, inode);
-}
-
-void volume_unhide(struct volume *volume, uint64_t inode)
-{
-    char hidden[HIDDEN_ROOM];
-    nodes_hidden_name(inode, hidden);
-    volume_ask_name(volume, "unlink", ROOT, hidden);
-    nodes_unname(&volume->nodes, ROOT, hidden);
-    nodes_at(&volume->nodes, inode)->is_hidden = false;
-    volume->nodes.hidden--;
 }

@@ -10,18 +10,23 @@
 #include <stdint.h>
 #include <sys/types.h>
 
-enum { READ_PIECE = 16384, WRITE_PIECE = 24576, PAGE = 4096 };
+enum { PAGE = 4096 };
 
 struct volume {
     struct program program;
     struct nodes nodes;
     uid_t user;
     gid_t group;
+    uint64_t image_bytes;       /* when the program started */
+    uint64_t hidden_names;      /* how many there are */
+    bool has_others;            /* names of their form that are none */
     bool is_quiet;              /* modes and owners that can't be kept are no error */
     char line[LONGEST_LINE + 1];
     size_t length;              /* of the line */
     int line_error;             /* why it can't be asked, or 0 */
     const char *reply;
+    char *bytes;                /* what was read last */
+    size_t room;                /* for them */
 };
 
 struct status {
@@ -35,17 +40,24 @@ struct space {
     uint64_t free_inodes, inodes, free_pages, pages;
 };
 
-/* A line is built word by word, and asked. */
+/* A line is built word by word, and asked. What names a node that has gone is ESTALE, and what is in one ENOENT. */
 void line_begin(struct volume *volume, const char *command);
 void line_add_node(struct volume *volume, uint64_t inode);
 void line_add_name(struct volume *volume, uint64_t directory, const char *name);
 void line_add_number(struct volume *volume, uint64_t number);
 
-/* As many bytes as fit into one piece and into the line. Returns their number, 0 where there is room for none. */
+/* As many bytes as the line has room for, whole pages where it has room for one. Returns their number, 0 where there is none. */
 size_t line_add_bytes(struct volume *volume, const char *bytes, size_t length);
 
 /* Asks the line. 0 where it is done, or the error that stands for the refusal. */
 int line_ask(struct volume *volume);
+
+/* The same in two steps: several lines may go out before the first reply is taken, and each reply is taken. */
+int line_send(struct volume *volume);
+int line_take(struct volume *volume);
+
+/* Whether the line may be sent now. Else the replies of those before it are taken first. */
+bool line_may_wait(const struct volume *volume);
 
 /* A reply that is none of those that were to come: EIO from now on. */
 int volume_bad_reply(struct volume *volume);
@@ -58,26 +70,15 @@ int volume_stat_node(struct volume *volume, uint64_t inode, struct status *statu
 int volume_stat_name(struct volume *volume, uint64_t directory, const char *name, struct status *status);
 int volume_rename(struct volume *volume, uint64_t directory, const char *name, uint64_t new_directory, const char *new_name);
 int volume_link(struct volume *volume, uint64_t inode, uint64_t directory, const char *name);
+
+/* A name is made, of a new file or directory or of a file that is there; and what it names then. */
+int volume_make(struct volume *volume, const char *command, uint64_t directory, const char *name, struct status *status);
+int volume_make_link(struct volume *volume, uint64_t inode, uint64_t directory, const char *name, struct status *status);
+
 int volume_truncate(struct volume *volume, uint64_t inode, uint64_t size);
 int volume_space(struct volume *volume, struct space *space);
 
-/* At most so many bytes from an offset on. `count` gets how many there are. */
-int volume_read(struct volume *volume, uint64_t inode, uint64_t offset, char *bytes, size_t length, size_t *count);
-
-/* The bytes from an offset on. `count` gets how many were written: fewer only where a later piece is refused. */
-int volume_write(struct volume *volume, uint64_t inode, uint64_t offset, const char *bytes, size_t length, size_t *count);
-
 /* The names of a directory, decoded, each behind the last one's zero byte, in memory to be freed. */
 int volume_list(struct volume *volume, uint64_t inode, char **names, size_t *length);
-
-/* Removes all hidden names: at a mount, and at its end. */
-int volume_remove_hidden(struct volume *volume);
-
-/* The last name of an open file is to go: it gets a hidden one in its place, or beside it. */
-int volume_hide(struct volume *volume, const struct name *name);
-int volume_link_hidden(struct volume *volume, uint64_t inode);
-
-/* The hidden name of a file goes, and the file with it where it has no other. */
-void volume_unhide(struct volume *volume, uint64_t inode);
 
 #endif

@@ -1,17 +1,18 @@
 """Ends and refusals of a mount: a program that is killed, images that aren't mounted, a second mount, the background, signals."""
 import fcntl
 import os
+import re
 import signal
 import subprocess
 import time
 
 from mounts import (
-    KILLED, await_so, environment, expect, expect_equal, expect_error, listed, read, replies, start_in_background, start_words,
-    unmount, write,
+    EACH_CALL_FAILS, KILLED, PAGE, ROOT, Mount, await_so, environment, error_of, expect, expect_equal, expect_error, listed,
+    make_volume, read, replies, start_in_background, start_words, tell, unmount, write,
 )
 
-NO_VOLUME = (4, "not a volume\n", "")
-DEVICE_FAULT = (5, "", "squirrel: device fault\n")
+def device_fault(image, cause):
+    return 5, "", f"squirrel: device fault\nsquirrel-mount: {image}: {cause}\n"
 
 
 def killed(trial):
@@ -26,7 +27,6 @@ def killed(trial):
         mount.kill_program()
         for call, words in [(os.fsync, ()), (os.fdatasync, ()), (os.write, (b"more",)), (os.ftruncate, (1,))]:
             expect_error("EIO", call, file, *words)
-        expect_error("EIO", os.close, os.dup(file))
         for call, words in [(os.mkdir, ()), (os.open, (os.O_CREAT | os.O_RDWR,)), (os.stat, ())]:
             expect_error("EIO", call, trial.at("new"), *words)
         expect_error("EIO", os.unlink, trial.at("d", "there"))
@@ -39,7 +39,7 @@ def killed(trial):
         time.sleep(1.1)
         expect_error("EIO", os.fstat, file)
         expect_error("EIO", os.stat, trial.at("d"))
-        expect_error("EIO", os.close, file)
+        os.close(file)
         mount.end(KILLED)
 
 
@@ -62,8 +62,7 @@ def refused(trial, wanted, image=None, folder=None):
     was_mounted = os.path.ismount(folder)
     told = start_in_background(trial.program, image, folder)
     expect_equal("a refusal in the background", told, wanted)
-    environment = {**os.environ, "SQUIRREL_PROGRAM": trial.program}
-    job = subprocess.run(start_words(image, folder), env=environment, capture_output=True, text=True, timeout=100)
+    job = subprocess.run(start_words(image, folder), env=environment(trial.program), capture_output=True, text=True, timeout=100)
     expect_equal("a refusal in the foreground", (job.returncode, job.stdout, job.stderr), wanted)
     expect_equal("something is mounted", os.path.ismount(folder), was_mounted)
 
@@ -72,28 +71,117 @@ def refusals(trial):
     trial.make(16)
     damage(trial.image)
     refused(trial, (4, "damaged 2 1\n", ""))
-    trial.image.write_bytes(b"")
-    refused(trial, NO_VOLUME)
+    for length in (0, 15 * PAGE, 16 * PAGE + 1):
+        trial.image.write_bytes(bytes(length))
+        cause = f"squirrel-mount: {trial.image}: it has another length than a volume's: {length} bytes\n"
+        refused(trial, (4, "not a volume\n", cause))
+    trial.image.write_bytes(bytes(16 * PAGE))
+    refused(trial, (4, "not a volume\n", ""))
     trial.image.unlink()
-    refused(trial, DEVICE_FAULT)
-    refused(trial, DEVICE_FAULT, image="no folder/v")
+    refused(trial, device_fault(trial.image, "there is no such file"))
+    no_file = os.path.join(os.getcwd(), "no folder/v")
+    refused(trial, device_fault(no_file, "there is no such file"), image="no folder/v")
+    refused(trial, device_fault(trial.host, "it is no file that may be written: Is a directory"), image=trial.host)
     trial.make(16)
+    with open(trial.image, "rb") as file:
+        fcntl.flock(file, fcntl.LOCK_EX)
+        refused(trial, device_fault(trial.image, "it is in use by another job"))
     refused(trial, (1, "", f"squirrel-mount: {trial.folder}/v: the image is below the folder\n"), image=trial.folder / "v")
     missing_folder = trial.work / "missing"
     refused(trial, (1, "", f"squirrel-mount: {missing_folder}: No such file or directory\n"), folder=missing_folder)
     usage = "squirrel-mount: usage: squirrel-mount IMAGE FOLDER [-f] [-o OPTIONS]\n"
-    for words in ([], ["v"], ["v", "f", "g"], ["v", "f", "-x"], ["--help"], ["v", "f", "-o", "script=100"]):
-        job = subprocess.run([start_words("", "")[0], *words], env={**os.environ, "SQUIRREL_PROGRAM": trial.program},
-                             capture_output=True, text=True)
-        expect_equal(f"words {words}", (job.returncode, job.stdout, job.stderr), (2, "", usage))
+    for words in ([], ["v"], ["v", "f", "g"], ["v", "f", "-x"], ["v", "f", "-o", "script=100"]):
+        expect_equal(f"words {words}", told_by(trial, *words), (2, "", usage))
+
+
+def told_by(trial, *words):
+    """The status with which the adapter ends with these words, and what it writes."""
+    job = subprocess.run([start_words("", "")[0], *words], env=environment(trial.program), capture_output=True, text=True)
+    return job.returncode, job.stdout, job.stderr
+
+
+def options_of_page():
+    """Every option that docs/mount.md tells."""
+    page = (ROOT / "docs" / "mount.md").read_text().split("## Words")[1].split("\n## ")[0]
+    return re.findall(r"`(-o [a-z_]+|--?[a-zA-Z]+)[`=]", page)
+
+
+def helps(trial):
+    """Help has each option, and is told with whatever else stands there, and without a program."""
+    options = options_of_page()
+    expect({"-f", "-h", "--help", "-V", "-o quiet", "-o ro", "-o auto_unmount", "-o script"} <= set(options), f"options {options}")
+    for words in (["--help"], ["-h"], ["v", "-h"], ["v", "f", "--help", "-f"]):
+        status, out, err = told_by(trial, *words)
+        expect_equal(f"words {words}", (status, err), (0, ""))
+        for option in options:
+            expect(option in out, f"{words}: {option} isn't told")
+    for word in ("-V", "--version"):
+        status, out, err = told_by(trial, word)
+        expect_equal(word, (status, err), (0, ""))
+        expect("squirrel-mount" in out and "libfuse 3." in out, f"{word}: {out}")
 
 
 def two_mounts(trial):
     other = trial.work / "other"
     other.mkdir()
     with trial.mount() as mount:
-        refused(trial, DEVICE_FAULT, folder=other)
+        refused(trial, device_fault(trial.image, f"it is in use: it is mounted as {trial.folder}"), folder=other)
         write(trial.at("a"), b"a")
+        mount.end()
+
+
+def changed_length(trial):
+    """Another program lengthens the image of a mount: the next change is EIO, and the cause is told."""
+    trial.make(16)
+    with trial.mount() as mount:
+        os.truncate(trial.image, 17 * PAGE)
+        for _ in range(2):
+            expect_error("EIO", os.mkdir, trial.at("d"))
+        cause = f"{trial.image} has another length than its volume's: {17 * PAGE} bytes"
+        mount.end((5, "", f"squirrel-mount: {cause}: {EACH_CALL_FAILS}\nsquirrel: device fault\n"))
+
+
+def full_disk(trial):
+    """The host's disk has no room for the pages of an image that has holes."""
+    disk = trial.work / "disk"
+    disk.mkdir()
+    if subprocess.run(["mount", "-t", "tmpfs", "-o", "size=1m", "none", disk], capture_output=True).returncode != 0:
+        tell("        without a full disk: no file system can be mounted here")
+        return
+    try:
+        image = disk / "volume"
+        make_volume(trial.program, image, 1024)
+        with Mount(trial.program, image, trial.folder) as mount:
+            expect_error("EIO", write, trial.at("a"), bytes(2 * 10**6))
+            expect_error("EIO", os.mkdir, trial.at("d"))
+            mount.end((5, "", f"squirrel-mount: the disk of {image} is full: {EACH_CALL_FAILS}\nsquirrel: device fault\n"))
+    finally:
+        subprocess.run(["umount", disk], check=True)
+
+
+def adapter_killed(trial):
+    """The folder is left without an adapter, until it is unmounted; `auto_unmount` does that."""
+    trial.make(16)
+    for options in ((), ("auto_unmount",)):
+        with trial.mount(*options) as mount:
+            os.mkdir(trial.at("-".join(("d", *options))))
+            mount.job.kill()
+            mount.job.communicate()
+            if options:
+                await_so(lambda: error_of(os.listdir, trial.folder) is None, "the unmount by itself")
+            else:
+                expect_error("ENOTCONN", os.listdir, trial.folder)
+                expect(unmount(trial.folder), "it can't be unmounted")
+            expect_equal("the names of the empty folder", os.listdir(trial.folder), [])
+        await_so(lambda: is_free(trial.image), "the end of the program")
+    expect_equal("the names", listed(trial.program, trial.image), ["d", "d-auto_unmount"])
+
+
+def read_only(trial):
+    with trial.mount("ro") as mount:
+        expect_equal("the names", sorted(os.listdir(trial.folder)), ["d", "d-auto_unmount"])
+        expect_error("EROFS", os.mkdir, trial.at("e"))
+        expect_error("EROFS", os.rmdir, trial.at("d"))
         mount.end()
 
 
@@ -133,12 +221,15 @@ def interrupts(trial):
             expect_equal("what is read", os.read(file, 9), b"a")
             mount.job.send_signal(number)
             expect_equal("the end by a signal", mount.ended(), (0, "", ""))
-            expect_error("ENOTCONN", os.close, file)
+            expect_error("ENOTCONN", os.fsync, file)
+            error_of(os.close, file)
             expect(not os.path.ismount(trial.folder), "it is still mounted")
         expect_equal("the names", listed(trial.program, trial.image), ["b"])
         replies(trial.program, trial.image, "create /a", "write /a 0 61")
 
 
 def ends(trial):
-    for part in (killed, killed_anew, refusals, two_mounts, in_background, interrupts):
+    parts = (killed, killed_anew, refusals, helps, two_mounts, in_background, interrupts, changed_length, full_disk, adapter_killed,
+             read_only)
+    for part in parts:
         part(trial)

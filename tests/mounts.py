@@ -198,8 +198,8 @@ def read(path):
 
 
 @contextlib.contextmanager
-def opened(path, flags=os.O_RDWR):
-    file = os.open(path, flags, 0o644)
+def opened(path, flags=os.O_RDWR, mode=0o644):
+    file = os.open(path, flags, mode)
     try:
         yield file
     finally:

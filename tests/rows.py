@@ -3,7 +3,8 @@ import subprocess
 
 from mounts import has_sqlite_module
 
-SETTINGS = ["PRAGMA journal_mode=DELETE", "PRAGMA synchronous=FULL"]
+JOURNALS = ["DELETE", "WAL"]
+SETTINGS = ["PRAGMA journal_mode={}", "PRAGMA synchronous=FULL"]
 
 
 class Lost(Exception):
@@ -15,12 +16,12 @@ class ByModule:
 
     name = "python's module sqlite3"
 
-    def __init__(self, path):
+    def __init__(self, path, journal):
         import sqlite3
         self.faults = sqlite3.Error
         self.connection = sqlite3.connect(path, isolation_level=None, timeout=0)
         for setting in SETTINGS:
-            self.run(setting)
+            self.run(setting.format(journal))
 
     def run(self, statement):
         """The first values of its rows."""
@@ -41,11 +42,11 @@ class ByProgram:
 
     name = "the program sqlite3"
 
-    def __init__(self, path):
+    def __init__(self, path, journal):
         self.job = subprocess.Popen(["sqlite3", "-batch", "-bail", path], stdin=subprocess.PIPE, stdout=subprocess.PIPE,
                                     stderr=subprocess.DEVNULL, text=True, bufsize=1)
         for setting in SETTINGS:
-            self.run(setting)
+            self.run(setting.format(journal))
 
     def run(self, statement):
         try:

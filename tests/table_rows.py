@@ -37,7 +37,7 @@ def told_replies(trial):
                 expect_error("EIO", os.mkdir, trial.at(word))
                 expect_error("EIO", os.mkdir, trial.at("NotFound"))
             expect_error("EIO", os.fsync, file)
-            expect_error("EIO", os.close, file)
+            error_of(os.close, file)
             mount.end((0, "", f"squirrel-mount: {cause}: {EACH_CALL_FAILS}\n"))
 
 
@@ -127,18 +127,29 @@ def numbers_taken_again(trial):
     held = [os.open(trial.at("gone"), os.O_RDONLY), os.open(trial.at("gone too"), os.O_PATH)]
     numbers = [os.fstat(file).st_ino for file in held]
     os.rmdir(trial.at("gone"))
-    expect_equal("a directory that is gone", (os.fstat(held[0]).st_nlink, os.listdir(held[0])), (0, []))
-    expect_error("ENOENT", os.mkdir, "new", dir_fd=held[0])
+    removed(held[0], numbers[0])
     os.unlink(trial.at("gone too"))
     for number, name in zip(numbers, ("taken", "taken too"), strict=True):
         write(trial.at(name), name.encode())
         expect_equal("the number of a new file", os.stat(trial.at(name)).st_ino, number)
         expect_equal("what a new file reads", read(trial.at(name)), name.encode())
+    removed(held[0], numbers[0])
+    expect_error("ESTALE", os.fstat, held[1])
+    for flags in (os.O_RDONLY, os.O_RDWR | os.O_TRUNC):
+        expect_error("ESTALE", os.open, f"/proc/self/fd/{held[1]}", flags)
+    expect_error("ESTALE", os.truncate, f"/proc/self/fd/{held[1]}", 0)
     for file in held:
-        expect_error("EIO", os.fstat, file)
         os.close(file)
     for name in ("taken", "taken too"):
         expect_equal("what a new file reads", read(trial.at(name)), name.encode())
+
+
+def removed(directory, number):
+    """A directory that was removed while it is open is empty."""
+    shown = os.fstat(directory)
+    expect_equal("a directory that is gone", (shown.st_ino, shown.st_nlink, shown.st_size, os.listdir(directory)), (number, 0, 0, []))
+    for call, words in ((os.mkdir, ("new",)), (os.stat, ("new",)), (os.unlink, ("new",)), (os.open, ("new", os.O_CREAT))):
+        expect_error("ENOENT", call, *words, dir_fd=directory)
 
 
 def deep_paths(trial):
@@ -173,5 +184,6 @@ def rows_of_tables(trial):
         os.chmod(trial.at("a"), 0o600)
         os.chown(trial.at("a"), 1, 1)
         expect_equal("a mode that was set quietly", oct(os.stat(trial.at("a")).st_mode), oct(stat.S_IFREG | 0o644))
+        expect_equal("times of two files after a new mount", os.stat(trial.at("node")).st_mtime, os.stat(trial.at("s")).st_mtime)
         deep_paths(trial)
         mount.end()
