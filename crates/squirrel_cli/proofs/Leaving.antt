@@ -97,6 +97,8 @@ any_run {end = end} {took = took} {now = now} run = record {
   settled = run.settled;
   last = run.last;
   fences = run.fences;
+  events = run.events;
+  cut = run.cut;
   no_memory = run.no_memory;
   refused = run.refused;
   any_moment = run.any_moment;

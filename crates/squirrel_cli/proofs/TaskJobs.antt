@@ -1,5 +1,5 @@
 -- Each task mounts the device, and one alone reads the script.
-use Rattle.std.proofs.Common.{◌≡◌, ◌⊎◌, inl, inr, ℕ, refl}
+use Rattle.std.proofs.Common.{◌≡◌, ◌⊎◌, inl, inr, ℕ, refl, subst}
 use Rattle.squirrel_cli.specs.declared.tasks.Task.{Task}
 use Rattle.squirrel_cli.specs.declared.tasks.Task.TheVariants.{Answer, Generate, List}
 use Rattle.squirrel_cli.specs.Asked.{Asks, MountsDevice}
@@ -14,3 +14,10 @@ pub task_script : {S : Type 0} (task : Task) → (task ≡ List → S) → ((see
 task_script Answer lists works = inl refl
 task_script (Generate seed count) lists works = inr (works seed count refl)
 task_script List lists works = inr (lists refl)
+
+-- what is told of a generated script's numbers is told of the task's
+pub generated_as : {task : Task} (told : ℕ → ℕ → Type 0) (a b seed count : ℕ) → task ≡ Generate a b → task ≡ Generate seed count → told a b → told seed count
+generated_as {task} told a b seed count one two holds =
+    let seeds : a ≡ seed = cc in
+    let counts : b ≡ count = cc in
+    subst (told seed) counts (subst (λ (n : ℕ). told n b) seeds holds)
