@@ -1,5 +1,5 @@
 -- The pages behind a file's new end, and what the steps of a cut and their laws ask of them.
-use Rattle.std.proofs.Common.{◌≡◌, ◌≢◌, ℕ, ◌+◌, ◌-◌, ◌*◌, ◌<◌, ◌≤◌, List, length, slice_index, take, drop, length-set, get_or-set_other, inl, inr, refl, sym, ap, subst, ◌∙◌, arith, length-drop}
+use Rattle.std.proofs.Common.{◌≡◌, ◌≢◌, ℕ, ◌+◌, ◌-◌, ◌<◌, ◌≤◌, List, length, slice_index, take, drop, get_or-set_other, inl, inr, sym, ap, subst, ◌∙◌, arith, length-drop}
 use Rattle.std.specs.Prelude.{Contains}
 use Rattle.std.proofs.lemmas.List.{get_or_default, get_or-drop, take_rest}
 use Rattle.std.proofs.lemmas.List.Elements.{Contains-get_or}
@@ -10,7 +10,6 @@ use Rattle.layout.proofs.GeometryLaws.{same_descriptor_word, inode_word_not_desc
 use Rattle.page_state.specs.Page.{EachPage, descriptor_of}
 use Rattle.page_state.proofs.PageLaws.{same_descriptor_fields}
 use Rattle.image_reading.specs.Reading.{pages_of_size}
-use Rattle.image_reading.specs.Soundness.{Rule}
 use Rattle.image_laws.specs.Drop.{GivesPages}
 use Rattle.image_laws.specs.Frame.{SameMeaning}
 use Rattle.image_laws.proofs.Meaning.{same_itself}
@@ -31,13 +30,6 @@ module _ {P : ℕ} {W : List ℕ} {resizing : Resizing} {pages : List ℕ} (may 
 
   abbrev z : ℕ
   z = resizing.new_size
-
-  -- where the pages begin that go
-  abbrev kept : ℕ
-  kept = length pages - resizing.cut
-
-  pub whole : length W ≡ 512 * P
-  whole = (may.can.tidy.coherent Rule.head 0).whole refl
 
   cut_is : resizing.cut ≡ pages_of_size (inode_size W i) - pages_of_size z
   cut_is = may.cut ∙ ap (λ (n : ℕ). pages_of_size n - pages_of_size z) (sym may.old_size)
@@ -62,9 +54,6 @@ module _ {P : ℕ} {W : List ℕ} {resizing : Resizing} {pages : List ℕ} (may 
   sized_descriptor : (j : ℕ) → descriptor_of P (sized W i z) j ≡ descriptor_of P W j
   unfolding page_owner page_kind page_offset
   sized_descriptor j = same_descriptor_fields (descriptor_of P (sized W i z) j) (descriptor_of P W j) (sized_word j 0) (sized_word j 1) (sized_word j 2)
-
-  pub sized_whole : length (sized W i z) ≡ 512 * P
-  sized_whole = length-set W (inode_word_of i 2) z ∙ whole
 
   -- the words with the new size mean what they mean
   pub sized_same : SameMeaning P (sized W i z) (sized W i z)

@@ -1,17 +1,16 @@
 -- What a crash leaves of a file's growth.
-use Rattle.std.proofs.Common.{◌≡◌, ◌≢◌, inl, inr, ℕ, ◌%◌, ◌==◌, ◌<◌, false, cond, List, length, Option, Some, None, unwrap_or, refl, sym, ap, subst, ◌∙◌, arith}
+use Rattle.std.proofs.Common.{◌≡◌, inl, inr, ℕ, ◌%◌, ◌==◌, ◌<◌, false, cond, List, length, Option, Some, None, unwrap_or, refl, sym, ap, subst, ◌∙◌, arith}
 use Rattle.std.proofs.lemmas.Bool.Decides.{nat_tests}
 use Rattle.layout.specs.Fields.{word, inode_size}
 use Rattle.layout.proofs.ByteLaws.{page_byte-kept}
 use Rattle.tree_model.specs.PathText.{Route}
 use Rattle.tree_model.specs.Run.{State}
 use Rattle.tree_model.specs.Step.{outcome_of, step, refusal_of, least_free_id, id_of, tree_after, with_bytes, overwritten, resized}
-use Rattle.tree_model.specs.Tree.{Node, Tree, root_id, id_at, bytes_of, bytes_of_node}
+use Rattle.tree_model.specs.Tree.{Tree, root_id, id_at, bytes_of}
 use Rattle.tree_model.specs.Capacity.{untaken}
 use Rattle.tree_model.specs.declared.command.Command.{Command}
 use Rattle.tree_model.specs.declared.command.Command.TheVariants.{Write}
 use Rattle.tree_model.specs.declared.reply.Refusal.{Refusal}
-use Rattle.tree_model.proofs.TreeLaws.{node_at-with_bytes_here}
 use Rattle.image_reading.specs.Reading.{Reads}
 use Rattle.image_reading.specs.Soundness.{IsCoherent}
 use Rattle.image_laws.specs.CreateStep.{IsStepped}
@@ -40,10 +39,6 @@ mix_of_old a b = record { size = refl; words = λ x. inl refl }
 
 pub same_range : (P : ℕ) (W M N : List ℕ) (i offset : ℕ) (bytes : List ℕ) → ((at : ℕ) → IsRangeWord P W i offset bytes at → word N at ≡ word M at) → SameRange P W M N i offset bytes
 same_range P W M N i offset bytes same = λ o j low inside page. page_byte-kept P M N j (o % 4096) (same _ (IsRangeWord.byte o j low inside page))
-
-pub same_size : (P : ℕ) (W M N : List ℕ) (i offset : ℕ) (bytes : List ℕ) → ((at : ℕ) → IsRangeWord P W i offset bytes at → word N at ≡ word M at) → inode_size N i ≡ inode_size M i
-unfolding inode_size
-same_size P W M N i offset bytes same = same _ IsRangeWord.size
 
 -- ---- the tree after
 
@@ -90,14 +85,6 @@ module _ {P : ℕ} {W : List ℕ} {state : State} {command : Command} {growth : 
 
   fresh : (bytes : List ℕ) × (length bytes ≡ z) × (with_bytes T i bytes ≡ new)
   fresh = let (made, whole, is) = fresh_by command by.grows in (made, whole, is ∙ sym tree_is)
-
-  pub differ : T ≢ new
-  differ same =
-      let (made, whole, is) = fresh in
-      let here = ap (λ (t : Tree). length (bytes_of t i)) (same ∙ sym is) ∙ ap (λ (o : Option Node). length (bytes_of_node o)) (node_at-with_bytes_here T i made) in
-      let before = long in
-      let larger = may.can.larger in
-      omega (arith, here, whole, before, larger)
 
   -- ---- torn, or where nothing is written the tree before
 

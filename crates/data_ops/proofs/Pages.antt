@@ -97,12 +97,6 @@ pages_given P pages run all d same = let taken = pages_taken P 0 pages run all d
 
 -- ---- the rest of descriptors
 
-rest_word : (P j f w : ℕ) → 1 ≤ f → f < 3 → w ≡ descriptor_word_of P j f → IsReleasedWord P j w
-rest_word P j zero w some few at = absurd (omega (arith, some))
-rest_word P j (suc zero) w some few at = inl at
-rest_word P j (suc (suc zero)) w some few at = inr at
-rest_word P j (suc (suc (suc f))) w some few at = absurd (omega (arith, few))
-
 zero_rest : (P j f : ℕ) (I : List ℕ) → IsWithoutKind P I j → 1 ≤ f → f < 3 → word I (descriptor_word_of P j f) ≡ 0
 unfolding page_kind page_offset
 zero_rest P j zero I none some few = absurd (omega (arith, some))
@@ -199,15 +193,3 @@ some_fenced {a = a} {b} {result} pages events t is test one = subst (λ (some : 
 
 pub none_fenced : (device : DeviceView) (pages : List ℕ) (events : ℕ) (t : Bool) → t ≡ (length pages == 0) → t ≡ true → Fenced {T = Unit {0}} {E = PmFault} (nat_lt 0 (length pages)) events device device (Ok tt)
 none_fenced device pages events t is test = subst (λ (some : Bool). Fenced {T = Unit {0}} {E = PmFault} some events device device (Ok tt)) (sym (test_none (length pages) (no_pages pages t is test))) (refl, refl)
-
--- an owner a page with the flush of its line, and the fence
-pub owners_events : {W : ℕ → Type 0} {a b : DeviceView} (n : ℕ) → Stores W a b (2 * n) → Stores W a b (n * 2)
-owners_events n stores = stores_weaker (n * 2) (λ word is. is) (omega arith) stores
-
--- by other names of the volume's pages and of the list
-pub of_pages : {a b : List ℕ} {ta tb : Option Trail} (Q : ℕ → ℕ → ℕ → Type 0) (P V : ℕ) (pages ps : List ℕ) → V ≡ P → ps ≡ pages → IsInterval (OfSome ps (Q V)) a ta b tb → IsInterval (OfSome pages (Q P)) a ta b tb
-of_pages {a} {b} {ta} {tb} Q P V pages ps volume list run =
-    subst (λ (v : ℕ). IsInterval (OfSome pages (Q v)) a ta b tb) volume (subst (λ (l : List ℕ). IsInterval (OfSome l (Q V)) a ta b tb) list run)
-
-pub each_of_pages : (Q : ℕ → ℕ → Type 0) (P V : ℕ) (pages ps : List ℕ) → V ≡ P → ps ≡ pages → EachPage ps (Q V) → EachPage pages (Q P)
-each_of_pages Q P V pages ps volume list each = subst (λ (v : ℕ). EachPage pages (Q v)) volume (subst (λ (l : List ℕ). EachPage l (Q V)) list each)

@@ -1,5 +1,5 @@
 -- Bytes of a file, word by word.
-use Rattle.std.proofs.Common.{◌≡◌, inl, inr, ℕ, ◌+◌, ◌-◌, ◌/◌, ◌%◌, ◌^◌, ◌<◌, ◌≤◌, List, ◌++◌, length, take, drop, slice_index, refl, ap, ◌∙◌, arith, length-append, length-drop, length-take}
+use Rattle.std.proofs.Common.{◌≡◌, inl, inr, ℕ, ◌+◌, ◌-◌, ◌/◌, ◌%◌, ◌^◌, ◌<◌, ◌≤◌, List, ◌++◌, length, take, drop, slice_index, ap, ◌∙◌, arith, length-append, length-drop, length-take}
 use Rattle.std.proofs.lemmas.Bool.{cases_lt}
 use Rattle.std.proofs.lemmas.List.{get_or-take, get_or-drop, get_or_append_left, get_or-append_right}
 use borrow.Rule.Slice.PartMut.{put_mid, post_of}
@@ -7,7 +7,7 @@ use Rattle.layout.specs.Geometry.{page_word_of}
 use Rattle.layout.specs.Fields.{word, page_byte}
 use Rattle.layout.specs.Name.{bytes_of_word}
 use Rattle.layout.proofs.ByteLaws.{slice_index-bytes_of_word}
-use Rattle.data_ops.specs.Reading.{file_byte, AreFileBytes}
+use Rattle.data_ops.specs.Reading.{file_byte}
 
 -- the bytes of the word that holds byte `at`, from that byte on
 pub bytes_from : (P : ℕ) (I pages : List ℕ) (at k : ℕ) → at % 8 + k < 8
@@ -52,13 +52,3 @@ one_more_word P I pages before parts offset start count eight inside so_far here
           ∙ here (k - start) (omega (arith, below, high))
           ∙ ap (λ (o : ℕ). file_byte P I pages o) at
     ]
-
--- so many bytes, and then so many more
-pub joined : (P : ℕ) (I pages front back : List ℕ) (offset next : ℕ) → next ≡ offset + length front → AreFileBytes P I pages offset front → AreFileBytes P I pages next back → AreFileBytes P I pages offset (front ++ back)
-joined P I pages front back offset next follows first second k inside = elim (cases_lt k (length front)) [
-  | inl low ↦ get_or_append_left front back 0 k low ∙ first k low
-  | inr high ↦
-      let both = length-append front back in
-      let at : next + (k - length front) ≡ offset + k = omega (arith, high, follows) in
-      get_or-append_right front back (length front) k 0 refl high ∙ second (k - length front) (omega (arith, inside, high, both)) ∙ ap (λ (o : ℕ). file_byte P I pages o) at
-]

@@ -75,9 +75,6 @@ module _ (volume : VolumeView) (device : DeviceView) (state : State) (path : Rou
   pub for_writing : IsWritingFor P W state path writing.offset bytes writing
   for_writing = writing_at P W state path writing.offset bytes writing plan.planned.plan_is
 
-  pub written_at : IsWritingAt P W state path bytes writing
-  written_at = record { reads = stands.reads; planned = plan.planned }
-
   some_test : (length bytes == 0) ≡ false
   some_test = some_by (length bytes == 0) (IsWritingFor P W state path writing.offset bytes) writing plan.planned.plan_is
 

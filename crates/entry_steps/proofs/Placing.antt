@@ -2,7 +2,6 @@
 use Rattle.std.proofs.Common.{◌≡◌, ◌⊎◌, inl, inr, ℕ, ◌+◌, ◌*◌, ◌<◌, ◌≤◌, List, slice_index, refl, sym, ap, subst, ◌∙◌, arith}
 use Rattle.std.specs.Prelude.{Option, Some, None, Result}
 use Rattle.std.proofs.lemmas.Bool.{cases_eq}
-use Rattle.std.specs.Option.{ForSome}
 use Rattle.pm_trait.specs.declared.event.Event.TheVariants.{Fence}
 use Rattle.pm_trait.specs.Device.{IsInterval, with_event}
 use Rattle.pm_trait.specs.DeviceView.{DeviceView}
@@ -12,7 +11,6 @@ use Rattle.layout.specs.Geometry.{IsVolumeSize, inodes_of, page_of_slot, descrip
 use Rattle.layout.specs.Fields.{word, page_owner}
 use Rattle.layout.specs.Name.{words_of_name, IsNameWords}
 use Rattle.layout.proofs.GeometryLaws.{page_of_entry}
-use Rattle.fence_token.specs.Ticket.{Settles}
 use Rattle.fence_token.specs.declared.states.Clean.{Clean}
 use Rattle.fence_token.specs.declared.states.InFlight.{InFlight}
 use Rattle.fence_token.proofs.ObjectLaws.{stands_in_flight_stays, stands_in_flight_fence}
@@ -29,7 +27,7 @@ use Rattle.image_laws.proofs.Paged.{named_page, named_page_same}
 use Rattle.entry_steps.specs.declared.place.NamePlace.{NamePlace}
 use Rattle.entry_steps.specs.declared.place.NamePlace.TheVariants.{Slot, Page}
 use Rattle.entry_steps.specs.Steps.{first_slot, claim_steps}
-use Rattle.entry_steps.specs.Placing.{MayPlace, IsPlaceWord, IsWrittenWord, flying_place, settled_place, clean_place, ticket_of, page_of, slot_of, PlaceIsInFlight, CanOpen}
+use Rattle.entry_steps.specs.Placing.{MayPlace, IsPlaceWord, IsWrittenWord, flying_place, clean_place, page_of, slot_of, PlaceIsInFlight, CanOpen}
 
 -- ---- words
 
@@ -67,25 +65,6 @@ place_waits P slot name fences (Some page) place a b is run apart flight = subst
 pub place_fenced : (place : NamePlace InFlight) (a b : DeviceView) → b.words ≡ a.words → b.trail ≡ with_event a.trail Fence → PlaceIsInFlight place a → PlaceIsInFlight place b
 place_fenced (Slot dentry) a b words trail flight = stands_in_flight_fence words trail flight
 place_fenced (Page page) a b words trail flight = tt
-
-some_one : (x y : ℕ) → ◌≡◌ {A = Option ℕ} (Some x) (Some y) → x ≡ y
-some_one x y e = cc
-
-no_one : (y : ℕ) → ◌≡◌ {A = Option ℕ} None (Some y) → ⊥
-no_one y e = cc
-
--- a later token settles it
-pub place_settles : (P slot : ℕ) (name : List ℕ) (fences token made : ℕ) (new_page : Option ℕ) (place : NamePlace InFlight) → place ≡ flying_place P slot name fences new_page → fences < token → token ≤ made
-    → ForSome (ticket_of place) (λ ticket. Settles ticket token made)
-place_settles P slot name fences token made None place is later upto = subst (λ (p : NamePlace InFlight). ForSome (ticket_of p) (λ ticket. Settles ticket token made)) (sym is)
-    (λ ticket told. subst (λ (n : ℕ). Settles n token made) (some_one fences ticket told) (record { later = later; made = upto }))
-place_settles P slot name fences token made (Some page) place is later upto = subst (λ (p : NamePlace InFlight). ForSome (ticket_of p) (λ ticket. Settles ticket token made)) (sym is)
-    (λ ticket told. absurd (no_one ticket told))
-
-pub place_settled : (P slot : ℕ) (name : List ℕ) (fences : ℕ) (new_page : Option ℕ) (place : NamePlace InFlight) (settled : NamePlace Clean) → settled ≡ settled_place place → place ≡ flying_place P slot name fences new_page
-    → settled ≡ clean_place P slot name new_page
-place_settled P slot name fences None place settled is flying = is ∙ ap settled_place flying
-place_settled P slot name fences (Some page) place settled is flying = is ∙ ap settled_place flying
 
 -- ---- its page and its slot
 

@@ -3,7 +3,7 @@ use Rattle.std.proofs.Common.{◌≡◌, ◌≢◌, inl, inr, ℕ, ◌+◌, ◌*
 use Rattle.std.proofs.lemmas.Bool.{false≢true}
 use Rattle.std.proofs.lemmas.Bool.Decides.{nat_tests}
 use Rattle.std.proofs.lemmas.List.{reverse-append, reverse-reverse}
-use Rattle.layout.specs.Geometry.{IsVolumeSize, page_of_slot}
+use Rattle.layout.specs.Geometry.{page_of_slot}
 use Rattle.layout.proofs.GeometryLaws.{page_of_entry}
 use Rattle.layout.specs.Fields.{inode_kind, slot_inode, slot_name}
 use Rattle.tree_model.specs.PathText.{Route}
@@ -57,9 +57,6 @@ apart_from n m e = grind (arith, nat_tests)
 module _ {P : ℕ} {W : List ℕ} {state : State} (from to : Route) {moving : Moving} (at : IsMovingAt P W state from to moving) where
   pub coherent : IsCoherent P W
   coherent = (tidied at.tidy).coherent
-
-  pub size : IsVolumeSize P
-  size = (coherent Rule.head 0).size refl
 
   pub whole : length W ≡ 512 * P
   whole = (coherent Rule.head 0).whole refl

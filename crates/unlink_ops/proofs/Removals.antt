@@ -10,7 +10,7 @@ use Rattle.layout.specs.Fields.{word, page_owner, slot_inode, slot_name}
 use Rattle.tree_model.specs.PathText.{Route}
 use Rattle.tree_model.specs.Tree.{Node, id_at, node_at, is_file, is_file_node, is_directory, is_directory_node, parent, last_name}
 use Rattle.tree_model.specs.Capacity.{untaken}
-use Rattle.tree_model.specs.Step.{Done, step, refusal_of, outcome_of, least_free_id, without_path, without_unnamed, tree_after}
+use Rattle.tree_model.specs.Step.{step, refusal_of, outcome_of, least_free_id, without_path, without_unnamed, tree_after}
 use Rattle.tree_model.specs.Run.{State}
 use Rattle.tree_model.specs.Accepted.{HasHolder, MayUnlink, MayRemove}
 use Rattle.tree_model.proofs.AcceptedLaws.{Accepted-from_row}
@@ -174,13 +174,6 @@ module _ {P : ℕ} {W : List ℕ} {state : State} (kind : steps.Removal) (path :
 
   pub tree_is : (step P state.tree state.room (removing kind path)).tree ≡ without_unnamed (without_path state.tree path)
   tree_is = tree_by kind at.planned.accepted
-
-  answer_by : (kind : steps.Removal) → refusal_of P state.tree state.room (removing kind path) ≡ None → (step P state.tree state.room (removing kind path)).answer ≡ Done
-  answer_by file accepted = ap (λ (o : Option Refusal). (outcome_of o (untaken P) (least_free_id state.tree) state.tree state.room (Unlink path)).answer) accepted
-  answer_by directory accepted = ap (λ (o : Option Refusal). (outcome_of o (untaken P) (least_free_id state.tree) state.tree state.room (Rmdir path)).answer) accepted
-
-  pub answer_is : (step P state.tree state.room (removing kind path)).answer ≡ Done
-  answer_is = answer_by kind at.planned.accepted
 
   -- ---- whether the node goes
 
