@@ -116,6 +116,7 @@ module _ (old new : SessionView) (before after : DeviceView) (action : Action) (
         action = action;
         planned = plan_for.planned;
         might = might_take old.volume.size before.words state c action (tidied plan_for.stands.tidy) plan_for.stands.reads plan_for.planned;
+        least = carries.device.least_fences;
         fewer = fewer;
         events = carries.device.grown;
       }

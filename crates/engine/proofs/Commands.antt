@@ -145,6 +145,7 @@ module _ (old mid new : SessionView) (before between after : DeviceView) where
             subst (λ (words : List ℕ). IsPlannedFor old.volume.size words state line fails.action) device.words
             (subst (λ (p : ℕ). IsPlannedFor p between.words state line fails.action) view.same_size fails.planned);
         might = subst (λ (p : ℕ). MightTake p state line (fences_of_plan fails.action) (events_of fails.action)) view.same_size fails.might;
+        least = let least = fails.least in let same = device.fences in omega (arith, least, same);
         fewer = let few = fails.fewer in let same = device.fences in omega (arith, few, same);
         events = let few = fails.events in let same = ap moment_of device.trail in omega (arith, few, same);
       }

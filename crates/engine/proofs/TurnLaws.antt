@@ -198,6 +198,11 @@ module _ {P : â„•} {start : State} {first : DeviceView} {script : Option (List â
         its_fences = fences_of_plan failed.action;
         its_events = events_of failed.action;
         might = failed.might;
+        least =
+            let before = so_far.fences was in
+            let least = failed.least in
+            let still = fences_still P start so_far.lines so_far.answers so_far.states line Fault so_far.run in
+            omega (arith, before, least, still);
         fewer =
             let before = so_far.fences was in
             let few = failed.fewer in
@@ -279,6 +284,7 @@ ran_stopped {P = P} {start = start} {first = first} {taken = taken} {old = old} 
         its_fences = cut.its_fences;
         its_events = cut.its_events;
         might = cut.might;
+        least = let least = cut.least in let still = fences_still P start so_far.lines so_far.answers so_far.states line Stopped so_far.run in omega (arith, least, still);
         fewer = let few = cut.fewer in let still = fences_still P start so_far.lines so_far.answers so_far.states line Stopped so_far.run in omega (arith, few, still);
         grown = let few = cut.grown in let still = events_still P start so_far.lines so_far.answers so_far.states line Stopped so_far.run in omega (arith, few, still);
       };

@@ -67,6 +67,7 @@ pub record HasFailed (P : ℕ) (old : State) (line : Line) (before after : Devic
   pub action : Action
   pub planned : IsPlannedFor P before.words old line action
   pub might : MightTake P old line (fences_of_plan action) (events_of action)
+  pub least : before.fences ≤ after.fences
   pub fewer : after.fences < before.fences + fences_of_plan action
   pub events : GrowsBy (events_of action) before after
 

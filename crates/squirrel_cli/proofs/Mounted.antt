@@ -96,6 +96,7 @@ mounts_and_runs {P} {before} {mounted} {after} run reads mount = record {
         its_fences = cut.its_fences;
         its_events = cut.its_events;
         might = cut.might;
+        least = let was = mount.fences in let least = cut.least in omega (arith, was, least);
         fewer = let was = mount.fences in let few = cut.fewer in omega (arith, was, few);
         grown = let was = mount.events in let few = cut.grown in omega (arith, was, few);
       };
