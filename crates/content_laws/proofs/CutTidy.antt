@@ -111,10 +111,10 @@ module _ (P : ℕ) (W : List ℕ) (i z : ℕ) (can : CanCut P W i z) (J K : List
   owned_before : (x j : ℕ) → 1 ≤ x → IsPageIn P K x j → IsPageIn P W x j × (IsPastCut P W i z j → ⊥)
   owned_before x j some page =
       let none : IsPastCut P W i z j → ⊥ = λ g. (let zero = no_owner j g in let own = page.owner in omega (arith, some, zero, own)) in
-      (record { in_range = page.in_range; owner = sym (file.owner_same P W K i (IsPastCut P W i z) keeps j page.in_range none) ∙ page.owner }, none)
+      (record { in_range = page.in_range; owner = sym ((file.paged P W K i (IsPastCut P W i z) keeps).owner j page.in_range none) ∙ page.owner }, none)
 
   owned_after : (x j : ℕ) → (IsPastCut P W i z j → ⊥) → IsPageIn P W x j → IsPageIn P K x j
-  owned_after x j none page = record { in_range = page.in_range; owner = file.owner_same P W K i (IsPastCut P W i z) keeps j page.in_range none ∙ page.owner }
+  owned_after x j none page = record { in_range = page.in_range; owner = (file.paged P W K i (IsPastCut P W i z) keeps).owner j page.in_range none ∙ page.owner }
 
   kept_pages : (j : ℕ) → IsPageIn P K i j ↔ (IsPageIn P W i j × (page_offset P W j < pages_of_size z))
   kept_pages j = (
@@ -129,18 +129,18 @@ module _ (P : ℕ) (W : List ℕ) (i z : ℕ) (can : CanCut P W i z) (J K : List
   free_pages j = (
     (λ (lt, zero). elim (words.dec_past P W i z can j) [
       | yes g ↦ inr g
-      | no none ↦ inl (lt, sym (file.owner_same P W K i (IsPastCut P W i z) keeps j lt none) ∙ zero)
+      | no none ↦ inl (lt, sym ((file.paged P W K i (IsPastCut P W i z) keeps).owner j lt none) ∙ zero)
     ]),
     (λ free. elim free [
       | inl was ↦
           let none : IsPastCut P W i z j → ⊥ = λ g. (let own = g.owner in let zero = was.1 in let some = words.pos P W i z can in omega (arith, own, zero, some)) in
-          (was.0, file.owner_same P W K i (IsPastCut P W i z) keeps j was.0 none ∙ was.1)
+          (was.0, (file.paged P W K i (IsPastCut P W i z) keeps).owner j was.0 none ∙ was.1)
       | inr g ↦ (g.in_range, no_owner j g)
     ]),
   )
 
   offsets : (x j : ℕ) → 1 ≤ x → IsPageIn P K x j → page_offset P K j ≡ page_offset P W j
-  offsets x j some page = file.offset_same P W K i (IsPastCut P W i z) keeps j page.in_range (owned_before x j some page).1
+  offsets x j some page = (file.paged P W K i (IsPastCut P W i z) keeps).offset j page.in_range (owned_before x j some page).1
 
   pub has_cut : HasCut P W K i z
   has_cut = record {

@@ -9,6 +9,7 @@ use Rattle.image_reading.specs.Repairs.{IsKept}
 use Rattle.image_reading.specs.Soundness.{IsCoherent}
 use Rattle.image_reading.specs.Tidy.{IsTidied}
 use Rattle.image_counts.specs.Entries.{IsFreePage}
+use Rattle.image_laws.proofs.KeptPages.{page_same}
 use Rattle.content_laws.specs.Gained.{HasGained}
 use Rattle.content_laws.proofs.KeptFile as file
 use Rattle.content_laws.proofs.KeptFile.{KeepsOthers, tidy_below}
@@ -69,20 +70,7 @@ module _ (P : ℕ) (W K : List ℕ) (i : ℕ) (pages : List ℕ) (h : Keeps P W 
   -- ---- what an index holds
 
   pub keeps_page : (x k j : ℕ) → ¬ Contains pages j → IsPageOf P K x k j ↔ IsPageOf P W x k j
-  keeps_page x k j none = (
-    (λ g. record {
-      in_range = g.in_range;
-      owner = sym (file.owner_same P W K i (Contains pages) others j g.in_range none) ∙ g.owner;
-      kind = sym (file.kind_same P W K i (Contains pages) others j g.in_range none) ∙ g.kind;
-      offset = sym (file.offset_same P W K i (Contains pages) others j g.in_range none) ∙ g.offset;
-    }),
-    (λ g. record {
-      in_range = g.in_range;
-      owner = file.owner_same P W K i (Contains pages) others j g.in_range none ∙ g.owner;
-      kind = file.kind_same P W K i (Contains pages) others j g.in_range none ∙ g.kind;
-      offset = file.offset_same P W K i (Contains pages) others j g.in_range none ∙ g.offset;
-    }),
-  )
+  keeps_page x k j none = page_same (file.paged P W K i (Contains pages) others) x k j none
 
   pub keeps_index : HasGained P W K i pages
   keeps_index = record {
@@ -92,6 +80,6 @@ module _ (P : ℕ) (W K : List ℕ) (i : ℕ) (pages : List ℕ) (h : Keeps P W 
     names = file.name_kept P W K i (Contains pages) others;
     inodes = file.number_kept P W K i (Contains pages) others;
     gained = h.new;
-    owners = λ j lt none. file.owner_same P W K i (Contains pages) others j lt none;
+    owners = λ j lt none. (file.paged P W K i (Contains pages) others).owner j lt none;
     files = λ x k j r none. keeps_page x k j none;
   }

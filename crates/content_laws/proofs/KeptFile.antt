@@ -7,14 +7,17 @@ use Rattle.layout.proofs.GeometryLaws.{page_of_slot_below, slot_below}
 use Rattle.layout.specs.Name.{name_in_words}
 use Rattle.tree_model.specs.PathText.{Route}
 use Rattle.image_reading.specs.Reading.{HasBytes, slot_owner, IsHeld, IsLive, Names, Reached, IsReachedSlot, IsNameOf, IsChildOf, IsLinkCount, IsRoomOf, pages_of_size}
-use Rattle.image_reading.specs.Repairs.{IsKeptFilePage, IsKept, IsPointer, IsLitterSlot, IsLitterPage, IsLitterInode, IsLitterCount}
+use Rattle.image_reading.specs.Repairs.{IsKeptFilePage, IsPointer, IsLitterSlot, IsLitterPage, IsLitterInode, IsLitterCount}
 use Rattle.image_reading.specs.Soundness.{Rule, IsCoherent}
 use Rattle.image_reading.specs.Tidy.{IsTidied}
 use Rattle.image_reading.proofs.Credits.{count_same}
 use Rattle.image_counts.specs.Entries.{IsEntryOf, IsSlotOf}
 use Rattle.image_counts.proofs.Counting.{none_counted}
 use Rattle.image_counts.proofs.Decided.{room_owner}
-use Rattle.image_counts.proofs.Paths.{inode_reached}
+use Rattle.image_laws.proofs.KeptPages as pages
+use Rattle.image_laws.proofs.KeptPages.{KeepsPages, by_words, held_owner_same, litter_page}
+use Rattle.image_laws.proofs.KeptSlots as slot_laws
+use Rattle.image_laws.proofs.KeptSlots.{KeepsSlots}
 use Rattle.image_laws.proofs.Paths.{reached_pos, reached-le}
 use Rattle.image_laws.proofs.Ready.{tidy_but, tidy_from, no_pointer}
 use Rattle.image_laws.proofs.Words.{slot_words-same}
@@ -49,19 +52,8 @@ tidy_below P W i tidy reached file j lt own = elim (cases_lt (page_offset P W j)
 ]
 
 module _ (P : ℕ) (W K : List ℕ) (i : ℕ) (Changes : ℕ → Type 0) (h : KeepsOthers P W K i Changes) where
-  -- ---- pages
-
-  pub owner_same : (j : ℕ) → j < data_pages_of P → (Changes j → ⊥) → page_owner P K j ≡ page_owner P W j
-  unfolding page_owner
-  owner_same j lt none = h.descriptors j 0 lt (omega arith) none
-
-  pub kind_same : (j : ℕ) → j < data_pages_of P → (Changes j → ⊥) → page_kind P K j ≡ page_kind P W j
-  unfolding page_kind
-  kind_same j lt none = h.descriptors j 1 lt (omega arith) none
-
-  pub offset_same : (j : ℕ) → j < data_pages_of P → (Changes j → ⊥) → page_offset P K j ≡ page_offset P W j
-  unfolding page_offset
-  offset_same j lt none = h.descriptors j 2 lt (omega arith) none
+  pub paged : KeepsPages P W K Changes
+  paged = by_words P W K Changes h.descriptors
 
   -- ---- inodes
 
@@ -112,25 +104,11 @@ module _ (P : ℕ) (W K : List ℕ) (i : ℕ) (Changes : ℕ → Type 0) (h : Ke
     | inr own ↦ let one = of_file_after (page_of_slot t) (page_of_slot_below P t held.in_range) own in let two = held.kind in omega (arith, one, two)
   ]
 
-  pub slot_owner_same : (t : ℕ) → IsHeld P W t → slot_owner P K t ≡ slot_owner P W t
-  unfolding slot_owner
-  slot_owner_same t held = owner_same (page_of_slot t) (page_of_slot_below P t held.in_range) (held_stays t held)
-
   held_forth : (t : ℕ) → IsHeld P W t → IsHeld P K t
-  held_forth t held = record {
-    in_range = held.in_range;
-    kind = kind_same (page_of_slot t) (page_of_slot_below P t held.in_range) (held_stays t held) ∙ held.kind;
-    owned = λ e. held.owned (sym (slot_owner_same t held) ∙ e);
-  }
+  held_forth t held = pages.held_forth paged t (held_stays t held) held
 
   held_back : (t : ℕ) → IsHeld P K t → IsHeld P W t
-  unfolding slot_owner
-  held_back t held =
-      let lt = page_of_slot_below P t held.in_range in record {
-        in_range = held.in_range;
-        kind = sym (kind_same (page_of_slot t) lt (stayed t held)) ∙ held.kind;
-        owned = λ e. held.owned (owner_same (page_of_slot t) lt (stayed t held) ∙ e);
-      }
+  held_back t held = pages.held_back paged t (stayed t held) held
 
   number_same : (t : ℕ) → IsHeld P W t → slot_inode P K t ≡ slot_inode P W t
   unfolding slot_inode
@@ -139,16 +117,6 @@ module _ (P : ℕ) (W K : List ℕ) (i : ℕ) (Changes : ℕ → Type 0) (h : Ke
   pointer_same : (t : ℕ) → IsHeld P W t → slot_pointer P K t ≡ slot_pointer P W t
   unfolding slot_pointer
   pointer_same t held = h.slots t 1 held (omega arith)
-
-  name_of_held : (t : ℕ) → IsHeld P W t → slot_name P K t ≡ slot_name P W t
-  unfolding slot_name
-  name_of_held t held = ap name_in_words (slot_words-same P W K t (λ f lt. h.slots t (2 + f) held (omega (arith, lt))))
-
-  pub number_kept : (t : ℕ) → IsReachedSlot P W t → slot_inode P K t ≡ slot_inode P W t
-  number_kept t r = number_same t r.live.held
-
-  pub name_kept : (t : ℕ) → IsReachedSlot P W t → slot_name P K t ≡ slot_name P W t
-  name_kept t r = name_of_held t r.live.held
 
   live_forth : (t : ℕ) → IsLive P W t → IsLive P K t
   live_forth t live = record {
@@ -165,50 +133,54 @@ module _ (P : ℕ) (W K : List ℕ) (i : ℕ) (Changes : ℕ → Type 0) (h : Ke
         stays = λ q held points same. live.stays q (held_forth q held) (pointer_same q held ∙ points) (number_same q held ∙ same ∙ sym (number_same t was));
       }
 
-  pub slot_forth : (t : ℕ) → IsReachedSlot P W t → IsReachedSlot P K t
-  slot_forth t r = let own = slot_owner_same t r.live.held in record {
+  slot_forth : (t : ℕ) → IsReachedSlot P W t → IsReachedSlot P K t
+  slot_forth t r = let own = held_owner_same paged t r.live.held (held_stays t r.live.held) in record {
     owner = subst (Reached P K) (sym own) (forth (slot_owner P W t) r.owner);
     directory = ap (inode_kind K) own ∙ reached_kind (slot_owner P W t) r.owner ∙ r.directory;
     live = live_forth t r.live;
   }
 
-  pub slot_back : (t : ℕ) → IsReachedSlot P K t → IsReachedSlot P W t
+  slot_back : (t : ℕ) → IsReachedSlot P K t → IsReachedSlot P W t
   slot_back t r =
-      let own = slot_owner_same t (held_back t r.live.held) in
+      let held = held_back t r.live.held in
+      let own = held_owner_same paged t held (held_stays t held) in
       let was = subst (Reached P W) own (back (slot_owner P K t) r.owner) in record {
         owner = was;
         directory = sym (reached_kind (slot_owner P W t) was) ∙ ap (inode_kind K) (sym own) ∙ r.directory;
         live = live_back t r.live;
       }
 
-  room_forth : (d j : ℕ) → IsRoomOf P W d j → IsRoomOf P K d j
-  room_forth d j room = let (t, at, own, live) = room.slot in record {
-    reached = forth d room.reached;
-    directory = reached_kind d room.reached ∙ room.directory;
-    slot = (t, at, slot_owner_same t live.held ∙ own, live_forth t live);
+  -- no slot changes
+  kept : KeepsSlots P W K (λ t. ⊥)
+  kept = record {
+    before = h.tidy.coherent;
+    after = h.coherent;
+    forth = λ t none r. slot_forth t r;
+    back = λ t none r. slot_back t r;
+    owners = λ t none was is. held_owner_same paged t was.live.held (held_stays t was.live.held);
+    numbers = λ t none was. number_same t was.live.held;
+    kinds = λ x was is. reached_kind x was;
   }
 
-  room_back : (d j : ℕ) → IsRoomOf P K d j → IsRoomOf P W d j
-  room_back d j room =
-      let (t, at, own, live) = room.slot in
-      let was = back d room.reached in record {
-        reached = was;
-        directory = sym (reached_kind d was) ∙ room.directory;
-        slot = (t, at, sym (slot_owner_same t (held_back t live.held)) ∙ own, live_back t live);
-      }
+  rooms : (d j : ℕ) → IsRoomOf P W d j ↔ IsRoomOf P K d j
+  rooms = slot_laws.rooms kept (λ t none. none)
 
   -- ---- what an index holds
 
-  pub entries_kept : (d s : ℕ) (bytes : List ℕ) → IsEntryOf P K d bytes s ↔ IsEntryOf P W d bytes s
-  entries_kept d s bytes = (
-    (λ e. let was = slot_back s e.slot in record { slot = was; owner = sym (slot_owner_same s was.live.held) ∙ e.owner; name = sym (name_kept s was) ∙ e.name }),
-    (λ e. record { slot = slot_forth s e.slot; owner = slot_owner_same s e.slot.live.held ∙ e.owner; name = name_kept s e.slot ∙ e.name }),
-  )
+  pub number_kept : (t : ℕ) → IsReachedSlot P W t → slot_inode P K t ≡ slot_inode P W t
+  number_kept t r = number_same t r.live.held
+
+  pub name_kept : (t : ℕ) → IsReachedSlot P W t → slot_name P K t ≡ slot_name P W t
+  unfolding slot_name
+  name_kept t r = ap name_in_words (slot_words-same P W K t (λ f lt. h.slots t (2 + f) r.live.held (omega (arith, lt))))
 
   pub slots_kept : (d s : ℕ) → IsSlotOf P K d s ↔ IsSlotOf P W d s
-  slots_kept d s = (
-    (λ (r, own). let was = slot_back s r in (was, sym (slot_owner_same s was.live.held) ∙ own)),
-    (λ (r, own). (slot_forth s r, slot_owner_same s r.live.held ∙ own)),
+  slots_kept d s = let same = slot_laws.entries kept d s (λ none. none) in (same.1, same.0)
+
+  pub entries_kept : (d s : ℕ) (bytes : List ℕ) → IsEntryOf P K d bytes s ↔ IsEntryOf P W d bytes s
+  entries_kept d s bytes = (
+    (λ e. let (slot, owner) = (slots_kept d s).0 (e.slot, e.owner) in record { slot = slot; owner = owner; name = sym (name_kept s slot) ∙ e.name }),
+    (λ e. let (slot, owner) = (slots_kept d s).1 (e.slot, e.owner) in record { slot = slot; owner = owner; name = name_kept s e.slot ∙ e.name }),
   )
 
   -- ---- nothing to be repaired
@@ -228,35 +200,16 @@ module _ (P : ℕ) (W K : List ℕ) (i : ℕ) (Changes : ℕ → Type 0) (h : Ke
   no_slot : (t : ℕ) → IsLitterSlot P K t → ⊥
   no_slot t l =
       let here = page_of_slot t in
-      let (f, lt, nonzero) = l.nonzero in
-      let was = room_back (page_owner P K here) here l.page in
-      let held = held_beside t (page_owner P K here) was in
-      (tidy_but P W 0 h.tidy).slots t (record {
-        page = subst (λ d. IsRoomOf P W d here) (sym (room_owner P W (page_owner P K here) here was)) was;
-        dead = λ live. l.dead (live_forth t live);
-        nonzero = (f, lt, λ e. nonzero (h.slots t f held lt ∙ e));
-      })
-
-  named_kind : (t : ℕ) → IsReachedSlot P W t → inode_kind K (slot_inode P K t) ≡ inode_kind W (slot_inode P W t)
-  named_kind t r = ap (inode_kind K) (number_kept t r) ∙ reached_kind (slot_inode P W t) (inode_reached P W h.tidy.coherent t r)
-
-  names_same : (x t : ℕ) → IsNameOf P W x t ↔ IsNameOf P K x t
-  names_same x t = (
-    (λ n. record { slot = slot_forth t n.slot; inode = number_kept t n.slot ∙ n.inode }),
-    (λ n. let was = slot_back t n.slot in record { slot = was; inode = sym (number_kept t was) ∙ n.inode }),
-  )
-
-  children_same : (x t : ℕ) → IsChildOf P W x t ↔ IsChildOf P K x t
-  children_same x t = (
-    (λ n. record { slot = slot_forth t n.slot; owner = slot_owner_same t n.slot.live.held ∙ n.owner; directory = named_kind t n.slot ∙ n.directory }),
-    (λ n. let was = slot_back t n.slot in
-        record { slot = was; owner = sym (slot_owner_same t was.live.held) ∙ n.owner; directory = sym (named_kind t was) ∙ n.directory }),
-  )
+      let was = (rooms (page_owner P K here) here).1 l.page in
+      (tidy_but P W 0 h.tidy).slots t (slot_laws.litter_slot kept t (λ none. none) (subst (λ d. IsRoomOf P W d here) (sym (room_owner P W (page_owner P K here) here was)) was)
+      (λ f lt. h.slots t f (held_beside t (page_owner P K here) was) lt) l)
 
   same_count : (x n : ℕ) → Reached P W x → IsLinkCount P W x n → IsLinkCount P K x n
   same_count x n r count = record {
-    file = λ one. count_same (IsNameOf P W x) (IsNameOf P K x) n (names_same x) (count.file (sym (reached_kind x r) ∙ one));
-    directory = λ two. let (m, children, e) = count.directory (sym (reached_kind x r) ∙ two) in (m, count_same (IsChildOf P W x) (IsChildOf P K x) m (children_same x) children, e);
+    file = λ one. count_same (IsNameOf P W x) (IsNameOf P K x) n (λ t. slot_laws.names kept x t (λ none. none)) (count.file (sym (reached_kind x r) ∙ one));
+    directory = λ two.
+        let (m, children, e) = count.directory (sym (reached_kind x r) ∙ two) in
+        (m, count_same (IsChildOf P W x) (IsChildOf P K x) m (λ t. slot_laws.children kept x t (λ none. none)) children, e);
   }
 
   no_inode : (x : ℕ) → IsLitterInode P K x → ⊥
@@ -289,34 +242,12 @@ module _ (P : ℕ) (W K : List ℕ) (i : ℕ) (Changes : ℕ → Type 0) (h : Ke
           subst (λ y. page_offset P W j < pages_of_size y) (sym (size_same (page_owner P W j) some high ne)) kept.below
     ]
 
-    kept_file : (j : ℕ) → (Changes j → ⊥) → IsKeptFilePage P W j → IsKeptFilePage P K j
-    kept_file j none kept =
-        let own = owner_same j kept.in_range none in
-        let low = subst (λ x. page_offset P W j < pages_of_size (inode_size K x)) (sym own) (below_size j none kept) in
-        record {
-          in_range = kept.in_range;
-          owner = subst (Reached P K) (sym own) (forth (page_owner P W j) kept.owner);
-          file = ap (inode_kind K) own ∙ reached_kind (page_owner P W j) kept.owner ∙ kept.file;
-          below = subst (λ k. k < pages_of_size (inode_size K (page_owner P K j))) (sym (offset_same j kept.in_range none)) low;
-        }
-
-    kept_page : (j : ℕ) → j < data_pages_of P → (Changes j → ⊥) → IsKept P W j → IsKept P K j
-    kept_page j lt none kept = elim kept [
-      | inl file ↦ inl (kept_file j none file)
-      | inr room ↦ inr (subst (λ d. IsRoomOf P K d j) (sym (owner_same j lt none)) (room_forth (page_owner P W j) j room))
-    ]
-
     no_page : (dec : (j : ℕ) → Dec (Changes j)) → ((j : ℕ) → Changes j → IsLitterPage P K j → ⊥) → (j : ℕ) → IsLitterPage P K j → ⊥
-    no_page dec changed j l =
-        let (f, lt, nonzero) = l.nonzero in
-        elim (dec j) [
-          | yes c ↦ changed j c l
-          | no none ↦ none_counted (IsLitterPage P W) h.tidy.repaired.of_pages j (record {
-            in_range = l.in_range;
-            free = λ kept. l.free (kept_page j l.in_range none kept);
-            nonzero = (f, lt, λ e. nonzero (h.descriptors j f l.in_range lt none ∙ e));
-          })
-        ]
+    no_page dec changed j l = elim (dec j) [
+      | yes c ↦ changed j c l
+      | no none ↦ none_counted (IsLitterPage P W) h.tidy.repaired.of_pages j
+          (litter_page P W K Changes h.descriptors kept.kinds (λ k lt other r. forth (page_owner P W k) r) below_size (λ k lt other. (rooms (page_owner P W k) k).0) j none l)
+    ]
 
     -- where no page that changed is to be repaired, the last image is tidy
     pub kept_tidy : ((j : ℕ) → Dec (Changes j)) → ((j : ℕ) → Changes j → IsLitterPage P K j → ⊥) → IsTidied P K

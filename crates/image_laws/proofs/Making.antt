@@ -1,9 +1,8 @@
 -- The words of a new node and of its name are stored: nothing is meant by them yet.
 use Rattle.std.proofs.Common.{◌≡◌, ◌≢◌, ◌⊎◌, inl, inr, ℕ, ◌+◌, ◌<◌, ◌≤◌, List, length, slice_index, refl, sym, ap, subst, ◌∙◌, arith}
 use Rattle.std.proofs.lemmas.Bool.{cases_eq}
-use Rattle.layout.specs.Fields.{word, inode_kind, inode_links, inode_size, inode_own, page_owner, page_kind, slot_inode, slot_pointer, slot_name}
-use Rattle.layout.specs.Geometry.{inodes_of, data_pages_of, slots_of, page_of_slot, inode_word_of, descriptor_word_of, slot_word_of}
-use Rattle.layout.proofs.GeometryLaws.{page_of_slot_below}
+use Rattle.layout.specs.Fields.{word, inode_kind, inode_links, inode_size, inode_own, page_owner, slot_inode, slot_pointer, slot_name}
+use Rattle.layout.specs.Geometry.{inodes_of, data_pages_of, inode_word_of, descriptor_word_of, slot_word_of}
 use Rattle.layout.specs.Name.{IsNameWords, name_in_words}
 use Rattle.tree_model.specs.PathText.{Route}
 use Rattle.tree_model.specs.Tree.{Node, Directory, File}
@@ -21,6 +20,8 @@ use Rattle.image_laws.proofs.Addresses.{descriptor-ne_inode, descriptor-ne_slot,
 use Rattle.image_laws.proofs.Counts.{at_most}
 use Rattle.image_laws.proofs.Frame.{alike}
 use Rattle.image_laws.proofs.Free.{free_law, stores_law}
+use Rattle.image_laws.proofs.KeptPages as pages
+use Rattle.image_laws.proofs.KeptPages.{KeepsPages, by_words, held_owner_same, held_forth}
 use Rattle.image_laws.proofs.Meaning.{shape, reached_slot, slot_name_same}
 use Rattle.image_laws.proofs.Paths.{reached_pos, reached-le, reach}
 use Rattle.image_laws.proofs.Quiet.{quiet_agrees}
@@ -110,17 +111,14 @@ module _ (P : ℕ) (B C : List ℕ) (p : Route) (node : Node) (d s i : ℕ) (nam
       ])
       (λ e. inode-ne_slot P d 1 t f (pos d d_reached) (range d d_reached) (omega arith) (sym e))
 
-  pub owner_same : (j : ℕ) → j < data_pages_of P → page_owner P C j ≡ page_owner P B j
-  unfolding page_owner
-  owner_same j lt = descriptor_same j 0 lt (omega arith)
+  paged : KeepsPages P B C (λ j. ⊥)
+  paged = by_words P B C (λ j. ⊥) (λ j f lt l3 none. descriptor_same j f lt (omega (arith, l3)))
 
-  pub kind_same : (j : ℕ) → j < data_pages_of P → page_kind P C j ≡ page_kind P B j
-  unfolding page_kind
-  kind_same j lt = descriptor_same j 1 lt (omega arith)
+  owner_same : (j : ℕ) → j < data_pages_of P → page_owner P C j ≡ page_owner P B j
+  owner_same j lt = paged.owner j lt (λ none. none)
 
-  pub slot_owner_same : (t : ℕ) → t < slots_of P → slot_owner P C t ≡ slot_owner P B t
-  unfolding slot_owner
-  slot_owner_same t lt = owner_same (page_of_slot t) (page_of_slot_below P t lt)
+  slot_owner_same : (t : ℕ) → IsHeld P B t → slot_owner P C t ≡ slot_owner P B t
+  slot_owner_same t held = held_owner_same paged t held (λ none. none)
 
   pub slot_inode_same : (t : ℕ) → slot_inode P C t ≡ slot_inode P B t
   unfolding slot_inode
@@ -198,26 +196,11 @@ module _ (P : ℕ) (B C : List ℕ) (p : Route) (node : Node) (d s i : ℕ) (nam
 
   -- ---- held and live slots
 
-  pub held_back : (t : ℕ) → IsHeld P C t → IsHeld P B t
-  held_back t h = record {
-    in_range = h.in_range;
-    kind = sym (kind_same (page_of_slot t) (page_of_slot_below P t h.in_range)) ∙ h.kind;
-    owned = λ z. h.owned (slot_owner_same t h.in_range ∙ z);
-  }
+  held_back : (t : ℕ) → IsHeld P C t → IsHeld P B t
+  held_back t = pages.held_back paged t (λ none. none)
 
-  pub held_forward : (t : ℕ) → IsHeld P B t → IsHeld P C t
-  held_forward t h = record {
-    in_range = h.in_range;
-    kind = kind_same (page_of_slot t) (page_of_slot_below P t h.in_range) ∙ h.kind;
-    owned = λ z. h.owned (sym (slot_owner_same t h.in_range) ∙ z);
-  }
-
-  pub live_forward : (t : ℕ) → IsLive P B t → IsLive P C t
-  live_forward t l = record {
-    held = held_forward t l.held;
-    names = λ z. l.names (sym (slot_inode_same t) ∙ z);
-    stays = λ q h points same_number. l.stays q (held_back q h) (sym (pointer_same q) ∙ points) (sym (slot_inode_same q) ∙ same_number ∙ slot_inode_same t);
-  }
+  held_forward : (t : ℕ) → IsHeld P B t → IsHeld P C t
+  held_forward t = held_forth paged t (λ none. none)
 
   -- ---- the slot may take the inode
 
@@ -243,7 +226,7 @@ module _ (P : ℕ) (B C : List ℕ) (p : Route) (node : Node) (d s i : ℕ) (nam
     path = (same.names p d).0 ready.place.slot.path;
     directory = (alike_made.inodes d d_reached).kind ∙ ready.place.slot.directory;
     held = held_forward s ready.place.slot.held;
-    owner = slot_owner_same s ready.place.slot.held.in_range ∙ ready.place.slot.owner;
+    owner = slot_owner_same s ready.place.slot.held ∙ ready.place.slot.owner;
     free = slot_inode_same s ∙ ready.place.slot.free;
     no_pointer = pointer_same s ∙ ready.place.slot.no_pointer;
     no_target = λ t h e. ready.place.slot.no_target t (held_back t h) (sym (pointer_same t) ∙ e);
@@ -265,7 +248,7 @@ module _ (P : ℕ) (B C : List ℕ) (p : Route) (node : Node) (d s i : ℕ) (nam
       let r = reach P B t m ((ready.place.coherent Rule.inodes t).most m) in
       record {
         slot = m;
-        owner = sym (slot_owner_same t m.live.held.in_range) ∙ n.owner;
+        owner = sym (slot_owner_same t m.live.held) ∙ n.owner;
         directory = sym (alike_made.inodes (slot_inode P B t) r).kind ∙ ap (inode_kind C) (sym (slot_inode_same t)) ∙ n.directory;
       }
 
@@ -276,7 +259,7 @@ module _ (P : ℕ) (B C : List ℕ) (p : Route) (node : Node) (d s i : ℕ) (nam
     name = subst IsNameWords (sym makes.words) ready.place.is_name;
     new = λ t r o e.
         let (k, m) = reached_slot P B C alike_made t r in
-        ready.place.new t m (sym (slot_owner_same t r.live.held.in_range) ∙ o) (sym (slot_name_same P B C alike_made t m) ∙ e ∙ name_is);
+        ready.place.new t m (sym (slot_owner_same t m.live.held) ∙ o) (sym (slot_name_same P B C alike_made t m) ∙ e ∙ name_is);
     least = ready.inode.least;
     most = ready.inode.most;
     node = inl new_node;

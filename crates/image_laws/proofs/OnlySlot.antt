@@ -9,6 +9,8 @@ use Rattle.tree_model.specs.Tree.{Node, Directory, File}
 use Rattle.image_reading.specs.Reading.{slot_owner, IsHeld, IsPageOf, IsNode}
 use Rattle.image_reading.specs.Soundness.{Rule, PointsAtHeld, IsOnlyPointer, IsCoherent}
 use Rattle.image_laws.proofs.Addresses.{head-ne_slot, descriptor-ne_slot, inode-ne_slot0, slot-ne_slot, slot-ne_field, page-ne_slot}
+use Rattle.image_laws.proofs.KeptPages as pages
+use Rattle.image_laws.proofs.KeptPages.{KeepsPages, held_forth, page_same}
 use Rattle.image_laws.proofs.Words.{slot_words-same}
 
 pub record OnlySlot (P : ℕ) (I J : List ℕ) (s : ℕ) : Type 0 where
@@ -53,6 +55,9 @@ slot_inode-set P I s v e lt = get_or-set_same I (slot_word_of P s 0) v 0 (let b 
 
 -- what such a change leaves
 module _ (P : ℕ) (I J : List ℕ) (s : ℕ) (only : OnlySlot P I J s) where
+  paged : KeepsPages P I J (λ j. ⊥)
+  paged = record { owner = λ j lt none. only.owner j lt; kind = λ j lt none. only.kind j lt; offset = λ j lt none. only.offset j lt }
+
   pub same_owner : (t : ℕ) → t < slots_of P → slot_owner P J t ≡ slot_owner P I t
   unfolding slot_owner
   same_owner t lt = only.owner (page_of_slot t) (page_of_slot_below P t lt)
@@ -62,34 +67,16 @@ module _ (P : ℕ) (I J : List ℕ) (s : ℕ) (only : OnlySlot P I J s) where
   same_name t = ap name_in_words (only.words t)
 
   pub held_forward : (t : ℕ) → IsHeld P I t → IsHeld P J t
-  held_forward t h = record {
-    in_range = h.in_range;
-    kind = only.kind (page_of_slot t) (page_of_slot_below P t h.in_range) ∙ h.kind;
-    owned = λ z. h.owned (sym (same_owner t h.in_range) ∙ z);
-  }
+  held_forward t = held_forth paged t (λ none. none)
 
   pub held_back : (t : ℕ) → IsHeld P J t → IsHeld P I t
-  held_back t h = record {
-    in_range = h.in_range;
-    kind = sym (only.kind (page_of_slot t) (page_of_slot_below P t h.in_range)) ∙ h.kind;
-    owned = λ z. h.owned (same_owner t h.in_range ∙ z);
-  }
+  held_back t = pages.held_back paged t (λ none. none)
 
   pub page_back : (x k j : ℕ) → IsPageOf P J x k j → IsPageOf P I x k j
-  page_back x k j g = record {
-    in_range = g.in_range;
-    owner = sym (only.owner j g.in_range) ∙ g.owner;
-    kind = sym (only.kind j g.in_range) ∙ g.kind;
-    offset = sym (only.offset j g.in_range) ∙ g.offset;
-  }
+  page_back x k j = (page_same paged x k j (λ none. none)).0
 
   pub page_forward : (x k j : ℕ) → IsPageOf P I x k j → IsPageOf P J x k j
-  page_forward x k j g = record {
-    in_range = g.in_range;
-    owner = only.owner j g.in_range ∙ g.owner;
-    kind = only.kind j g.in_range ∙ g.kind;
-    offset = only.offset j g.in_range ∙ g.offset;
-  }
+  page_forward x k j = (page_same paged x k j (λ none. none)).1
 
   pub pointers_kept : IsCoherent P I → (t : ℕ) → PointsAtHeld P J t
   pointers_kept coherent t = record {

@@ -2,20 +2,22 @@
 use Rattle.std.proofs.Common.{◌≡◌, ◌≢◌, ◌↔◌, inl, inr, ℕ, ◌+◌, ◌<◌, ◌≤◌, List, sym, ap, subst, ◌∙◌, arith}
 use Rattle.std.proofs.lemmas.Bool.{cases_eq}
 use Rattle.layout.specs.Fields.{word, inode_kind, inode_links, inode_size, page_owner, page_kind, page_offset, slot_inode, slot_pointer, slot_name}
-use Rattle.layout.specs.Geometry.{inodes_of, data_pages_of, slots_of, page_of_slot, inode_word_of, descriptor_word_of, slot_word_of}
-use Rattle.layout.proofs.GeometryLaws.{page_of_slot_below, slot_below}
+use Rattle.layout.specs.Geometry.{inodes_of, data_pages_of, page_of_slot, inode_word_of, descriptor_word_of, slot_word_of}
+use Rattle.layout.proofs.GeometryLaws.{slot_below}
 use Rattle.layout.specs.Name.{name_in_words}
 use Rattle.tree_model.specs.PathText.{Route}
 use Rattle.image_reading.specs.Reading.{HasBytes, slot_owner, IsHeld, IsLive, Reached, IsReachedSlot, IsNameOf, IsChildOf, IsLinkCount, IsRoomOf, pages_of_size, IsPageOf}
-use Rattle.image_reading.specs.Repairs.{IsKeptFilePage, IsKept, IsLitterSlot, IsLitterPage, IsLitterInode, IsLitterCount}
-use Rattle.image_reading.specs.Soundness.{Rule}
+use Rattle.image_reading.specs.Repairs.{IsLitterSlot, IsLitterPage, IsLitterInode, IsLitterCount}
 use Rattle.image_reading.proofs.Credits.{count_same}
 use Rattle.image_counts.specs.Entries.{IsSlotOf, IsFreePage}
 use Rattle.image_counts.proofs.Decided.{room_below}
 use Rattle.image_laws.specs.Add.{IsFreeSlot}
 use Rattle.image_laws.specs.Create.{CanName}
 use Rattle.image_laws.specs.Frame.{SameMeaning}
-use Rattle.image_laws.proofs.Paths.{reached_pos, reached-le, reach}
+use Rattle.image_laws.proofs.KeptPages.{KeepsPages, KeepsDescriptors, by_words, held_owner_same, held_back, page_same, litter_page}
+use Rattle.image_laws.proofs.KeptSlots as slot_laws
+use Rattle.image_laws.proofs.KeptSlots.{KeepsSlots, litter_slot}
+use Rattle.image_laws.proofs.Paths.{reached_pos, reached-le}
 use Rattle.image_laws.proofs.Ready.{IsCleanSlot, IsTidyBut, tidy_but, no_pointer}
 use Rattle.image_laws.specs.Stages.{IsReadySlot, IsFreeInode}
 use Rattle.image_laws.proofs.Words.{slot_words-same}
@@ -63,21 +65,14 @@ module _ (P : ℕ) (W B : List ℕ) (p : Route) (d j s : ℕ) (name : List ℕ) 
   unfolding inode_links
   inode_links_same x r = taken.inodes x 1 (pos x r) (range x r) (omega arith)
 
+  kept_words : KeepsDescriptors P W B (λ x. x ≡ j)
+  kept_words x f lt l3 ne = taken.descriptors x f lt (omega (arith, l3)) ne
+
+  paged : KeepsPages P W B (λ x. x ≡ j)
+  paged = by_words P W B (λ x. x ≡ j) kept_words
+
   pub owner_same : (x : ℕ) → x < data_pages_of P → x ≢ j → page_owner P B x ≡ page_owner P W x
-  unfolding page_owner
-  owner_same x lt ne = taken.descriptors x 0 lt (omega arith) ne
-
-  kind_same : (x : ℕ) → x < data_pages_of P → x ≢ j → page_kind P B x ≡ page_kind P W x
-  unfolding page_kind
-  kind_same x lt ne = taken.descriptors x 1 lt (omega arith) ne
-
-  offset_same : (x : ℕ) → x < data_pages_of P → x ≢ j → page_offset P B x ≡ page_offset P W x
-  unfolding page_offset
-  offset_same x lt ne = taken.descriptors x 2 lt (omega arith) ne
-
-  slot_owner_same : (t : ℕ) → t < slots_of P → page_of_slot t ≢ j → slot_owner P B t ≡ slot_owner P W t
-  unfolding slot_owner
-  slot_owner_same t lt ne = owner_same (page_of_slot t) (page_of_slot_below P t lt) ne
+  owner_same = paged.owner
 
   slot_inode_same : (t : ℕ) → page_of_slot t ≢ j → slot_inode P B t ≡ slot_inode P W t
   unfolding slot_inode
@@ -102,63 +97,40 @@ module _ (P : ℕ) (W B : List ℕ) (p : Route) (d j s : ℕ) (name : List ℕ) 
   before_elsewhere : (t : ℕ) → IsReachedSlot P W t → page_of_slot t ≢ j
   before_elsewhere t r at = unowned t at r.live.held
 
-  held_before : (t : ℕ) → page_of_slot t ≢ j → IsHeld P B t → IsHeld P W t
-  held_before t ne h = record {
-    in_range = h.in_range;
-    kind = sym (kind_same (page_of_slot t) (page_of_slot_below P t h.in_range) ne) ∙ h.kind;
-    owned = λ z. h.owned (slot_owner_same t h.in_range ne ∙ z);
+  -- all slots stay
+  kept : KeepsSlots P W B (λ t. ⊥)
+  kept = record {
+    before = can.tidy.coherent;
+    after = taken.same.coherent;
+    forth = λ t none. (taken.reached_slots t).0;
+    back = λ t none. (taken.reached_slots t).1;
+    owners = λ t none was is. held_owner_same paged t was.live.held (before_elsewhere t was);
+    numbers = λ t none was. slot_inode_same t (before_elsewhere t was);
+    kinds = λ x was is. inode_kind_same x was;
   }
 
   -- ---- what is to be repaired
 
-  no_pointers : (t : ℕ) → IsHeld P B t → slot_pointer P B t ≡ 0
+  pub no_pointers : (t : ℕ) → IsHeld P B t → slot_pointer P B t ≡ 0
   no_pointers t h = elim (cases_eq (page_of_slot t) j) [
     | inl at ↦ taken.pointers t at
-    | inr ne ↦ pointer_same t ne ∙ no_pointer P W j (tidy_but P W j can.tidy) t (held_before t ne h)
+    | inr ne ↦ pointer_same t ne ∙ no_pointer P W j (tidy_but P W j can.tidy) t (held_back paged t ne h)
   ]
 
   no_slot : (t : ℕ) → IsLitterSlot P B t → ⊥
-  unfolding slot_owner
   no_slot t l =
-      let (f, lt, nonzero) = l.nonzero in
       let here = page_of_slot t in
       let (u, at, o, live) = l.page.slot in
       let ne : here ≢ j = λ e. elsewhere u live (at ∙ e) in
       let below = room_below P B (page_owner P B here) here l.page in
-      let page_before : IsRoomOf P W (page_owner P W here) here = subst (λ x. IsRoomOf P W x here) (owner_same here below ne) ((taken.rooms (page_owner P B here) here).1 l.page) in
-      (tidy_but P W j can.tidy).slots t (record {
-        page = page_before;
-        dead = λ live_before. l.dead (((taken.reached_slots t).0 (record { owner = page_before.reached; directory = page_before.directory; live = live_before })).live);
-        nonzero = (f, lt, λ z. nonzero (taken.slots t f lt ne ∙ z));
-      })
-
-  kept_file : (x : ℕ) → x ≢ j → IsKeptFilePage P W x → IsKeptFilePage P B x
-  kept_file x ne k =
-      let o = owner_same x k.in_range ne in
-      record {
-        in_range = k.in_range;
-        owner = subst (Reached P B) (sym o) (forth (page_owner P W x) k.owner);
-        file = ap (inode_kind B) o ∙ inode_kind_same (page_owner P W x) k.owner ∙ k.file;
-        below = let size = ap (inode_size B) o ∙ inode_size_same (page_owner P W x) k.owner in
-            subst (λ z. z < pages_of_size (inode_size B (page_owner P B x))) (sym (offset_same x k.in_range ne)) (subst (λ z. page_offset P W x < pages_of_size z) (sym size) k.below);
-      }
-
-  kept_forth : (x : ℕ) → x < data_pages_of P → x ≢ j → IsKept P W x → IsKept P B x
-  kept_forth x lt ne k = elim k [
-    | inl file ↦ inl (kept_file x ne file)
-    | inr room ↦ inr (subst (λ y. IsRoomOf P B y x) (sym (owner_same x lt ne)) ((taken.rooms (page_owner P W x) x).0 room))
-  ]
+      let was = subst (λ x. IsRoomOf P W x here) (owner_same here below ne) ((taken.rooms (page_owner P B here) here).1 l.page) in
+      (tidy_but P W j can.tidy).slots t (litter_slot kept t (λ none. none) was (λ f lt. taken.slots t f lt ne) l)
 
   only_page : (x : ℕ) → IsLitterPage P B x → x ≡ j
   only_page x l = elim (cases_eq x j) [
     | inl e ↦ e
-    | inr ne ↦
-        let (f, lt, nonzero) = l.nonzero in
-        (tidy_but P W j can.tidy).pages x (record {
-          in_range = l.in_range;
-          free = λ k. l.free (kept_forth x l.in_range ne k);
-          nonzero = (f, lt, λ z. nonzero (taken.descriptors x f l.in_range (omega arith) ne ∙ z));
-        })
+    | inr ne ↦ (tidy_but P W j can.tidy).pages x (litter_page P W B (λ y. y ≡ j) kept_words kept.kinds (λ y lt other r. forth (page_owner P W y) r)
+        (λ y other file. subst (λ z. page_offset P W y < pages_of_size z) (sym (inode_size_same (page_owner P W y) file.owner)) file.below) (λ y lt other. (taken.rooms (page_owner P W y) y).0) x ne l)
   ]
 
   no_inode : (x : ℕ) → IsLitterInode P B x → ⊥
@@ -173,38 +145,12 @@ module _ (P : ℕ) (W B : List ℕ) (p : Route) (d j s : ℕ) (name : List ℕ) 
 
   -- ---- links
 
-  name_forth : (x t : ℕ) → IsNameOf P W x t → IsNameOf P B x t
-  name_forth x t n = record { slot = (taken.reached_slots t).0 n.slot; inode = slot_inode_same t (before_elsewhere t n.slot) ∙ n.inode }
-
-  name_back : (x t : ℕ) → IsNameOf P B x t → IsNameOf P W x t
-  name_back x t n = record { slot = (taken.reached_slots t).1 n.slot; inode = sym (slot_inode_same t (elsewhere t n.slot.live)) ∙ n.inode }
-
-  named : (t : ℕ) → IsReachedSlot P W t → Reached P W (slot_inode P W t)
-  named t r = reach P W t r ((can.tidy.coherent Rule.inodes t).most r)
-
-  child_forth : (x t : ℕ) → IsChildOf P W x t → IsChildOf P B x t
-  child_forth x t n = record {
-    slot = (taken.reached_slots t).0 n.slot;
-    owner = slot_owner_same t n.slot.live.held.in_range (before_elsewhere t n.slot) ∙ n.owner;
-    directory = ap (inode_kind B) (slot_inode_same t (before_elsewhere t n.slot)) ∙ inode_kind_same (slot_inode P W t) (named t n.slot) ∙ n.directory;
-  }
-
-  child_back : (x t : ℕ) → IsChildOf P B x t → IsChildOf P W x t
-  child_back x t n =
-      let old = (taken.reached_slots t).1 n.slot in
-      let ne = elsewhere t n.slot.live in
-      record {
-        slot = old;
-        owner = sym (slot_owner_same t n.slot.live.held.in_range ne) ∙ n.owner;
-        directory = sym (inode_kind_same (slot_inode P W t) (named t old)) ∙ ap (inode_kind B) (sym (slot_inode_same t ne)) ∙ n.directory;
-      }
-
   links_forth : (x : ℕ) → Reached P W x → IsLinkCount P W x (inode_links W x) → IsLinkCount P B x (inode_links B x)
   links_forth x r count = subst (IsLinkCount P B x) (sym (inode_links_same x r)) (record {
-    file = λ file. count_same (IsNameOf P W x) (IsNameOf P B x) (inode_links W x) (λ t. (name_forth x t, name_back x t)) (count.file (sym (inode_kind_same x r) ∙ file));
+    file = λ file. count_same (IsNameOf P W x) (IsNameOf P B x) (inode_links W x) (λ t. slot_laws.names kept x t (λ none. none)) (count.file (sym (inode_kind_same x r) ∙ file));
     directory = λ dir.
         let (m, children, e) = count.directory (sym (inode_kind_same x r) ∙ dir) in
-        (m, count_same (IsChildOf P W x) (IsChildOf P B x) m (λ t. (child_forth x t, child_back x t)) children, e);
+        (m, count_same (IsChildOf P W x) (IsChildOf P B x) m (λ t. slot_laws.children kept x t (λ none. none)) children, e);
   })
 
   no_count : (x : ℕ) → IsLitterCount P B x → ⊥
@@ -253,7 +199,7 @@ module _ (P : ℕ) (W B : List ℕ) (p : Route) (d j s : ℕ) (name : List ℕ) 
     new = λ t r o e.
         let old = (taken.reached_slots t).1 r in
         let ne = elsewhere t r.live in
-        can.new t old (sym (slot_owner_same t r.live.held.in_range ne) ∙ o) (sym (name_same t ne) ∙ e);
+        can.new t old (sym (held_owner_same paged t old.live.held ne) ∙ o) (sym (name_same t ne) ∙ e);
   }
 
   pub page_clean : ((t f : ℕ) → page_of_slot t ≡ j → f < 16 → word B (slot_word_of P t f) ≡ 0) → IsCleanSlot P B s
@@ -278,10 +224,7 @@ module _ (P : ℕ) (W B : List ℕ) (p : Route) (d j s : ℕ) (name : List ℕ) 
   -- ---- what an index holds is as before
 
   pub entry_same : (x t : ℕ) → IsSlotOf P B x t ↔ IsSlotOf P W x t
-  entry_same x t = (
-    (λ h. ((taken.reached_slots t).1 h.0, sym (slot_owner_same t h.0.live.held.in_range (elsewhere t h.0.live)) ∙ h.1)),
-    (λ h. ((taken.reached_slots t).0 h.0, slot_owner_same t h.0.live.held.in_range (before_elsewhere t h.0) ∙ h.1)),
-  )
+  entry_same x t = let same = slot_laws.entries kept x t (λ none. none) in (same.1, same.0)
 
   pub slot_same : (t : ℕ) → IsReachedSlot P W t → (slot_name P B t ≡ slot_name P W t) × (slot_inode P B t ≡ slot_inode P W t)
   slot_same t r = (name_same t (before_elsewhere t r), slot_inode_same t (before_elsewhere t r))
@@ -293,20 +236,7 @@ module _ (P : ℕ) (W B : List ℕ) (p : Route) (d j s : ℕ) (name : List ℕ) 
   file_elsewhere x k y g e = let one = g.kind in let two = ap (page_kind P B) e ∙ taken.kind in omega (arith, one, two)
 
   pub file_page_same : (x k y : ℕ) → Reached P W x → IsPageOf P B x k y ↔ IsPageOf P W x k y
-  file_page_same x k y r = (
-    (λ g. let ne = file_elsewhere x k y g in record {
-      in_range = g.in_range;
-      owner = sym (owner_same y g.in_range ne) ∙ g.owner;
-      kind = sym (kind_same y g.in_range ne) ∙ g.kind;
-      offset = sym (offset_same y g.in_range ne) ∙ g.offset;
-    }),
-    (λ g. let ne = page_elsewhere x k y r g in record {
-      in_range = g.in_range;
-      owner = owner_same y g.in_range ne ∙ g.owner;
-      kind = kind_same y g.in_range ne ∙ g.kind;
-      offset = offset_same y g.in_range ne ∙ g.offset;
-    }),
-  )
+  file_page_same x k y r = ((λ g. (page_same paged x k y (file_elsewhere x k y g)).0 g), (λ g. (page_same paged x k y (page_elsewhere x k y r g)).1 g))
 
   pub kind_as_before : (x : ℕ) → Reached P W x → HasBytes W x → HasBytes B x
   kind_as_before x r file = inode_kind_same x r ∙ file

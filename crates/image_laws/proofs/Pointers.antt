@@ -4,14 +4,16 @@ use Rattle.std.proofs.lemmas.Bool.{cases_eq, cases_lt}
 use Rattle.std.proofs.lemmas.List.{get_or-set_same, get_or-set_other}
 use Rattle.layout.specs.Fields.{word, inode_kind, inode_links, inode_size, inode_own, page_owner, page_kind, page_offset, slot_inode, slot_pointer, slot_words, page_byte}
 use Rattle.layout.specs.Geometry.{inodes_of, data_pages_of, page_of_slot, inode_word_of, descriptor_word_of, page_word_of, slot_word_of}
-use Rattle.layout.proofs.GeometryLaws.{page_of_slot_below, slot_word_within}
-use Rattle.image_reading.specs.Reading.{slot_owner, IsHeld, IsLive}
+use Rattle.layout.proofs.GeometryLaws.{slot_word_within}
+use Rattle.image_reading.specs.Reading.{IsHeld, IsLive}
 use Rattle.image_reading.specs.Soundness.{Rule, PointsAtHeld, IsOnlyPointer, IsCoherent, HasLinks}
 use Rattle.image_laws.specs.Agrees.{SameSlot}
 use Rattle.image_laws.specs.Frame.{SameInode, SameMeaning}
 use Rattle.image_laws.specs.Pointers.{CanPoint, PointerLaw, IsLeft, LeaveLaw}
 use Rattle.image_laws.proofs.Addresses.{head-ne_slot, descriptor-ne_slot, some_inode, slot-ne_slot, slot-ne_field, page-ne_slot, inode-ne_slot0}
 use Rattle.image_laws.proofs.Meaning.{shape, meaning}
+use Rattle.image_laws.proofs.KeptPages as pages
+use Rattle.image_laws.proofs.KeptPages.{KeepsPages, held_forth}
 use Rattle.image_laws.proofs.Paths.{reached-le}
 use Rattle.image_laws.proofs.Words.{slot_words-same}
 
@@ -53,21 +55,14 @@ near P I s f v some two = record {
     other a ne = get_or-set_other I (slot_word_of P s f) a v 0 ne
 
 module _ (P : ℕ) (I J : List ℕ) (s : ℕ) (coherent : IsCoherent P I) (n : Near P I J s) (held : IsHeld P I s) where
+  paged : KeepsPages P I J (λ j. ⊥)
+  paged = record { owner = λ j lt none. n.owner j lt; kind = λ j lt none. n.kind j lt; offset = λ j lt none. n.offset j lt }
+
   held_forward : (t : ℕ) → IsHeld P I t → IsHeld P J t
-  unfolding slot_owner
-  held_forward t h = let lt = page_of_slot_below P t h.in_range in record {
-    in_range = h.in_range;
-    kind = n.kind (page_of_slot t) lt ∙ h.kind;
-    owned = λ z. h.owned (sym (n.owner (page_of_slot t) lt) ∙ z);
-  }
+  held_forward t = held_forth paged t (λ none. none)
 
   held_back : (t : ℕ) → IsHeld P J t → IsHeld P I t
-  unfolding slot_owner
-  held_back t h = let lt = page_of_slot_below P t h.in_range in record {
-    in_range = h.in_range;
-    kind = sym (n.kind (page_of_slot t) lt) ∙ h.kind;
-    owned = λ z. h.owned (n.owner (page_of_slot t) lt ∙ z);
-  }
+  held_back t = pages.held_back paged t (λ none. none)
 
   near_means : ((t : ℕ) → SameSlot P I J t) → ((t : ℕ) → PointsAtHeld P J t) → ((t : ℕ) → IsOnlyPointer P J t) → SameMeaning P I J
   near_means slots three four = meaning P I J (shape P I J coherent (record {

@@ -1,14 +1,13 @@
 -- A reached slot's inode number becomes 0: the tree has one path less.
-use Rattle.std.proofs.Common.{◌≡◌, ◌≢◌, ◌↔◌, ◌⊎◌, inl, inr, ℕ, ◌-◌, ◌<◌, List, [], ◌∷◌, sym, ap, subst, ◌∙◌, arith}
+use Rattle.std.proofs.Common.{◌≡◌, ◌≢◌, ◌↔◌, ◌⊎◌, inl, inr, ℕ, ◌<◌, List, [], ◌∷◌, sym, ap, subst, ◌∙◌, arith}
 use Rattle.std.proofs.lemmas.Bool.{cases_eq}
 use Rattle.layout.specs.Fields.{inode_kind, page_owner, slot_inode, slot_pointer, slot_name}
-use Rattle.layout.specs.Geometry.{slots_of, page_of_slot}
-use Rattle.layout.proofs.GeometryLaws.{page_of_slot_below}
-use Rattle.layout.specs.Name.{name_in_words}
+use Rattle.layout.specs.Geometry.{slots_of}
 use Rattle.tree_model.specs.PathText.{Route}
-use Rattle.image_reading.specs.Reading.{slot_owner, IsHeld, IsLive, Names, Reached, IsReachedSlot, IsPageOf}
+use Rattle.image_reading.specs.Reading.{slot_owner, IsHeld, IsLive, Names, Reached, IsReachedSlot}
 use Rattle.image_reading.specs.Soundness.{Rule, IsCoherent, HasLinks}
 use Rattle.image_counts.proofs.Paths.{one_path, one_inode, same_slot}
+use Rattle.image_laws.proofs.OnlySlot as slots
 use Rattle.image_laws.proofs.OnlySlot.{OnlySlot}
 use Rattle.image_laws.proofs.Meaning.{page_kind_is}
 use Rattle.image_laws.proofs.Paths.{reached-le}
@@ -28,26 +27,16 @@ pub record Removes (P : ℕ) (I J : List ℕ) (p : Route) (d s i : ℕ) : Type 0
 
 module _ (P : ℕ) (I J : List ℕ) (p : Route) (d s i : ℕ) (coherent : IsCoherent P I) (a : Removes P I J p d s i) where
   same_owner : (t : ℕ) → t < slots_of P → slot_owner P J t ≡ slot_owner P I t
-  unfolding slot_owner
-  same_owner t lt = a.only.owner (page_of_slot t) (page_of_slot_below P t lt)
+  same_owner = slots.same_owner P I J s a.only
 
   same_name : (t : ℕ) → slot_name P J t ≡ slot_name P I t
-  unfolding slot_name
-  same_name t = ap name_in_words (a.only.words t)
+  same_name = slots.same_name P I J s a.only
 
   held_forward : (t : ℕ) → IsHeld P I t → IsHeld P J t
-  held_forward t h = record {
-    in_range = h.in_range;
-    kind = a.only.kind (page_of_slot t) (page_of_slot_below P t h.in_range) ∙ h.kind;
-    owned = λ z. h.owned (sym (same_owner t h.in_range) ∙ z);
-  }
+  held_forward = slots.held_forward P I J s a.only
 
   held_back : (t : ℕ) → IsHeld P J t → IsHeld P I t
-  held_back t h = record {
-    in_range = h.in_range;
-    kind = sym (a.only.kind (page_of_slot t) (page_of_slot_below P t h.in_range)) ∙ h.kind;
-    owned = λ z. h.owned (same_owner t h.in_range ∙ z);
-  }
+  held_back = slots.held_back P I J s a.only
 
   pub other : (t : ℕ) → IsLive P J t → t ≢ s
   other t l e = l.names (ap (slot_inode P J) e ∙ a.gone)
@@ -159,33 +148,12 @@ module _ (P : ℕ) (I J : List ℕ) (p : Route) (d s i : ℕ) (coherent : IsCohe
         words = a.only.words t;
       }
 
-  page_back : (x k j : ℕ) → IsPageOf P J x k j → IsPageOf P I x k j
-  page_back x k j g = record {
-    in_range = g.in_range;
-    owner = sym (a.only.owner j g.in_range) ∙ g.owner;
-    kind = sym (a.only.kind j g.in_range) ∙ g.kind;
-    offset = sym (a.only.offset j g.in_range) ∙ g.offset;
-  }
-
-  page_forward : (x k j : ℕ) → IsPageOf P I x k j → IsPageOf P J x k j
-  page_forward x k j g = record {
-    in_range = g.in_range;
-    owner = a.only.owner j g.in_range ∙ g.owner;
-    kind = a.only.kind j g.in_range ∙ g.kind;
-    offset = a.only.offset j g.in_range ∙ g.offset;
-  }
-
   within : Within P I J
   within = record {
     size = a.only.size;
     head = a.only.head;
-    pointers = λ t. record {
-      other = λ held z. (coherent Rule.pointers t).other (held_back t held) (sym (a.only.pointer t) ∙ z);
-      held = λ held nonzero.
-          let e = a.only.pointer t in
-          subst (λ x. IsHeld P J (x - 1)) (sym e) (held_forward (slot_pointer P I t - 1) ((coherent Rule.pointers t).held (held_back t held) (λ z. nonzero (e ∙ z))));
-    };
-    one_pointer = λ t r lt hr ht nonzero. a.only.pointer t ∙ coherent Rule.one_pointer t r lt (held_back r hr) (held_back t ht) (λ z. nonzero (a.only.pointer r ∙ z));
+    pointers = slots.pointers_kept P I J s a.only coherent;
+    one_pointer = slots.one_pointer_kept P I J s a.only coherent;
     slots = slot_back;
     inodes = λ x r. let m = reached_back x r in let l = reached-le P I coherent x m in
         record { reached = m; kind = a.only.node_kind x l; own = a.only.own x l };
@@ -193,7 +161,7 @@ module _ (P : ℕ) (I J : List ℕ) (p : Route) (d s i : ℕ) (coherent : IsCohe
     kinds = λ j lt r. let o = a.only.owner j lt in
         a.only.kind j lt ∙ page_kind_is P I coherent j lt (subst (Reached P I) o (reached_back (page_owner P J j) r)) ∙ ap (inode_kind I) (sym o);
     files = λ x r k. let m = reached_back x r in let l = reached-le P I coherent x m in
-        whole_same P I J x (a.only.node_size x l) (λ n j lt g. page_forward x n j g) (λ n j lt g. page_back x n j g)
+        whole_same P I J x (a.only.node_size x l) (λ n j lt g. slots.page_forward P I J s a.only x n j g) (λ n j lt g. slots.page_back P I J s a.only x n j g)
         (whole P I x coherent m (sym (a.only.node_kind x l) ∙ k));
   }
 

@@ -13,6 +13,8 @@ use Rattle.image_reading.specs.Soundness.{Rule, IsCoherent, HasLinks}
 use Rattle.image_reading.proofs.Credits.{count_same}
 use Rattle.image_laws.specs.Resize.{IsStored}
 use Rattle.image_laws.proofs.Addresses.{head-ne_inode, descriptor-ne_inode, inode-ne_slot, inode-ne_inode, inode-ne_field, page-ne_inode}
+use Rattle.image_laws.proofs.KeptPages as pages
+use Rattle.image_laws.proofs.KeptPages.{KeepsPages, held_forth, page_same}
 use Rattle.image_laws.proofs.Meaning.{page_kind_is}
 use Rattle.image_laws.proofs.Paths.{reached_pos}
 use Rattle.image_laws.proofs.Within.{IsWhole, whole, whole_same, OldSlot, Within, within_coherent}
@@ -72,19 +74,14 @@ module _ (P : ℕ) (I J : List ℕ) (i z : ℕ) (coherent : IsCoherent P I) (a :
   unfolding slot_name
   name_same t = ap name_in_words (a.only.words t)
 
+  paged : KeepsPages P I J (λ j. ⊥)
+  paged = record { owner = λ j lt none. a.only.owner j lt; kind = λ j lt none. a.only.kind j lt; offset = λ j lt none. a.only.offset j lt }
+
   held_forward : (t : ℕ) → IsHeld P I t → IsHeld P J t
-  held_forward t h = record {
-    in_range = h.in_range;
-    kind = a.only.kind (page_of_slot t) (page_of_slot_below P t h.in_range) ∙ h.kind;
-    owned = λ e. h.owned (sym (owner_same t h.in_range) ∙ e);
-  }
+  held_forward t = held_forth paged t (λ none. none)
 
   held_back : (t : ℕ) → IsHeld P J t → IsHeld P I t
-  held_back t h = record {
-    in_range = h.in_range;
-    kind = sym (a.only.kind (page_of_slot t) (page_of_slot_below P t h.in_range)) ∙ h.kind;
-    owned = λ e. h.owned (owner_same t h.in_range ∙ e);
-  }
+  held_back t = pages.held_back paged t (λ none. none)
 
   live_forward : (t : ℕ) → IsLive P I t → IsLive P J t
   live_forward t l = record {
@@ -135,20 +132,10 @@ module _ (P : ℕ) (I J : List ℕ) (i z : ℕ) (coherent : IsCoherent P I) (a :
   reached_back x (q, b) = (q, names_back q x b)
 
   page_back : (x k j : ℕ) → IsPageOf P J x k j → IsPageOf P I x k j
-  page_back x k j g = record {
-    in_range = g.in_range;
-    owner = sym (a.only.owner j g.in_range) ∙ g.owner;
-    kind = sym (a.only.kind j g.in_range) ∙ g.kind;
-    offset = sym (a.only.offset j g.in_range) ∙ g.offset;
-  }
+  page_back x k j = (page_same paged x k j (λ none. none)).0
 
   page_forward : (x k j : ℕ) → IsPageOf P I x k j → IsPageOf P J x k j
-  page_forward x k j g = record {
-    in_range = g.in_range;
-    owner = a.only.owner j g.in_range ∙ g.owner;
-    kind = a.only.kind j g.in_range ∙ g.kind;
-    offset = a.only.offset j g.in_range ∙ g.offset;
-  }
+  page_forward x k j = (page_same paged x k j (λ none. none)).1
 
   slot_back : (t : ℕ) → IsReachedSlot P J t → OldSlot P I J t
   slot_back t r = let o = owner_same t r.live.held.in_range in record {

@@ -1,7 +1,7 @@
 -- Before the commit of a rename nothing is to be repaired but slot d, its page and the count that has risen.
 use Rattle.std.proofs.Common.{◌≡◌, ◌≢◌, ◌↔◌, ◌⊎◌, inl, inr, ℕ, ◌+◌, ◌<◌, ◌≤◌, List, Option, Some, None, refl, sym, ap, subst, ◌∙◌, arith}
 use Rattle.std.proofs.lemmas.Bool.{cases_eq}
-use Rattle.layout.specs.Fields.{word, inode_kind, inode_links, inode_size, page_owner, page_kind, page_offset, slot_inode, slot_name, slot_pointer}
+use Rattle.layout.specs.Fields.{word, inode_kind, inode_links, inode_size, page_owner, page_offset, slot_inode, slot_name, slot_pointer}
 use Rattle.layout.specs.Name.{name_in_words}
 use Rattle.layout.specs.Geometry.{inodes_of, data_pages_of, page_of_slot, inode_word_of, descriptor_word_of, slot_word_of}
 use Rattle.layout.proofs.GeometryLaws.{page_of_slot_below}
@@ -9,7 +9,7 @@ use Rattle.tree_model.specs.PathText.{Route}
 use Rattle.image_reading.specs.Counts.{Count}
 use Rattle.image_reading.specs.Litter.{IsZeroSlot}
 use Rattle.image_reading.specs.Reading.{HasBytes, IsDirectory, slot_owner, IsHeld, IsLive, Reached, IsReachedSlot, IsNameOf, IsChildOf, IsLinkCount, IsRoomOf, pages_of_size}
-use Rattle.image_reading.specs.Repairs.{IsKept, IsLitterPage, IsLitterInode}
+use Rattle.image_reading.specs.Repairs.{IsLitterPage, IsLitterInode}
 use Rattle.image_reading.specs.Soundness.{Rule}
 use Rattle.image_reading.proofs.Credits.{count_same}
 use Rattle.image_counts.proofs.Counting.{none_counted}
@@ -17,6 +17,10 @@ use Rattle.image_counts.proofs.Decided.{room_or_not, room_owner}
 use Rattle.image_counts.proofs.Links.{links_counted, link_word_law}
 use Rattle.image_laws.specs.Move.{CanMove}
 use Rattle.image_laws.proofs.Addresses.{descriptor-ne_inode, descriptor-ne_page, descriptor-ne_slot, inode-ne_slot, page-ne_inode, page-ne_slot, slot-ne_slot, descriptor_word-one, inode_word-one}
+use Rattle.image_laws.proofs.KeptPages as pages
+use Rattle.image_laws.proofs.KeptPages.{KeepsPages, by_words, held_owner_same, held_forth, held_back}
+use Rattle.image_laws.proofs.KeptSlots as slot_laws
+use Rattle.image_laws.proofs.KeptSlots.{KeepsSlots}
 use Rattle.image_laws.proofs.Paths.{reached_pos, reached-le, reach}
 use Rattle.image_laws.proofs.Ready.{tidy_but, no_pointer}
 use Rattle.image_laws.proofs.Rooms.{room_law}
@@ -212,17 +216,11 @@ module _ (P : ℕ) (W I : List ℕ) (pa pb : Route) (s x d : ℕ) (target : Targ
       let (same, field) = inode_word-one y f x 1 some (pos x x_reached) lt (omega arith) e in
       elim other [ inl ne ↦ ne same | inr ne ↦ ne field ]))
 
+  pub paged : KeepsPages P W I (IsOpenedPage target)
+  paged = by_words P W I (IsOpenedPage target) (λ j f lt l3 old. descriptor_same j f lt (omega (arith, l3)) old)
+
   pub owner_same : (j : ℕ) → j < data_pages_of P → (IsOpenedPage target j → ⊥) → page_owner P I j ≡ page_owner P W j
-  unfolding page_owner
-  owner_same j lt old = descriptor_same j 0 lt (omega arith) old
-
-  pub page_kind_same : (j : ℕ) → j < data_pages_of P → (IsOpenedPage target j → ⊥) → page_kind P I j ≡ page_kind P W j
-  unfolding page_kind
-  page_kind_same j lt old = descriptor_same j 1 lt (omega arith) old
-
-  pub offset_same : (j : ℕ) → j < data_pages_of P → (IsOpenedPage target j → ⊥) → page_offset P I j ≡ page_offset P W j
-  unfolding page_offset
-  offset_same j lt old = descriptor_same j 2 lt (omega arith) old
+  owner_same = paged.owner
 
   pub kind_same : (y : ℕ) → Reached P W y → inode_kind I y ≡ inode_kind W y
   unfolding inode_kind
@@ -239,23 +237,7 @@ module _ (P : ℕ) (W I : List ℕ) (pa pb : Route) (s x d : ℕ) (target : Targ
   held_old t held new = held.owned (unowned P W pb s x d target (page_of_slot t) take new)
 
   pub owner_slot : (t : ℕ) → IsHeld P W t → slot_owner P I t ≡ slot_owner P W t
-  unfolding slot_owner
-  owner_slot t held = owner_same (page_of_slot t) (page_of_slot_below P t held.in_range) (held_old t held)
-
-  pub held_forth : (t : ℕ) → IsHeld P W t → IsHeld P I t
-  held_forth t held = record {
-    in_range = held.in_range;
-    kind = page_kind_same (page_of_slot t) (page_of_slot_below P t held.in_range) (held_old t held) ∙ held.kind;
-    owned = λ z. held.owned (sym (owner_slot t held) ∙ z);
-  }
-
-  pub held_back : (t : ℕ) → (IsOpenedPage target (page_of_slot t) → ⊥) → IsHeld P I t → IsHeld P W t
-  unfolding slot_owner
-  held_back t old held = let lt = page_of_slot_below P t held.in_range in record {
-    in_range = held.in_range;
-    kind = sym (page_kind_same (page_of_slot t) lt old) ∙ held.kind;
-    owned = λ z. held.owned (owner_same (page_of_slot t) lt old ∙ z);
-  }
+  owner_slot t held = held_owner_same paged t held (held_old t held)
 
   pub number_same : (t : ℕ) → (IsOpenedPage target (page_of_slot t) → ⊥) → slot_inode P I t ≡ slot_inode P W t
   unfolding slot_inode
@@ -268,7 +250,7 @@ module _ (P : ℕ) (W I : List ℕ) (pa pb : Route) (s x d : ℕ) (target : Targ
 
   pub live_forth : (t : ℕ) → IsLive P W t → IsLive P I t
   live_forth t l = let e = number_same t (held_old t l.held) in record {
-    held = held_forth t l.held;
+    held = held_forth paged t (held_old t l.held) l.held;
     names = λ z. l.names (sym e ∙ z);
     stays = λ q held points same. elim (cases_eq q d) [
       | inl is ↦
@@ -288,7 +270,7 @@ module _ (P : ℕ) (W I : List ℕ) (pa pb : Route) (s x d : ℕ) (target : Targ
 
   pub live_back : (t : ℕ) → IsLive P I t → IsLive P W t
   live_back t l = let old = live_old t l in record {
-    held = held_back t old l.held;
+    held = held_back paged t old l.held;
     names = λ z. l.names (number_same t old ∙ z);
     stays = λ q held points. (let zero = no_pointer P W 0 (tidy_but P W 0 ready.can.tidy) q held in omega (arith, zero, points));
   }
@@ -380,37 +362,25 @@ module _ (P : ℕ) (W I : List ℕ) (pa pb : Route) (s x d : ℕ) (target : Targ
   same_links y r never = ready.others (inode_word_of y 1) (inode-ne_slot P y 1 d 1 (pos y r) (range y r) (omega arith))
       (other_inode P W pb s x d target y 1 take (pos y r) (range y r) (omega arith)) (still rising ready.rises y (pos y r) never)
 
-  name_same : (y t : ℕ) → IsNameOf P W y t ↔ IsNameOf P I y t
-  name_same y t = (
-    (λ n. record { slot = slot_forth t n.slot; inode = number_same t (held_old t n.slot.live.held) ∙ n.inode }),
-    (λ n. let was = slot_back t n.slot in record { slot = was; inode = sym (number_same t (held_old t was.live.held)) ∙ n.inode }),
-  )
-
-  named_kind : (t : ℕ) → IsReachedSlot P W t → inode_kind I (slot_inode P I t) ≡ inode_kind W (slot_inode P W t)
-  named_kind t r =
-      ap (inode_kind I) (number_same t (held_old t r.live.held))
-      ∙ kind_same (slot_inode P W t) (reach P W t r ((ready.can.tidy.coherent Rule.inodes t).most r))
-
-  child_same : (y t : ℕ) → IsChildOf P W y t ↔ IsChildOf P I y t
-  child_same y t = (
-    (λ n. record { slot = slot_forth t n.slot; owner = owner_slot t n.slot.live.held ∙ n.owner; directory = named_kind t n.slot ∙ n.directory }),
-    (λ n. let was = slot_back t n.slot in record { slot = was; owner = sym (owner_slot t was.live.held) ∙ n.owner; directory = sym (named_kind t was) ∙ n.directory }),
-  )
+  -- all slots stay
+  kept : KeepsSlots P W I (λ t. ⊥)
+  kept = record {
+    before = ready.can.tidy.coherent;
+    after = c.coherent;
+    forth = λ t none r. slot_forth t r;
+    back = λ t none r. slot_back t r;
+    owners = λ t none was is. owner_slot t was.live.held;
+    numbers = λ t none was. number_same t (held_old t was.live.held);
+    kinds = λ y was is. kind_same y was;
+  }
 
   -- ---- pages
 
   pub room_forth : (y j : ℕ) → IsRoomOf P W y j → IsRoomOf P I y j
-  room_forth y j room =
-      let (t, at, o, live) = room.slot in
-      here.room_from P I pa pb s d c I y j t
-      (slot_forth t (record { owner = subst (Reached P W) (sym o) room.reached; directory = ap (inode_kind W) o ∙ room.directory; live = live })) at
-      (owner_slot t live.held ∙ o)
+  room_forth y j = (slot_laws.rooms kept (λ t none. none) y j).0
 
-  pub room_back : (y j : ℕ) → IsRoomOf P I y j → IsRoomOf P W y j
-  room_back y j room =
-      let (t, at, o, live) = room.slot in
-      let slot = slot_back t (record { owner = subst (Reached P I) (sym o) room.reached; directory = ap (inode_kind I) o ∙ room.directory; live = live }) in
-      here.room_from P I pa pb s d c W y j t slot at (sym (owner_slot t slot.live.held) ∙ o)
+  room_back : (y j : ℕ) → IsRoomOf P I y j → IsRoomOf P W y j
+  room_back y j = (slot_laws.rooms kept (λ t none. none) y j).1
 
   room_old : (y j : ℕ) → IsRoomOf P I y j → IsOpenedPage target j → ⊥
   room_old y j room new = let (t, at, o, live) = room.slot in live_old t live (subst (IsOpenedPage target) (sym at) new)
@@ -430,21 +400,6 @@ module _ (P : ℕ) (W I : List ℕ) (pa pb : Route) (s x d : ℕ) (target : Targ
           ];
           nonzero = (0, omega arith, held.owned);
         }))
-      ]
-
-  kept_forth : (j : ℕ) → j < data_pages_of P → (IsOpenedPage target j → ⊥) → IsKept P W j → IsKept P I j
-  kept_forth j lt old kept =
-      let o = owner_same j lt old in
-      elim kept [
-        | inl file ↦ inl (record {
-          in_range = lt;
-          owner = subst (Reached P I) (sym o) (forth (page_owner P W j) file.owner);
-          file = ap (inode_kind I) o ∙ kind_same (page_owner P W j) file.owner ∙ file.file;
-          below = let size = ap (inode_size I) o ∙ size_same (page_owner P W j) file.owner in
-              subst (λ z. z < pages_of_size (inode_size I (page_owner P I j))) (sym (offset_same j lt old))
-              (subst (λ z. page_offset P W j < pages_of_size z) (sym size) file.below);
-        })
-        | inr room ↦ inr (subst (λ y. IsRoomOf P I y j) (sym o) (room_forth (page_owner P W j) j room))
       ]
 
   -- ---- nothing else is to be repaired
@@ -473,12 +428,8 @@ module _ (P : ℕ) (W I : List ℕ) (pa pb : Route) (s x d : ℕ) (target : Targ
   litter_page : (j : ℕ) → IsLitterPage P I j → j ≡ page_of_slot d
   litter_page j l = elim (opened_or_not target j) [
     | inl new ↦ opened_here P W pb s x d target j take new
-    | inr old ↦ (let (f, lt, nonzero) = l.nonzero in
-        absurd (none_counted (IsLitterPage P W) ready.can.tidy.repaired.of_pages j (record {
-          in_range = l.in_range;
-          free = λ kept. l.free (kept_forth j l.in_range old kept);
-          nonzero = (f, lt, (λ z. nonzero (descriptor_same j f l.in_range (omega (arith, lt)) old ∙ z)));
-        })))
+    | inr old ↦ absurd (none_counted (IsLitterPage P W) ready.can.tidy.repaired.of_pages j (pages.litter_page P W I (IsOpenedPage target) (λ k f lt l3 other. descriptor_same k f lt (omega (arith, l3)) other) (λ y was is. kind_same y was) (λ k lt other r. forth (page_owner P W k) r)
+        (λ k other file. subst (λ z. page_offset P W k < pages_of_size z) (sym (size_same (page_owner P W k) file.owner)) file.below) (λ k lt other room. room_forth (page_owner P W k) k room) j old l))
   ]
 
   litter_inode : (y : ℕ) → IsLitterInode P I y → ⊥
@@ -505,7 +456,7 @@ module _ (P : ℕ) (W I : List ℕ) (pa pb : Route) (s x d : ℕ) (target : Targ
       let file = sym (kind_same y was) ∙ one in
       let never : IsRising P W s x target y → ⊥ = λ rises.
       let two = ap (inode_kind W) (risen_is P W pb s x d target y rises).3 ∙ ready.can.target_directory in omega (arith, two, file) in
-      subst (Count (IsNameOf P I y)) (sym (same_links y was never)) (count_same (IsNameOf P W y) (IsNameOf P I y) (inode_links W y) (name_same y) ((counted y was).file file))
+      subst (Count (IsNameOf P I y)) (sym (same_links y was never)) (count_same (IsNameOf P W y) (IsNameOf P I y) (inode_links W y) (λ t. slot_laws.names kept y t (λ none. none)) ((counted y was).file file))
 
   rising_or_not : (r : Option ℕ) → Holds (IsRising P W s x target) r → (y : ℕ) → IsRising P W s x target y ⊎ (IsRising P W s x target y → ⊥)
   rising_or_not None holds y = inr (holds y)
@@ -520,7 +471,7 @@ module _ (P : ℕ) (W I : List ℕ) (pa pb : Route) (s x d : ℕ) (target : Targ
       let was = back y r in
       let (m, children, e) = (counted y was).directory (sym (kind_same y was) ∙ two) in (
         m,
-        count_same (IsChildOf P W y) (IsChildOf P I y) m (child_same y) children,
+        count_same (IsChildOf P W y) (IsChildOf P I y) m (λ t. slot_laws.children kept y t (λ none. none)) children,
         elim (rising_or_not rising ready.rises y) [
           | inl rises ↦ (let more = rising_links rising ready.rises ready.links y rises in inl ((raised y).0 rises, omega (arith, more, e)))
           | inr never ↦ inr ((λ rises. never ((raised y).1 rises)), same_links y was never ∙ e)

@@ -1,20 +1,23 @@
 -- What the last words of a rename mean is what the commit left, and nothing is to be repaired then.
 use Rattle.std.proofs.Common.{◌≡◌, ◌≢◌, ◌↔◌, ◌⊎◌, inl, inr, ℕ, ◌<◌, ◌≤◌, List, sym, ap, subst, ◌∙◌, arith}
 use Rattle.std.proofs.lemmas.Bool.{cases_eq}
-use Rattle.layout.specs.Fields.{word, inode_kind, inode_links, inode_size, page_owner, page_kind, page_offset, slot_inode, slot_pointer}
+use Rattle.layout.specs.Fields.{word, inode_kind, inode_links, inode_size, page_owner, page_offset, slot_inode, slot_pointer}
 use Rattle.layout.specs.Geometry.{inodes_of, data_pages_of, page_of_slot, inode_word_of, descriptor_word_of, slot_word_of}
 use Rattle.layout.proofs.GeometryLaws.{page_of_slot_below}
 use Rattle.tree_model.specs.PathText.{Route}
 use Rattle.image_reading.specs.Reading.{slot_owner, IsHeld, IsLive, Reached, IsReachedSlot, IsNameOf, IsChildOf, IsRoomOf, pages_of_size}
-use Rattle.image_reading.specs.Repairs.{IsKeptFilePage, IsKept, IsPointer, IsLitterSlot, IsLitterPage, IsLitterInode, IsLitterCount}
-use Rattle.image_reading.specs.Soundness.{Rule, IsCoherent}
+use Rattle.image_reading.specs.Repairs.{IsKept, IsPointer, IsLitterSlot, IsLitterPage, IsLitterInode, IsLitterCount}
+use Rattle.image_reading.specs.Soundness.{IsCoherent}
 use Rattle.image_reading.specs.Tidy.{IsTidied}
 use Rattle.image_reading.proofs.Credits.{count_same}
 use Rattle.image_counts.proofs.Decided.{room_below, room_owner}
 use Rattle.image_laws.specs.Frame.{SameMeaning}
 use Rattle.image_laws.specs.Move.{CanMove, moved}
 use Rattle.image_laws.proofs.Contents.{dec_reached}
-use Rattle.image_laws.proofs.Paths.{reached_pos, reached-le, reach}
+use Rattle.image_laws.proofs.KeptPages.{KeepsPages, by_words, held_forth, held_back, litter_page}
+use Rattle.image_laws.proofs.KeptSlots as slot_laws
+use Rattle.image_laws.proofs.KeptSlots.{KeepsSlots}
+use Rattle.image_laws.proofs.Paths.{reached_pos, reached-le}
 use Rattle.image_laws.proofs.Ready.{tidy_from}
 use Rattle.rename_laws.proofs.MovedCounts as counts
 use Rattle.rename_laws.proofs.MovedCounts.{IsLowered, IsFallen, IsAlmostTidy}
@@ -77,17 +80,8 @@ module _ (P : ℕ) (I K : List ℕ) (pa pb : Route) (s d : ℕ) (c : CanMove P I
   inode_size_same x r =
       let was = here.reached_back P I pa pb s d c x r in ended.inodes x 2 (pos x was) (range x was) (omega arith) (λ e. omega (arith, e)) (not_out x r)
 
-  pub owner_same : (j : ℕ) → j < data_pages_of P → (IsSpare P I (moved P I s d) s d j → ⊥) → page_owner P K j ≡ page_owner P I j
-  unfolding page_owner
-  owner_same j lt none = ended.descriptors j 0 lt (omega arith) none
-
-  pub kind_same : (j : ℕ) → j < data_pages_of P → (IsSpare P I (moved P I s d) s d j → ⊥) → page_kind P K j ≡ page_kind P I j
-  unfolding page_kind
-  kind_same j lt none = ended.descriptors j 1 lt (omega arith) none
-
-  pub offset_same : (j : ℕ) → j < data_pages_of P → (IsSpare P I (moved P I s d) s d j → ⊥) → page_offset P K j ≡ page_offset P I j
-  unfolding page_offset
-  offset_same j lt none = ended.descriptors j 2 lt (omega arith) none
+  pub paged : KeepsPages P I K (IsSpare P I (moved P I s d) s d)
+  paged = by_words P I K (IsSpare P I (moved P I s d) s d) ended.descriptors
 
   pub not_spare : (j : ℕ) → page_owner P K j ≢ 0 → IsSpare P I (moved P I s d) s d j → ⊥
   unfolding page_owner
@@ -95,20 +89,11 @@ module _ (P : ℕ) (I K : List ℕ) (pa pb : Route) (s d : ℕ) (c : CanMove P I
 
   held_before : (t : ℕ) → IsHeld P K t → IsHeld P I t
   unfolding slot_owner
-  held_before t held =
-      let lt = page_of_slot_below P t held.in_range in
-      let none = not_spare (page_of_slot t) held.owned in
-      record { in_range = held.in_range; kind = sym (kind_same (page_of_slot t) lt none) ∙ held.kind; owned = λ z. held.owned (owner_same (page_of_slot t) lt none ∙ z) }
-
-  held_after : (t : ℕ) → (IsSpare P I (moved P I s d) s d (page_of_slot t) → ⊥) → IsHeld P I t → IsHeld P K t
-  unfolding slot_owner
-  held_after t none held =
-      let lt = page_of_slot_below P t held.in_range in
-      record { in_range = held.in_range; kind = kind_same (page_of_slot t) lt none ∙ held.kind; owned = λ z. held.owned (sym (owner_same (page_of_slot t) lt none) ∙ z) }
+  held_before t held = held_back paged t (not_spare (page_of_slot t) held.owned) held
 
   pub slot_owner_same : (t : ℕ) → IsHeld P K t → slot_owner P K t ≡ slot_owner P I t
   unfolding slot_owner
-  slot_owner_same t held = owner_same (page_of_slot t) (page_of_slot_below P t held.in_range) (not_spare (page_of_slot t) held.owned)
+  slot_owner_same t held = paged.owner (page_of_slot t) (page_of_slot_below P t held.in_range) (not_spare (page_of_slot t) held.owned)
 
   pub owner_after : (t : ℕ) → IsHeld P K t → slot_owner P K t ≡ slot_owner P (moved P I s d) t
   owner_after t held = slot_owner_same t held ∙ sym (here.owner_same P I pa pb s d c t held.in_range)
@@ -145,7 +130,7 @@ module _ (P : ℕ) (I K : List ℕ) (pa pb : Route) (s d : ℕ) (c : CanMove P I
 
   pub slot_forth : (t : ℕ) → IsReachedSlot P (moved P I s d) t → IsReachedSlot P K t
   slot_forth t r =
-      let held = held_after t (slot_kept t r) (here.held_back P I pa pb s d c t r.live.held) in
+      let held = held_forth paged t (slot_kept t r) (here.held_back P I pa pb s d c t r.live.held) in
       let owner = owner_after t held in
       record {
         owner = subst (Reached P K) (sym owner) (forth (slot_owner P (moved P I s d) t) r.owner);
@@ -181,21 +166,20 @@ module _ (P : ℕ) (I K : List ℕ) (pa pb : Route) (s d : ℕ) (c : CanMove P I
         };
       }
 
+  -- all slots of the commit stay
+  kept : KeepsSlots P (moved P I s d) K (λ t. ⊥)
+  kept = record {
+    before = coherent;
+    after = ended.means.coherent;
+    forth = λ t none r. slot_forth t r;
+    back = λ t none r. slot_back t r;
+    owners = λ t none was is. owner_after t is.live.held;
+    numbers = λ t none was. number_after t (here.not_source P I pa pb s d c t was);
+    kinds = λ x was is. kind_after x was;
+  }
+
   pub rooms : (x j : ℕ) → IsRoomOf P (moved P I s d) x j ↔ IsRoomOf P K x j
-  rooms x j = (
-    (λ room.
-        let (t, at, o, live) = room.slot in
-        let r = slot_forth t (record {
-          owner = subst (Reached P (moved P I s d)) (sym o) room.reached;
-          directory = ap (inode_kind (moved P I s d)) o ∙ room.directory;
-          live = live;
-        }) in
-        here.room_from P I pa pb s d c K x j t r at (owner_after t r.live.held ∙ o)),
-    (λ room.
-        let (t, at, o, live) = room.slot in
-        let r = slot_back t (record { owner = subst (Reached P K) (sym o) room.reached; directory = ap (inode_kind K) o ∙ room.directory; live = live }) in
-        here.room_from P I pa pb s d c (moved P I s d) x j t r at (sym (owner_after t live.held) ∙ o)),
-  )
+  rooms = slot_laws.rooms kept (λ t none. none)
 
   -- ---- nothing to be repaired
 
@@ -213,7 +197,7 @@ module _ (P : ℕ) (I K : List ℕ) (pa pb : Route) (s d : ℕ) (c : CanMove P I
           | inr nd ↦
               let (u, at, o, live) = l.page.slot in
               let none = not_spare (page_of_slot t) (λ z. live.held.owned (ap (page_owner P K) at ∙ z)) in
-              let same = owner_same (page_of_slot t) (room_below P K (page_owner P K (page_of_slot t)) (page_of_slot t) l.page) none in
+              let same = paged.owner (page_of_slot t) (room_below P K (page_owner P K (page_of_slot t)) (page_of_slot t) l.page) none in
               let was = (rooms (page_owner P K (page_of_slot t)) (page_of_slot t)).1 l.page in
               let dead : IsLive P I t → ⊥ = λ lives. l.dead (slot_forth t (here.slot_forward P I pa pb s d c t ns nd (record {
                 owner = subst (Reached P I) same (before (page_owner P K (page_of_slot t)) l.page.reached);
@@ -239,29 +223,14 @@ module _ (P : ℕ) (I K : List ℕ) (pa pb : Route) (s d : ℕ) (c : CanMove P I
     ]
   ]
 
-  kept_file : (j : ℕ) → (IsSpare P I (moved P I s d) s d j → ⊥) → IsKeptFilePage P I j → IsKeptFilePage P K j
-  kept_file j none k =
-      let o = owner_same j k.in_range none in
-      let r = reached_kept j k.in_range none k.owner in
-      record {
-        in_range = k.in_range;
-        owner = subst (Reached P K) (sym o) (forth (page_owner P I j) r);
-        file = ap (inode_kind K) o ∙ inode_kind_same (page_owner P I j) r ∙ k.file;
-        below = let size = ap (inode_size K) o ∙ inode_size_same (page_owner P I j) r in
-            subst (λ z. z < pages_of_size (inode_size K (page_owner P K j))) (sym (offset_same j k.in_range none))
-            (subst (λ z. page_offset P I j < pages_of_size z) (sym size) k.below);
-      }
-
-  kept_room : (j : ℕ) → j < data_pages_of P → (IsSpare P I (moved P I s d) s d j → ⊥) → IsRoomOf P I (page_owner P I j) j
-      → IsRoomOf P K (page_owner P K j) j
-  kept_room j lt none room =
-      subst (λ x. IsRoomOf P K x j) (sym (owner_same j lt none)) ((rooms (page_owner P I j) j).0 (elim (here.room_cases P I pa pb s d c (page_owner P I j) j room) [
-        | inr after ↦ after
-        | inl (owner, at) ↦ subst (λ x. IsRoomOf P (moved P I s d) x j) (sym owner) (elim (spares.room_left P I pa pb s d c j) [
-          | inl there ↦ there
-          | inr empty ↦ absurd (none (record { in_range = lt; why = inr (at, empty) }))
-        ])
-      ]))
+  kept_room : (j : ℕ) → j < data_pages_of P → (IsSpare P I (moved P I s d) s d j → ⊥) → IsRoomOf P I (page_owner P I j) j → IsRoomOf P K (page_owner P I j) j
+  kept_room j lt none room = (rooms (page_owner P I j) j).0 (elim (here.room_cases P I pa pb s d c (page_owner P I j) j room) [
+    | inr after ↦ after
+    | inl (owner, at) ↦ subst (λ x. IsRoomOf P (moved P I s d) x j) (sym owner) (elim (spares.room_left P I pa pb s d c j) [
+      | inl there ↦ there
+      | inr empty ↦ absurd (none (record { in_range = lt; why = inr (at, empty) }))
+    ])
+  ])
 
   -- the page of the new name is kept
   target_kept : (j : ℕ) → j ≡ page_of_slot d → IsKept P K j
@@ -271,16 +240,11 @@ module _ (P : ℕ) (I K : List ℕ) (pa pb : Route) (s d : ℕ) (c : CanMove P I
       inr (subst (λ z. IsRoomOf P K (page_owner P K z) z) (sym at) (subst (λ x. IsRoomOf P K x (page_of_slot d)) owner room))
 
   no_page : (j : ℕ) → IsLitterPage P K j → ⊥
-  no_page j l =
-      let (f, lt, nonzero) = l.nonzero in
-      elim (spares.spare_or_not P I pa pb s d c j) [
-        | inl spare ↦ nonzero (ended.spare j f spare lt)
-        | inr none ↦ l.free (target_kept j (near.pages j (record {
-          in_range = l.in_range;
-          free = λ kept. l.free (elim kept [ inl file ↦ inl (kept_file j none file) | inr room ↦ inr (kept_room j l.in_range none room) ]);
-          nonzero = (f, lt, (λ z. nonzero (ended.descriptors j f l.in_range lt none ∙ z)));
-        })))
-      ]
+  no_page j l = elim (spares.spare_or_not P I pa pb s d c j) [
+    | inl spare ↦ (let (f, lt, nonzero) = l.nonzero in nonzero (ended.spare j f spare lt))
+    | inr none ↦ l.free (target_kept j (near.pages j (litter_page P I K (IsSpare P I (moved P I s d) s d) ended.descriptors (λ x was is. inode_kind_same x (back x is)) (λ k lt other r. forth (page_owner P I k) (reached_kept k lt other r))
+        (λ k other file. subst (λ z. page_offset P I k < pages_of_size z) (sym (inode_size_same (page_owner P I k) (reached_kept k file.in_range other file.owner))) file.below) kept_room j none l)))
+  ]
 
   no_inode : (x : ℕ) → IsLitterInode P K x → ⊥
   unfolding inode_links
@@ -308,34 +272,16 @@ module _ (P : ℕ) (I K : List ℕ) (pa pb : Route) (s d : ℕ) (c : CanMove P I
 
   -- ---- links
 
-  names_same : (x t : ℕ) → IsNameOf P (moved P I s d) x t ↔ IsNameOf P K x t
-  names_same x t = (
-    (λ n. record { slot = slot_forth t n.slot; inode = number_after t (here.not_source P I pa pb s d c t n.slot) ∙ n.inode }),
-    (λ n. record { slot = slot_back t n.slot; inode = sym (number_after t (named_slot t n.slot.live.names)) ∙ n.inode }),
-  )
-
-  named_kind : (t : ℕ) → IsReachedSlot P (moved P I s d) t
-      → inode_kind K (slot_inode P K t) ≡ inode_kind (moved P I s d) (slot_inode P (moved P I s d) t)
-  named_kind t r =
-      ap (inode_kind K) (number_after t (here.not_source P I pa pb s d c t r))
-      ∙ kind_after (slot_inode P (moved P I s d) t) (reach P (moved P I s d) t r ((coherent Rule.inodes t).most r))
-
-  children_same : (x t : ℕ) → IsChildOf P (moved P I s d) x t ↔ IsChildOf P K x t
-  children_same x t = (
-    (λ n. let r = slot_forth t n.slot in record { slot = r; owner = owner_after t r.live.held ∙ n.owner; directory = named_kind t n.slot ∙ n.directory }),
-    (λ n. let r = slot_back t n.slot in record { slot = r; owner = sym (owner_after t n.slot.live.held) ∙ n.owner; directory = sym (named_kind t r) ∙ n.directory }),
-  )
-
   no_count : (x : ℕ) → IsLitterCount P K x → ⊥
   no_count x l =
       let r = back x l.reached in
       let was = here.reached_back P I pa pb s d c x r in
       let count = counts.counted P I pa pb s d c near x (inode_links K x) was (ended.links x (pos x was) (range x was) (not_out x r)) in
       l.other (record {
-        file = λ one. count_same (IsNameOf P (moved P I s d) x) (IsNameOf P K x) (inode_links K x) (names_same x) (count.file (sym (kind_after x r) ∙ one));
+        file = λ one. count_same (IsNameOf P (moved P I s d) x) (IsNameOf P K x) (inode_links K x) (λ t. slot_laws.names kept x t (λ none. none)) (count.file (sym (kind_after x r) ∙ one));
         directory = λ two.
             let (m, children, e) = count.directory (sym (kind_after x r) ∙ two) in
-            (m, count_same (IsChildOf P (moved P I s d) x) (IsChildOf P K x) m (children_same x) children, e);
+            (m, count_same (IsChildOf P (moved P I s d) x) (IsChildOf P K x) m (λ t. slot_laws.children kept x t (λ none. none)) children, e);
       })
 
   pub tidy : IsTidied P K

@@ -1,5 +1,5 @@
 -- The links of each inode once a slot took the inode number of another.
-use Rattle.std.proofs.Common.{◌≡◌, ◌≢◌, ◌↔◌, ◌⊎◌, inl, inr, ℕ, ◌+◌, ◌-◌, ◌<◌, ◌≤◌, List, [], ◌∷◌, refl, sym, ap, subst, ◌∙◌, arith}
+use Rattle.std.proofs.Common.{◌≡◌, ◌≢◌, ◌↔◌, ◌⊎◌, inl, inr, ℕ, ◌+◌, ◌-◌, ◌<◌, List, [], refl, sym, ap, subst, ◌∙◌, arith}
 use Rattle.std.proofs.lemmas.Bool.{cases_eq}
 use Rattle.layout.specs.Fields.{word, inode_kind, inode_links, page_owner, slot_inode}
 use Rattle.layout.specs.Geometry.{page_of_slot, slot_word_of}
@@ -10,15 +10,11 @@ use Rattle.image_reading.specs.Repairs.{IsLitterPage, IsLitterInode}
 use Rattle.image_reading.specs.Soundness.{Rule, HasLinks}
 use Rattle.image_reading.proofs.Credits.{count_same, count_more, at_most-count}
 use Rattle.image_laws.specs.Move.{CanMove, moved}
+use Rattle.image_laws.proofs.KeptSlots.{count_some}
 use Rattle.image_laws.proofs.OnlySlot.{OnlySlot}
 use Rattle.image_laws.proofs.Paths.{reached_pos, reach}
 use Rattle.image_laws.proofs.RemoveRoom.{count_less}
 use Rattle.rename_laws.proofs.MovedNames as here
-
--- what one has is counted
-count_some : (Q : ℕ → Type 0) (n s : ℕ) → Q s → Count Q n → 1 ≤ n
-count_some Q n s q ([], d, f, e) = absurd ((f s).1 q)
-count_some Q n s q (x ∷ xs, d, f, e) = omega (arith, e)
 
 -- d in place of s
 count_swap : (Q R : ℕ → Type 0) (n s d : ℕ) → Q s → (Q d → ⊥) → ((t : ℕ) → R t ↔ ((t ≡ d) ⊎ (Q t × (t ≢ s)))) → Count Q n → Count R n

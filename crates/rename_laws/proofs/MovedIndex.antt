@@ -7,6 +7,7 @@ use Rattle.tree_model.specs.PathText.{Route}
 use Rattle.image_reading.specs.Reading.{Reached, IsReachedSlot, IsPageOf}
 use Rattle.image_counts.specs.Entries.{IsSlotOf}
 use Rattle.image_laws.specs.Move.{CanMove, moved}
+use Rattle.image_laws.proofs.KeptPages.{page_same}
 use Rattle.image_laws.proofs.Paths.{reached_pos}
 use Rattle.image_laws.proofs.Words.{slot_words-same}
 use Rattle.rename_laws.specs.Target.{Target, Vacant, Opened, Taken, old_number}
@@ -98,8 +99,8 @@ module _ (P : ℕ) (W I J G K : List ℕ) (pa pb : Route) (s x d : ℕ) (target 
   old_owner : (j : ℕ) → j < data_pages_of P → j ≢ page_of_slot d → (IsGivenUp P (moved P I s d) s target j → ⊥)
       → page_owner P K j ≡ page_owner P W j
   old_owner j lt other none =
-      ends.owner_same P I K pa pb s d c almost ended j lt (λ spare. none ((given_spare j).1 spare))
-      ∙ near.owner_same P W I pa pb s x d target rising ready j lt (λ new. other (near.opened_here P W pb s x d target j ready.can.target_slot new))
+      (ends.paged P I K pa pb s d c almost ended).owner j lt (λ spare. none ((given_spare j).1 spare))
+      ∙ (near.paged P W I pa pb s x d target rising ready).owner j lt (λ new. other (near.opened_here P W pb s x d target j ready.can.target_slot new))
 
   -- a file's page is no new page, and isn't given up where the file is reached
   file_old : (j : ℕ) → page_kind P I j ≡ 1 → IsOpenedPage target j → ⊥
@@ -114,30 +115,14 @@ module _ (P : ℕ) (W I J G K : List ℕ) (pa pb : Route) (s x d : ℕ) (target 
   page_before : (y k j : ℕ) → Reached P K y → IsPageOf P K y k j → IsPageOf P W y k j
   page_before y k j r page =
       let none = ends.not_spare P I K pa pb s d c almost ended j (λ z. reached_pos P K y r (sym page.owner ∙ z)) in
-      let kind = sym (ends.kind_same P I K pa pb s d c almost ended j page.in_range none) ∙ page.kind in
-      let old = file_old j kind in
-      record {
-        in_range = page.in_range;
-        owner = sym (near.owner_same P W I pa pb s x d target rising ready j page.in_range old)
-            ∙ sym (ends.owner_same P I K pa pb s d c almost ended j page.in_range none) ∙ page.owner;
-        kind = sym (near.page_kind_same P W I pa pb s x d target rising ready j page.in_range old) ∙ kind;
-        offset = sym (near.offset_same P W I pa pb s x d target rising ready j page.in_range old)
-            ∙ sym (ends.offset_same P I K pa pb s d c almost ended j page.in_range none) ∙ page.offset;
-      }
+      let was = (page_same (ends.paged P I K pa pb s d c almost ended) y k j none).0 page in
+      (page_same (near.paged P W I pa pb s x d target rising ready) y k j (file_old j was.kind)).0 was
 
   page_after : (y k j : ℕ) → Reached P K y → IsPageOf P W y k j → IsPageOf P K y k j
   page_after y k j r page =
       let old : IsOpenedPage target j → ⊥ = λ new. reached_pos P K y r (sym page.owner ∙ near.unowned P W pb s x d target j ready.can.target_slot new) in
-      let owner = near.owner_same P W I pa pb s x d target rising ready j page.in_range old ∙ page.owner in
-      let kind = near.page_kind_same P W I pa pb s x d target rising ready j page.in_range old ∙ page.kind in
-      let none = file_kept y j r owner kind in
-      record {
-        in_range = page.in_range;
-        owner = ends.owner_same P I K pa pb s d c almost ended j page.in_range none ∙ owner;
-        kind = ends.kind_same P I K pa pb s d c almost ended j page.in_range none ∙ kind;
-        offset = ends.offset_same P I K pa pb s d c almost ended j page.in_range none
-            ∙ near.offset_same P W I pa pb s x d target rising ready j page.in_range old ∙ page.offset;
-      }
+      let now = (page_same (near.paged P W I pa pb s x d target rising ready) y k j old).1 page in
+      (page_same (ends.paged P I K pa pb s d c almost ended) y k j (file_kept y j r now.owner now.kind)).1 now
 
   -- ---- kinds
 

@@ -1,10 +1,8 @@
 -- What stands before a rename's pointer is stored, wherever its slot d stands: B are the words W, or those with a new page of directory x.
 use Rattle.std.proofs.Common.{◌≡◌, ◌≢◌, inl, inr, ℕ, ◌+◌, ◌<◌, ◌≤◌, List, length, length-set, refl, sym, subst, ◌∙◌, arith}
-use Rattle.std.proofs.lemmas.Bool.{cases_eq}
 use Rattle.std.proofs.lemmas.List.{get_or-set_other}
-use Rattle.layout.specs.Fields.{word, page_owner, page_kind, page_offset, slot_inode, slot_pointer, slot_name, slot_words}
+use Rattle.layout.specs.Fields.{word, page_offset, slot_inode, slot_pointer, slot_name, slot_words}
 use Rattle.layout.specs.Geometry.{inodes_of, page_of_slot, inode_word_of, descriptor_word_of, slot_word_of}
-use Rattle.layout.proofs.GeometryLaws.{page_of_slot_below}
 use Rattle.tree_model.specs.PathText.{Route}
 use Rattle.image_reading.specs.Reading.{slot_owner, IsHeld, IsReachedSlot}
 use Rattle.image_counts.specs.Entries.{IsFreePage}
@@ -14,7 +12,7 @@ use Rattle.image_laws.specs.Stages.{IsReadySlot}
 use Rattle.image_laws.proofs.Addresses.{descriptor-ne_slot, descriptor_word-one}
 use Rattle.image_laws.proofs.Meaning.{same_itself}
 use Rattle.image_laws.proofs.PageCreates.{taken}
-use Rattle.image_laws.proofs.PageReady.{HasTaken, page_ready, entry_same, slot_same}
+use Rattle.image_laws.proofs.PageReady.{HasTaken, page_ready, entry_same, slot_same, no_pointers}
 use Rattle.image_laws.proofs.Ready.{no_pointer, tidy_but}
 use Rattle.image_laws.proofs.Words.{slot_words-same}
 use Rattle.rename_laws.specs.Target.{Target, Vacant, Opened, Taken, CanRename, old_number}
@@ -111,21 +109,6 @@ module _ (P : ℕ) (W A : List ℕ) (pb : Route) (x d j : ℕ) (name : List ℕ)
   owned_slot : (t f : ℕ) → word after (slot_word_of P t f) ≡ word A (slot_word_of P t f)
   owned_slot t f = owned_word (slot_word_of P t f) (λ e. descriptor-ne_slot P j 0 t f page.0 (omega arith) (sym e))
 
-  -- no held slot points
-  none_points : (t : ℕ) → IsHeld P after t → slot_pointer P after t ≡ 0
-  unfolding slot_pointer slot_owner page_owner page_kind
-  none_points t h = elim (cases_eq (page_of_slot t) j) [
-    | inl here ↦ took.pointers t here
-    | inr ne ↦
-        let lt = page_of_slot_below P t h.in_range in
-        let before : IsHeld P W t = record {
-          in_range = h.in_range;
-          kind = sym (took.descriptors (page_of_slot t) 1 lt (omega arith) ne) ∙ h.kind;
-          owned = λ z. h.owned (took.descriptors (page_of_slot t) 0 lt (omega arith) ne ∙ z);
-        } in
-        took.slots t 1 (omega arith) ne ∙ no_pointer P W 0 (tidy_but P W 0 can.tidy) t before
-  ]
-
   not_target : (a : ℕ) → (IsTargetWord P d (Opened j name) a → ⊥) → word after a ≡ word W a
   not_target a other = owned_word a (λ e. other (inr (0, omega arith, e))) ∙ makes.empty.others a (λ made. elim made [
     | inl w ↦ other (inl w)
@@ -149,7 +132,7 @@ module _ (P : ℕ) (W A : List ℕ) (pb : Route) (x d j : ℕ) (name : List ℕ)
     owner = slot_ready.slot.owner;
     number = slot_ready.slot.free;
     name_words = slot_words-same P A after d (λ f lt. owned_slot d (2 + f)) ∙ makes.name_is;
-    no_pointer = none_points;
+    no_pointer = no_pointers P W after pb x j d name can page at took;
     kept = λ t r. (took.reached_slots t).0 r;
     known = λ t r. (took.reached_slots t).1 r;
     owners = λ t r. ((entry_same P W after pb x j d name can page at took (slot_owner P W t) t).1 (r, refl)).1;

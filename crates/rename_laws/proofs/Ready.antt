@@ -2,7 +2,7 @@
 use Rattle.std.proofs.Common.{◌≡◌, ◌≢◌, ◌⊎◌, inl, inr, ℕ, ◌+◌, ◌-◌, ◌<◌, ◌≤◌, List, [], ◌∷◌, ◌++◌, length-set, set, Option, Some, None, refl, sym, ap, subst, ◌∙◌, arith}
 use Rattle.std.proofs.lemmas.Bool.{cases_eq}
 use Rattle.std.proofs.lemmas.List.{get_or-set_same, get_or-set_other}
-use Rattle.layout.specs.Fields.{word, inode_kind, inode_links, page_owner, page_kind, page_offset, slot_inode, slot_pointer, slot_name, slot_words}
+use Rattle.layout.specs.Fields.{word, inode_kind, inode_links, page_owner, slot_inode, slot_pointer, slot_name, slot_words}
 use Rattle.layout.specs.Geometry.{inodes_of, data_pages_of, slots_of, page_of_slot, inode_word_of, descriptor_word_of, slot_word_of}
 use Rattle.layout.specs.Name.{IsNameWords, name_in_words}
 use Rattle.layout.proofs.GeometryLaws.{page_of_slot_below, slot_word_within}
@@ -20,6 +20,8 @@ use Rattle.image_laws.specs.Quiet.{IsMix}
 use Rattle.image_laws.proofs.Addresses.{descriptor-ne_inode, descriptor-ne_slot, inode-ne_inode, inode-ne_field, inode-ne_slot, slot-ne_slot, slot-ne_field}
 use Rattle.image_laws.proofs.Counts.{at_most, at_most_more}
 use Rattle.image_laws.proofs.Decide.{dec_eq}
+use Rattle.image_laws.proofs.KeptPages as pages
+use Rattle.image_laws.proofs.KeptPages.{KeepsPages, by_words}
 use Rattle.image_laws.proofs.Making.{mix_itself, links_more}
 use Rattle.image_laws.proofs.Meaning.{same_chained}
 use Rattle.image_laws.proofs.PageQuiet.{page_quiet_law}
@@ -108,17 +110,11 @@ module _ (P : ℕ) (W B I : List ℕ) (pa pb : Route) (s x d : ℕ) (target : Ta
         | inr ne ↦ slot-ne_slot P t f d g lt high ne
       ]
 
+  paged : KeepsPages P B I (λ j. ⊥)
+  paged = by_words P B I (λ j. ⊥) (λ j f lt l3 none. descriptor_same j f lt (omega (arith, l3)))
+
   owner_same : (j : ℕ) → j < data_pages_of P → page_owner P I j ≡ page_owner P B j
-  unfolding page_owner
-  owner_same j lt = descriptor_same j 0 lt (omega arith)
-
-  kind_same : (j : ℕ) → j < data_pages_of P → page_kind P I j ≡ page_kind P B j
-  unfolding page_kind
-  kind_same j lt = descriptor_same j 1 lt (omega arith)
-
-  offset_same : (j : ℕ) → j < data_pages_of P → page_offset P I j ≡ page_offset P B j
-  unfolding page_offset
-  offset_same j lt = descriptor_same j 2 lt (omega arith)
+  owner_same j lt = paged.owner j lt (λ none. none)
 
   slot_owner_same : (t : ℕ) → t < slots_of P → slot_owner P I t ≡ slot_owner P B t
   unfolding slot_owner
@@ -277,18 +273,10 @@ module _ (P : ℕ) (W B I : List ℕ) (pa pb : Route) (s x d : ℕ) (target : Ta
   -- ---- what is held, live and reached then
 
   held_forth : (t : ℕ) → IsHeld P B t → IsHeld P I t
-  held_forth t h = record {
-    in_range = h.in_range;
-    kind = kind_same (page_of_slot t) (page_of_slot_below P t h.in_range) ∙ h.kind;
-    owned = λ z. h.owned (sym (slot_owner_same t h.in_range) ∙ z);
-  }
+  held_forth t = pages.held_forth paged t (λ none. none)
 
   held_back : (t : ℕ) → IsHeld P I t → IsHeld P B t
-  held_back t h = record {
-    in_range = h.in_range;
-    kind = sym (kind_same (page_of_slot t) (page_of_slot_below P t h.in_range)) ∙ h.kind;
-    owned = λ z. h.owned (slot_owner_same t h.in_range ∙ z);
-  }
+  held_back t = pages.held_back paged t (λ none. none)
 
   alone : (t : ℕ) → IsHeld P I t → t ≢ d → slot_pointer P I t ≡ 0
   alone t held ne = pointer_same t ne ∙ stands.no_pointer t (held_back t held)
@@ -476,8 +464,8 @@ module _ (P : ℕ) (W B I : List ℕ) (pa pb : Route) (s x d : ℕ) (target : Ta
   new_page : (j : ℕ) → j < data_pages_of P → IsNewPage P B x d j → IsNewPage P I x d j
   new_page j lt page = record {
     owner = owner_same j lt ∙ page.owner;
-    kind = kind_same j lt ∙ page.kind;
-    offset = offset_same j lt ∙ page.offset;
+    kind = paged.kind j lt (λ none. none) ∙ page.kind;
+    offset = paged.offset j lt (λ none. none) ∙ page.offset;
     zeros = λ t here ne f l. slot_same t f l (inr ne) ∙ page.zeros t here ne f l;
   }
 
