@@ -48,22 +48,25 @@ static bool is_below(const char *path, const char *folder)
     return strncmp(path, folder, length) == 0 && (path[length] == '/' || path[length] == '\0' || folder[length - 1] == '/');
 }
 
+/* Another path takes a path's place. */
+static void replace_path(char **path, char *other)
+{
+    free(*path);
+    *path = other;
+}
+
 /* Makes both paths absolute: neither the folder of the caller nor its words are looked at later. */
 static int find_paths(struct options *options)
 {
     char *folder = realpath(options->folder, NULL);
     if (folder == NULL)
         return fail(options->folder, strerror(errno));
+    replace_path(&options->folder, folder);
     char *image = absolute(options->image);
     if (image == NULL)
         return fail(options->image, strerror(ENOMEM));
-    if (is_below(image, folder))
-        return fail(image, "the image is below the folder");
-    free(options->image);
-    free(options->folder);
-    options->image = image;
-    options->folder = folder;
-    return 0;
+    replace_path(&options->image, image);
+    return is_below(image, folder) ? fail(image, "the image is below the folder") : 0;
 }
 
 /* The program: SQUIRREL_PROGRAM, or `squirrel` by the path. */

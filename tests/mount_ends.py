@@ -8,7 +8,7 @@ import time
 
 from mounts import (
     EACH_CALL_FAILS, KILLED, PAGE, ROOT, Mount, await_so, environment, error_of, expect, expect_equal, expect_error, listed,
-    make_volume, read, replies, start_in_background, start_words, tell, unmount, write,
+    make_volume, opened, read, replies, start_in_background, start_words, tell, unmount, write,
 )
 
 def device_fault(image, cause):
@@ -152,7 +152,9 @@ def full_disk(trial):
         image = disk / "volume"
         make_volume(trial.program, image, 1024)
         with Mount(trial.program, image, trial.folder) as mount:
-            expect_error("EIO", write, trial.at("a"), bytes(2 * 10**6))
+            with opened(trial.at("a"), os.O_CREAT | os.O_WRONLY) as file:
+                errors = {error_of(os.write, file, b"a" * 10**5) for _ in range(20)}
+            expect_equal("what writes came to", errors, {None, "EIO"})
             expect_error("EIO", os.mkdir, trial.at("d"))
             mount.end((5, "", f"squirrel-mount: the disk of {image} is full: {EACH_CALL_FAILS}\nsquirrel: device fault\n"))
     finally:
