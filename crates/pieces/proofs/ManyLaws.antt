@@ -18,6 +18,13 @@ module _ {T : Type 0} where
   pub piece_of : (pieces : List (Vec T Global)) (k : ℕ) (piece : Vec T Global) → All IsPiece pieces → k < length pieces → piece ≡ get_or pieces k piece → IsPiece piece
   piece_of pieces k piece sized within read = subst IsPiece (sym read) (sized k piece within)
 
+  -- a place in the piece is one of its items
+  pub in_piece : (pieces : List (Vec T Global)) (k at : ℕ) (piece : Vec T Global) → piece ≡ get_or pieces k piece → HoldsAt (λ p. at < vec_len p) pieces k → at < length piece.items
+  in_piece pieces k at piece read holds =
+      let len = piece.ok.0 in
+      let low : at < vec_len piece = at_piece (λ p. at < vec_len p) pieces k piece read holds in
+      omega arith
+
   pub put_in_number : (pieces : List (Vec T Global)) (k at : ℕ) (old new : Vec T Global) (item : T) → k < length pieces → old ≡ get_or pieces k old → at ≤ length old.items → new.items ≡ insert old.items at item → length (items_of (set pieces k new)) ≡ length (items_of pieces) + 1
   put_in_number pieces k at old new item within read place is =
       ap length (items_inserted pieces k at old new item within read place is)

@@ -1,12 +1,13 @@
 -- A piece in two, and two in one.
-use Rattle.std.proofs.Common.{◌≡◌, ℕ, suc, ◌+◌, ◌-◌, ◌<◌, ◌≤◌, List, [], ◌∷◌, ◌++◌, length, take, drop, get_or, set, slice_index, All, sym, ap, ◌∙◌, arith, add-one, append_assoc, length-set, get_or-set_same}
+use Rattle.std.proofs.Common.{◌≡◌, ℕ, suc, ◌+◌, ◌-◌, ◌<◌, ◌≤◌, Bool, true, cond, List, [], ◌∷◌, ◌++◌, length, take, drop, get_or, set, slice_index, All, vec_len, sym, ap, ◌∙◌, arith, add-one, append_assoc, length-set, get_or-set_same}
 use Rattle.std.specs.List.{insert, remove}
 use Rattle.std.specs.declared.vec.Vec.{Vec}
 use Rattle.std.specs.declared.alloc.Global.{Global}
 use Rattle.std.proofs.lemmas.List.{append-nil, take-append-drop, take_more_set, drop-set-lt, length-take-le, get_or_append_left, get_or-take, take-append-le, take-take, drop_at, drop_more}
 use Rattle.std.proofs.lemmas.List.Edits.{get_or-remove_below, length-remove}
 use Rattle.std.proofs.lemmas.List.Elements.{All-append, All-cons, All-take, All-drop, All-set, All-same}
-use Rattle.pieces.specs.Joined.{items_of, count_before, IsCounted, IsPiece}
+use Rattle.pieces.specs.Joined.{items_of, count_before, IsCounted, IsPiece, IsTogetherPiece}
+use Rattle.pieces.proofs.ManyLaws.{went_well, piece_of, few_of}
 use Rattle.pieces.proofs.JoinedLaws.{items_of-append, items_of-insert, items_of-set, items_around, count_more, count_before-set, count_before-insert}
 
 pub All-insert : {X : Type 0} (P : X → Type 0) (xs : List X) (i : ℕ) (x : X) → P x → All P xs → All P (insert xs i x)
@@ -34,6 +35,13 @@ module _ {T : Type 0} where
       ∙ ap (λ xs. front ++ (xs ++ back)) together
       ∙ ap (λ (p : Vec T Global). front ++ (p.items ++ back)) read
       ∙ sym (items_around pieces k old within)
+
+  -- so with the pieces that an insertion left, where it went well
+  pub made_halved : (pieces new : List (Vec T Global)) (k cut : ℕ) (old lower upper : Vec T Global) (ok : Bool) → k < length pieces → old ≡ get_or pieces k old → lower.items ≡ take cut old.items → upper.items ≡ drop cut old.items
+      → ok ≡ true → new ≡ cond ok (halved pieces k lower upper) (set pieces k lower) → (new ≡ halved pieces k lower upper) × (items_of new ≡ items_of pieces)
+  made_halved pieces new k cut old lower upper ok within read lower_is upper_is well is =
+      let all : new ≡ halved pieces k lower upper = went_well ok new (halved pieces k lower upper) (set pieces k lower) well is in
+      (all, ap items_of all ∙ items_halved pieces k cut old lower upper within read lower_is upper_is)
 
   pub count_halved : (pieces : List (Vec T Global)) (k j : ℕ) (lower upper : Vec T Global) → k < length pieces → j ≤ k → count_before (halved pieces k lower upper) j ≡ count_before pieces j
   count_halved pieces k j lower upper within before =
@@ -91,6 +99,20 @@ module _ {T : Type 0} where
       ∙ ap (λ xs. front ++ (first.items ++ xs)) (sym behind)
       ∙ ap (λ (p : Vec T Global). front ++ (p.items ++ items_of (drop (k + 1) pieces))) (first_read pieces rest k first is within read)
       ∙ sym (items_around pieces k first (omega arith))
+
+  -- so with the piece that an appending left, where it went well
+  pub made_joined : (pieces rest : List (Vec T Global)) (k : ℕ) (first second new : Vec T Global) (ok : Bool) → rest ≡ remove pieces (k + 1) → k + 1 < length pieces → first ≡ get_or rest k first → second ≡ get_or pieces (k + 1) second
+      → ok ≡ true → new.items ≡ cond ok (first.items ++ second.items) first.items → (new.items ≡ first.items ++ second.items) × (items_of (set rest k new) ≡ items_of pieces)
+  made_joined pieces rest k first second new ok is within read second_read well new_is =
+      let all : new.items ≡ first.items ++ second.items = went_well ok new.items (first.items ++ second.items) first.items well new_is in
+      (all, items_joined pieces rest k first second new is within read second_read all)
+
+  -- the piece that gets the other has room for it
+  pub room_joined : (pieces rest : List (Vec T Global)) (k : ℕ) (first second : Vec T Global) → rest ≡ remove pieces (k + 1) → k + 1 < length pieces → first ≡ get_or rest k first → second ≡ get_or pieces (k + 1) second → All IsPiece pieces → IsTogetherPiece pieces k
+      → (vec_len first + vec_len second ≤ 256) × IsPiece first
+  room_joined pieces rest k first second is within read second_read sized few =
+      let here = first_read pieces rest k first is within read in
+      (few_of pieces k first second few here second_read, piece_of pieces k first sized (omega arith) here)
 
   pub count_joined : (pieces rest : List (Vec T Global)) (k j : ℕ) (new : Vec T Global) → rest ≡ remove pieces (k + 1) → k + 1 < length pieces → j ≤ k → count_before (set rest k new) j ≡ count_before pieces j
   count_joined pieces rest k j new is within before =

@@ -1,8 +1,7 @@
-use Rattle.std.proofs.Common.{◌≡◌, ◌+◌, ◌-◌, ◌<◌, ◌++◌, true, is_ok, length, take, slice_index, ap, ◌∙◌, arith, length-append}
+use Rattle.std.proofs.Common.{◌≡◌, ◌+◌, ◌-◌, ◌<◌, is_ok, length, take, slice_index, ap, ◌∙◌, arith, length-append}
 use Rattle.std.specs.List.{remove}
 use Rattle.pieces.specs.Joined.{items_of, IsPiece}
-use Rattle.pieces.proofs.ManyLaws.{went_well, piece_of, few_of}
-use Rattle.pieces.proofs.SplitLaws.{first_read, items_joined, counted_joined, sized_joined}
+use Rattle.pieces.proofs.SplitLaws.{made_joined, room_joined, counted_joined, sized_joined}
 use Rattle.pieces.proofs.many.Many.join.Goals as goal
 
 pub count_from-requires-clause-fits : goal.count_from-requires-clause-fits
@@ -11,17 +10,12 @@ count_from-requires-clause-fits g c =
     let rest = c.remove-upper.new.self.items in
     let first = c.index_mut.result.now in
     let second = c.remove-upper.result in
-    let new = c.append.new.self in
     let within : c.args.k + 1 < length pieces = omega arith in
-    let here : c.args.k < length pieces = omega arith in
     let rest_is : rest ≡ remove pieces (c.args.k + 1) = c.remove-upper.ensures.items in
-    let read = first_read pieces rest c.args.k first rest_is within c.index_mut.ensures.value in
-    let sized = piece_of pieces c.args.k first c.requires.whole.sized here read in
-    let few = few_of pieces c.args.k first second c.requires.few read c.remove-upper.ensures.value in
+    let (few, sized) = room_joined pieces rest c.args.k first second rest_is within c.index_mut.ensures.value c.remove-upper.ensures.value c.requires.whole.sized c.requires.few in
     let least = sized.capacity in
-    let well : is_ok c.append.result ≡ true = c.append.ensures.succeeds (omega arith) in
-    let is : new.items ≡ first.items ++ second.items = went_well (is_ok c.append.result) new.items (first.items ++ second.items) first.items well c.append.ensures.items in
-    let same = items_joined pieces rest c.args.k first second new rest_is within c.index_mut.ensures.value c.remove-upper.ensures.value is in
+    let (is, same) = made_joined pieces rest c.args.k first second c.append.new.self (is_ok c.append.result) rest_is within c.index_mut.ensures.value c.remove-upper.ensures.value
+    (c.append.ensures.succeeds (omega arith)) c.append.ensures.items in
     omega (arith, ap length same)
 
 pub count_from-requires-clause-before : goal.count_from-requires-clause-before
@@ -42,15 +36,11 @@ keep-requires-clause-whole g c =
     let second = c.remove-upper.result in
     let new = c.append.new.self in
     let within : c.args.k + 1 < length pieces = omega arith in
-    let here : c.args.k < length pieces = omega arith in
     let rest_is : rest ≡ remove pieces (c.args.k + 1) = c.remove-upper.ensures.items in
-    let read = first_read pieces rest c.args.k first rest_is within c.index_mut.ensures.value in
-    let sized = piece_of pieces c.args.k first c.requires.whole.sized here read in
-    let few = few_of pieces c.args.k first second c.requires.few read c.remove-upper.ensures.value in
+    let (few, sized) = room_joined pieces rest c.args.k first second rest_is within c.index_mut.ensures.value c.remove-upper.ensures.value c.requires.whole.sized c.requires.few in
     let least = sized.capacity in
-    let well : is_ok c.append.result ≡ true = c.append.ensures.succeeds (omega arith) in
-    let is : new.items ≡ first.items ++ second.items = went_well (is_ok c.append.result) new.items (first.items ++ second.items) first.items well c.append.ensures.items in
-    let same = items_joined pieces rest c.args.k first second new rest_is within c.index_mut.ensures.value c.remove-upper.ensures.value is in
+    let (is, same) = made_joined pieces rest c.args.k first second new (is_ok c.append.result) rest_is within c.index_mut.ensures.value c.remove-upper.ensures.value
+    (c.append.ensures.succeeds (omega arith)) c.append.ensures.items in
     let new_len = new.ok.0 in
     let first_len = first.ok.0 in
     let second_len = second.ok.0 in
@@ -68,17 +58,12 @@ returns-clause-items g c =
     let rest = c.remove-upper.new.self.items in
     let first = c.index_mut.result.now in
     let second = c.remove-upper.result in
-    let new = c.append.new.self in
     let within : c.args.k + 1 < length pieces = omega arith in
-    let here : c.args.k < length pieces = omega arith in
     let rest_is : rest ≡ remove pieces (c.args.k + 1) = c.remove-upper.ensures.items in
-    let read = first_read pieces rest c.args.k first rest_is within c.index_mut.ensures.value in
-    let sized = piece_of pieces c.args.k first c.requires.whole.sized here read in
-    let few = few_of pieces c.args.k first second c.requires.few read c.remove-upper.ensures.value in
+    let (few, sized) = room_joined pieces rest c.args.k first second rest_is within c.index_mut.ensures.value c.remove-upper.ensures.value c.requires.whole.sized c.requires.few in
     let least = sized.capacity in
-    let well : is_ok c.append.result ≡ true = c.append.ensures.succeeds (omega arith) in
-    let is : new.items ≡ first.items ++ second.items = went_well (is_ok c.append.result) new.items (first.items ++ second.items) first.items well c.append.ensures.items in
-    let same = items_joined pieces rest c.args.k first second new rest_is within c.index_mut.ensures.value c.remove-upper.ensures.value is in
+    let (is, same) = made_joined pieces rest c.args.k first second c.append.new.self (is_ok c.append.result) rest_is within c.index_mut.ensures.value c.remove-upper.ensures.value
+    (c.append.ensures.succeeds (omega arith)) c.append.ensures.items in
     ap (λ v. items_of v.items) c.keep.ensures.pieces ∙ same
 
 pub returns-clause-room : goal.returns-clause-room
@@ -87,17 +72,12 @@ returns-clause-room g c room =
     let rest = c.remove-upper.new.self.items in
     let first = c.index_mut.result.now in
     let second = c.remove-upper.result in
-    let new = c.append.new.self in
     let within : c.args.k + 1 < length pieces = omega arith in
-    let here : c.args.k < length pieces = omega arith in
     let rest_is : rest ≡ remove pieces (c.args.k + 1) = c.remove-upper.ensures.items in
-    let read = first_read pieces rest c.args.k first rest_is within c.index_mut.ensures.value in
-    let sized = piece_of pieces c.args.k first c.requires.whole.sized here read in
-    let few = few_of pieces c.args.k first second c.requires.few read c.remove-upper.ensures.value in
+    let (few, sized) = room_joined pieces rest c.args.k first second rest_is within c.index_mut.ensures.value c.remove-upper.ensures.value c.requires.whole.sized c.requires.few in
     let least = sized.capacity in
-    let well : is_ok c.append.result ≡ true = c.append.ensures.succeeds (omega arith) in
-    let is : new.items ≡ first.items ++ second.items = went_well (is_ok c.append.result) new.items (first.items ++ second.items) first.items well c.append.ensures.items in
-    let same = items_joined pieces rest c.args.k first second new rest_is within c.index_mut.ensures.value c.remove-upper.ensures.value is in
+    let (is, same) = made_joined pieces rest c.args.k first second c.append.new.self (is_ok c.append.result) rest_is within c.index_mut.ensures.value c.remove-upper.ensures.value
+    (c.append.ensures.succeeds (omega arith)) c.append.ensures.items in
     let places = room.places in
     let counts = room.counts in
     let number = room.number in
