@@ -560,28 +560,20 @@ static void call_release(fuse_req_t request, fuse_ino_t id, struct fuse_file_inf
     fuse_reply_err(request, 0);
 }
 
-/* Listings: a directory's names as they were when its reading began. */
-
-struct listing {
-    char *names;
-    size_t length;
-    off_t number;               /* the place of the name at `at`: behind those of the directory itself and the one above */
-    size_t at;
-};
+/* Listings. */
 
 static void call_opendir(fuse_req_t request, fuse_ino_t id, struct fuse_file_info *file)
 {
     (void)id;
-    struct listing *listing = calloc(1, sizeof *listing);
-    int error = !program_is_up(&volume_of(request)->program) ? EIO : listing == NULL ? ENOMEM : 0;
-    if (error != 0) {
-        free(listing);
-        fuse_reply_err(request, error);
+    struct volume *volume = volume_of(request);
+    struct listing *listing = program_is_up(&volume->program) ? listings_add(&volume->listings) : NULL;
+    if (listing == NULL) {
+        fuse_reply_err(request, program_is_up(&volume->program) ? ENOMEM : EIO);
         return;
     }
     file->fh = (uintptr_t)listing;
     if (fuse_reply_open(request, file) != 0)
-        free(listing);
+        listings_remove(listing);
 }
 
 static struct listing *listing_of(const struct fuse_file_info *file)
@@ -592,20 +584,24 @@ static struct listing *listing_of(const struct fuse_file_info *file)
 static void call_releasedir(fuse_req_t request, fuse_ino_t id, struct fuse_file_info *file)
 {
     (void)id;
-    struct listing *listing = listing_of(file);
-    free(listing->names);
-    free(listing);
+    listings_remove(listing_of(file));
     fuse_reply_err(request, 0);
+}
+
+void calls_end(struct volume *volume)
+{
+    listings_remove_all(&volume->listings);
 }
 
 /* Takes the names anew. A directory that was removed has none. */
 static int begin_listing(struct volume *volume, fuse_ino_t id, struct listing *listing)
 {
-    free(listing->names);
-    *listing = (struct listing){0};
-    if (is_removed(volume, id))
-        return 0;
-    return volume_list(volume, nodes_inode(&volume->nodes, id), &listing->names, &listing->length);
+    char *names = NULL;
+    size_t length = 0;
+    int error = is_removed(volume, id) ? 0 : volume_list(volume, nodes_inode(&volume->nodes, id), &names, &length);
+    if (error == 0)
+        listing_take(listing, names, length);
+    return error;
 }
 
 /* What is told of a name in a listing: its number and kind where they are known. */
@@ -621,17 +617,6 @@ static uint64_t directory_above(struct volume *volume, uint64_t inode)
 {
     const struct name *name = nodes_at(&volume->nodes, inode)->names;
     return name == NULL ? ROOT : name->directory;
-}
-
-/* Goes to the name of this number. */
-static void seek_listing(struct listing *listing, off_t number)
-{
-    if (number < listing->number) {
-        listing->at = 0;
-        listing->number = 0;
-    }
-    for (; listing->number < number && listing->at < listing->length; listing->number++)
-        listing->at += strlen(listing->names + listing->at) + 1;
 }
 
 struct piece {
@@ -661,14 +646,11 @@ static void fill_piece(fuse_req_t request, struct listing *listing, uint64_t ino
         number = 2;
     if (number < 2)
         return;
-    seek_listing(listing, number - 2);
-    while (listing->at < listing->length) {
-        const char *name = listing->names + listing->at;
+    listing_seek(listing, number - 2);
+    for (const char *name; (name = listing_name(listing)) != NULL; listing_step(listing)) {
         struct stat attributes = listed_attributes(volume, inode, name);
         if (!hidden_is_name(volume, inode, name) && !add_listed(request, piece, name, &attributes, listing->number + 3))
             return;
-        listing->at += strlen(name) + 1;
-        listing->number++;
     }
 }
 

@@ -218,6 +218,7 @@ static int serve(struct fuse_session *session, struct volume *volume, const stru
         detach();
     }
     answer_calls(session, volume, &mask);
+    calls_end(volume);
     fuse_session_unmount(session);
     return end_volume(volume);
 }

@@ -2,6 +2,7 @@
 #ifndef VOLUME_H
 #define VOLUME_H
 
+#include "listings.h"
 #include "nodes.h"
 #include "program.h"
 
@@ -15,6 +16,7 @@ enum { PAGE = 4096 };
 struct volume {
     struct program program;
     struct nodes nodes;
+    struct listing *listings;   /* of the directories that are open */
     uid_t user;
     gid_t group;
     uint64_t image_bytes;       /* when the program started */
