@@ -41,8 +41,8 @@ struct node {
     bool is_hidden;         /* one of its names is the hidden one */
     bool is_directory;
     bool has_times;
-    struct told last;       /* the last one that was told of it, */
-    struct told other;      /* and the last one by another thread than that */
+    struct told last;       /* the last thread that was told of it, */
+    struct told other;      /* and the last one before that was another */
     struct times times;
 };
 

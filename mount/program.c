@@ -12,7 +12,8 @@
 #include <time.h>
 #include <unistd.h>
 
-enum { PIECE = 65536, STATUS_IN_USE = 5, STATUS_NOT_STARTED = 127 };
+/* A pipe has room for the replies to all pieces of most reads, so that the program doesn't wait for the adapter to take them. */
+enum { REPLIES_ROOM = 262144, PIECE = 65536, STATUS_IN_USE = 5, STATUS_NOT_STARTED = 127 };
 
 static const struct timespec one_try = {.tv_nsec = 20 * 1000 * 1000};
 
@@ -104,6 +105,7 @@ static bool start_process(struct program *program)
     program->begin = program->end = 0;
     if (program->process > 0) {
         fcntl(program->script, F_SETFL, O_WRONLY | O_NONBLOCK);
+        fcntl(program->replies, F_SETPIPE_SZ, REPLIES_ROOM);
         return true;
     }
     program->process = 0;
@@ -113,15 +115,24 @@ static bool start_process(struct program *program)
     return false;
 }
 
+static bool has_room(const struct program *program)
+{
+    return program->room - program->end >= PIECE;
+}
+
 /* Room for at least one piece behind what was read. */
 static bool make_room(struct program *program)
 {
+    if (program->begin == program->end)
+        program->begin = program->end = 0;
+    if (has_room(program))
+        return true;
     if (program->begin > 0) {
         memmove(program->buffer, program->buffer + program->begin, program->end - program->begin);
         program->end -= program->begin;
         program->begin = 0;
     }
-    if (program->room - program->end >= PIECE)
+    if (has_room(program))
         return true;
     size_t room = 2 * program->room + PIECE;
     char *buffer = realloc(program->buffer, room);

@@ -277,14 +277,13 @@ static int mount_volume(struct fuse_args *words, struct options *options)
     if (find_paths(options) != 0)
         return STATUS_FAILED;
     set_volume(&volume, options);
-    struct fuse_session *session = make_session(words, &volume);
-    if (session == NULL)
-        return STATUS_FAILED;
     if (!options->is_foreground && !fork_to_background(&waiting))
         return fail("it can't go on in the background", strerror(errno));
-    int status = serve(session, &volume, options, &waiting);
+    struct fuse_session *session = make_session(words, &volume);
+    int status = session != NULL ? serve(session, &volume, options, &waiting) : STATUS_FAILED;
     tell_caller(&waiting, status);
-    fuse_session_destroy(session);
+    if (session != NULL)
+        fuse_session_destroy(session);
     return status;
 }
 
