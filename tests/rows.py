@@ -3,8 +3,13 @@ import subprocess
 
 from mounts import has_sqlite_module
 
-JOURNALS = ["DELETE", "WAL"]
-SETTINGS = ["PRAGMA journal_mode={}", "PRAGMA synchronous=FULL"]
+# Of each journal what a connection begins with. Behind a log that is written ahead other connections share an index by mapped pages;
+# a page that can't be had, since the program was killed, would end this process. So there the connection has the file for itself.
+SETTINGS = {
+    "DELETE": ["PRAGMA journal_mode=DELETE", "PRAGMA synchronous=FULL"],
+    "WAL": ["PRAGMA locking_mode=EXCLUSIVE", "PRAGMA journal_mode=WAL", "PRAGMA synchronous=FULL"],
+}
+JOURNALS = list(SETTINGS)
 
 
 class Lost(Exception):
@@ -20,8 +25,8 @@ class ByModule:
         import sqlite3
         self.faults = sqlite3.Error
         self.connection = sqlite3.connect(path, isolation_level=None, timeout=0)
-        for setting in SETTINGS:
-            self.run(setting.format(journal))
+        for setting in SETTINGS[journal]:
+            self.run(setting)
 
     def run(self, statement):
         """The first values of its rows."""
@@ -45,8 +50,8 @@ class ByProgram:
     def __init__(self, path, journal):
         self.job = subprocess.Popen(["sqlite3", "-batch", "-bail", path], stdin=subprocess.PIPE, stdout=subprocess.PIPE,
                                     stderr=subprocess.DEVNULL, text=True, bufsize=1)
-        for setting in SETTINGS:
-            self.run(setting.format(journal))
+        for setting in SETTINGS[journal]:
+            self.run(setting)
 
     def run(self, statement):
         try:
