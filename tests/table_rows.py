@@ -66,6 +66,12 @@ def attributes(trial):
     os.chown(trial.at("a"), os.getuid(), os.getgid())
     expect_error("EPERM", os.chmod, trial.at("a"), 0o600)
     expect_error("EPERM", os.chmod, trial.at("d"), 0o700)
+    os.close(os.open(trial.at("secret"), os.O_CREAT | os.O_WRONLY, 0o600))
+    os.mkdir(trial.at("own"), 0o700)
+    expect_equal("modes that were asked for", [oct(os.stat(trial.at(name)).st_mode) for name in ("secret", "own")],
+                 [oct(stat.S_IFREG | 0o644), oct(stat.S_IFDIR | 0o755)])
+    os.unlink(trial.at("secret"))
+    os.rmdir(trial.at("own"))
     if os.getuid() == 0:
         expect_error("EPERM", os.chown, trial.at("a"), 1, -1)
         expect_error("EPERM", os.chown, trial.at("a"), -1, 1)
