@@ -1,7 +1,6 @@
 -- What a crash leaves of a device on which a script was run.
 use Rattle.std.proofs.Common.{◌≡◌, ◌⊎◌, inl, inr, ℕ, ◌≤◌, List, refl, sym, ap, subst, ◌∙◌, arith}
 use Rattle.std.proofs.lemmas.Bool.{cases_lt}
-use Rattle.std.specs.Borrow.{Bor}
 use Rattle.std.specs.Prelude.{Option, Some, None, [], ◌∷◌, ◌++◌, take}
 use Rattle.pm_trait.specs.Trail.{Trail, IsCrashImage, trail_at, count_acks}
 use Rattle.pm_memory.specs.Chosen.{IsChosenImage}
@@ -27,10 +26,11 @@ use Rattle.crash_replay.specs.Place.{place_in}
 use Rattle.crash_replay.specs.declared.moment.Moment.{Moment}
 use Rattle.squirrel_cli.specs.declared.status.Status.{Status}
 use Rattle.squirrel_cli.specs.declared.status.Status.TheVariants as status
-use Rattle.squirrel_cli.specs.Told.{IsToldOrCut}
+use Rattle.squirrel_cli.specs.Told.{IsShortOrTold, IsToldOrCut}
 use Rattle.engine.specs.Run.{IsBetween}
 use Rattle.engine.specs.Script.{RunsScript, WritesAnswers}
-use Rattle.squirrel_cli.specs.Mounts.{IsOnlyMounted}
+use Rattle.mount_scan.specs.Mounts.{IsOnlyMounted}
+use Rattle.squirrel_cli.specs.declared.chosen.SecondCrash.{SecondCrash}
 use Rattle.squirrel_cli.specs.Replays.{Anything, IsUnbegun, ListsLeft, acked_before}
 use Rattle.squirrel_cli.specs.ReplaySteps.{HasLeft, LeavesSound, LeavesSoundSoFar, RunsMounted, crashes_of}
 
@@ -108,20 +108,20 @@ any_run {end = end} {took = took} {now = now} run = record {
 
 -- ---- the words that a crash left
 
-pub left_alone : {keep : List ℕ} {again : Option (ℕ × Bor (List ℕ))} {trail : Trail} {image : List ℕ} → again ≡ None → IsChosenImage trail keep image → IsCrashImage trail image → IsSound image → HasLeft keep again trail image
+pub left_alone : {keep : List ℕ} {again : Option SecondCrash} {trail : Trail} {image : List ℕ} → again ≡ None → IsChosenImage trail keep image → IsCrashImage trail image → IsSound image → HasLeft keep again trail image
 left_alone {image = image} none chosen crash whole = record {
   image = image;
   chosen = chosen;
   crash = crash;
   whole = whole;
-  in_turn = subst (λ (a : Option (ℕ × Bor (List ℕ))). LeaveInTurn (crashes_of a) image image) (sym none) refl;
+  in_turn = subst (λ (a : Option SecondCrash). LeaveInTurn (crashes_of a) image image) (sym none) refl;
   sound = whole;
   means = meanings_chain.itself (pages_in_image image) image whole;
 }
 
-pub left_again : {keep : List ℕ} {again : Option (ℕ × Bor (List ℕ))} {moment : ℕ} {second : Bor (List ℕ)} {trail : Trail} {image lent words : List ℕ} → again ≡ Some (moment, second) → lent ≡ image
-    → IsChosenImage trail keep image → IsCrashImage trail image → IsSound image → LeaveInTurn (record { moment = moment; keep = second } ∷ []) lent words → (IsSound lent → SameMeaning (pages_in_image lent) lent words) → HasLeft keep again trail words
-left_again {moment = moment} {second = second} {image = image} {words = words} some same chosen crash whole in_turn means =
+pub left_again : {keep : List ℕ} {again : Option SecondCrash} {second : SecondCrash} {trail : Trail} {image lent words : List ℕ} → again ≡ Some second → lent ≡ image
+    → IsChosenImage trail keep image → IsCrashImage trail image → IsSound image → LeaveInTurn (record { moment = second.at; keep = second.keep } ∷ []) lent words → (IsSound lent → SameMeaning (pages_in_image lent) lent words) → HasLeft keep again trail words
+left_again {second = second} {image = image} {words = words} some same chosen crash whole in_turn means =
     let there : SameMeaning (pages_in_image image) image words =
     subst (λ (I : List ℕ). SameMeaning (pages_in_image I) I words) same (means (subst IsSound (sym same) whole)) in
     record {
@@ -129,16 +129,16 @@ left_again {moment = moment} {second = second} {image = image} {words = words} s
       chosen = chosen;
       crash = crash;
       whole = whole;
-      in_turn = subst (λ (a : Option (ℕ × Bor (List ℕ))). LeaveInTurn (crashes_of a) image words) (sym some)
-          (subst (λ (I : List ℕ). LeaveInTurn (record { moment = moment; keep = second } ∷ []) I words) same in_turn);
+      in_turn = subst (λ (a : Option SecondCrash). LeaveInTurn (crashes_of a) image words) (sym some)
+          (subst (λ (I : List ℕ). LeaveInTurn (record { moment = second.at; keep = second.keep } ∷ []) I words) same in_turn);
       sound = sound_image words there.coherent;
       means = there;
     }
 
 -- what is listed of them is the tree of the image
-pub lists_left : {moment : Moment} {keep : List ℕ} {again : Option (ℕ × Bor (List ℕ))} {mark place acked : ℕ} {trail : Trail} {lent words : List ℕ} {result : Status} {took now : List ℕ → Type 0} → lent ≡ words → place ≡ place_in trail.events mark moment
+pub lists_left : {moment : Moment} {keep : List ℕ} {again : Option SecondCrash} {mark place acked : ℕ} {trail : Trail} {lent words : List ℕ} {result : Status} {took now : List ℕ → Type 0} → lent ≡ words → place ≡ place_in trail.events mark moment
     → acked ≡ count_acks (take place trail.events) → HasLeft keep again (trail_at trail place) words
-    → ((tree : Tree) → Reads (pages_in_image lent) lent tree → (result ≡ status.NoMemory) ⊎ IsToldOrCut status.Done (acked_text acked ++ listing_text tree) result took now)
+    → ((tree : Tree) → Reads (pages_in_image lent) lent tree → IsShortOrTold (acked_text acked ++ listing_text tree) result took now)
     → (result ≡ status.NoMemory) ⊎ ListsLeft moment keep mark trail result took now
 lists_left {moment} {keep} {mark} {place} {acked} {trail} {lent} {words} {result} {took} {now} same placed counted left lists =
     let (tree, reads, form) = tree_law (pages_in_image left.image) left.image left.whole in

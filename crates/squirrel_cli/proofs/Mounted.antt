@@ -1,46 +1,42 @@
 -- A mount, and the run after it.
-use Rattle.std.proofs.Common.{◌≡◌, ◌⊎◌, inl, inr, ℕ, ◌≤◌, ◌^◌, List, length, refl, sym, subst, ◌∙◌, arith}
+use Rattle.std.proofs.Common.{◌≡◌, ◌⊎◌, inl, inr, ℕ, ◌≤◌, ◌^◌, List, length, refl, sym, ap, subst, ◌∙◌, arith}
 use Rattle.std.proofs.lemmas.Bool.{cases_lt}
-use Rattle.std.specs.Prelude.{Option, Some, None, IfSome, Ok, Err, slice_get}
+use Rattle.std.specs.Prelude.{Option, Some, None, Ok, Err, slice_get}
 use Rattle.pm_trait.specs.Trail.{Trail}
 use Rattle.pm_trait.specs.Device.{HasRisen, Continues, acks_from, moment_of}
-use Rattle.pm_trait.specs.DeviceView.{DeviceView}
+use Rattle.pm_trait.specs.DeviceView.{DeviceView, IsSettledView}
 use Rattle.pm_trait.proofs.ContinuesLaws.{acks_from-joined}
 use Rattle.pm_trait.proofs.DeviceLaws.{leaves_weaker, leaves_next}
 use Rattle.pm_trait.proofs.AckLaws.{acks_none, acks_next}
 use Rattle.tree_model.specs.Run.{Line, State}
 use Rattle.image_reading.specs.Reading.{ReadsAs}
-use Rattle.image_reading.specs.Soundness.{Sound}
+use Rattle.image_reading.specs.Soundness.{pages_in_image}
 use Rattle.image_reading.specs.Soundness.Rule.{head}
 use Rattle.image_reading.specs.Tidy.{Tidy}
 use Rattle.image_reading.proofs.Readings.{one_tree, one_room}
 use Rattle.image_reading.proofs.Violations.{pages_law}
-use Rattle.image_laws.proofs.Trees.{tree_law}
-use Rattle.image_laws.proofs.Rooms.{room_law}
 use Rattle.script.specs.declared.run_end.RunEnd.{RunEnd}
 use Rattle.script.specs.declared.run_end.RunEnd.TheVariants as run_end
 use Rattle.volume.specs.Crashes.{MayReadAs, MeansState}
 use Rattle.volume.specs.Stands.{IsStanding, StandsFor}
 use Rattle.volume.specs.Volume.{VolumeView}
 use Rattle.mount_scan.specs.Mounting.{IsTidy}
-use Rattle.mount_scan.specs.Mounts.{Mounts}
+use Rattle.mount_scan.specs.Mounts.{HasMounted, IsOnlyMounted, Mounts}
 use Rattle.engine.specs.Quiet.{ActsOnly}
 use Rattle.engine.specs.Run.{command_of, IsBetween, IsStateAfter}
 use Rattle.engine.specs.Script.{RunsScript, ExecutesTold}
 use Rattle.engine.proofs.After.{acked_then}
 use Rattle.script.specs.Texts.{listing_text}
-use Rattle.squirrel_cli.specs.Answers.{ListsTree}
-use Rattle.squirrel_cli.specs.Told.{IsToldOrCut}
 use Rattle.squirrel_cli.specs.Causes.{TellsFaults}
-use Rattle.squirrel_cli.specs.Ends.{end_of, GaveAll}
-use Rattle.squirrel_cli.specs.Mounts.{IsOnlyMounted, ActsAfterMount, MountsAndRuns}
+use Rattle.squirrel_cli.specs.Ends.{IsStart, end_of, GaveAll}
+use Rattle.squirrel_cli.specs.GoingOn.{GoesOn, IsShortOr, LeavesGoing, RunsOn}
+use Rattle.squirrel_cli.specs.Mounts.{ActsAfterMount, HasRun, MountsAndRuns}
+use Rattle.squirrel_cli.specs.Rows.{LeavesTidy, MountsAnd}
+use Rattle.squirrel_cli.specs.Seen.{Seen}
+use Rattle.squirrel_cli.specs.Tells.{HasListed}
+use Rattle.squirrel_cli.specs.Told.{IsShortOrTold}
 use Rattle.squirrel_cli.specs.declared.status.Status.{Status}
 use Rattle.squirrel_cli.specs.declared.status.Status.TheVariants as status
-
--- of an end that is told, more may be said
-pub of_end : {F G : RunEnd → Type 0} (told : Option RunEnd) → ((end : RunEnd) → F end → G end) → IfSome told F → IfSome told G
-of_end None more holds = tt
-of_end (Some end) more holds = more end holds
 
 -- the state before a command is one that a crash in it may leave
 may_start : {P : ℕ} {start : State} {image : List ℕ} (line : Option Line) → MeansState P start image → MayReadAs P start (command_of line) image
@@ -111,15 +107,6 @@ one_state {P} {W} state other reads also =
     let room = one_room P W state.room other.room reads.room also.room in
     λ i. record { tree = tree i; room = room i }
 
--- A mount tells what it does to each state that the words read as, and sound ones read as one.
-pub only_mounted : {P : ℕ} {before mounted : DeviceView} → Sound P before.words → ((state : State) → ReadsAs P before.words state → Mounts P state before mounted) → IsOnlyMounted P before mounted
-only_mounted {P} {before} sound mounts =
-    let (tree, reads, form) = tree_law P before.words sound in
-    let (room, has) = room_law P before.words sound in
-    let start : State = record { tree = tree; room = room } in
-    let there : ReadsAs P before.words start = record { tree = reads; room = has } in
-    record { start = start; reads = there; mount = mounts start there }
-
 -- What runs on the mounted device starts with the state that the words at entry read as.
 pub mounted_state : {P : ℕ} {before mounted : DeviceView} (start : State) → IsOnlyMounted P before mounted → ReadsAs P mounted.words start → ReadsAs P before.words start × Mounts P start before mounted
 mounted_state {P} {before} {mounted} start only reads =
@@ -133,39 +120,17 @@ runs_mounted {mounted = mounted} {after = after} {end} {script} {rest} {took} {n
     let (reads, mount) = mounted_state here.start only here.reads in
     mounts_and_runs here reads mount
 
--- ---- the counts
+-- ---- the counts, the limit
 
--- a cause after the mount is one from the entry on
-pub cause_from_entry : {is : Status} {before mounted after : DeviceView} {reads_before reads writes_before writes : ℕ} → mounted.faults ≡ before.faults
-    → TellsFaults is mounted after reads_before reads writes_before writes → TellsFaults is before after reads_before reads writes_before writes
-cause_from_entry {after = after} same cause = record {
-  device = λ is. subst (λ (faults : ℕ). HasRisen faults after.faults) same (cause.device is);
-  done = λ is. cause.done is ∙ same;
-  no_memory = λ is. cause.no_memory is ∙ same;
-  read = cause.read;
-  no_read_fault = cause.no_read_fault;
-  write = cause.write;
-  no_write_fault = cause.no_write_fault;
-}
-
--- and so is a fence that failed after it
+-- a fence that failed after the mount failed from the entry on
 pub risen_from_entry : {A : Type 0} {before mounted after : ℕ} → mounted ≡ before → HasRisen mounted after ⊎ A → HasRisen before after ⊎ A
 risen_from_entry {after = after} same (inl risen) = inl (subst (λ (faults : ℕ). HasRisen faults after) same risen)
 risen_from_entry same (inr holds) = inr holds
-
--- the mount leaves counts that a run may begin with
-pub few_fences : {P : ℕ} {before mounted : DeviceView} → IsOnlyMounted P before mounted → before.fences ≤ 2 ^ 32 → mounted.fences ≤ 2 ^ 61
-few_fences only few = let made = only.mount.fences in let most = only.mount.few in omega (arith, few, made, most)
-
-pub few_acks : {P : ℕ} {before mounted : DeviceView} → IsOnlyMounted P before mounted → before.acks ≤ 2 ^ 32 → mounted.acks ≤ 2 ^ 61
-few_acks only few = let same = only.mount.acks in omega (arith, few, same)
 
 -- what is tidy at some number of pages is so at its own
 pub tidy_pages : {A : Type 0} {P : ℕ} (W : List ℕ) → A ⊎ Tidy P W → A ⊎ IsTidy W
 tidy_pages W (inl other) = inl other
 tidy_pages {P = P} W (inr tidy) = inr (subst (λ (pages : ℕ). Tidy pages W) (sym (pages_law P W (λ place. tidy.sound head place))) tidy)
-
--- ---- the limit of a script
 
 pub limit_gives : (before after : Option (List ℕ)) (lines : List Line) → ExecutesTold run_end.Limit before after lines → GaveAll before after
 limit_gives None after lines executes = tt
@@ -173,21 +138,73 @@ limit_gives (Some before) None lines executes = executes
 limit_gives (Some before) (Some after) lines (bytes, split, long, called) = (bytes, split, long)
 
 -- a run that ends at the limit was given all of its bytes
-pub gave_at_limit : (is : Status) (F : RunEnd → Type 0) (script rest : Option (List ℕ)) → IfSome (end_of is) F → (F run_end.Limit → (lines : List Line) × ExecutesTold run_end.Limit script rest lines) → is ≡ status.ScriptLimit → GaveAll script rest
-gave_at_limit is F script rest runs executes same =
-    let (lines, told) = executes (subst (λ (s : Status). IfSome (end_of s) F) same runs) in
-    limit_gives script rest lines told
+pub gave_at_limit : (is : Status) (end : RunEnd) (script rest : Option (List ℕ)) → end_of is ≡ Some end → ((lines : List Line) × ExecutesTold end script rest lines) → is ≡ status.ScriptLimit → GaveAll script rest
+gave_at_limit is end script rest ended (lines, told) same =
+    let limit : end ≡ run_end.Limit = let e = sym ended ∙ ap end_of same in cc e in
+    limit_gives script rest lines (subst (λ (e : RunEnd). ExecutesTold e script rest lines) limit told)
 
--- ---- a listing
+-- ---- a job on a mounted volume
 
-pub lists_tree : {P : ℕ} {before mounted after : DeviceView} {is : Status} {took now : List ℕ → Type 0} → after ≡ mounted → (only : IsOnlyMounted P before mounted)
-    → IsToldOrCut status.Done (listing_text only.start.tree) is took now → ListsTree P is before after took now
-lists_tree {P} {before = before} {is = is} {took = took} {now = now} same only told = subst (λ (device : DeviceView). ListsTree P is before device took now) (sym same) (record { mounted = only; told = told })
+module _ {S K : Type 0} {old new : Seen S K} {is : Status} {mounted : DeviceView} {volume : VolumeView} (mount : HasMounted volume old.device mounted) where
+  -- a task may begin on what the mount leaves
+  pub goes_on : IsStart old.device → GoesOn volume mounted
+  goes_on start =
+      let made = mount.only.mount.fences in
+      let most = mount.only.mount.few in
+      let same = mount.only.mount.acks in
+      let fences = start.fences in
+      let acks = start.acks in
+      record { going = mount.going; stands = (mount.only.start, mount.stands); fences = omega (arith, fences, made, most); acks = omega (arith, acks, same) }
 
-pub lists_known : {P : ℕ} {before mounted after : DeviceView} {is : Status} {took now : List ℕ → Type 0} → after ≡ mounted → (only : IsOnlyMounted P before mounted)
-    → (is ≡ status.NoMemory) ⊎ IsToldOrCut status.Done (listing_text only.start.tree) is took now → (is ≡ status.NoMemory) ⊎ ListsTree P is before after took now
-lists_known same only (inl memory) = inl memory
-lists_known same only (inr told) = inr (lists_tree same only told)
+  -- what is tidy at the volume's number of pages is so at its own
+  tidy_entry : LeavesGoing volume.size mounted new.device → LeavesTidy old new
+  tidy_entry leaves = risen_from_entry mount.only.mount.faults (tidy_pages new.device.words leaves.tidy)
+
+  pub settled_entry : LeavesGoing volume.size mounted new.device → HasRisen old.device.faults new.device.faults ⊎ IsSettledView new.device
+  settled_entry leaves = risen_from_entry mount.only.mount.faults leaves.settled
+
+  -- a cause after the mount is one from the entry on
+  pub cause_entry : TellsFaults (record old { device = mounted }) new is → TellsFaults old new is
+  cause_entry cause = record {
+    device = λ same. subst (λ (faults : ℕ). HasRisen faults new.device.faults) mount.only.mount.faults (cause.device same);
+    done = λ same. cause.done same ∙ mount.only.mount.faults;
+    no_memory = λ same. cause.no_memory same ∙ mount.only.mount.faults;
+    read = cause.read;
+    no_read_fault = cause.no_read_fault;
+    write = cause.write;
+    no_write_fault = cause.no_write_fault;
+  }
+
+  -- what a task does from the mount on, or that memory was short for it, is what the job does
+  pub mounted_row : {F G : Seen S K → Seen S K → Status → Type 0} → LeavesGoing volume.size mounted new.device → IsShortOr F (record old { device = mounted }) new is
+      → (F (record old { device = mounted }) new is → G old new is) → MountsAnd G old new is
+  mounted_row leaves (inl (memory, untouched)) more = inl (record {
+    is = memory;
+    silent = record { script = untouched.script; output = untouched.output };
+    device = inr (mount.sound, subst (IsOnlyMounted (pages_in_image old.device.words) old.device) (sym untouched.device) mount.only);
+    unsound = λ not. absurd (not mount.sound);
+  })
+  mounted_row leaves (inr did) more = inr (inr (mount.sound, tidy_entry leaves, inr (more did)))
+
+  pub run_entry : RunsOn volume.size (record old { device = mounted }) new is → HasRun old new is
+  run_entry runs = record {
+    end = runs.end;
+    ended = runs.ended;
+    runs = runs_mounted mount.size mount.only runs.run;
+    limit = gave_at_limit is runs.end old.left new.left runs.ended (runs.run.lines, runs.run.executes);
+  }
+
+-- a listing leaves the mounted device alone
+pub list_row : {S K : Type 0} {old new : Seen S K} {is : Status} {volume : VolumeView} → (mount : HasMounted volume old.device new.device) → new.script ≡ old.script → (is ≡ status.NoMemory → new.output ≡ old.output)
+    → IsShortOrTold (listing_text mount.only.start.tree) is old.took new.took → MountsAnd HasListed old new is
+list_row mount script silent (inl memory) = inl (record {
+  is = memory;
+  silent = record { script = script; output = silent memory };
+  device = inr (mount.sound, mount.only);
+  unsound = λ not. absurd (not mount.sound);
+})
+list_row {new = new} mount script silent (inr told) =
+    inr (inr (mount.sound, tidy_pages new.device.words (inr mount.only.mount.tidy), inr (record { script = script; mounted = mount.only; told = told })))
 
 -- ---- a session's volume
 

@@ -1,5 +1,5 @@
 -- A generated script on a mounted volume, and its sums.
-use Rattle.std.proofs.Common.{◌≡◌, ℕ, ◌+◌, ◌^◌, ◌<◌, ◌≤◌, List, [], length, ap, subst, ◌∙◌, arith}
+use Rattle.std.proofs.Common.{◌≡◌, ◌⊎◌, inl, inr, ℕ, ◌+◌, ◌^◌, ◌<◌, ◌≤◌, List, [], length, ap, subst, ◌∙◌, arith}
 use Rattle.std.specs.Prelude.{Option, Some, None, Result}
 use Rattle.io_edge.specs.Bytes.{Writes}
 use Rattle.io_edge.specs.declared.sink.WriteFault.{WriteFault}
@@ -29,12 +29,13 @@ use Rattle.engine.specs.Run.{IsAt, last_state}
 use Rattle.squirrel_cli.specs.declared.status.Status.{Status}
 use Rattle.squirrel_cli.specs.declared.status.Status.TheVariants as status
 use Rattle.squirrel_cli.specs.Told.{IsToldOrCut}
-use Rattle.squirrel_cli.specs.Mounts.{IsOnlyMounted}
+use Rattle.mount_scan.specs.Mounts.{HasMounted}
+use Rattle.squirrel_cli.specs.Seen.{Seen}
 use Rattle.squirrel_cli.specs.ReplaySteps.{RunsMounted}
-use Rattle.squirrel_cli.specs.Works.{WorksScript, summary_of}
-use Rattle.squirrel_cli.specs.WorkSteps.{CountsGenerated, RunsGenerated, SumsGenerated}
+use Rattle.squirrel_cli.specs.Works.{HasWorked, WorksScript, summary_of}
+use Rattle.squirrel_cli.specs.WorkSteps.{CountsGenerated, RunsGenerated, SumsGenerated, WorksOn}
 use Rattle.squirrel_cli.proofs.Leaving.{any_run}
-use Rattle.squirrel_cli.proofs.Mounted.{limit_gives, mounted_state, mounts_and_runs, one_state}
+use Rattle.squirrel_cli.proofs.Mounted.{limit_gives, mounted_state, mounts_and_runs, one_state, runs_mounted}
 use Rattle.squirrel_cli.proofs.StatusEnds.{not_at_limit}
 
 -- ---- the run
@@ -113,37 +114,46 @@ pub sums_written : {took now : List ℕ → Type 0} {faults_before faults_after 
 sums_written {took} {now} {faults_before} {faults_after} {written = written} same writes = subst (λ (s : WorkSummary). Writes took now faults_before faults_after (work_text s) written) same writes
 
 -- They are told of the last state, for which the volume in memory stands.
-pub sums_generated : {P seed count : ℕ} {before after : DeviceView} {tally : Tally} {volume : VolumeView} {result : Status} {took now : List ℕ → Type 0} → CountsGenerated P seed count before after tally
-    → volume.size ≡ P → IsStanding volume after
-    → ((state : State) → StandsFor volume after state → IsToldOrCut status.Done (work_text (summary_of volume.size count (accepted_count tally) (refused_count tally) state)) result took now)
-    → SumsGenerated P seed count result before after took now
-sums_generated {P} {count = count} {after = after} {tally = tally} {volume = volume} {result = result} {took} {now} counted size (state, stands) told =
+pub sums_generated : {S K : Type 0} {P seed count : ℕ} {old new : Seen S K} {tally : Tally} {volume : VolumeView} {result : Status} → new.script ≡ old.script → CountsGenerated P seed count old.device new.device tally
+    → volume.size ≡ P → IsStanding volume new.device
+    → ((state : State) → StandsFor volume new.device state → IsToldOrCut status.Done (work_text (summary_of volume.size count (accepted_count tally) (refused_count tally) state)) result old.took new.took)
+    → SumsGenerated P seed count old new result
+sums_generated {P = P} {count = count} {old = old} {new = new} {tally = tally} {volume = volume} {result = result} script counted size (state, stands) told =
     let run = counted.run in
     let last : State = last_state run.start run.states in
-    let ended : IsAt P last after.words = run.last run.ends in
-    let same : state ≡ last = one_state state last (subst (λ (p : ℕ). ReadsAs p after.words state) size stands.reads) ended.reads in
-    let sized = subst (λ (p : ℕ). IsToldOrCut status.Done (work_text (summary_of p count (accepted_count tally) (refused_count tally) state)) result took now) size (told state stands) in
-    let accepted = subst (λ (n : ℕ). IsToldOrCut status.Done (work_text (summary_of P count n (refused_count tally) state)) result took now) counted.accepted sized in
-    let refused = subst (λ (n : ℕ). IsToldOrCut status.Done (work_text (summary_of P count (accepted_in run.answers) n state)) result took now) counted.refused accepted in
+    let ended : IsAt P last new.device.words = run.last run.ends in
+    let same : state ≡ last = one_state state last (subst (λ (p : ℕ). ReadsAs p new.device.words state) size stands.reads) ended.reads in
+    let sized = subst (λ (p : ℕ). IsToldOrCut status.Done (work_text (summary_of p count (accepted_count tally) (refused_count tally) state)) result old.took new.took) size (told state stands) in
+    let accepted = subst (λ (n : ℕ). IsToldOrCut status.Done (work_text (summary_of P count n (refused_count tally) state)) result old.took new.took) counted.accepted sized in
+    let refused = subst (λ (n : ℕ). IsToldOrCut status.Done (work_text (summary_of P count (accepted_in run.answers) n state)) result old.took new.took) counted.refused accepted in
     record {
+      script = script;
       run = run;
       sums = record {
         all = counted.all;
-        told = subst (λ (s : State). IsToldOrCut status.Done (work_text (summary_of P count (accepted_in run.answers) (refused_in run.answers) s)) result took now) same refused;
+        told = subst (λ (s : State). IsToldOrCut status.Done (work_text (summary_of P count (accepted_in run.answers) (refused_in run.answers) s)) result old.took new.took) same refused;
       };
     }
 
 -- of the volume that the session was started with
-pub sums_of_volume : {seed count : ℕ} {session volume : VolumeView} {result : Status} {before after : DeviceView} {took now : List ℕ → Type 0} → session ≡ volume
-    → SumsGenerated session.size seed count result before after took now → SumsGenerated volume.size seed count result before after took now
-sums_of_volume {seed} {count} {result = result} {before} {after} {took} {now} same sums = subst (λ (v : VolumeView). SumsGenerated v.size seed count result before after took now) same sums
+pub sums_of_volume : {S K : Type 0} {seed count : ℕ} {session volume : VolumeView} {result : Status} {old new : Seen S K} → session ≡ volume
+    → SumsGenerated session.size seed count old new result → SumsGenerated volume.size seed count old new result
+sums_of_volume {seed = seed} {count} {result = result} {old} {new} same sums = subst (λ (v : VolumeView). SumsGenerated v.size seed count old new result) same sums
 
 -- ---- from the entry on
 
-pub sums_entry : {size P seed count : ℕ} {before mounted after : DeviceView} {result : Status} {took now : List ℕ → Type 0}
-    → size ≡ P → IsOnlyMounted P before mounted → SumsGenerated size seed count result mounted after took now → WorksScript P seed count result before after took now
-unfolding mounts_and_runs
-sums_entry {seed = seed} {count} {mounted = mounted} {after} {result} {took} {now} pages only sums =
-    let here = subst (λ (p : ℕ). SumsGenerated p seed count result mounted after took now) pages sums in
-    let (reads, mount) = mounted_state here.run.start only here.run.reads in
-    record { ran = mounts_and_runs here.run reads mount; sums = here.sums }
+pub works_entry : {S K : Type 0} {seed count : ℕ} {old new : Seen S K} {mounted : DeviceView} {volume : VolumeView} {result : Status} → HasMounted volume old.device mounted
+    → WorksOn volume.size seed count (record old { device = mounted }) new result → HasWorked seed count old new result
+works_entry mount (inl fault) = inl (record {
+  is = fault.is;
+  silent = record { script = fault.silent.script; output = fault.silent.output };
+  ran = runs_mounted mount.size mount.only fault.run;
+})
+works_entry {seed = seed} {count} {old} {new} {mounted} {volume} {result} mount (inr sums) = inr (sums_entry mount sums)
+  where
+    sums_entry : HasMounted volume old.device mounted → SumsGenerated volume.size seed count (record old { device = mounted }) new result → WorksScript seed count old new result
+    unfolding mounts_and_runs
+    sums_entry mount sums =
+        let here = subst (λ (p : ℕ). SumsGenerated p seed count (record old { device = mounted }) new result) mount.size sums in
+        let (reads, made) = mounted_state here.run.start mount.only here.run.reads in
+        record { script = here.script; ran = mounts_and_runs here.run reads made; sums = here.sums }

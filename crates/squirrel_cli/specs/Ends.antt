@@ -44,11 +44,10 @@ IsShortScript None = ⊥
 IsShortScript (Some bytes) = length bytes < script_limit
 
 -- the device is as the job needs it: of the right length, or a sound volume
-abbrev pub IsReadyFor : Option Job → List ℕ → Type 0
-IsReadyFor None words = ⊥
-IsReadyFor (Some (Mkfs pages)) words = length words ≡ 512 * pages
-IsReadyFor (Some Run) words = IsMountable words
-IsReadyFor (Some Tree) words = IsMountable words
-IsReadyFor (Some Check) words = IsMountable words
-IsReadyFor (Some (Crash moment keep again)) words = IsMountable words
-IsReadyFor (Some (Work seed count)) words = IsMountable words
+abbrev pub IsReadyFor : Job → List ℕ → Type 0
+IsReadyFor (Mkfs pages) words = length words ≡ 512 * pages
+IsReadyFor Run words = IsMountable words
+IsReadyFor Tree words = IsMountable words
+IsReadyFor Check words = IsMountable words
+IsReadyFor (Crash moment keep again) words = IsMountable words
+IsReadyFor (Work seed count) words = IsMountable words

@@ -11,24 +11,16 @@ use Rattle.image_reading.specs.Reading.{ReadsAs}
 use Rattle.script.specs.declared.run_end.RunEnd.{RunEnd}
 use Rattle.recovery.specs.Repairs.{events_of_repairs, fences_of_repairs}
 use Rattle.volume.specs.LineEvents.{events_of_run}
-use Rattle.mount_scan.specs.Mounts.{Mounts, FailsToMount}
+use Rattle.mount_scan.specs.Mounts.{Mounts}
 use Rattle.engine.specs.Memory.{needs_places_at}
 use Rattle.engine.specs.Quiet.{MayStore}
 use Rattle.engine.specs.Run.{IsBetween, IsStateAfter}
 use Rattle.engine.specs.Script.{IsCutShort, RunsScript}
-
--- The device was mounted, and no line was executed on it.
-pub record IsOnlyMounted (P : ℕ) (before after : DeviceView) : Type 0 where
-  pub start : State
-  pub reads : ReadsAs P before.words start
-  pub mount : Mounts P start before after
-
--- A fence failed in the mount, and neither the script nor the output was touched.
-pub record MountFails {S K : Type 0} (P : ℕ) (before after : DeviceView) (old_script new_script : S) (old_out new_out : K) : Type 0 where
-  pub mount : FailsToMount P before after
-  pub open mount use *
-  pub script : new_script ≡ old_script
-  pub output : new_out ≡ old_out
+use Rattle.image_reading.specs.Soundness.{pages_in_image}
+use Rattle.squirrel_cli.specs.declared.status.Status.{Status}
+use Rattle.squirrel_cli.specs.declared.status.Status.TheVariants.{ScriptLimit}
+use Rattle.squirrel_cli.specs.Ends.{end_of, GaveAll}
+use Rattle.squirrel_cli.specs.Seen.{Seen}
 
 -- Each event from the end of the old trail to the end of the new one is one of the mount, or an acknowledgement, or came after a number
 -- of acknowledgements that has F.
@@ -68,3 +60,11 @@ pub record MountsAndRuns (P : ℕ) (before after : DeviceView) (end : RunEnd) (s
   pub refused : before.refused ≤ after.refused
   pub no_memory : (k : ℕ) → slice_get run.answers k ≡ Some (Refused NoMemory)
       → IsTrue (needs_places_at run.start run.lines run.states k) ⊎ HasRisen before.refused after.refused
+
+-- The main promise: the volume is mounted, whatever a crash left in it to repair, and the script is run on it to the end that the status
+-- tells.
+pub record HasRun {S K : Type 0} (old new : Seen S K) (status : Status) : Type 0 where
+  pub end : RunEnd
+  pub ended : end_of status ≡ Some end
+  pub runs : MountsAndRuns (pages_in_image old.device.words) old.device new.device end old.left new.left old.took new.took
+  pub limit : status ≡ ScriptLimit → GaveAll old.left new.left

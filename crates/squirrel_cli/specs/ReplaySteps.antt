@@ -1,6 +1,5 @@
 -- The steps of a replay.
 use Rattle.std.specs.Prelude.{◌≡◌, ◌≢◌, ℕ, ◌≤◌, List, [], ◌∷◌, length, slice_get, Option, Some, None}
-use Rattle.std.specs.Borrow.{Bor}
 use Rattle.pm_trait.specs.Trail.{Trail, trail_at, IsCrashImage}
 use Rattle.pm_trait.specs.Device.{MayLeave, moment_of}
 use Rattle.pm_trait.specs.DeviceView.{DeviceView}
@@ -16,6 +15,7 @@ use Rattle.script.specs.declared.run_end.RunEnd.{RunEnd}
 use Rattle.script.specs.declared.run_end.RunEnd.TheVariants as ends
 use Rattle.engine.specs.Script.{RunsScript}
 use Rattle.crash_replay.specs.declared.moment.Moment.{Moment}
+use Rattle.squirrel_cli.specs.declared.chosen.SecondCrash.{SecondCrash}
 use Rattle.squirrel_cli.specs.declared.status.Status.{Status}
 use Rattle.squirrel_cli.specs.Replays.{Anything, ListsLeft}
 
@@ -40,13 +40,13 @@ pub record ReplaysMounted (moment : Moment) (keep : List ℕ) (P : ℕ) (before 
   pub recorded : after.trail ≡ Some trail
   pub listed : ListsLeft moment keep (moment_of before.trail) trail result took now
 
--- the second crash, by its moment and its keep, where one is asked
-abbrev pub crashes_of : Option (ℕ × Bor (List ℕ)) → List Crash
+-- the second crash, where one is asked
+abbrev pub crashes_of : Option SecondCrash → List Crash
 crashes_of None = []
-crashes_of (Some (moment, keep)) = record { moment = moment; keep = keep } ∷ []
+crashes_of (Some crash) = record { moment = crash.at; keep = crash.keep } ∷ []
 
 -- what a crash left, and where one is asked a second one in the mount of that: it is sound, and means what the chosen image means
-pub record HasLeft (keep : List ℕ) (again : Option (ℕ × Bor (List ℕ))) (trail : Trail) (words : List ℕ) : Type 0 where
+pub record HasLeft (keep : List ℕ) (again : Option SecondCrash) (trail : Trail) (words : List ℕ) : Type 0 where
   pub image : List ℕ
   pub chosen : IsChosenImage trail keep image
   pub crash : IsCrashImage trail image

@@ -1,5 +1,5 @@
 -- The steps of `work`, from the mount on.
-use Rattle.std.specs.Prelude.{◌≡◌, ℕ, ◌+◌, List, [], Some}
+use Rattle.std.specs.Prelude.{◌≡◌, ◌⊎◌, ℕ, ◌+◌, List, [], Some}
 use Rattle.pm_trait.specs.DeviceView.{DeviceView}
 use Rattle.script.specs.declared.run_end.RunEnd.{RunEnd}
 use Rattle.script.specs.declared.run_end.RunEnd.TheVariants as ends
@@ -7,6 +7,8 @@ use Rattle.crash_replay.specs.Tally.{accepted_count, refused_count, accepted_in,
 use Rattle.crash_replay.specs.Work.{work_script}
 use Rattle.crash_replay.specs.declared.tally.Tally.{Tally}
 use Rattle.squirrel_cli.specs.declared.status.Status.{Status}
+use Rattle.squirrel_cli.specs.declared.status.Status.TheVariants.{DeviceFault}
+use Rattle.squirrel_cli.specs.Seen.{Seen, IsSilent}
 use Rattle.squirrel_cli.specs.ReplaySteps.{RunsMounted}
 use Rattle.squirrel_cli.specs.Works.{SumsUp}
 
@@ -21,7 +23,16 @@ pub record CountsGenerated (P seed count : ℕ) (before after : DeviceView) (tal
   pub refused : refused_count tally ≡ refused_in run.answers
   pub all : accepted_in run.answers + refused_in run.answers ≡ count + 4
 
--- and their sums were told
-pub record SumsGenerated (P seed count : ℕ) (result : Status) (before after : DeviceView) (took now : List ℕ → Type 0) : Type 0 where
-  pub run : RunsGenerated P seed count before after ends.Done
-  pub sums : SumsUp P count run.start run.answers run.states result took now
+-- A fence failed in the run, and nothing was written; or the script was run through, and its sums were told.
+pub record FaultsGenerated {S K : Type 0} (P seed count : ℕ) (old new : Seen S K) (status : Status) : Type 0 where
+  pub is : status ≡ DeviceFault
+  pub silent : IsSilent old new
+  pub run : RunsGenerated P seed count old.device new.device ends.Faulted
+
+pub record SumsGenerated {S K : Type 0} (P seed count : ℕ) (old new : Seen S K) (status : Status) : Type 0 where
+  pub script : new.script ≡ old.script
+  pub run : RunsGenerated P seed count old.device new.device ends.Done
+  pub sums : SumsUp P count run.start run.answers run.states status old.took new.took
+
+abbrev pub WorksOn : {S K : Type 0} → ℕ → ℕ → ℕ → Seen S K → Seen S K → Status → Type 0
+WorksOn P seed count old new status = FaultsGenerated P seed count old new status ⊎ SumsGenerated P seed count old new status

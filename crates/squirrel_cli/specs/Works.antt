@@ -1,6 +1,7 @@
 -- What `work` runs, and what it tells of it.
 use Rattle.std.specs.Prelude.{◌≡◌, ◌⊎◌, ℕ, ◌+◌, List, [], Some}
 use Rattle.pm_trait.specs.DeviceView.{DeviceView}
+use Rattle.image_reading.specs.Soundness.{pages_in_image}
 use Rattle.tree_model.specs.Capacity.{untaken}
 use Rattle.tree_model.specs.Run.{State}
 use Rattle.tree_model.specs.Step.{Answer, space_of}
@@ -9,12 +10,12 @@ use Rattle.script.specs.declared.run_end.RunEnd.{RunEnd}
 use Rattle.script.specs.declared.run_end.RunEnd.TheVariants as ends
 use Rattle.script.specs.declared.work.WorkSummary.{WorkSummary}
 use Rattle.volume.specs.Totals.{totals_of}
-use Rattle.mount_scan.specs.Mounts.{FailsToMount}
 use Rattle.engine.specs.Run.{last_state}
 use Rattle.crash_replay.specs.Tally.{accepted_in, refused_in}
 use Rattle.crash_replay.specs.Work.{work_script}
 use Rattle.squirrel_cli.specs.declared.status.Status.{Status}
-use Rattle.squirrel_cli.specs.declared.status.Status.TheVariants.{Done, NoMemory, DeviceFault}
+use Rattle.squirrel_cli.specs.declared.status.Status.TheVariants.{Done, DeviceFault}
+use Rattle.squirrel_cli.specs.Seen.{Seen, IsSilent}
 use Rattle.squirrel_cli.specs.Replays.{RunsThrough}
 use Rattle.squirrel_cli.specs.Told.{IsToldOrCut}
 
@@ -38,14 +39,18 @@ pub record SumsUp (P count : ℕ) (start : State) (answers : List Answer) (state
   pub all : accepted_in answers + refused_in answers ≡ count + 4
   pub told : IsToldOrCut Done (work_text (summary_of P count (accepted_in answers) (refused_in answers) (last_state start states))) result took now
 
--- The generated script was run through, no line of it was answered Fault, and its sums were told.
-pub record WorksScript (P seed count : ℕ) (result : Status) (before after : DeviceView) (took now : List ℕ → Type 0) : Type 0 where
-  pub ran : RunsWork P seed count before after ends.Done
-  pub sums : SumsUp P count ran.run.start ran.run.answers ran.run.states result took now
+-- A fence failed in the run of the generated script, and nothing was written.
+pub record FaultsInWork {S K : Type 0} (seed count : ℕ) (old new : Seen S K) (status : Status) : Type 0 where
+  pub is : status ≡ DeviceFault
+  pub silent : IsSilent old new
+  pub ran : RunsWork (pages_in_image old.device.words) seed count old.device new.device ends.Faulted
 
--- What `work` tells of a sound volume. Where a fence failed, in the mount or in the run, nothing was written.
-abbrev pub WorkTells : ℕ → ℕ → ℕ → Status → DeviceView → DeviceView → (List ℕ → Type 0) → (List ℕ → Type 0) → Type 0 → Type 0
-WorkTells P seed count result before after took now unwritten =
-    (result ≡ NoMemory)
-    ⊎ (result ≡ DeviceFault) × unwritten × (FailsToMount P before after ⊎ RunsWork P seed count before after ends.Faulted)
-    ⊎ WorksScript P seed count result before after took now
+-- The generated script was run through, no line of it was answered Fault, and its sums were told.
+pub record WorksScript {S K : Type 0} (seed count : ℕ) (old new : Seen S K) (status : Status) : Type 0 where
+  pub script : new.script ≡ old.script
+  pub ran : RunsWork (pages_in_image old.device.words) seed count old.device new.device ends.Done
+  pub sums : SumsUp (pages_in_image old.device.words) count ran.run.start ran.run.answers ran.run.states status old.took new.took
+
+-- What `work` does on a sound volume: what `run` says of a crash is said of the generated lines.
+abbrev pub HasWorked : {S K : Type 0} → ℕ → ℕ → Seen S K → Seen S K → Status → Type 0
+HasWorked seed count old new status = FaultsInWork seed count old new status ⊎ WorksScript seed count old new status

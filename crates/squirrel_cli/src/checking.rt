@@ -1,11 +1,8 @@
 // Tells what a volume holds, and what a mount would repair.
-ghost use Rattle.std.specs.Prelude.{◌≡◌, ◌≢◌, ◌⊎◌, Option};
-ghost use Rattle.pm_trait.specs.Device.{HasRisen};
-ghost use Rattle.command_line.specs.Job.{TakesVolume};
-ghost use Rattle.command_line.specs.declared.job.Job.{Job};
-ghost use Rattle.squirrel_cli.specs.Answers.{Refuses, StatusTells, TellsRepairs};
-ghost use Rattle.squirrel_cli.specs.Asked.{Asks};
-ghost use Rattle.squirrel_cli.specs.Ends.{IsMountable};
+ghost use Rattle.std.specs.Prelude.{◌≡◌};
+ghost use Rattle.squirrel_cli.specs.Causes.{TellsFaults};
+ghost use Rattle.squirrel_cli.specs.Rows.{Checks};
+ghost use Rattle.squirrel_cli.specs.Seen.{seen_alone};
 ghost use Rattle.squirrel_cli.specs.Told.{refusal_of as told_refusal};
 
 use crate::refused::refuse;
@@ -18,17 +15,8 @@ use std::alloc::Global;
 
 /// Writes what the device's volume holds and what a mount would repair, or why it is none. The device is only read.
 pub fn check_volume<P: Pm, K: Sink>(alloc: Global, out: &mut K, pm: &P) -> Status
-    ensures ends { (result ≢ Status.Usage) × (result ≢ Status.DeviceFault) × (result ≢ Status.ReadFault)
-        × (result ≢ Status.ScriptLimit) }
-    ensures tells { (job : Option Job) → Asks TakesVolume job →
-        StatusTells result job (P.view pm.now).words (K.took out.old) (K.took out.new) }
-    ensures refuses { ¬ IsMountable (P.view pm.now).words →
-        Refuses result (P.view pm.now) (P.view pm.now) (K.took out.old) (K.took out.new) }
-    ensures checks { IsMountable (P.view pm.now).words → (result ≡ Status.NoMemory)
-        ⊎ TellsRepairs (P.view pm.now).words result (K.took out.old) (K.took out.new) }
-    ensures unwritten { result ≡ Status.NoMemory → out.new ≡ out.old }
-    ensures cause { result ≡ Status.WriteFault → HasRisen (K.faults out.old) (K.faults out.new) }
-    ensures no_write_fault { result ≢ Status.WriteFault → K.faults out.new ≡ K.faults out.old }
+    ensures checks { Checks (seen_alone K.Sink (P.view pm.now) out.old) (seen_alone K.Sink (P.view pm.now) out.new) result }
+    ensures cause { TellsFaults (seen_alone K.Sink (P.view pm.now) out.old) (seen_alone K.Sink (P.view pm.now) out.new) result }
 {
     match report(alloc, pm, out) {
         Ok(None) => Status::Done,

@@ -2,18 +2,20 @@
 #![tactic(auto)]
 
 mod checking;
+mod chosen;
+mod generated;
 mod laws;
+mod listing;
 mod mkfs;
 mod refused;
 mod replaying;
 mod scripted;
 mod status;
-mod tasks;
 mod top_call;
 mod working;
 
 pub use command_line::{ImagePath, Wanted, Words, device_of};
-pub use laws::{replay_end_law, replay_law};
+pub use laws::{complete_law, replay_complete_law, replay_end_law, replay_law};
 pub use replaying::replay;
 pub use status::Status;
 pub use top_call::squirrel;

@@ -1,7 +1,6 @@
 // What is told of a device that is not mounted.
-ghost use Rattle.std.specs.Prelude.{◌≡◌, ◌≢◌, ◌⊎◌};
-ghost use Rattle.pm_trait.specs.Device.{HasRisen};
-ghost use Rattle.squirrel_cli.specs.Told.{IsToldOf};
+ghost use Rattle.std.specs.Prelude.{◌≡◌, ◌⊎◌};
+ghost use Rattle.squirrel_cli.specs.Told.{IsToldOf, TellsWrites};
 
 use crate::status::{Status, status_of_write};
 use io_edge::Sink;
@@ -12,8 +11,7 @@ use script::{write_damaged, write_not_a_volume};
 /// written.
 pub fn refuse<K: Sink>(error: MountError, out: &mut K) -> Status
     ensures told { IsToldOf error result (K.took out.old) (K.took out.new) }
-    ensures cause { result ≡ Status.WriteFault → HasRisen (K.faults out.old) (K.faults out.new) }
-    ensures no_write_fault { result ≢ Status.WriteFault → K.faults out.new ≡ K.faults out.old }
+    ensures cause { TellsWrites result (K.faults out.old) (K.faults out.new) }
     ensures unwritten { (result ≡ Status.NoMemory) ⊎ (result ≡ Status.DeviceFault) → out.new ≡ out.old }
 {
     match error {

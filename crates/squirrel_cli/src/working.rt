@@ -1,9 +1,8 @@
-// The generated script on a mounted volume.
-ghost use Rattle.std.specs.Prelude.{◌≡◌, ◌⊎◌, ℕ, ◌^◌, ◌≤◌, MatchOption, false};
+// The generated script on a volume.
+ghost use Rattle.std.specs.Prelude.{◌≡◌, ◌⊎◌, ◌≤◌, MatchOption, false};
 ghost use Rattle.pm_trait.specs.Device.{HasRisen};
 ghost use Rattle.pm_trait.specs.DeviceView.{IsSettledView};
 ghost use Rattle.tree_model.specs.Run.{State};
-ghost use Rattle.image_reading.specs.Tidy.{Tidy};
 ghost use Rattle.io_edge.specs.Bytes.{Writes};
 ghost use Rattle.script.specs.Buffers.{AreNew};
 ghost use Rattle.script.specs.Work.{work_text};
@@ -12,44 +11,57 @@ ghost use Rattle.engine.specs.Script.{LeavesRun};
 ghost use Rattle.engine.specs.Session.{on};
 ghost use Rattle.crash_replay.specs.Tally.{accepted_count, refused_count};
 ghost use Rattle.squirrel_cli.specs.Causes.{TellsFaults};
+ghost use Rattle.squirrel_cli.specs.Ends.{IsStart};
+ghost use Rattle.squirrel_cli.specs.GoingOn.{GoesOn, IsShortOr, LeavesGoing};
+ghost use Rattle.squirrel_cli.specs.Rows.{Works as WorksRow};
+ghost use Rattle.squirrel_cli.specs.Seen.{seen_alone};
 ghost use Rattle.squirrel_cli.specs.Works.{summary_of};
-ghost use Rattle.squirrel_cli.specs.WorkSteps.{CountsGenerated, RunsGenerated, SumsGenerated};
+ghost use Rattle.squirrel_cli.specs.WorkSteps.{CountsGenerated, RunsGenerated, WorksOn};
 
+use crate::generated::Generated;
+use crate::refused::refuse;
 use crate::status::{Status, status_of_write};
 use crash_replay::{Tally, Work};
 use engine::{Session, run};
 use io_edge::{Sink, WriteFault};
+use mount_scan::mount;
 use pm_trait::Pm;
 use script::{Buffers, RunEnd, WorkSummary, write_work};
 use std::alloc::Global;
 use volume::Volume;
 
-/// Runs the generated script on a mounted volume, and writes its sums. Nothing is written where a fence failed.
-pub fn work_lines<P: Pm, K: Sink>(
+/// Mounts the volume that the device holds, runs the generated script on it, and writes its sums.
+pub fn work_volume<P: Pm, K: Sink>(
     alloc: Global,
-    volume: Volume,
-    seed: u64,
-    count: u64,
+    generated: Generated,
     out: &mut K,
     pm: &mut P,
 ) -> Status
-    requires going { volume.stopped ≡ false }
-    requires stands { IsStanding volume (P.view pm.old) }
-    requires fences { (P.view pm.old).fences ≤ 2 ^ 61 }
-    requires acks { (P.view pm.old).acks ≤ 2 ^ 61 }
-    requires few { count ≤ 1000000 }
-
-    ensures ends { (result ≡ Status.NoMemory) ⊎ (result ≡ Status.Done) ⊎ (result ≡ Status.DeviceFault)
-        ⊎ (result ≡ Status.WriteFault) }
-    ensures no_memory { result ≡ Status.NoMemory → (pm.new ≡ pm.old) × (out.new ≡ out.old) }
-    ensures faulted { result ≡ Status.DeviceFault → (out.new ≡ out.old)
-        × RunsGenerated volume.size seed count (P.view pm.old) (P.view pm.new) RunEnd.Faulted }
-    ensures works { (result ≡ Status.Done) ⊎ (result ≡ Status.WriteFault) →
-        SumsGenerated volume.size seed count result (P.view pm.old) (P.view pm.new) (K.took out.old) (K.took out.new) }
-    ensures cause { (reads : ℕ) →
-        TellsFaults result (P.view pm.old) (P.view pm.new) reads reads (K.faults out.old) (K.faults out.new) }
+    requires start { IsStart (P.view pm.old) }
+    ensures works { WorksRow generated.seed generated.count (seen_alone K.Sink (P.view pm.old) out.old)
+        (seen_alone K.Sink (P.view pm.new) out.new) result }
+    ensures cause { TellsFaults (seen_alone K.Sink (P.view pm.old) out.old) (seen_alone K.Sink (P.view pm.new) out.new) result }
     ensures settled { HasRisen (P.view pm.old).faults (P.view pm.new).faults ⊎ IsSettledView (P.view pm.new) }
-    ensures tidy { HasRisen (P.view pm.old).faults (P.view pm.new).faults ⊎ Tidy volume.size (P.view pm.new).words }
+{
+    match mount(alloc, pm) {
+        Ok(volume) => work_lines(alloc, generated, volume, out, pm),
+        Err(error) => refuse(error, out),
+    }
+}
+
+// Runs the generated script on a mounted volume, and writes its sums. Nothing is written where a fence failed.
+fn work_lines<P: Pm, K: Sink>(
+    alloc: Global,
+    generated: Generated,
+    volume: Volume,
+    out: &mut K,
+    pm: &mut P,
+) -> Status
+    requires goes_on { GoesOn volume (P.view pm.old) }
+    ensures works { IsShortOr (WorksOn volume.size generated.seed generated.count) (seen_alone K.Sink (P.view pm.old) out.old)
+        (seen_alone K.Sink (P.view pm.new) out.new) result }
+    ensures cause { TellsFaults (seen_alone K.Sink (P.view pm.old) out.old) (seen_alone K.Sink (P.view pm.new) out.new) result }
+    ensures leaves { LeavesGoing volume.size (P.view pm.old) (P.view pm.new) }
 {
     let Ok(mut buffers) = Buffers::new(alloc) else {
         return Status::NoMemory;
@@ -57,10 +69,13 @@ pub fn work_lines<P: Pm, K: Sink>(
     let Ok(mut session) = Session::start(alloc, volume) else {
         return Status::NoMemory;
     };
-    match run_generated(&mut session, &mut buffers, seed, count, pm) {
+    match run_generated(&mut session, &mut buffers, generated, pm) {
         Some(tally) => {
             let lent = session.volume();
-            status_of_write(write_sums(count, &tally, lent, out, pm), Status::Done)
+            status_of_write(
+                write_sums(generated.count, &tally, lent, out, pm),
+                Status::Done,
+            )
         }
         None => Status::DeviceFault,
     }
@@ -70,24 +85,19 @@ pub fn work_lines<P: Pm, K: Sink>(
 fn run_generated<P: Pm>(
     session: &mut Session,
     buffers: &mut Buffers,
-    seed: u64,
-    count: u64,
+    generated: Generated,
     pm: &mut P,
 ) -> Option<Tally>
-    requires going { session.old.volume.stopped ≡ false }
-    requires stands { IsStanding session.old.volume (P.view pm.old) }
+    requires goes_on { GoesOn session.old.volume (P.view pm.old) }
     requires buffers { AreNew buffers.old }
-    requires fences { (P.view pm.old).fences ≤ 2 ^ 61 }
-    requires acks { (P.view pm.old).acks ≤ 2 ^ 61 }
-    requires few { count ≤ 1000000 }
     ensures runs { MatchOption result
-        (RunsGenerated session.old.volume.size seed count (P.view pm.old) (P.view pm.new) RunEnd.Faulted)
-        (CountsGenerated session.old.volume.size seed count (P.view pm.old) (P.view pm.new)) }
+        (RunsGenerated session.old.volume.size generated.seed generated.count (P.view pm.old) (P.view pm.new) RunEnd.Faulted)
+        (CountsGenerated session.old.volume.size generated.seed generated.count (P.view pm.old) (P.view pm.new)) }
     ensures leaves { MatchOption result
         (LeavesRun RunEnd.Faulted (on session.old (P.view pm.old)) (on session.new (P.view pm.new)))
         (λ _. LeavesRun RunEnd.Done (on session.old (P.view pm.old)) (on session.new (P.view pm.new))) }
 {
-    let mut work = Work::new(seed, count);
+    let mut work = Work::new(generated.seed, generated.count);
     let mut tally = Tally::new();
     match run(session, buffers, &mut work, &mut tally, pm) {
         RunEnd::Done => Some(tally),

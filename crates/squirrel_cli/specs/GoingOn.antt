@@ -1,0 +1,36 @@
+-- From the mount on: what is asked of a mounted volume and its device, and how a task leaves them.
+use Rattle.std.specs.Prelude.{◌≡◌, ◌⊎◌, ℕ, ◌+◌, ◌^◌, ◌≤◌, false}
+use Rattle.pm_trait.specs.Device.{HasRisen}
+use Rattle.pm_trait.specs.DeviceView.{DeviceView, IsSettledView}
+use Rattle.image_reading.specs.Tidy.{Tidy}
+use Rattle.script.specs.declared.run_end.RunEnd.{RunEnd}
+use Rattle.volume.specs.Stands.{IsStanding}
+use Rattle.volume.specs.Volume.{VolumeView}
+use Rattle.engine.specs.Script.{RunsScript}
+use Rattle.squirrel_cli.specs.declared.status.Status.{Status}
+use Rattle.squirrel_cli.specs.declared.status.Status.TheVariants.{NoMemory}
+use Rattle.squirrel_cli.specs.Ends.{end_of}
+use Rattle.squirrel_cli.specs.Seen.{Seen, IsUntouched}
+
+-- the volume stands on the device, whose counts are far from the end of their range
+pub record GoesOn (volume : VolumeView) (device : DeviceView) : Type 0 where
+  pub going : volume.stopped ≡ false
+  pub stands : IsStanding volume device
+  pub fences : device.fences ≤ 2 ^ 61
+  pub acks : device.acks ≤ 2 ^ 61
+
+-- where no fence failed the device is settled and tidy
+pub record LeavesGoing (P : ℕ) (before after : DeviceView) : Type 0 where
+  pub settled : HasRisen before.faults after.faults ⊎ IsSettledView after
+  pub tidy : HasRisen before.faults after.faults ⊎ Tidy P after.words
+  pub acks : after.acks ≤ before.acks + 2 ^ 36
+
+-- the script was run to the end that the status tells
+pub record RunsOn {S K : Type 0} (P : ℕ) (old new : Seen S K) (status : Status) : Type 0 where
+  pub end : RunEnd
+  pub ended : end_of status ≡ Some end
+  pub run : RunsScript P old.device new.device end old.left new.left old.took new.took
+
+-- memory was short before anything was done, or what F says was done
+abbrev pub IsShortOr : {S K : Type 0} → (Seen S K → Seen S K → Status → Type 0) → Seen S K → Seen S K → Status → Type 0
+IsShortOr F old new status = (status ≡ NoMemory) × IsUntouched old new ⊎ F old new status
