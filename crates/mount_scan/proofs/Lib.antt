@@ -7,7 +7,8 @@ mod Carried
 mod Heads
 mod Mounts
 mod Refusals
-pub mod States
+pub mod Answered
+mod States
 mod Still
 mod Repairing
 mod Counted

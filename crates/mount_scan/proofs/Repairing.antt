@@ -6,9 +6,8 @@ use Rattle.pm_trait.specs.Device.{HasRisen, LeavesOnly, acks_from, moment_of}
 use Rattle.pm_trait.specs.DeviceView.{DeviceView, GrowsBy, Reserves, MakesIntervals}
 use Rattle.pm_trait.specs.Unfolds.{Unfolds}
 use Rattle.pm_trait.proofs.Unfolding.{unfolds_as, unfolds_failed_as}
-use Rattle.tree_model.specs.Run.{State}
 use Rattle.image_reading.specs.Reading.{ReadsAs}
-use Rattle.image_reading.specs.Soundness.{Sound, pages_in_image}
+use Rattle.image_reading.specs.Soundness.{Sound}
 use Rattle.image_reading.specs.Tidy.{Tidy}
 use Rattle.image_laws.specs.Frame.{SameMeaning}
 use Rattle.repair_laws.specs.Mended.{IsMended}
@@ -16,10 +15,9 @@ use Rattle.repair_laws.proofs.Mended.{mended_law}
 use Rattle.recovery.specs.declared.repairs.Repairs.{Repairs}
 use Rattle.recovery.specs.Plans.{IsPlanOf}
 use Rattle.recovery.specs.Repairs.{steps_of, events_of_repairs, fences_of_repairs}
-use Rattle.volume.specs.Stands.{StandsFor}
 use Rattle.mount_scan.specs.declared.look.Found.{Found}
 use Rattle.mount_scan.specs.Looking.{HasFound}
-use Rattle.mount_scan.specs.Mounts.{IsLeftAlone, KeepsMeaning, Mounts, FailsToMount}
+use Rattle.mount_scan.specs.Mounts.{IsLeftAlone, KeepsMeaning, Mounts, IsOnlyMounted, HasMounted, FailsToMount}
 use Rattle.mount_scan.proofs.States.{means_state, some_state, state_kept}
 use Rattle.mount_scan.proofs.Still.{few_fences, no_fences}
 
@@ -70,10 +68,11 @@ module _ {T E : Type 0} (r : Repairs) (before reserved after : DeviceView) (done
   mended : IsMended r.geometry.pages before.words after.words
   mended = subst (λ (words : List ℕ). IsMended r.geometry.pages words after.words) repaired.room.words repaired.mended
 
-  mounts : (state : State) → ReadsAs r.geometry.pages before.words state → Mounts r.geometry.pages state before after
-  mounts state reads =
+  only_mounted : IsOnlyMounted r.geometry.pages before after
+  only_mounted =
       let (same, tidy) = mended_law r.geometry.pages before.words after.words repaired.sound mended in
-      record {
+      let (state, reads) = some_state r.geometry.pages before.words repaired.sound in
+      let mount : Mounts r.geometry.pages state before after = record {
         settled = repaired.device.settled;
         tidy = tidy;
         reads = (means_state r.geometry.pages before.words after.words state reads same).reads;
@@ -93,7 +92,8 @@ module _ {T E : Type 0} (r : Repairs) (before reserved after : DeviceView) (done
         faults = repaired.device.no_fault ∙ repaired.room.faults;
         refused = repaired.device.refused ∙ repaired.refused;
         alone = λ clean. alone r before reserved after (Ok done) repaired (no_fences before.words r clean repaired.planned);
-      }
+      } in
+      record { start = state; reads = reads; mount = mount }
 
 -- A fence failed in them.
 pub fails : {T E : Type 0} (r : Repairs) (before reserved after : DeviceView) (fault : E) → Repaired {T = T} r before reserved after (Err fault) → FailsToMount r.geometry.pages before after
@@ -123,19 +123,19 @@ fails r before reserved after fault repaired =
       events = grown r before reserved after (Err fault) repaired;
     }
 
--- What was found in the words stands on the device once the repairs are made.
-pub stands : {T E : Type 0} (found : Found) (before reserved after : DeviceView) (done : T) → HasFound before.words found → Repaired {E = E} found.repairs before reserved after (Ok done)
-    → (state : State) → ReadsAs (pages_in_image before.words) before.words state → StandsFor found.volume after state × Mounts (pages_in_image before.words) state before after
-stands found before reserved after done has repaired state reads = (
-  record {
-    settled = mount.settled;
-    tidy = subst (λ (n : ℕ). Tidy n after.words) (sym has.size) mount.tidy;
-    reads = subst (λ (n : ℕ). ReadsAs n after.words state) (sym has.size) mount.reads;
-    knows = has.knows after.words (subst (λ (n : ℕ). IsMended n before.words after.words) has.made_for (mended found.repairs before reserved after done repaired));
-  },
-  mount,
-)
-  where
-    mount : Mounts (pages_in_image before.words) state before after
-    mount = subst (λ (n : ℕ). Mounts n state before after) has.made_for
-        (mounts found.repairs before reserved after done repaired state (subst (λ (n : ℕ). ReadsAs n before.words state) (sym has.made_for) reads))
+-- What was found in the words is mounted once the repairs are made.
+pub has_mounted : {T E : Type 0} (found : Found) (before reserved after : DeviceView) (done : T) → HasFound before.words found → Repaired {E = E} found.repairs before reserved after (Ok done) → HasMounted found.volume before after
+has_mounted found before reserved after done has repaired =
+    let only = subst (λ (n : ℕ). IsOnlyMounted n before after) has.made_for (only_mounted found.repairs before reserved after done repaired) in
+    record {
+      sound = has.sound;
+      only = only;
+      stands = record {
+        settled = only.mount.settled;
+        tidy = subst (λ (n : ℕ). Tidy n after.words) (sym has.size) only.mount.tidy;
+        reads = subst (λ (n : ℕ). ReadsAs n after.words only.start) (sym has.size) only.mount.reads;
+        knows = has.knows after.words only.mount.mended;
+      };
+      size = has.size;
+      going = has.going;
+    }

@@ -1,11 +1,11 @@
 -- What a mount does to the device. P is its number of pages.
-use Rattle.std.specs.Prelude.{◌≡◌, ℕ, ◌+◌, ◌<◌, ◌≤◌, List, Ok, Err}
+use Rattle.std.specs.Prelude.{◌≡◌, ℕ, ◌+◌, ◌<◌, ◌≤◌, false, List, Ok, Err}
 use Rattle.pm_trait.specs.Device.{HasRisen, LeavesOnly, EndsInFault, acks_from, moment_of}
 use Rattle.pm_trait.specs.DeviceView.{DeviceView, GrowsBy, IsSettledView}
 use Rattle.pm_trait.specs.Unfolds.{Unfolds}
 use Rattle.tree_model.specs.Run.{State}
 use Rattle.image_reading.specs.Reading.{ReadsAs}
-use Rattle.image_reading.specs.Soundness.{Sound}
+use Rattle.image_reading.specs.Soundness.{IsFirstViolation, Sound, pages_in_image}
 use Rattle.image_reading.specs.Tidy.{Tidy}
 use Rattle.image_laws.specs.Frame.{SameMeaning}
 use Rattle.repair_laws.specs.Mended.{IsMended}
@@ -13,6 +13,11 @@ use Rattle.recovery.specs.declared.repairs.Repairs.{Repairs}
 use Rattle.recovery.specs.Plans.{IsPlanOf}
 use Rattle.recovery.specs.Repairs.{steps_of, events_of_repairs, fences_of_repairs}
 use Rattle.volume.specs.Crashes.{MeansState}
+use Rattle.volume.specs.Stands.{StandsFor}
+use Rattle.volume.specs.Volume.{VolumeView}
+use Rattle.mount_scan.specs.Mounting.{HoldsVolume, IsSound}
+use Rattle.mount_scan.specs.declared.error.MountError.{MountError}
+use Rattle.mount_scan.specs.declared.error.MountError.TheVariants.{NotVolume, Damaged, PmFault, NoMemory}
 
 -- a mount makes at most so many fences
 abbrev pub mount_fences : ℕ
@@ -93,3 +98,25 @@ pub record FailsToMount (P : ℕ) (before after : DeviceView) : Type 0 where
   pub fences : after.fences ≡ before.fences + made
   pub fewer : made < fences_of_repairs repairs
   pub events : GrowsBy (events_of_repairs repairs) before after
+
+-- The device was mounted, and nothing else was done to it. The words at entry read as the state.
+pub record IsOnlyMounted (P : ℕ) (before mounted : DeviceView) : Type 0 where
+  pub start : State
+  pub reads : ReadsAs P before.words start
+  pub mount : Mounts P start before mounted
+
+-- A mount that is done: the words at entry are a sound volume, and the one in memory stands for the state that they read as.
+pub record HasMounted (volume : VolumeView) (before mounted : DeviceView) : Type 0 where
+  pub sound : IsSound before.words
+  pub only : IsOnlyMounted (pages_in_image before.words) before mounted
+  pub open only use *
+  pub stands : StandsFor volume mounted start
+  pub size : volume.size ≡ pages_in_image before.words
+  pub going : volume.stopped ≡ false
+
+-- Why a device was not mounted, and how it is left then.
+abbrev pub RefusesMount : MountError → DeviceView → DeviceView → Type 0
+RefusesMount NotVolume before after = ¬ HoldsVolume before.words × (after ≡ before)
+RefusesMount (Damaged violation) before after = HoldsVolume before.words × IsFirstViolation before.words violation × (after ≡ before)
+RefusesMount PmFault before after = FailsToMount (pages_in_image before.words) before after
+RefusesMount NoMemory before after = HoldsVolume before.words × IsLeftAlone before after × (¬ IsSound before.words → after ≡ before)

@@ -3,25 +3,24 @@ use Rattle.std.proofs.Common.{◌≡◌, ◌⊎◌, inl, inr, ℕ, suc, ◌+◌,
 use Rattle.std.proofs.Math.Seq.{take-suc}
 use Rattle.std.proofs.lemmas.List.{take_all}
 use Rattle.std.proofs.lemmas.Option.{get_or_from_slice_get}
-use Rattle.std.specs.Prelude.{Option, Some, None, IfSome, Result, Ok, Err, IsOk, min, slice_get}
+use Rattle.std.specs.Prelude.{Option, Some, None, IfSome, min, slice_get}
 use Rattle.pm_trait.specs.Trail.{Trail, IsCrashImage, trail_at}
 use Rattle.pm_trait.specs.Device.{Continues, HasRisen, MayLeave, moment_of}
 use Rattle.pm_trait.specs.DeviceView.{DeviceView}
 use Rattle.pm_trait.proofs.DeviceLaws.{settled_leaves}
 use Rattle.pm_memory.specs.Chosen.{IsChosenImage}
 use Rattle.pm_memory.specs.Fresh.{IsNew}
-use Rattle.tree_model.specs.Run.{State}
 use Rattle.image_reading.specs.Reading.{ReadsAs}
 use Rattle.image_reading.specs.Soundness.{IsFirstViolation, Rule, Sound, pages_in_image}
 use Rattle.image_reading.proofs.Violations.{pages_law}
-use Rattle.image_reading.specs.declared.Violation.{Violation}
 use Rattle.image_laws.specs.Frame.{SameMeaning}
 use Rattle.repair_laws.specs.Mended.{IsMended}
+use Rattle.volume.specs.Volume.{VolumeView}
 use Rattle.mount_scan.specs.Mounting.{HoldsVolume, IsSound}
-use Rattle.mount_scan.specs.Mounts.{FailsToMount, Mounts}
+use Rattle.mount_scan.specs.Mounts.{FailsToMount, HasMounted, Mounts, RefusesMount}
 use Rattle.mount_scan.specs.declared.error.MountError.{MountError}
 use Rattle.mount_scan.specs.declared.error.MountError.TheVariants.{NotVolume, Damaged, PmFault, NoMemory}
-use Rattle.mount_scan.proofs.States.{some_state}
+use Rattle.mount_scan.proofs.Answered.{refused_sound}
 use Rattle.remounts.specs.Follow.{CrashLeaves, MayFollow}
 use Rattle.remounts.specs.Follow.WasMounted.{mounted}
 use Rattle.remounts.specs.Follow.MayFollow.{itself, crashed}
@@ -57,26 +56,22 @@ recorded moment events chosen_at keep image (Some told) continues counted at lef
       chosen = subst (λ (n : ℕ). IsChosenImage (trail_at told n) keep image) there chosen;
     }
 
-pub leaves_image : {crash : Crash} {before mounted : DeviceView} {words keep image : List ℕ} {trail : Option Trail} (events chosen_at : ℕ) → IsNew before words → IsSound before.words
-    → ((state : State) → ReadsAs (pages_in_image before.words) before.words state → Mounts (pages_in_image before.words) state before mounted)
+pub leaves_image : {crash : Crash} {volume : VolumeView} {before mounted : DeviceView} {words keep image : List ℕ} {trail : Option Trail} (events chosen_at : ℕ) → IsNew before words → HasMounted volume before mounted
     → trail ≡ mounted.trail → IfSome trail (λ told. events ≡ length told.events) → keep ≡ keep_of crash.keep.now
     → chosen_at ≡ min crash.moment events → IfSome trail (λ told. IsCrashImage (trail_at told chosen_at) image)
     → IfSome trail (λ told. IsChosenImage (trail_at told chosen_at) keep image) → LeavesImage crash words image
-leaves_image {crash} {before} {mounted} {words} {keep} {image} {trail} events chosen_at new sound mounts same counted kept at left chosen =
-    let sound_words = subst IsSound new.words sound in
-    let (state, reads) = some_state (pages_in_image words) words sound_words in
-    let mount = subst (λ (w : List ℕ). (state : State) → ReadsAs (pages_in_image w) w state → Mounts (pages_in_image w) state before mounted) new.words mounts state reads in
-    let onwards = subst (λ (t : Option Trail). Continues t mounted.trail) new.trail mount.any_moment.continues in
+leaves_image {crash} {volume} {before} {mounted} {words} {keep} {image} {trail} events chosen_at new has same counted kept at left chosen =
+    let onwards = subst (λ (t : Option Trail). Continues t mounted.trail) new.trail has.mount.any_moment.continues in
     let continues = subst (λ (t : Option Trail). Continues (Some (record { base = words; events = [] })) t) (sym same) onwards in
     let told = recorded crash.moment events chosen_at keep image trail continues counted at left chosen in
     record {
       before = before;
       new = new;
-      sound = sound_words;
-      state = state;
-      reads = reads;
+      sound = subst IsSound new.words has.sound;
+      state = has.start;
+      reads = subst (λ (w : List ℕ). ReadsAs (pages_in_image w) w has.start) new.words has.reads;
       mounted = mounted;
-      mount = mount;
+      mount = subst (λ (w : List ℕ). Mounts (pages_in_image w) has.start before mounted) new.words has.mount;
       trail = told.told;
       recorded = sym same ∙ told.is;
       left = told.left;
@@ -84,29 +79,26 @@ leaves_image {crash} {before} {mounted} {words} {keep} {image} {trail} events ch
     }
 
 -- a device whose count of faults stays 0 had no fault
-pub never_fails : {P : ℕ} {before after : DeviceView} → before.faults ≡ 0 → after.faults ≡ 0 → FailsToMount P before after → ⊥
+never_fails : {P : ℕ} {before after : DeviceView} → before.faults ≡ 0 → after.faults ≡ 0 → FailsToMount P before after → ⊥
 never_fails {P} {before} {after} was is fails = risen fails.cause
   where
     risen : HasRisen before.faults after.faults → ⊥
     risen (inl more) = absurd (omega (arith, more, was, is))
     risen (inr full) = absurd (omega (arith, full, is))
 
-pub refused_as : {before : DeviceView} {words : List ℕ} (error : MountError) → IsNew before words → (error ≡ NotVolume → ¬ HoldsVolume before.words)
-    → ((violation : Violation) → error ≡ Damaged violation → HoldsVolume before.words × IsFirstViolation before.words violation)
-    → (error ≡ PmFault → ⊥) → IsRefusedAs words error
-refused_as NotVolume new none damaged never = subst (λ (w : List ℕ). ¬ HoldsVolume w) new.words (none refl)
-refused_as (Damaged violation) new none damaged never =
-    subst (λ (w : List ℕ). HoldsVolume w × IsFirstViolation w violation) new.words (damaged violation refl)
-refused_as PmFault new none damaged never = never refl
-refused_as NoMemory new none damaged never = tt
+-- such a device is refused for its words, or for want of memory
+pub refused_as : (error : MountError) (before after : DeviceView) {words : List ℕ} → IsNew before words → after.faults ≡ 0 → RefusesMount error before after → IsRefusedAs words error
+refused_as NotVolume before after new still (none, same) = subst (λ (w : List ℕ). ¬ HoldsVolume w) new.words none
+refused_as (Damaged violation) before after new still (holds, first, same) = subst (λ (w : List ℕ). HoldsVolume w × IsFirstViolation w violation) new.words (holds, first)
+refused_as PmFault before after new still fails = never_fails new.faults still fails
+refused_as NoMemory before after new still refused = tt
 
--- a mount that can't fail is refused on sound words for want of memory alone
-pub only_memory : {T : Type 0} (result : Result T MountError) (error : MountError) → result ≡ Err error → (result ≡ Err NoMemory) ⊎ ((result ≡ Err PmFault) ⊎ IsOk result)
-    → (error ≡ PmFault → ⊥) → error ≡ NoMemory
-only_memory result error is (inl memory) never = cc
-only_memory result error is (inr (inl fault)) never = absurd (never (cc))
-only_memory (Ok volume) error is (inr (inr ok)) never = absurd (cc is)
-only_memory (Err other) error is (inr (inr ok)) never = absurd (cc ok)
+-- and of sound words for want of memory alone
+pub only_memory : (error : MountError) (before after : DeviceView) {words : List ℕ} → IsNew before words → after.faults ≡ 0 → RefusesMount error before after → IsSound words → error ≡ NoMemory
+only_memory error before after new still refused sound = elim (refused_sound error refused (subst IsSound (sym new.words) sound)) [
+  | inl memory ↦ memory
+  | inr fault ↦ absurd (never_fails new.faults still fault.1)
+]
 
 -- ---- one after the other
 
