@@ -1,35 +1,23 @@
--- What is left where the words took no memory, and what the task of `work` is.
-use Rattle.std.proofs.Common.{◌≡◌, ◌⊎◌, inl, inr, ℕ, List, refl, ap₂, arith}
-use Rattle.std.specs.Prelude.{Some}
-use Rattle.pm_trait.specs.DeviceView.{DeviceView, IsSettledView}
-use Rattle.pm_trait.proofs.DeviceLaws.{leaves_here}
-use Rattle.command_line.specs.declared.job.Job.TheVariants.{Work}
+-- What is made by `mkfs`.
+use Rattle.std.proofs.Common.{◌≡◌, ℕ, ◌*◌, ◌/◌, List, length, ap, subst, arith}
+use Rattle.pm_trait.specs.Trail.{Trail}
+use Rattle.pm_trait.specs.Device.{LeavesOnly, IsHonest}
+use Rattle.pm_trait.specs.DeviceView.{DeviceView}
+use Rattle.pm_trait.proofs.ContinuesLaws.{no_acks_told}
 use Rattle.format_ops.specs.Crashes.{IsOldHiddenOrFormatted}
-use Rattle.squirrel_cli.specs.declared.status.Status.TheVariants.{Done, NoMemory, WriteFault}
-use Rattle.squirrel_cli.specs.declared.tasks.Task.TheVariants.{Generate}
-use Rattle.squirrel_cli.specs.Answers.{Makes}
+use Rattle.squirrel_cli.specs.Formats.{FormatsOnly}
+use Rattle.squirrel_cli.proofs.Unacknowledged.{leaves_unacknowledged}
 
-nothing_ended : (NoMemory ≡ Done) ⊎ (NoMemory ≡ WriteFault) → ⊥
-nothing_ended (inl done) = cc done
-nothing_ended (inr cut) = cc cut
+-- the pages are those of the length
+pub pages_of : (now seen : List ℕ) (pages : ℕ) → seen ≡ now → length seen ≡ 512 * pages → length now / 512 ≡ pages
+pages_of now seen pages is long = let same = ap length is in omega (arith, same, long)
 
--- nothing was made
-pub makes_nothing : (pages : ℕ) {device : DeviceView} {took : List ℕ → Type 0} → IsSettledView device → Makes pages NoMemory device device took took
-makes_nothing pages {device} settled = record {
-  formatted = λ ended. absurd (nothing_ended ended);
-  fresh = λ ended. absurd (nothing_ended ended);
-  no_fault = λ ended. refl;
-  told = λ is. absurd (cc is);
-  cut = λ is. absurd (cc is);
-  any_moment = λ long. leaves_here (λ acks image. (acks ≡ 0) × IsOldHiddenOrFormatted pages device.words image) settled (refl, inl refl);
-  fences = λ ended. absurd (nothing_ended ended);
-  fewer = λ is. absurd (cc is);
-  most_fences = omega arith;
-  acks = refl;
+-- what a crash in a format leaves, and that it acknowledges nothing
+pub formats_only : {before after : DeviceView} (pages : ℕ) → IsHonest before.words before.trail before.fences before.acks → IsHonest after.words after.trail after.fences after.acks → after.acks ≡ before.acks
+    → LeavesOnly before.trail after.trail (λ k. IsOldHiddenOrFormatted (length before.words / 512) before.words) → length before.words / 512 ≡ pages → FormatsOnly pages before after
+formats_only {before} {after} pages honest behind stays leaves made = record {
+  any_moment =
+      leaves_unacknowledged (subst (λ (p : ℕ). LeavesOnly before.trail after.trail (λ k. IsOldHiddenOrFormatted p before.words)) made leaves)
+      (no_acks_told after.trail leaves.continues honest behind stays);
+  acks = stays;
 }
-
-pub task_of_job : {seed count other more : ℕ} → Some (Work seed count) ≡ Some (Work other more) → Generate seed count ≡ Generate other more
-task_of_job {seed} {count} {other} {more} same =
-    let seeds : seed ≡ other = cc same in
-    let counts : count ≡ more = cc same in
-    ap₂ Generate seeds counts

@@ -29,7 +29,8 @@ use Rattle.squirrel_cli.specs.declared.status.Status.TheVariants as status
 use Rattle.squirrel_cli.specs.Told.{IsShortOrTold, IsToldOrCut}
 use Rattle.engine.specs.Run.{IsBetween}
 use Rattle.engine.specs.Script.{RunsScript, WritesAnswers}
-use Rattle.mount_scan.specs.Mounts.{IsOnlyMounted}
+use Rattle.mount_scan.specs.Mounts.{HasMounted, IsOnlyMounted}
+use Rattle.volume.specs.Volume.{VolumeView}
 use Rattle.squirrel_cli.specs.declared.chosen.SecondCrash.{SecondCrash}
 use Rattle.squirrel_cli.specs.Replays.{Anything, IsUnbegun, ListsLeft, acked_before}
 use Rattle.squirrel_cli.specs.ReplaySteps.{HasLeft, LeavesSound, LeavesSoundSoFar, RunsMounted, crashes_of}
@@ -61,6 +62,9 @@ mount_leaves_sound {before = before} unbegun only place image within may =
     let first : moment_of before.trail ≤ place = subst (λ (t : Option Trail). moment_of t ≤ place) (sym unbegun.recorded) (omega arith) in
     let (none, means) = only.mount.any_moment.each place image first within may in
     means.sound
+
+pub mounted_leaves_sound : {volume : VolumeView} {before mounted : DeviceView} → IsUnbegun before → HasMounted volume before mounted → LeavesSoundSoFar volume.size mounted.trail
+mounted_leaves_sound {mounted = mounted} unbegun mount = subst (λ (pages : ℕ). LeavesSoundSoFar pages mounted.trail) (sym mount.size) (mount_leaves_sound unbegun mount.only)
 
 -- ---- of what a run's own sink took nothing is asked
 

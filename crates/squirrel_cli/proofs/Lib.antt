@@ -2,10 +2,11 @@ pub mod Unacknowledged
 pub mod StatusEnds
 pub mod Refusals
 pub mod Mounted
-pub mod TaskJobs
 pub mod Leaving
 pub mod ReplayTells
 pub mod ReplayRuns
+pub mod Besides
 pub mod Checks
 pub mod Jobs
 pub mod Works
+pub mod Completes

@@ -1,5 +1,5 @@
 -- A mount, and the run after it.
-use Rattle.std.proofs.Common.{◌≡◌, ◌⊎◌, inl, inr, ℕ, ◌≤◌, ◌^◌, List, length, refl, sym, ap, subst, ◌∙◌, arith}
+use Rattle.std.proofs.Common.{◌≡◌, ◌⊎◌, inl, inr, ℕ, ◌≤◌, ◌^◌, ◌++◌, List, length, refl, sym, ap, subst, ◌∙◌, arith}
 use Rattle.std.proofs.lemmas.Bool.{cases_lt}
 use Rattle.std.specs.Prelude.{Option, Some, None, Ok, Err, slice_get}
 use Rattle.pm_trait.specs.Trail.{Trail}
@@ -9,7 +9,8 @@ use Rattle.pm_trait.proofs.ContinuesLaws.{acks_from-joined}
 use Rattle.pm_trait.proofs.DeviceLaws.{leaves_weaker, leaves_next}
 use Rattle.pm_trait.proofs.AckLaws.{acks_none, acks_next}
 use Rattle.tree_model.specs.Run.{Line, State}
-use Rattle.image_reading.specs.Reading.{ReadsAs}
+use Rattle.tree_model.specs.Tree.{Tree}
+use Rattle.image_reading.specs.Reading.{Reads, ReadsAs}
 use Rattle.image_reading.specs.Soundness.{pages_in_image}
 use Rattle.image_reading.specs.Soundness.Rule.{head}
 use Rattle.image_reading.specs.Tidy.{Tidy}
@@ -24,9 +25,10 @@ use Rattle.mount_scan.specs.Mounting.{IsTidy}
 use Rattle.mount_scan.specs.Mounts.{HasMounted, IsOnlyMounted, Mounts}
 use Rattle.engine.specs.Quiet.{ActsOnly}
 use Rattle.engine.specs.Run.{command_of, IsBetween, IsStateAfter}
-use Rattle.engine.specs.Script.{RunsScript, ExecutesTold}
+use Rattle.engine.specs.Session.{Mounted}
+use Rattle.engine.specs.Script.{LeavesRun, RunsScript, ExecutesTold}
 use Rattle.engine.proofs.After.{acked_then}
-use Rattle.script.specs.Texts.{listing_text}
+use Rattle.script.specs.Texts.{acked_text, listing_text}
 use Rattle.squirrel_cli.specs.Causes.{TellsFaults}
 use Rattle.squirrel_cli.specs.Ends.{IsStart, end_of, GaveAll}
 use Rattle.squirrel_cli.specs.GoingOn.{GoesOn, IsShortOr, LeavesGoing, RunsOn}
@@ -34,7 +36,7 @@ use Rattle.squirrel_cli.specs.Mounts.{ActsAfterMount, HasRun, MountsAndRuns}
 use Rattle.squirrel_cli.specs.Rows.{LeavesTidy, MountsAnd}
 use Rattle.squirrel_cli.specs.Seen.{Seen}
 use Rattle.squirrel_cli.specs.Tells.{HasListed}
-use Rattle.squirrel_cli.specs.Told.{IsShortOrTold}
+use Rattle.squirrel_cli.specs.Told.{IsShortOrTold, IsToldOrCut}
 use Rattle.squirrel_cli.specs.declared.status.Status.{Status}
 use Rattle.squirrel_cli.specs.declared.status.Status.TheVariants as status
 
@@ -145,17 +147,17 @@ gave_at_limit is end script rest ended (lines, told) same =
 
 -- ---- a job on a mounted volume
 
-module _ {S K : Type 0} {old new : Seen S K} {is : Status} {mounted : DeviceView} {volume : VolumeView} (mount : HasMounted volume old.device mounted) where
-  -- a task may begin on what the mount leaves
-  pub goes_on : IsStart old.device → GoesOn volume mounted
-  goes_on start =
-      let made = mount.only.mount.fences in
-      let most = mount.only.mount.few in
-      let same = mount.only.mount.acks in
-      let fences = start.fences in
-      let acks = start.acks in
-      record { going = mount.going; stands = (mount.only.start, mount.stands); fences = omega (arith, fences, made, most); acks = omega (arith, acks, same) }
+-- a task may begin on what the mount leaves
+pub goes_on : {before mounted : DeviceView} {volume : VolumeView} → HasMounted volume before mounted → IsStart before → GoesOn volume mounted
+goes_on mount start =
+    let made = mount.only.mount.fences in
+    let most = mount.only.mount.few in
+    let same = mount.only.mount.acks in
+    let fences = start.fences in
+    let acks = start.acks in
+    record { going = mount.going; stands = (mount.only.start, mount.stands); fences = omega (arith, fences, made, most); acks = omega (arith, acks, same) }
 
+module _ {S K : Type 0} (old new : Seen S K) {mounted : DeviceView} {volume : VolumeView} (mount : HasMounted volume old.device mounted) where
   -- what is tidy at the volume's number of pages is so at its own
   tidy_entry : LeavesGoing volume.size mounted new.device → LeavesTidy old new
   tidy_entry leaves = risen_from_entry mount.only.mount.faults (tidy_pages new.device.words leaves.tidy)
@@ -164,7 +166,7 @@ module _ {S K : Type 0} {old new : Seen S K} {is : Status} {mounted : DeviceView
   settled_entry leaves = risen_from_entry mount.only.mount.faults leaves.settled
 
   -- a cause after the mount is one from the entry on
-  pub cause_entry : TellsFaults (record old { device = mounted }) new is → TellsFaults old new is
+  pub cause_entry : {is : Status} → TellsFaults (record old { device = mounted }) new is → TellsFaults old new is
   cause_entry cause = record {
     device = λ same. subst (λ (faults : ℕ). HasRisen faults new.device.faults) mount.only.mount.faults (cause.device same);
     done = λ same. cause.done same ∙ mount.only.mount.faults;
@@ -176,18 +178,18 @@ module _ {S K : Type 0} {old new : Seen S K} {is : Status} {mounted : DeviceView
   }
 
   -- what a task does from the mount on, or that memory was short for it, is what the job does
-  pub mounted_row : {F G : Seen S K → Seen S K → Status → Type 0} → LeavesGoing volume.size mounted new.device → IsShortOr F (record old { device = mounted }) new is
+  pub mounted_row : (F G : Seen S K → Seen S K → Status → Type 0) (is : Status) → LeavesGoing volume.size mounted new.device → IsShortOr F (record old { device = mounted }) new is
       → (F (record old { device = mounted }) new is → G old new is) → MountsAnd G old new is
-  mounted_row leaves (inl (memory, untouched)) more = inl (record {
+  mounted_row F G is leaves (inl (memory, untouched)) more = inl (record {
     is = memory;
     silent = record { script = untouched.script; output = untouched.output };
     device = inr (mount.sound, subst (IsOnlyMounted (pages_in_image old.device.words) old.device) (sym untouched.device) mount.only);
     unsound = λ not. absurd (not mount.sound);
   })
-  mounted_row leaves (inr did) more = inr (inr (mount.sound, tidy_entry leaves, inr (more did)))
+  mounted_row F G is leaves (inr did) more = inr (inr (mount.sound, tidy_entry leaves, inr (more did)))
 
-  pub run_entry : RunsOn volume.size (record old { device = mounted }) new is → HasRun old new is
-  run_entry runs = record {
+  pub run_entry : {is : Status} → RunsOn volume.size (record old { device = mounted }) new is → HasRun old new is
+  run_entry {is} runs = record {
     end = runs.end;
     ended = runs.ended;
     runs = runs_mounted mount.size mount.only runs.run;
@@ -195,15 +197,15 @@ module _ {S K : Type 0} {old new : Seen S K} {is : Status} {mounted : DeviceView
   }
 
 -- a listing leaves the mounted device alone
-pub list_row : {S K : Type 0} {old new : Seen S K} {is : Status} {volume : VolumeView} → (mount : HasMounted volume old.device new.device) → new.script ≡ old.script → (is ≡ status.NoMemory → new.output ≡ old.output)
+pub list_row : {S K : Type 0} (old new : Seen S K) {is : Status} {volume : VolumeView} → (mount : HasMounted volume old.device new.device) → new.script ≡ old.script → (is ≡ status.NoMemory → new.output ≡ old.output)
     → IsShortOrTold (listing_text mount.only.start.tree) is old.took new.took → MountsAnd HasListed old new is
-list_row mount script silent (inl memory) = inl (record {
+list_row old new mount script silent (inl memory) = inl (record {
   is = memory;
   silent = record { script = script; output = silent memory };
   device = inr (mount.sound, mount.only);
   unsound = λ not. absurd (not mount.sound);
 })
-list_row {new = new} mount script silent (inr told) =
+list_row old new mount script silent (inr told) =
     inr (inr (mount.sound, tidy_pages new.device.words (inr mount.only.mount.tidy), inr (record { script = script; mounted = mount.only; told = told })))
 
 -- ---- a session's volume
@@ -213,3 +215,34 @@ stands_on {device = device} same stands = subst (λ (v : VolumeView). IsStanding
 
 pub stands_for : {session volume : VolumeView} {device : DeviceView} {state : State} → session ≡ volume → StandsFor volume device state → StandsFor session device state
 stands_for {device = device} {state = state} same stands = subst (λ (v : VolumeView). StandsFor v device state) (sym same) stands
+
+-- ---- a session's run
+
+pub goes_on_in : {session volume : VolumeView} {device : DeviceView} → session ≡ volume → GoesOn volume device → GoesOn session device
+goes_on_in {device = device} same goes_on = subst (λ (v : VolumeView). GoesOn v device) (sym same) goes_on
+
+-- a run leaves the device settled and tidy, where no fence failed
+pub leaves_going : {end : RunEnd} {old new : Mounted} {volume : VolumeView} → old.volume ≡ volume → LeavesRun end old new → LeavesGoing volume.size old.device new.device
+leaves_going {old = old} {new = new} {volume = volume} same leaves = record {
+  settled = elim leaves.going [
+    | inl risen ↦ inl risen
+    | inr going ↦ let (state, stands) = leaves.stands going in inr stands.settled
+  ];
+  tidy = elim leaves.going [
+    | inl risen ↦ inl risen
+    | inr going ↦
+        let (state, stands) = leaves.stands going in
+        let size : new.volume.size ≡ volume.size = leaves.size ∙ ap (λ (v : VolumeView). v.size) same in
+        inr (subst (λ (pages : ℕ). Tidy pages new.device.words) size stands.tidy)
+  ];
+  acks = leaves.acks;
+}
+
+-- ---- of the words that are mounted
+
+-- what is told of the tree that the volume stands for is told of the one that the words read as
+pub tree_of_start : {volume : VolumeView} {before mounted : DeviceView} (acked : ℕ) {is : Status} {took now : List ℕ → Type 0} {tree : Tree} → (mount : HasMounted volume before mounted) → Reads (pages_in_image before.words) before.words tree
+    → IsToldOrCut status.Done (acked_text acked ++ listing_text mount.only.start.tree) is took now → IsToldOrCut status.Done (acked_text acked ++ listing_text tree) is took now
+tree_of_start {before = before} acked {is = is} {took = took} {now = now} {tree = tree} mount reads told =
+    let same = one_tree (pages_in_image before.words) before.words mount.only.start.tree tree mount.only.reads.tree reads in
+    subst (λ (t : Tree). IsToldOrCut status.Done (acked_text acked ++ listing_text t) is took now) same told

@@ -32,24 +32,24 @@ not_told apart uncut (inr cut) is = uncut (sym is ∙ cut.0)
 -- ---- why it was refused, and what the mount left
 
 -- what is sound is a volume
-sound_volume : (W : List ℕ) → IsSound W → HoldsVolume W
+pub sound_volume : (W : List ℕ) → IsSound W → HoldsVolume W
 sound_volume W sound = (head_law (pages_in_image W) W).0 (λ place. sound head place)
 
 -- a first violation is none of a sound volume
 pub not_sound : {W : List ℕ} {violation : Violation} → IsFirstViolation W violation → ¬ IsSound W
 not_sound {W} {violation} is sound = no_fault (pages_in_image W) W is.rule violation.place sound is.first
 
-module _ {S K : Type 0} {old new : Seen S K} {is : Status} where
+module _ {S K : Type 0} (old new : Seen S K) {is : Status} where
   -- a job that mounts the device does what was told, and no more
-  pub refused_row : {F : Seen S K → Seen S K → Status → Type 0} (error : MountError) → RefusesMount error old.device new.device → IsToldOf error is old.took new.took → new.script ≡ old.script
+  pub refused_row : (F : Seen S K → Seen S K → Status → Type 0) (error : MountError) → RefusesMount error old.device new.device → IsToldOf error is old.took new.took → new.script ≡ old.script
       → ((is ≡ status.NoMemory) ⊎ (is ≡ status.DeviceFault) → new.output ≡ old.output) → MountsAnd F old new is
-  refused_row refused.NotVolume (not, same) told script output =
+  refused_row F refused.NotVolume (not, same) told script output =
       inr (inl (λ sound. not (sound_volume old.device.words sound), record { device = same; script = script; told = inl (not, told) }))
-  refused_row (refused.Damaged violation) (holds, first, same) told script output =
+  refused_row F (refused.Damaged violation) (holds, first, same) told script output =
       inr (inl (not_sound first, record { device = same; script = script; told = inr (holds, (violation, first, told)) }))
-  refused_row refused.PmFault fails told script output =
+  refused_row F refused.PmFault fails told script output =
       inr (inr (fails.sound, inl fails.cause, inl (record { is = told; silent = record { script = script; output = output (inr told) }; mount = fails })))
-  refused_row refused.NoMemory (holds, alone, unsound) told script output =
+  refused_row F refused.NoMemory (holds, alone, unsound) told script output =
       inl (record { is = told; silent = record { script = script; output = output (inl told) }; device = inl alone; unsound = unsound })
 
   not_read : (error : MountError) → IsToldOf error is old.took new.took → is ≢ status.ReadFault
@@ -112,11 +112,18 @@ alone_settled {before} {after} alone settled =
     subst (λ (words : List ℕ). IsSettledAt words after.trail) (sym alone.words)
     (subst (λ (trail : Option Trail). IsSettledAt before.words trail) (sym alone.trail) settled)
 
-pub refused_settled : {before after : DeviceView} (error : MountError) → RefusesMount error before after → IsSettledView before → HasRisen before.faults after.faults ⊎ IsSettledView after
-refused_settled refused.NotVolume (not, same) settled = inr (subst IsSettledView (sym same) settled)
-refused_settled (refused.Damaged violation) (holds, first, same) settled = inr (subst IsSettledView (sym same) settled)
-refused_settled refused.PmFault fails settled = inl fails.cause
-refused_settled refused.NoMemory (holds, alone, unsound) settled = inr (alone_settled alone settled)
+pub refused_settled : (before after : DeviceView) (error : MountError) → RefusesMount error before after → IsSettledView before → HasRisen before.faults after.faults ⊎ IsSettledView after
+refused_settled before after refused.NotVolume (not, same) settled = inr (subst IsSettledView (sym same) settled)
+refused_settled before after (refused.Damaged violation) (holds, first, same) settled = inr (subst IsSettledView (sym same) settled)
+refused_settled before after refused.PmFault fails settled = inl fails.cause
+refused_settled before after refused.NoMemory (holds, alone, unsound) settled = inr (alone_settled alone settled)
+
+-- of sound words a device that never fails is refused for want of memory alone
+pub refused_memory : (error : MountError) (before after : DeviceView) → IsSound before.words → (HasRisen before.faults after.faults → ⊥) → RefusesMount error before after → error ≡ refused.NoMemory
+refused_memory refused.NotVolume before after sound never why = absurd (why.0 (sound_volume before.words sound))
+refused_memory (refused.Damaged violation) before after sound never why = absurd (not_sound why.1 sound)
+refused_memory refused.PmFault before after sound never fails = absurd (never fails.cause)
+refused_memory refused.NoMemory before after sound never why = refl
 
 -- ---- by a text that was written
 
@@ -174,9 +181,14 @@ later_rule W violation is other = elim (cases_lt 1 (number is.rule)) [
 ]
 
 -- what a mount refuses such words with tells why
-pub why_broken : {device : DeviceView} (violation : Violation) → IsFirstViolation device.words violation → RefusesMount (refusal_of violation) device device
-why_broken {device} violation first =
+pub why_broken : (device : DeviceView) (violation : Violation) → IsFirstViolation device.words violation → RefusesMount (refusal_of violation) device device
+why_broken device violation first =
     elim (violation.rule == 1) as (λ (b : Bool). (violation.rule == 1) ≡ b → RefusesMount (if b then refused.NotVolume else refused.Damaged violation) device device) [
       | true ↦ λ is. (first_rule device.words violation first (eqb-true violation.rule 1 is), refl)
       | false ↦ λ is. (later_rule device.words violation first is, first, refl)
     ] refl
+
+-- what was told of it was told by the sink as it was
+pub told_as_refused : {error wanted : MountError} {took before : List ℕ → Type 0} (is : Status) (now : List ℕ → Type 0) → error ≡ wanted → took ≡ before → IsToldOf error is took now → IsToldOf wanted is before now
+told_as_refused {wanted = wanted} {took = took} is now same sink told =
+    subst (λ (t : List ℕ → Type 0). IsToldOf wanted is t now) sink (subst (λ (e : MountError). IsToldOf e is took now) same told)

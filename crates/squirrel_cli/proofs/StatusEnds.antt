@@ -47,9 +47,9 @@ tells_write_fault status.WriteFault e = refl
 tells_write_fault status.ScriptLimit e = absurd (cc e)
 
 -- a status tells the causes of the end of the run
-pub status_cause : {S K : Type 0} {before after : Seen S K} {old new : SessionView} (is : Status) (end : RunEnd) → end_of is ≡ Some end
+pub status_cause : {S K : Type 0} (before after : Seen S K) {old new : SessionView} (is : Status) (end : RunEnd) → end_of is ≡ Some end
     → HasCause end before.read_faults after.read_faults before.write_faults after.write_faults → LeavesRun end (on old before.device) (on new after.device) → TellsFaults before after is
-status_cause is end ended cause leaves = record {
+status_cause before after is end ended cause leaves = record {
   device = λ same. leaves.faulted (ends_as ended same refl);
   done = λ same. (leaves.done (ends_as ended same refl)).0;
   no_memory = λ same. absurd (let told = sym (ap end_of same) ∙ ended in cc told);

@@ -114,11 +114,11 @@ pub sums_written : {took now : List ℕ → Type 0} {faults_before faults_after 
 sums_written {took} {now} {faults_before} {faults_after} {written = written} same writes = subst (λ (s : WorkSummary). Writes took now faults_before faults_after (work_text s) written) same writes
 
 -- They are told of the last state, for which the volume in memory stands.
-pub sums_generated : {S K : Type 0} {P seed count : ℕ} {old new : Seen S K} {tally : Tally} {volume : VolumeView} {result : Status} → new.script ≡ old.script → CountsGenerated P seed count old.device new.device tally
+pub sums_generated : {S K : Type 0} {P seed count : ℕ} (old new : Seen S K) {tally : Tally} {volume : VolumeView} {result : Status} → new.script ≡ old.script → CountsGenerated P seed count old.device new.device tally
     → volume.size ≡ P → IsStanding volume new.device
     → ((state : State) → StandsFor volume new.device state → IsToldOrCut status.Done (work_text (summary_of volume.size count (accepted_count tally) (refused_count tally) state)) result old.took new.took)
     → SumsGenerated P seed count old new result
-sums_generated {P = P} {count = count} {old = old} {new = new} {tally = tally} {volume = volume} {result = result} script counted size (state, stands) told =
+sums_generated {P = P} {count = count} old new {tally = tally} {volume = volume} {result = result} script counted size (state, stands) told =
     let run = counted.run in
     let last : State = last_state run.start run.states in
     let ended : IsAt P last new.device.words = run.last run.ends in
@@ -136,24 +136,29 @@ sums_generated {P = P} {count = count} {old = old} {new = new} {tally = tally} {
     }
 
 -- of the volume that the session was started with
-pub sums_of_volume : {S K : Type 0} {seed count : ℕ} {session volume : VolumeView} {result : Status} {old new : Seen S K} → session ≡ volume
+pub sums_of_volume : {S K : Type 0} {seed count : ℕ} {session volume : VolumeView} {result : Status} (old new : Seen S K) → session ≡ volume
     → SumsGenerated session.size seed count old new result → SumsGenerated volume.size seed count old new result
-sums_of_volume {seed = seed} {count} {result = result} {old} {new} same sums = subst (λ (v : VolumeView). SumsGenerated v.size seed count old new result) same sums
+sums_of_volume {seed = seed} {count} {result = result} old new same sums = subst (λ (v : VolumeView). SumsGenerated v.size seed count old new result) same sums
+
+pub faults_of_volume : (seed count : ℕ) {session volume : VolumeView} {before after : DeviceView} → session ≡ volume
+    → RunsGenerated session.size seed count before after run_end.Faulted → RunsGenerated volume.size seed count before after run_end.Faulted
+faults_of_volume seed count {before = before} {after = after} same run = subst (λ (v : VolumeView). RunsGenerated v.size seed count before after run_end.Faulted) same run
 
 -- ---- from the entry on
 
-pub works_entry : {S K : Type 0} {seed count : ℕ} {old new : Seen S K} {mounted : DeviceView} {volume : VolumeView} {result : Status} → HasMounted volume old.device mounted
+sums_entry : {S K : Type 0} (seed count : ℕ) (old new : Seen S K) {mounted : DeviceView} {volume : VolumeView} {result : Status} → HasMounted volume old.device mounted
+    → SumsGenerated volume.size seed count (record old { device = mounted }) new result → WorksScript seed count old new result
+unfolding mounts_and_runs
+sums_entry seed count old new {mounted} {result = result} mount sums =
+    let here = subst (λ (p : ℕ). SumsGenerated p seed count (record old { device = mounted }) new result) mount.size sums in
+    let (reads, made) = mounted_state here.run.start mount.only here.run.reads in
+    record { script = here.script; ran = mounts_and_runs here.run reads made; sums = here.sums }
+
+pub works_entry : {S K : Type 0} (seed count : ℕ) (old new : Seen S K) {mounted : DeviceView} {volume : VolumeView} {result : Status} → HasMounted volume old.device mounted
     → WorksOn volume.size seed count (record old { device = mounted }) new result → HasWorked seed count old new result
-works_entry mount (inl fault) = inl (record {
+works_entry seed count old new mount (inl fault) = inl (record {
   is = fault.is;
   silent = record { script = fault.silent.script; output = fault.silent.output };
   ran = runs_mounted mount.size mount.only fault.run;
 })
-works_entry {seed = seed} {count} {old} {new} {mounted} {volume} {result} mount (inr sums) = inr (sums_entry mount sums)
-  where
-    sums_entry : HasMounted volume old.device mounted → SumsGenerated volume.size seed count (record old { device = mounted }) new result → WorksScript seed count old new result
-    unfolding mounts_and_runs
-    sums_entry mount sums =
-        let here = subst (λ (p : ℕ). SumsGenerated p seed count (record old { device = mounted }) new result) mount.size sums in
-        let (reads, made) = mounted_state here.run.start mount.only here.run.reads in
-        record { script = here.script; ran = mounts_and_runs here.run reads made; sums = here.sums }
+works_entry seed count old new mount (inr sums) = inr (sums_entry seed count old new mount sums)

@@ -1,6 +1,7 @@
 pub mod Status
 pub mod Ends
 pub mod Told
+pub mod Asked
 pub mod Seen
 pub mod Causes
 pub mod Formats

@@ -5,13 +5,13 @@ use crash_replay::Moment;
 
 /// A crash in a run, and maybe a second one in the mount after it.
 #[derive(Clone, Copy)]
-pub struct ChosenCrash<'a> {
+pub struct ChosenCrash<'a, 'b> {
     /// When it comes.
     pub moment: Moment,
     /// The bytes that choose, one a word and from the first again behind the last, what each word is that the crash leaves open.
     pub keep: &'a [u8],
     /// The second crash.
-    pub again: Option<SecondCrash<'a>>,
+    pub again: Option<SecondCrash<'b>>,
     pub ghost some: { 0 < length keep.now },
 }
 

@@ -75,7 +75,7 @@ pub fn replay_copy<P: Pm, S: Source, K: Sink>(
     pm: &P,
     source: &mut S,
     sink: &mut K,
-    crash: &ChosenCrash<'_>,
+    crash: &ChosenCrash<'_, '_>,
 ) -> Status
     ensures crashes { Crashes crash.now.moment crash.now.keep.now (seen S.Source K.Sink (P.view pm.now) source.old sink.old)
         (seen S.Source K.Sink (P.view pm.now) source.new sink.new) result }
@@ -94,7 +94,7 @@ fn replay_on<P: Recorded, S: Source, K: Sink>(
     pm: &mut P,
     source: &mut S,
     sink: &mut K,
-    crash: &ChosenCrash<'_>,
+    crash: &ChosenCrash<'_, '_>,
 ) -> Status
     requires start { IsStart (P.view pm.old) }
     requires unbegun { IsUnbegun (P.view pm.old) }
@@ -122,7 +122,7 @@ fn list_left<K: Sink>(
     ram: &RamPm,
     mark: u64,
     sink: &mut K,
-    crash: &ChosenCrash<'_>,
+    crash: &ChosenCrash<'_, '_>,
 ) -> Status
     requires countable { (⟦<RamPm as Pm>⟧.view ram.now).acks ≤ 2 ^ 62 }
     requires sound { IfSome (⟦<RamPm as Pm>⟧.view ram.now).trail LeavesSound }
@@ -143,7 +143,7 @@ fn words_left(
     alloc: Global,
     ram: &RamPm,
     place: u64,
-    crash: &ChosenCrash<'_>,
+    crash: &ChosenCrash<'_, '_>,
 ) -> Result<Vec<u64>, NoMemory>
     requires in_range { IfSome (⟦<RamPm as Pm>⟧.view ram.now).trail (λ trail. place ≤ length trail.events) }
     requires sound { IfSome (⟦<RamPm as Pm>⟧.view ram.now).trail LeavesSound }
@@ -189,8 +189,10 @@ fn list_words<K: Sink>(alloc: Global, words: &[u64], acked: u64, sink: &mut K) -
     };
     let volume = match mount(alloc, &mut pm) {
         Ok(volume) => volume,
-        Err(MountError::NoMemory) => return Status::NoMemory,
-        Err(_) => unreachable!(),
+        Err(error) => {
+            let NoMemory = memory_alone(error);
+            return Status::NoMemory;
+        }
     };
     let Ok(mut session) = Session::start(alloc, volume) else {
         return Status::NoMemory;

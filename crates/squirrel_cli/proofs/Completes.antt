@@ -1,0 +1,192 @@
+-- When a job is done.
+use Rattle.std.proofs.Common.{◌≡◌, ◌≢◌, ◌⊎◌, inl, inr, ℕ, List, refl, sym, ap, subst, ◌∙◌}
+use Rattle.std.specs.Prelude.{Option, Some, None}
+use Rattle.pm_trait.specs.Device.{HasRisen}
+use Rattle.pm_trait.specs.DeviceView.{DeviceView}
+use Rattle.io_edge.specs.declared.source.Source.{Ghosts as Sources}
+use Rattle.io_edge.specs.declared.sink.Sink.{Ghosts as Sinks}
+use Rattle.script.specs.declared.run_end.RunEnd.{RunEnd}
+use Rattle.crash_replay.specs.declared.moment.Moment.{Moment}
+use Rattle.command_line.specs.declared.job.Job.{Job}
+use Rattle.command_line.specs.declared.job.Job.TheVariants.{Mkfs, Run, Tree, Check, Crash, Work}
+use Rattle.squirrel_cli.specs.declared.status.Status.{Status}
+use Rattle.squirrel_cli.specs.declared.status.Status.TheVariants as status
+use Rattle.squirrel_cli.specs.Asked.{ReadsScript}
+use Rattle.squirrel_cli.specs.Causes.{TellsFaults}
+use Rattle.squirrel_cli.specs.Complete.{CompleteLaw, Completes, HasNoFault, ReplayCompleteLaw}
+use Rattle.squirrel_cli.specs.Ends.{IsMountable, IsReadyFor, IsShortScript, GaveAll, end_of}
+use Rattle.squirrel_cli.specs.Mounts.{HasRun}
+use Rattle.squirrel_cli.specs.Replays.{HasReplayed, unlisted_end}
+use Rattle.squirrel_cli.specs.Rows.{DoesJob, IsToldWhy, MountsAnd, ReplaysOn}
+use Rattle.squirrel_cli.specs.Seen.{Seen, seen}
+use Rattle.squirrel_cli.specs.Tells.{HasListed}
+use Rattle.squirrel_cli.specs.Told.{IsToldOrCut}
+use Rattle.squirrel_cli.specs.Works.{HasWorked}
+use Rattle.squirrel_cli.proofs.StatusEnds.{not_at_limit}
+
+-- done, or memory was short
+abbrev Ended : Status → Type 0
+Ended is = (is ≡ status.Done) ⊎ (is ≡ status.NoMemory)
+
+-- and neither at the limit
+not_limited : {is : Status} → Ended is → is ≢ status.ScriptLimit
+not_limited (inl done) limit = cc (done, limit)
+not_limited (inr memory) limit = cc (memory, limit)
+
+-- the status of a run or a replay whose end is told, where nothing failed
+run_ended : (is : Status) {end : RunEnd} → end_of is ≡ Some end → is ≢ status.DeviceFault → is ≢ status.ReadFault → is ≢ status.WriteFault → Ended is ⊎ (is ≡ status.ScriptLimit)
+run_ended status.Done ended device read write = inl (inl refl)
+run_ended status.Usage ended device read write = absurd (cc ended)
+run_ended status.NoMemory ended device read write = inl (inr refl)
+run_ended status.NotVolume ended device read write = absurd (cc ended)
+run_ended (status.Damaged violation) ended device read write = absurd (cc ended)
+run_ended status.DeviceFault ended device read write = absurd (device refl)
+run_ended status.ReadFault ended device read write = absurd (read refl)
+run_ended status.WriteFault ended device read write = absurd (write refl)
+run_ended status.ScriptLimit ended device read write = inr refl
+
+replay_ended : (is : Status) {end : RunEnd} → unlisted_end is ≡ Some end → is ≢ status.DeviceFault → is ≢ status.ReadFault → Ended is ⊎ (is ≡ status.ScriptLimit)
+replay_ended status.Done ended device read = inl (inl refl)
+replay_ended status.Usage ended device read = absurd (cc ended)
+replay_ended status.NoMemory ended device read = inl (inr refl)
+replay_ended status.NotVolume ended device read = absurd (cc ended)
+replay_ended (status.Damaged violation) ended device read = absurd (cc ended)
+replay_ended status.DeviceFault ended device read = absurd (device refl)
+replay_ended status.ReadFault ended device read = absurd (read refl)
+replay_ended status.WriteFault ended device read = absurd (cc ended)
+replay_ended status.ScriptLimit ended device read = inr refl
+
+told_ended : {is : Status} {text : List ℕ} {took now : List ℕ → Type 0} → IsToldOrCut status.Done text is took now → is ≢ status.WriteFault → Ended is
+told_ended (inl told) write = inl told.0
+told_ended (inr cut) write = absurd (write cut.0)
+
+-- what is told of words that are no sound volume is no limit
+why_unlimited : {words : List ℕ} {is : Status} {took now : List ℕ → Type 0} → IsToldWhy words is took now → is ≢ status.ScriptLimit
+why_unlimited (inl (not, inl told)) limit = let e = told.0 in cc (e, limit)
+why_unlimited (inl (not, inr cut)) limit = let e = cut.0 in cc (e, limit)
+why_unlimited (inr (holds, (violation, first, inl told))) limit = let e = told.0 in cc (e, limit)
+why_unlimited (inr (holds, (violation, first, inr cut))) limit = let e = cut.0 in cc (e, limit)
+
+-- a job that mounts a sound volume
+mounts_ended : {S K : Type 0} (F : Seen S K → Seen S K → Status → Type 0) {A : Type 0} (old new : Seen S K) {is : Status} → IsMountable old.device.words → is ≢ status.DeviceFault → (F old new is → Ended is ⊎ A) → MountsAnd F old new is → Ended is ⊎ A
+mounts_ended F old new sound device more (inl short) = inl (inr short.is)
+mounts_ended F old new sound device more (inr (inl (unsound, refused))) = absurd (unsound sound)
+mounts_ended F old new sound device more (inr (inr (held, tidy, inl fails))) = absurd (device fails.is)
+mounts_ended F old new sound device more (inr (inr (held, tidy, inr did))) = more did
+
+-- is at the limit only where what it does says so
+mounts_limit : {S K : Type 0} (F : Seen S K → Seen S K → Status → Type 0) {A : Type 0} (old new : Seen S K) {is : Status} → is ≡ status.ScriptLimit → (F old new is → A) → MountsAnd F old new is → A
+mounts_limit F old new limit more (inl short) = absurd (let memory = short.is in cc (memory, limit))
+mounts_limit F old new limit more (inr (inl (unsound, refused))) = absurd (why_unlimited refused.told limit)
+mounts_limit F old new limit more (inr (inr (held, tidy, inl fails))) = absurd (let fault = fails.is in cc (fault, limit))
+mounts_limit F old new limit more (inr (inr (held, tidy, inr did))) = more did
+
+replayed_limit : {S K : Type 0} (moment : Moment) (keep : List ℕ) (old new : Seen S K) {is : Status} → is ≡ status.ScriptLimit → HasReplayed moment keep old new is → GaveAll old.left new.left
+replayed_limit moment keep old new limit (inl stops) = stops.limit limit
+replayed_limit moment keep old new limit (inr replays) = elim replays.told [
+  | inl told ↦ absurd (let e = told.0 in cc (e, limit))
+  | inr cut ↦ absurd (let e = cut.0 in cc (e, limit))
+]
+
+replayed_ended : {S K : Type 0} (moment : Moment) (keep : List ℕ) (old new : Seen S K) {is : Status} → is ≢ status.DeviceFault → is ≢ status.ReadFault → is ≢ status.WriteFault → HasReplayed moment keep old new is → Ended is ⊎ (is ≡ status.ScriptLimit)
+replayed_ended moment keep old new {is} device read write (inl stops) = replay_ended is stops.ended device read
+replayed_ended moment keep old new device read write (inr replays) = inl (told_ended replays.told write)
+
+worked_ended : {S K : Type 0} (seed count : ℕ) (old new : Seen S K) {is : Status} → is ≢ status.DeviceFault → is ≢ status.WriteFault → HasWorked seed count old new is → Ended is ⊎ ⊥
+worked_ended seed count old new device write (inl fault) = absurd (device fault.is)
+worked_ended seed count old new device write (inr works) = inl (told_ended works.sums.told write)
+
+worked_limit : {S K : Type 0} (seed count : ℕ) (old new : Seen S K) {is : Status} → is ≡ status.ScriptLimit → HasWorked seed count old new is → ⊥
+worked_limit seed count old new limit (inl fault) = let e = fault.is in cc (e, limit)
+worked_limit seed count old new limit (inr works) = elim works.sums.told [
+  | inl told ↦ let e = told.0 in cc (e, limit)
+  | inr cut ↦ let e = cut.0 in cc (e, limit)
+]
+
+listed_limit : {S K : Type 0} (old new : Seen S K) {is : Status} → is ≡ status.ScriptLimit → HasListed old new is → ⊥
+listed_limit old new limit lists = elim lists.told [
+  | inl told ↦ let e = told.0 in cc (e, limit)
+  | inr cut ↦ let e = cut.0 in cc (e, limit)
+]
+
+-- ---- the laws
+
+limits : {S K : Type 0} (job : Job) (old new : Seen S K) (is : Status) → DoesJob (Some job) old new is → is ≡ status.ScriptLimit → GaveAll old.left new.left
+limits (Mkfs pages) old new is (inl (memory, silent, alone)) limit = absurd (cc (memory, limit))
+limits (Mkfs pages) old new is (inr (inl (other, usage, same))) limit = absurd (cc (usage, limit))
+limits (Mkfs pages) old new is (inr (inr (size, inl fails))) limit = absurd (let e = fails.is in cc (e, limit))
+limits (Mkfs pages) old new is (inr (inr (size, inr has))) limit = elim has.told [
+  | inl told ↦ absurd (let e = told.0 in cc (e, limit))
+  | inr cut ↦ absurd (let e = cut.0 in cc (e, limit))
+]
+limits Run old new is does limit = mounts_limit HasRun old new limit (λ runs. runs.limit limit) does
+limits Tree old new is does limit = absurd (mounts_limit HasListed old new limit (listed_limit old new limit) does)
+limits Check old new is (inl (memory, same)) limit = absurd (cc (memory, limit))
+limits Check old new is (inr (inl (unsound, refused))) limit = absurd (why_unlimited refused.told limit)
+limits Check old new is (inr (inr (sound, has))) limit = elim has.told [
+  | inl told ↦ absurd (let e = told.0 in cc (e, limit))
+  | inr cut ↦ absurd (let e = cut.0 in cc (e, limit))
+]
+limits (Crash moment keep again) old new is (inl (memory, same)) limit = absurd (cc (memory, limit))
+limits (Crash moment keep again) old new is (inr copy) limit =
+    mounts_limit (HasReplayed moment keep) (record old { device = copy.before }) (record new { device = copy.after }) limit
+    (replayed_limit moment keep (record old { device = copy.before }) (record new { device = copy.after }) limit) copy.replays
+limits (Work seed count) old new is does limit = absurd (mounts_limit (HasWorked seed count) old new limit (worked_limit seed count old new limit) does)
+
+-- at the limit only a job that reads the script ends
+abbrev Completed : Job → Status → Type 0
+Completed job is = (is ≡ status.Done) ⊎ (is ≡ status.NoMemory) ⊎ ReadsScript job × (is ≡ status.ScriptLimit)
+
+with_limit : (job : Job) {is : Status} → ReadsScript job → Ended is ⊎ (is ≡ status.ScriptLimit) → Completed job is
+with_limit job reads (inl (inl done)) = inl done
+with_limit job reads (inl (inr memory)) = inr (inl memory)
+with_limit job reads (inr limit) = inr (inr (reads, limit))
+
+with_none : (job : Job) {is : Status} → Ended is ⊎ ⊥ → Completed job is
+with_none job (inl (inl done)) = inl done
+with_none job (inl (inr memory)) = inr (inl memory)
+with_none job (inr never) = absurd never
+
+no_read : {before after : ℕ} → ¬ Unit {0} ⊎ ¬ HasRisen before after → HasRisen before after → ⊥
+no_read (inl never) risen = never tt
+no_read (inr still) risen = still risen
+
+ends : {S K : Type 0} (job : Job) (old new : Seen S K) (is : Status) → DoesJob (Some job) old new is → TellsFaults old new is → IsReadyFor job old.device.words → HasNoFault old new
+    → ¬ ReadsScript job ⊎ ¬ HasRisen old.read_faults new.read_faults → Completed job is
+ends (Mkfs pages) old new is (inl (memory, silent, alone)) cause ready (device, write) reads = inr (inl memory)
+ends (Mkfs pages) old new is (inr (inl (other, usage, same))) cause ready (device, write) reads = absurd (other ready)
+ends (Mkfs pages) old new is (inr (inr (size, inl fails))) cause ready (device, write) reads = absurd (device (cause.device fails.is))
+ends (Mkfs pages) old new is (inr (inr (size, inr has))) cause ready (device, write) reads = with_none (Mkfs pages) (inl (told_ended has.told (λ e. write (cause.write e))))
+ends Run old new is does cause ready (device, write) reads =
+    with_limit Run tt (mounts_ended HasRun old new ready (λ e. device (cause.device e)) (λ runs. run_ended is runs.ended (λ e. device (cause.device e)) (λ e. no_read reads (cause.read e)) (λ e. write (cause.write e))) does)
+ends Tree old new is does cause ready (device, write) reads =
+    with_none Tree (mounts_ended HasListed old new ready (λ e. device (cause.device e)) (λ lists. inl (told_ended lists.told (λ e. write (cause.write e)))) does)
+ends Check old new is (inl (memory, same)) cause ready (device, write) reads = inr (inl memory)
+ends Check old new is (inr (inl (unsound, refused))) cause ready (device, write) reads = absurd (unsound ready)
+ends Check old new is (inr (inr (sound, has))) cause ready (device, write) reads = with_none Check (inl (told_ended has.told (λ e. write (cause.write e))))
+ends (Crash moment keep again) old new is (inl (memory, same)) cause ready (device, write) reads = inr (inl memory)
+ends (Crash moment keep again) old new is (inr copy) cause ready (device, write) reads =
+    let before = record old { device = copy.before } in
+    let after = record new { device = copy.after } in
+    with_limit (Crash moment keep again) tt (mounts_ended (HasReplayed moment keep) before after (subst IsMountable (sym copy.fresh.words) ready) copy.unfailing
+    (replayed_ended moment keep before after copy.unfailing (λ e. no_read reads (cause.read e)) (λ e. write (cause.write e))) copy.replays)
+ends (Work seed count) old new is does cause ready (device, write) reads =
+    with_none (Work seed count) (mounts_ended (HasWorked seed count) old new ready (λ e. device (cause.device e)) (worked_ended seed count old new (λ e. device (cause.device e)) (λ e. write (cause.write e))) does)
+
+pub complete_law-holds : {S K : Type 0} (source : Sources S) (sink : Sinks K) → CompleteLaw source sink
+complete_law-holds source sink job before after script rest output written is does cause =
+    let old = seen source sink before script output in
+    let new = seen source sink after rest written in
+    record {
+      complete = ends job old new is does cause;
+      short = λ few limit. not_at_limit old.left new.left few (limits job old new is does limit);
+    }
+
+pub replay_complete_law-holds : {S K : Type 0} (source : Sources S) (sink : Sinks K) → ReplayCompleteLaw source sink
+replay_complete_law-holds source sink moment keep before after script rest output written is replays cause sound few (device, write) read =
+    let old = seen source sink before script output in
+    let new = seen source sink after rest written in
+    elim (mounts_ended (HasReplayed moment keep) old new sound (λ e. device (cause.device e)) (replayed_ended moment keep old new (λ e. device (cause.device e)) (λ e. read (cause.read e)) (λ e. write (cause.write e))) replays) [
+      | inl ended ↦ ended
+      | inr limit ↦ absurd (not_at_limit old.left new.left few (mounts_limit (HasReplayed moment keep) old new limit (replayed_limit moment keep old new limit) replays))
+    ]
