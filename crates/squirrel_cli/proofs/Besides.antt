@@ -1,5 +1,5 @@
 -- What a job without a script does is done beside each script.
-use Rattle.std.proofs.Common.{◌≡◌, ◌⊎◌, inl, inr, ℕ, refl, sym, subst}
+use Rattle.std.proofs.Common.{◌≡◌, inl, inr, ℕ, refl, sym, subst}
 use Rattle.std.specs.Prelude.{Option}
 use Rattle.command_line.specs.declared.job.Job.{Job}
 use Rattle.pm_trait.specs.DeviceView.{DeviceView}

@@ -1,5 +1,5 @@
 -- What a report that was written tells.
-use Rattle.std.proofs.Common.{◌≡◌, inl, inr, ℕ, List, refl, subst}
+use Rattle.std.proofs.Common.{◌≡◌, inl, inr, ℕ, refl, subst}
 use Rattle.std.specs.Prelude.{Result, Ok, Err, Bool, true, false, ◌==◌, if◌then◌else◌}
 use Rattle.io_edge.specs.Bytes.{Writes}
 use Rattle.mount_scan.specs.Reports.{Reports, report_text}

@@ -1,8 +1,7 @@
 -- When a job is done.
-use Rattle.std.proofs.Common.{◌≡◌, ◌≢◌, ◌⊎◌, inl, inr, ℕ, List, refl, sym, ap, subst, ◌∙◌}
-use Rattle.std.specs.Prelude.{Option, Some, None}
+use Rattle.std.proofs.Common.{◌≡◌, ◌≢◌, ◌⊎◌, inl, inr, ℕ, List, refl, sym, subst}
+use Rattle.std.specs.Prelude.{Some}
 use Rattle.pm_trait.specs.Device.{HasRisen}
-use Rattle.pm_trait.specs.DeviceView.{DeviceView}
 use Rattle.io_edge.specs.declared.source.Source.{Ghosts as Sources}
 use Rattle.io_edge.specs.declared.sink.Sink.{Ghosts as Sinks}
 use Rattle.script.specs.declared.run_end.RunEnd.{RunEnd}
@@ -13,11 +12,11 @@ use Rattle.squirrel_cli.specs.declared.status.Status.{Status}
 use Rattle.squirrel_cli.specs.declared.status.Status.TheVariants as status
 use Rattle.squirrel_cli.specs.Asked.{ReadsScript}
 use Rattle.squirrel_cli.specs.Causes.{TellsFaults}
-use Rattle.squirrel_cli.specs.Complete.{CompleteLaw, Completes, HasNoFault, ReplayCompleteLaw}
-use Rattle.squirrel_cli.specs.Ends.{IsMountable, IsReadyFor, IsShortScript, GaveAll, end_of}
+use Rattle.squirrel_cli.specs.Complete.{CompleteLaw, HasNoFault, ReplayCompleteLaw}
+use Rattle.squirrel_cli.specs.Ends.{IsMountable, IsReadyFor, GaveAll, end_of}
 use Rattle.squirrel_cli.specs.Mounts.{HasRun}
 use Rattle.squirrel_cli.specs.Replays.{HasReplayed, unlisted_end}
-use Rattle.squirrel_cli.specs.Rows.{DoesJob, IsToldWhy, MountsAnd, ReplaysOn}
+use Rattle.squirrel_cli.specs.Rows.{DoesJob, IsToldWhy, MountsAnd}
 use Rattle.squirrel_cli.specs.Seen.{Seen, seen}
 use Rattle.squirrel_cli.specs.Tells.{HasListed}
 use Rattle.squirrel_cli.specs.Told.{IsToldOrCut}

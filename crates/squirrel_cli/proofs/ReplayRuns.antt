@@ -7,7 +7,6 @@ use Rattle.pm_trait.specs.DeviceView.{DeviceView}
 use Rattle.pm_memory.specs.Fresh.{IsNew}
 use Rattle.tree_model.specs.Step.{Refused}
 use Rattle.tree_model.specs.declared.reply.Refusal.TheVariants.{NoMemory as OutOfMemory}
-use Rattle.image_reading.specs.Soundness.{pages_in_image}
 use Rattle.mount_scan.specs.Mounts.{HasMounted, IsOnlyMounted}
 use Rattle.script.specs.declared.run_end.RunEnd.{RunEnd}
 use Rattle.script.specs.declared.run_end.RunEnd.TheVariants as run_end
@@ -19,9 +18,9 @@ use Rattle.squirrel_cli.specs.Causes.{TellsFaults}
 use Rattle.squirrel_cli.specs.Ends.{end_of}
 use Rattle.squirrel_cli.specs.GoingOn.{IsShortOr, RunsOn}
 use Rattle.squirrel_cli.specs.Replays.{HasReplayed, ListsLeft, Replays, StopsBefore, unlisted_end}
-use Rattle.squirrel_cli.specs.ReplaySteps.{ReplaysMounted, RunsMounted}
+use Rattle.squirrel_cli.specs.ReplaySteps.{ReplaysMounted}
 use Rattle.squirrel_cli.specs.Rows.{Crashes, ReplaysOn}
-use Rattle.squirrel_cli.specs.Seen.{Seen, IsUntouched}
+use Rattle.squirrel_cli.specs.Seen.{Seen}
 use Rattle.squirrel_cli.specs.Told.{IsShortOrTold, TellsWrites}
 use Rattle.volume.specs.Volume.{VolumeView}
 use Rattle.squirrel_cli.proofs.Refusals.{listed_cause}

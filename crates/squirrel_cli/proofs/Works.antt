@@ -1,5 +1,5 @@
 -- A generated script on a mounted volume, and its sums.
-use Rattle.std.proofs.Common.{◌≡◌, ◌⊎◌, inl, inr, ℕ, ◌+◌, ◌^◌, ◌<◌, ◌≤◌, List, [], length, ap, subst, ◌∙◌, arith}
+use Rattle.std.proofs.Common.{◌≡◌, inl, inr, ℕ, ◌+◌, ◌^◌, ◌<◌, ◌≤◌, List, [], length, ap, subst, ◌∙◌, arith}
 use Rattle.std.specs.Prelude.{Option, Some, None, Result}
 use Rattle.io_edge.specs.Bytes.{Writes}
 use Rattle.io_edge.specs.declared.sink.WriteFault.{WriteFault}

@@ -1,5 +1,5 @@
 -- What `mkfs` makes, and what a crash in it leaves.
-use Rattle.std.specs.Prelude.{◌≡◌, ℕ, ◌+◌, ◌<◌, List}
+use Rattle.std.specs.Prelude.{◌≡◌, ℕ, ◌+◌, ◌<◌}
 use Rattle.pm_trait.specs.Device.{LeavesOnly}
 use Rattle.pm_trait.specs.DeviceView.{DeviceView}
 use Rattle.layout.specs.Format.{IsFormattedFrom}

@@ -3,7 +3,6 @@ use Rattle.std.specs.Prelude.{◌≡◌, ◌⊎◌, ℕ, ◌+◌, ◌<◌, ◌�
 use Rattle.pm_trait.specs.Trail.{Trail}
 use Rattle.pm_trait.specs.Device.{HasRisen, LeavesOnly, AcksSettled, EndsInFault, IsAckAt, acks_from, moment_of}
 use Rattle.pm_trait.specs.DeviceView.{DeviceView, GrowsBy}
-use Rattle.tree_model.specs.Run.{State}
 use Rattle.tree_model.specs.Step.{Refused}
 use Rattle.tree_model.specs.declared.reply.Refusal.TheVariants.{NoMemory}
 use Rattle.tree_model.specs.Fences.{fences_of_run}

@@ -2,7 +2,7 @@ use Rattle.std.proofs.Common.{inl, inr, refl, ap, ◌∙◌}
 use Rattle.std.specs.Prelude.{Ok, Err, Some}
 use Rattle.squirrel_cli.specs.Seen.{seen_alone}
 use Rattle.squirrel_cli.proofs.Checks.{checks_cut, checks_done, checks_refused}
-use Rattle.squirrel_cli.proofs.Refusals.{refused_cause, told_as_refused, why_broken}
+use Rattle.squirrel_cli.proofs.Refusals.{told_as_refused, why_broken}
 use Rattle.squirrel_cli.proofs.checking.check_volume.Goals as goal
 
 pub returns-in-Ok-None-clause-checks : goal.returns-in-Ok-None-clause-checks

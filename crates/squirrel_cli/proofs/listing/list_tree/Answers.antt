@@ -1,4 +1,4 @@
-use Rattle.std.proofs.Common.{◌≡◌, inr, sym, subst}
+use Rattle.std.proofs.Common.{inr}
 use Rattle.squirrel_cli.specs.declared.status.Status.TheVariants.{Done}
 use Rattle.squirrel_cli.proofs.Mounted.{stands_for, stands_on}
 use Rattle.squirrel_cli.proofs.Refusals.{told_as, writes_tell}

@@ -1,4 +1,4 @@
-use Rattle.std.proofs.Common.{◌≡◌, ◌≢◌, [], inl, inr, refl, sym, ap, ◌∙◌, arith}
+use Rattle.std.proofs.Common.{◌≢◌, [], inl, inr, refl, sym, ap, ◌∙◌, arith}
 use Rattle.pm_trait.specs.Device.{moment_of}
 use Rattle.crash_replay.proofs.Tallies.{tally_law-holds}
 use Rattle.squirrel_cli.specs.Replays.{HasReplayed}
