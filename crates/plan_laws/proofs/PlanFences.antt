@@ -19,8 +19,8 @@ use Rattle.volume.specs.declared.plan.Action.TheVariants.{Remove, Move, Write as
 use Rattle.volume.specs.declared.plan.Removal.{Removal}
 use Rattle.volume.specs.Planned.{IsRemovalFor, IsMovingFor, IsWritingFor, IsResizingFor, IsPlanOf}
 use Rattle.volume.specs.Costs.{count_of, where_true, goes_of, pages_of_loss, fences_of_plan, fences_for_claim, fences_for_page, fences_for_loss, fences_for_growth}
-use Rattle.volume.specs.Laws.{IsLeftBy, PlanFencesLaw}
-use Rattle.volume.proofs.PlanFacts.{HasLost, nothing_or, tree, id_is, claim_steps, unlink_lost, rmdir_lost, found_move, move_claims, move_lost}
+use Rattle.plan_laws.specs.Laws.{IsLeftBy, PlanFencesLaw}
+use Rattle.plan_laws.proofs.PlanFacts.{HasLost, nothing_or, tree, id_is, claim_steps, unlink_lost, rmdir_lost, found_move, move_claims, move_lost}
 
 -- ---- numbers
 

@@ -24,8 +24,8 @@ use Rattle.volume.specs.declared.plan.NewName.{NewName}
 use Rattle.volume.specs.Planned.{IsEntryFor, IsMovingFor, IsWritingFor, IsResizingFor, IsPlanOf}
 use Rattle.volume.specs.Costs.{count_of, where_true, goes_of, pages_of_loss, fences_for_claim, fence_events, word_events, inode_events, name_events, slot_rest_events, page_events, commit_events, clearing_events, loss_events, span_events, growth_events, place_events, claim_events, new_page_events, links_events, events_of}
 use Rattle.volume.specs.LineEvents.{events_for_loss, changes_parent, events_of_new_name, events_of_rename, events_of_line}
-use Rattle.volume.specs.Laws.{IsLeftBy, PlanEventsLaw}
-use Rattle.volume.proofs.PlanFacts.{HasLost, nothing_or, tree, id_is, claim_steps, unlink_lost, rmdir_lost, found_move, to_directory_is, target_is, move_claims, move_lost}
+use Rattle.plan_laws.specs.Laws.{IsLeftBy, PlanEventsLaw}
+use Rattle.plan_laws.proofs.PlanFacts.{HasLost, nothing_or, tree, id_is, claim_steps, unlink_lost, rmdir_lost, found_move, to_directory_is, target_is, move_claims, move_lost}
 
 -- ---- numbers
 

@@ -1,5 +1,7 @@
-// What is proved of plans once for all commands. No body calls it: proofs cite the lemma behind it.
-ghost use Rattle.volume.specs.Laws.{PlanEventsLaw, PlanFencesLaw, PlanRoomLaw};
+//! Laws of plans: what a plan costs is what its command takes between two states.
+#![tactic(auto)]
+
+ghost use Rattle.plan_laws.specs.Laws.{PlanEventsLaw, PlanFencesLaw, PlanRoomLaw};
 
 /// The fences of a plan are those that its command takes between the state before and the one that it leaves.
 pub fn plan_fences_law()

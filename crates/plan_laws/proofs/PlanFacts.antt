@@ -36,8 +36,8 @@ use Rattle.volume.specs.declared.plan.Loss.{Loss}
 use Rattle.volume.specs.declared.plan.Removal.{Removal}
 use Rattle.volume.specs.Planned.{IsPlace, IsLossOf, IsTargetOf, IsRemovalFor, IsMovingFor, IsNothingOr}
 use Rattle.volume.specs.Costs.{where_true, goes_of, pages_of_loss, fences_for_claim}
-use Rattle.volume.specs.Laws.{IsLeftBy}
 use Rattle.volume.proofs.Staying.{removal_stays, move_stays}
+use Rattle.plan_laws.specs.Laws.{IsLeftBy}
 
 -- What is counted of actions: nothing is to be done, of which there is none, or the plan is made of some x.
 module _ {A : Type 0} (count : Action → ℕ) (make : A → Action) (For : A → Type 0) (nothing : Action) (idle : count nothing ≡ 0) (action : Action) where

@@ -31,11 +31,11 @@ use Rattle.volume.specs.declared.plan.Action.TheVariants.{Move, KeepNames}
 use Rattle.volume.specs.declared.plan.Loss.{Loss}
 use Rattle.volume.specs.declared.plan.Removal.{Removal}
 use Rattle.volume.specs.Planned.{IsNameAt, IsVacantSlot, IsAlone, IsGivenBack, IsEmptiedBy, IsTargetOf, IsRemovalFor, IsMovingFor, IsPlace, IsNothingOr, IsPlanOf}
-use Rattle.volume.specs.Laws.{gives_back, PlanRoomLaw}
-use Rattle.volume.proofs.PageBounds.{page_count, alone_bound, alone_and_vacant, alone_where}
-use Rattle.volume.proofs.PlanFacts.{FoundMove, coherent, tree, id_is, holds, room_words, full_by, some_page, found_move}
 use Rattle.volume.proofs.Places.{page_is, owner_is}
 use Rattle.volume.proofs.Ways.{whole_path}
+use Rattle.plan_laws.specs.Laws.{gives_back, PlanRoomLaw}
+use Rattle.plan_laws.proofs.PageBounds.{page_count, alone_bound, alone_and_vacant, alone_where}
+use Rattle.plan_laws.proofs.PlanFacts.{FoundMove, coherent, tree, id_is, holds, room_words, full_by, some_page, found_move}
 
 -- ---- another choice
 
