@@ -14,12 +14,12 @@ use Rattle.volume.specs.Volume.{VolumeView}
 use Rattle.volume.specs.declared.plan.Resizing.{Resizing}
 use Rattle.volume.proofs.LowestPages.{rising_distinct}
 use Rattle.volume.proofs.Grown.{has_grown, has_cut}
+use Rattle.plan_laws.proofs.Left.{IsCountedBy}
 use Rattle.data_ops.specs.Cutting.{TakesIn, StoresSize}
 use Rattle.data_ops.proofs.CutLeft
 use Rattle.data_ops.proofs.GrownLeft
 use Rattle.data_ops.proofs.Resizes.{growth_by}
 use Rattle.data_ops.proofs.Truncations
-use Rattle.entry_steps.proofs.Left.{IsCountedBy}
 
 module _ (volume : VolumeView) (device : DeviceView) (state : State) (path : Route) (resizing : Resizing) (plan : IsPlanFor volume device state (Truncate path resizing.new_size) (Resize resizing)) (new : VolumeView) (takes : TakesIn volume new resizing) where
   -- it has grown or is cut, and not both

@@ -10,12 +10,12 @@ use Rattle.tree_model.specs.declared.reply.Refusal.{Refusal}
 use Rattle.image_reading.specs.Reading.{ReadsAs}
 use Rattle.image_reading.specs.Tidy.{IsTidied}
 use Rattle.volume.specs.Costs.{events_of, fences_of_plan}
-use Rattle.volume.specs.Laws.{gives_back, IsLeftBy}
 use Rattle.volume.specs.Planned.{IsPlanned}
 use Rattle.volume.specs.declared.plan.Action.{Action}
-use Rattle.volume.proofs.PlanEvents.{plan_events_law}
-use Rattle.volume.proofs.PlanFences.{plan_fences_law}
-use Rattle.volume.proofs.PlanRooms.{plan_room_law}
+use Rattle.plan_laws.specs.Laws.{gives_back, IsLeftBy}
+use Rattle.plan_laws.proofs.PlanEvents.{plan_events_law}
+use Rattle.plan_laws.proofs.PlanFences.{plan_fences_law}
+use Rattle.plan_laws.proofs.PlanRooms.{plan_room_law}
 use Rattle.engine.specs.Exec.{MightTake}
 
 pub might_take : (P : ℕ) (I : List ℕ) (state : State) (c : Command) (action : Action) → IsTidied P I → ReadsAs P I state → IsPlanned P I state c action → MightTake P state (Ok c) (fences_of_plan action) (events_of action)

@@ -30,7 +30,7 @@ use Rattle.volume.specs.declared.plan.Moving.{Moving}
 use Rattle.volume.specs.Planned.{IsMovingFor, IsNothingOr, IsPlanOf, is_size_of}
 use Rattle.volume.specs.Stands.{StandsFor}
 use Rattle.volume.specs.Volume.{VolumeView}
-use Rattle.volume.proofs.PlanFences.{plan_fences_law}
+use Rattle.plan_laws.proofs.PlanFences.{plan_fences_law}
 use Rattle.entry_steps.proofs.Answered.{follows_as}
 
 pub no_move : (moving : Moving) → KeepNames ≢ Move moving

@@ -24,11 +24,5 @@ pub mod PlanActions
 pub mod Listed
 pub mod PlanRows
 pub mod Staying
-pub mod PlanFacts
-pub mod PlanFences
-pub mod PlanEvents
-pub mod EventRows
-pub mod PageBounds
-pub mod PlanRooms
 pub mod NameMoves
 pub mod Summed

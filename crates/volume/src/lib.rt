@@ -4,7 +4,6 @@
 mod contents;
 mod costs;
 mod fences;
-mod laws;
 mod leaving;
 mod moved;
 mod names;
@@ -20,7 +19,6 @@ pub use costs::{
     COMMIT_EVENTS, DESCRIPTOR_REST_EVENTS, FENCE_EVENTS, INODE_EVENTS, KEPT_EVENTS, NAME_EVENTS,
     NEW_PAGE_EVENTS, PAGE_EVENTS, SLOT_REST_EVENTS, WORD_EVENTS,
 };
-pub use laws::{plan_events_law, plan_fences_law, plan_room_law};
 pub use plan::{
     Action, Loss, Moving, NewEntry, NewName, NewPages, Plan, Reading, Removal, Resizing, Writing,
 };
