@@ -73,15 +73,15 @@ Formats pages old new status =
     ⊎ (length old.device.words ≢ 512 * pages) × (status ≡ Usage) × IsUntouched old new
     ⊎ (length old.device.words ≡ 512 * pages) × (FailsToFormat pages old new status ⊎ HasFormatted pages old new status)
 
--- `run`
+-- `run` mounts the volume and runs the script on it: the main promise.
 abbrev pub Runs : {S K : Type 0} → Seen S K → Seen S K → Status → Type 0
 Runs old new status = MountsAnd HasRun old new status
 
--- `tree`
+-- `tree` mounts it and lists its tree.
 abbrev pub Lists : {S K : Type 0} → Seen S K → Seen S K → Status → Type 0
 Lists old new status = MountsAnd HasListed old new status
 
--- `work`
+-- `work` mounts it, runs the generated script on it, and tells its sums.
 abbrev pub Works : {S K : Type 0} → ℕ → ℕ → Seen S K → Seen S K → Status → Type 0
 Works seed count old new status = MountsAnd (HasWorked seed count) old new status
 
@@ -92,11 +92,11 @@ Checks old new status =
     ⊎ ¬ IsMountable old.device.words × IsRefused old new status
     ⊎ IsMountable old.device.words × HasChecked old new status
 
--- a crash in a run on the device itself
+-- A replay of a crash mounts the volume, runs the script on it, and lists what the crash leaves.
 abbrev pub ReplaysOn : {S K : Type 0} → Moment → List ℕ → Seen S K → Seen S K → Status → Type 0
 ReplaysOn moment keep old new status = MountsAnd (HasReplayed moment keep) old new status
 
--- on a new device of the same words, which never fails
+-- It is made on a new device of the same words, which never fails; the device itself is as it was.
 pub record ReplaysCopy {S K : Type 0} (moment : Moment) (keep : List ℕ) (old new : Seen S K) (status : Status) : Type 0 where
   pub alone : new.device ≡ old.device
   pub unfailing : status ≢ DeviceFault
@@ -105,7 +105,7 @@ pub record ReplaysCopy {S K : Type 0} (moment : Moment) (keep : List ℕ) (old n
   pub after : DeviceView
   pub replays : ReplaysOn moment keep (record old { device = before }) (record new { device = after }) status
 
--- `crash`: there is no memory for a copy, or the crash is replayed on it.
+-- `crash`: there is no memory for a copy, or the crash is replayed on one.
 abbrev pub Crashes : {S K : Type 0} → Moment → List ℕ → Seen S K → Seen S K → Status → Type 0
 Crashes moment keep old new status = (status ≡ NoMemory) × IsUntouched old new ⊎ ReplaysCopy moment keep old new status
 
