@@ -1,15 +1,15 @@
 -- What the answer of a mount tells, of each state that the words at entry read as, and of words that are sound or aren't.
-use Rattle.std.proofs.Common.{◌≡◌, ◌⊎◌, inl, inr, ℕ, List, refl, subst}
+use Rattle.std.proofs.Common.{◌≡◌, ◌⊎◌, inl, inr, ℕ, List, refl, arith}
+use Rattle.std.specs.Prelude.{Err}
 use Rattle.pm_trait.specs.DeviceView.{DeviceView}
 use Rattle.tree_model.specs.Run.{State}
 use Rattle.image_reading.specs.Reading.{ReadsAs}
 use Rattle.image_reading.specs.Soundness.{pages_in_image}
 use Rattle.image_reading.proofs.Readings.{one_tree, one_room}
 use Rattle.image_reading.proofs.Violations.{no_fault}
-use Rattle.volume.specs.Stands.{StandsFor}
-use Rattle.volume.specs.Volume.{VolumeView}
+use Rattle.mount_scan.specs.Looking.{IsAnswerFor}
 use Rattle.mount_scan.specs.Mounting.{IsSound}
-use Rattle.mount_scan.specs.Mounts.{Mounts, FailsToMount, HasMounted, RefusesMount}
+use Rattle.mount_scan.specs.Mounts.{IsLeftAlone, FailsToMount, RefusesMount}
 use Rattle.mount_scan.specs.declared.error.MountError.{MountError}
 use Rattle.mount_scan.specs.declared.error.MountError.TheVariants.{NotVolume, Damaged, PmFault, NoMemory}
 use Rattle.mount_scan.proofs.Mounts.{sound_holds}
@@ -23,13 +23,17 @@ one_state {P} {W} state other reads also =
     let room = one_room P W state.room other.room reads.room also.room in
     λ i. record { tree = tree i; room = room i }
 
--- so what is said of it holds of any that the words at entry read as
-pub mounted_as : {volume : VolumeView} {before mounted : DeviceView} → HasMounted volume before mounted → (state : State) → ReadsAs (pages_in_image before.words) before.words state
-    → StandsFor volume mounted state × Mounts (pages_in_image before.words) state before mounted
-mounted_as {volume} {before} {mounted} has state reads =
-    subst (λ (s : State). StandsFor volume mounted s × Mounts (pages_in_image before.words) s before mounted) (one_state has.start state has.reads reads) (has.stands, has.mount)
-
 -- ---- of one that isn't
+
+alone_itself : (device : DeviceView) → IsLeftAlone device device
+alone_itself device = record { words = refl; trail = refl; faults = refl; fences = refl; acks = refl; room = omega arith; refused = omega arith }
+
+-- where a look at the words found none to mount
+pub refuses : (error : MountError) (device : DeviceView) → IsAnswerFor device.words (Err error) → RefusesMount error device device
+refuses NotVolume device none = (none, refl)
+refuses (Damaged violation) device (holds, first) = (holds, first, refl)
+refuses PmFault device never = absurd never
+refuses NoMemory device holds = (holds, alone_itself device, λ _. refl)
 
 -- sound words are refused for want of memory, or a fence failed
 pub refused_sound : (error : MountError) {before after : DeviceView} → RefusesMount error before after → IsSound before.words
@@ -38,10 +42,3 @@ refused_sound NotVolume (none, same) sound = absurd (none (sound_holds sound))
 refused_sound (Damaged violation) {before} (holds, first, same) sound = absurd (no_fault (pages_in_image before.words) before.words first.rule violation.place sound first.first)
 refused_sound PmFault fails sound = inr (refl, fails)
 refused_sound NoMemory refused sound = inl refl
-
--- others for want of memory, or they are told, and the device is as it was
-pub refused_unsound : (error : MountError) {before after : DeviceView} → RefusesMount error before after → ¬ IsSound before.words → after ≡ before
-refused_unsound NotVolume (none, same) unsound = same
-refused_unsound (Damaged violation) (holds, first, same) unsound = same
-refused_unsound PmFault fails unsound = absurd (unsound fails.sound)
-refused_unsound NoMemory (holds, alone, same) unsound = same unsound

@@ -6,7 +6,6 @@ mod Holding
 mod Carried
 mod Heads
 mod Mounts
-mod Refusals
 pub mod Answered
 mod States
 mod Still

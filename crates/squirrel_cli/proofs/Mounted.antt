@@ -14,13 +14,14 @@ use Rattle.image_reading.specs.Reading.{Reads, ReadsAs}
 use Rattle.image_reading.specs.Soundness.{pages_in_image}
 use Rattle.image_reading.specs.Soundness.Rule.{head}
 use Rattle.image_reading.specs.Tidy.{Tidy}
-use Rattle.image_reading.proofs.Readings.{one_tree, one_room}
+use Rattle.image_reading.proofs.Readings.{one_tree}
 use Rattle.image_reading.proofs.Violations.{pages_law}
 use Rattle.script.specs.declared.run_end.RunEnd.{RunEnd}
 use Rattle.script.specs.declared.run_end.RunEnd.TheVariants as run_end
 use Rattle.volume.specs.Crashes.{MayReadAs, MeansState}
 use Rattle.volume.specs.Stands.{IsStanding, StandsFor}
 use Rattle.volume.specs.Volume.{VolumeView}
+use Rattle.mount_scan.proofs.Answered.{one_state}
 use Rattle.mount_scan.specs.Mounting.{IsTidy}
 use Rattle.mount_scan.specs.Mounts.{HasMounted, IsOnlyMounted, Mounts}
 use Rattle.engine.specs.Quiet.{ActsOnly}
@@ -101,13 +102,6 @@ mounts_and_runs {P} {before} {mounted} {after} run reads mount = record {
 }
 
 -- ---- the state that a run starts with
-
--- words read as one state
-pub one_state : {P : ℕ} {W : List ℕ} (state other : State) → ReadsAs P W state → ReadsAs P W other → state ≡ other
-one_state {P} {W} state other reads also =
-    let tree = one_tree P W state.tree other.tree reads.tree also.tree in
-    let room = one_room P W state.room other.room reads.room also.room in
-    λ i. record { tree = tree i; room = room i }
 
 -- What runs on the mounted device starts with the state that the words at entry read as.
 pub mounted_state : {P : ℕ} {before mounted : DeviceView} (start : State) → IsOnlyMounted P before mounted → ReadsAs P mounted.words start → ReadsAs P before.words start × Mounts P start before mounted

@@ -12,6 +12,7 @@ use Rattle.image_reading.specs.Soundness.Rule.{head, root, pointers, one_pointer
 use Rattle.image_reading.specs.declared.Violation.{Violation}
 use Rattle.image_reading.proofs.Violations.{head_law, no_fault, same_rule}
 use Rattle.mount_scan.specs.Mounting.{HoldsVolume, IsSound}
+use Rattle.mount_scan.proofs.Answered.{refused_sound}
 use Rattle.mount_scan.specs.Mounts.{IsLeftAlone, RefusesMount}
 use Rattle.mount_scan.specs.declared.error.MountError.{MountError}
 use Rattle.mount_scan.specs.declared.error.MountError.TheVariants as refused
@@ -119,11 +120,11 @@ refused_settled before after refused.PmFault fails settled = inl fails.cause
 refused_settled before after refused.NoMemory (holds, alone, unsound) settled = inr (alone_settled alone settled)
 
 -- of sound words a device that never fails is refused for want of memory alone
-pub refused_memory : (error : MountError) (before after : DeviceView) → IsSound before.words → (HasRisen before.faults after.faults → ⊥) → RefusesMount error before after → error ≡ refused.NoMemory
-refused_memory refused.NotVolume before after sound never why = absurd (why.0 (sound_volume before.words sound))
-refused_memory (refused.Damaged violation) before after sound never why = absurd (not_sound why.1 sound)
-refused_memory refused.PmFault before after sound never fails = absurd (never fails.cause)
-refused_memory refused.NoMemory before after sound never why = refl
+pub refused_memory : (error : MountError) {before after : DeviceView} → IsSound before.words → (HasRisen before.faults after.faults → ⊥) → RefusesMount error before after → error ≡ refused.NoMemory
+refused_memory error sound never why = elim (refused_sound error why sound) [
+  | inl memory ↦ memory
+  | inr (is, fails) ↦ absurd (never fails.cause)
+]
 
 -- ---- by a text that was written
 

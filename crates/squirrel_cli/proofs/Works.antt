@@ -29,13 +29,14 @@ use Rattle.engine.specs.Run.{IsAt, last_state}
 use Rattle.squirrel_cli.specs.declared.status.Status.{Status}
 use Rattle.squirrel_cli.specs.declared.status.Status.TheVariants as status
 use Rattle.squirrel_cli.specs.Told.{IsToldOrCut}
+use Rattle.mount_scan.proofs.Answered.{one_state}
 use Rattle.mount_scan.specs.Mounts.{HasMounted}
 use Rattle.squirrel_cli.specs.Seen.{Seen}
 use Rattle.squirrel_cli.specs.ReplaySteps.{RunsMounted}
 use Rattle.squirrel_cli.specs.Works.{HasWorked, WorksScript, summary_of}
 use Rattle.squirrel_cli.specs.WorkSteps.{CountsGenerated, RunsGenerated, SumsGenerated, WorksOn}
 use Rattle.squirrel_cli.proofs.Leaving.{any_run}
-use Rattle.squirrel_cli.proofs.Mounted.{limit_gives, mounted_state, mounts_and_runs, one_state, runs_mounted}
+use Rattle.squirrel_cli.proofs.Mounted.{limit_gives, mounted_state, mounts_and_runs, runs_mounted}
 use Rattle.squirrel_cli.proofs.StatusEnds.{not_at_limit}
 
 -- ---- the run
