@@ -120,8 +120,8 @@ refused_settled before after refused.PmFault fails settled = inl fails.cause
 refused_settled before after refused.NoMemory (holds, alone, unsound) settled = inr (alone_settled alone settled)
 
 -- of sound words a device that never fails is refused for want of memory alone
-pub refused_memory : (error : MountError) {before after : DeviceView} → IsSound before.words → (HasRisen before.faults after.faults → ⊥) → RefusesMount error before after → error ≡ refused.NoMemory
-refused_memory error sound never why = elim (refused_sound error why sound) [
+pub refused_memory : (error : MountError) (before after : DeviceView) → IsSound before.words → (HasRisen before.faults after.faults → ⊥) → RefusesMount error before after → error ≡ refused.NoMemory
+refused_memory error before after sound never why = elim (refused_sound error why sound) [
   | inl memory ↦ memory
   | inr (is, fails) ↦ absurd (never fails.cause)
 ]

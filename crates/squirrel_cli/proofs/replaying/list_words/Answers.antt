@@ -14,7 +14,7 @@ write_left-requires-clause-stands g c =
     stands_on c.in-Ok-start.ensures.volume (mount.only.start, mount.stands)
 
 pub memory_alone-requires : goal.memory_alone-requires
-memory_alone-requires g c = refused_memory c.in-Err.error (subst IsSound (sym c.in-Ok.ensures.words) c.requires.sound) never_risen c.in-Err.ensures.answers
+memory_alone-requires g c = refused_memory c.in-Err.error _ _ (subst IsSound (sym c.in-Ok.ensures.words) c.requires.sound) never_risen c.in-Err.ensures.answers
 
 pub returns-clause-lists : goal.returns-clause-lists
 returns-clause-lists g c tree reads =
