@@ -1,6 +1,6 @@
 -- Pages of a file that are written inside its size.
 use Rattle.std.proofs.Common.{◌≡◌, inl, inr, ℕ, ◌+◌, ◌-◌, ◌*◌, ◌/◌, ◌%◌, ◌^◌, ◌<◌, ◌≤◌, Bool, true, cond, List, length, take, drop, min, refl, sym, ap, subst, ◌∙◌, arith, length-take, length-drop}
-use Rattle.std.specs.Prelude.{Option, nat_lt}
+use Rattle.std.specs.Prelude.{Option, None, nat_lt, slice_index}
 use Rattle.std.proofs.lemmas.Bool.{cases_lt}
 use Rattle.std.proofs.lemmas.Bool.Decides.{nat_tests}
 use Rattle.std.proofs.lemmas.List.{get_or-take, get_or-drop}
@@ -15,7 +15,7 @@ use Rattle.page_state.specs.declared.page.Touched.TheVariants.{Words}
 use Rattle.page_state.specs.declared.span.FileSpan.{FileSpan}
 use Rattle.page_state.specs.Spans.{span_of, new_words, new_lines}
 use Rattle.page_state.specs.Laws.{CountsNew}
-use Rattle.page_state.specs.Page.{PageView, OfSome, IsOwnWord, IsNewWordOf}
+use Rattle.page_state.specs.Page.{PageView, OfSome, IsOwnWord, IsNewWordOf, descriptor_of, pages_at}
 use Rattle.page_state.specs.Events.{HaveBytes, WritesSpan, FlushesPages}
 use Rattle.page_state.proofs.Counted.{inside_law}
 use Rattle.image_reading.specs.Reading.{IsPageOf, pages_of_size}
@@ -27,14 +27,18 @@ use Rattle.data_ops.specs.Files.{AreBytesFrom}
 use Rattle.data_ops.specs.Writing.{MayWriteInside, StoresInside}
 use Rattle.data_ops.proofs.Spans.{IsPart, bytes_part, byte_at, byte_kept, no_other, written_byte, span_stored, span_flushed, new_of_pages, have_of_pages}
 
--- the pieces of a page, as the code rounds up
-pub rounded : (n : ℕ) {end : ℕ} → end ≡ n / 4096 + min 1 (n % 4096) → end ≡ pieces n 4096
-rounded n is = omega (arith, is)
-
 pub whole : {P : ℕ} {W : List ℕ} {i offset : ℕ} {bytes pages : List ℕ} → MayWriteInside P W i offset bytes pages → length W ≡ 512 * P
 whole may = (may.can.tidy.coherent Rule.head 0).whole refl
 
-module _ {P : ℕ} {W : List ℕ} {i offset : ℕ} {bytes pages : List ℕ} (may : MayWriteInside P W i offset bytes pages) {end : ℕ} (end_is : end ≡ pieces (offset + length bytes) 4096) where
+-- the range is below the size, and that below 2^40
+pub range : {P : ℕ} {W : List ℕ} {i offset : ℕ} {bytes pages : List ℕ} → MayWriteInside P W i offset bytes pages → (offset + length bytes ≤ inode_size W i) × (inode_size W i ≤ 2 ^ 40)
+range {i = i} may = (may.can.inside, may.can.tidy.coherent Rule.sizes i may.can.reached may.can.file)
+
+module _ {P : ℕ} {W : List ℕ} {i offset : ℕ} {bytes pages : List ℕ} (may : MayWriteInside P W i offset bytes pages) {end : ℕ} (up : end ≡ (offset + length bytes) / 4096 + min 1 ((offset + length bytes) % 4096)) where
+  -- the pieces of a page, as the code rounds up
+  end_is : end ≡ pieces (offset + length bytes) 4096
+  end_is = omega (arith, up)
+
   abbrev first : ℕ
   first = offset / 4096
 
@@ -44,29 +48,29 @@ module _ {P : ℕ} {W : List ℕ} {i offset : ℕ} {bytes pages : List ℕ} (may
   abbrev pub span : FileSpan
   span = span_of first 1099511627776 offset bytes
 
-  pub small : inode_size W i ≤ 2 ^ 40
-  small = may.can.tidy.coherent Rule.sizes i may.can.reached may.can.file
-
-  pub count : length pages ≡ pieces (inode_size W i) 4096
+  count : length pages ≡ pieces (inode_size W i) 4096
   unfolding pages_of_size
   count = may.held.count
 
-  pub order : first < end
+  order : first < end
   order = let some = may.some in omega (arith, end_is, some)
 
-  pub within : end ≤ length pages
+  within : end ≤ length pages
   within = let all = count in let inside = may.can.inside in omega (arith, all, inside, end_is)
 
-  pub few : end ≤ 2 ^ 28
-  few = let far = small in let inside = may.can.inside in omega (arith, far, inside, end_is)
+  few : end ≤ 2 ^ 28
+  few = let (inside, far) = range may in omega (arith, far, inside, end_is)
 
-  pub long : length part ≡ end - first
+  long : length part ≡ end - first
   long = let one = length-take (end - first) (drop first pages) in let two = length-drop first pages in let all = within in omega (arith, one, two, all)
+
+  pub bounds : (first < end) × (end ≤ length pages) × (end ≤ 2 ^ 28) × (length part ≡ end - first)
+  bounds = (order, within, few, long)
 
   pub some : 0 < length part
   some = let all = long in let more = order in omega (arith, all, more)
 
-  pub parts : IsPart pages part first
+  parts : IsPart pages part first
   parts = record {
     below = λ n low. let all = long in let most = within in omega (arith, all, most, low);
     same = λ n low. let all = long in get_or-take (end - first) (drop first pages) n 0 (omega (arith, all, low)) ∙ get_or-drop first pages n 0;
@@ -75,6 +79,10 @@ module _ {P : ℕ} {W : List ℕ} {i offset : ℕ} {bytes pages : List ℕ} (may
   pub from_first : AreBytesFrom P W i first part
   from_first = bytes_part P W i first pages part may.held.bytes parts
 
+  -- the first of them, as the object is taken by
+  pub taken : descriptor_of P W (slice_index part 0) ≡ record { owner = i; kind = 1; offset = first + 0 }
+  taken = from_first.each 0 some
+
   counted : CountsNew span (length part) offset (offset + length bytes)
   counted =
       let all = long in
@@ -82,10 +90,10 @@ module _ {P : ℕ} {W : List ℕ} {i offset : ℕ} {bytes pages : List ℕ} (may
       let top = few in
       inside_law span (length part) (omega arith) may.some (omega (arith, all, more, end_is)) (omega (arith, all, more, top))
 
-  pub some_words : 0 < new_words span (length part)
+  some_words : 0 < new_words span (length part)
   some_words = let words = counted.words in let least = may.some in omega (arith, words, least)
 
-  pub events : span_events offset (offset + length bytes) ≡ new_words span (length part) + new_lines span (length part)
+  events : span_events offset (offset + length bytes) ≡ new_words span (length part) + new_lines span (length part)
   events =
       let stop = offset + length bytes in
       let least = may.some in
@@ -103,7 +111,7 @@ module _ {P : ℕ} {W : List ℕ} {i offset : ℕ} {bytes pages : List ℕ} (may
       }
       | inr there ↦ elim (cases_lt (o / 4096) (first + length part)) [
         | inl high ↦
-            let far = small in
+            let far = (range may).1 in
             written_byte span bytes o (page_byte P W j (o % 4096)) (page_byte P b j (o % 4096)) refl (omega (arith, low, far))
             (byte_at P W i pages may.held span bytes part parts run have o j page there high)
         | inr behind ↦ record {
@@ -143,12 +151,30 @@ module _ {P : ℕ} {W : List ℕ} {i offset : ℕ} {bytes pages : List ℕ} (may
 
   -- ---- from the object as it was taken to the flush
 
-  module _ (live written : PageView) (volume : live.volume_pages ≡ P) (list : live.pages ≡ part) (volume_too : written.volume_pages ≡ live.volume_pages) (list_too : written.pages ≡ live.pages) (touched : written.touched ≡ Words span) {a b : DeviceView}
-      (run : WritesSpan live.volume_pages live.pages span bytes a b) where
+  module _ {live : PageView} (live_is : live ≡ pages_at P part W) where
+    pub has_words : 0 < new_words span (length live.pages)
+    has_words = subst (λ (v : PageView). 0 < new_words span (length v.pages)) (sym live_is) some_words
+
+    pub costs : span_events offset (offset + length bytes) ≡ new_words span (length live.pages) + new_lines span (length live.pages)
+    costs = events ∙ ap (λ (v : PageView). new_words span (length v.pages) + new_lines span (length v.pages)) (sym live_is)
+
+  module _ {live written : PageView} (live_is : live ≡ pages_at P part W) (written_is : written ≡ record live { touched = Words span; ticket = None }) {a b : DeviceView} (run : WritesSpan live.volume_pages live.pages span bytes a b) where
+    volume : live.volume_pages ≡ P
+    volume = ap (λ (v : PageView). v.volume_pages) live_is
+
+    list : live.pages ≡ part
+    list = ap (λ (v : PageView). v.pages) live_is
+
+    volume_too : written.volume_pages ≡ live.volume_pages
+    volume_too = ap (λ (v : PageView). v.volume_pages) written_is
+
+    list_too : written.pages ≡ live.pages
+    list_too = ap (λ (v : PageView). v.pages) written_is
+
     pub all_stored : {c : DeviceView} → FlushesPages written.volume_pages written.pages written.touched b c → Stores (IsNewWordOf span P part) a c (span_events offset (offset + length bytes))
     all_stored {c} flushes =
         span_stored span bytes P live.volume_pages written.volume_pages (span_events offset (offset + length bytes)) part live.pages written.pages volume list (list_too ∙ list) events run
-        (subst (λ (t : Touched). FlushesPages written.volume_pages written.pages t b c) touched flushes)
+        (subst (λ (t : Touched). FlushesPages written.volume_pages written.pages t b c) (ap (λ (v : PageView). v.touched) written_is) flushes)
 
     pub all_flushed : {trail : Option Trail} → ((w : ℕ) → OfSome written.pages (IsOwnWord written.volume_pages) w → IsFlushed trail w) → (w : ℕ) → IsNewWordOf span P part w → IsFlushed trail w
     all_flushed flushed = span_flushed span P written.volume_pages part written.pages (volume_too ∙ volume) (list_too ∙ list) flushed

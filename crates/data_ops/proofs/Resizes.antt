@@ -1,5 +1,5 @@
 -- A file that gets another size: by its growth, or by a cut.
-use Rattle.std.proofs.Common.{◌≡◌, ◌⊎◌, inl, inr, ℕ, ◌+◌, ◌^◌, ◌<◌, ◌≤◌, Bool, true, false, nat_lt, cond, List, [], length, refl, sym, ap, subst, ◌∙◌, arith}
+use Rattle.std.proofs.Common.{◌≡◌, ◌⊎◌, inl, inr, ℕ, ◌+◌, ◌<◌, ◌≤◌, Bool, true, false, nat_lt, cond, List, [], length, refl, sym, ap, subst, ◌∙◌, arith}
 use Rattle.std.specs.Prelude.{Option, Result, OnOk}
 use Rattle.std.proofs.lemmas.Bool.{cases_lt}
 use Rattle.std.proofs.lemmas.Bool.Decides.{nat_tests}
@@ -12,8 +12,7 @@ use Rattle.tree_model.specs.Run.{State}
 use Rattle.tree_model.specs.declared.command.Command.TheVariants.{Truncate}
 use Rattle.volume.specs.Carried.{IsAtomic}
 use Rattle.volume.specs.Commit.{HangsOn, HangsOnWords}
-use Rattle.volume.specs.Costs.{where_true, reserved_events, growth_events, fences_for_growth, commit_events, loss_events, fences_for_loss, events_of_resize, fences_of_resize}
-use Rattle.volume.specs.declared.plan.Action.TheVariants.{Resize}
+use Rattle.volume.specs.Costs.{where_true, growth_events, fences_for_growth, commit_events, loss_events, fences_for_loss, events_of_resize, fences_of_resize}
 use Rattle.volume.specs.declared.plan.Resizing.{Resizing}
 use Rattle.pm_trait.specs.Unfolds.{MayFence, events_in, fences_in, Unfolds}
 use Rattle.entry_steps.proofs.Turning.{hangs_on}
@@ -142,6 +141,3 @@ room_of n spare room =
   where
     not_some : (m : ℕ) → nat_lt 0 m ≡ false → m ≡ 0
     not_some m is = grind (arith, nat_tests)
-
-pub may_begin : (device : DeviceView) (words : ℕ) (resizing : Resizing) → length device.words ≡ words → IsSettledView device → reserved_events (Resize resizing) ≤ device.spare → device.fences < 2 ^ 63 → MayFence device words (events_of_resize resizing) 3
-may_begin device words resizing whole settled room countable = record { whole = whole; settled = settled; room = room_of (events_of_resize resizing) device.spare room; countable = omega (arith, countable) }

@@ -1,5 +1,5 @@
 -- The plan of a write is carried out, once the bytes are on the device and the new pages in the volume.
-use Rattle.std.proofs.Common.{◌≡◌, ℕ, ◌+◌, ◌^◌, ◌<◌, ◌≤◌, false, true, cond, List, length, sym, ap, subst, ◌∙◌, arith}
+use Rattle.std.proofs.Common.{◌≡◌, ℕ, ◌+◌, ◌*◌, false, true, cond, List, length, sym, ap, subst, ◌∙◌, arith}
 use Rattle.std.specs.Prelude.{Result, Ok, Err, nat_le}
 use Rattle.pm_trait.specs.DeviceView.{DeviceView, IsSettledView, MakesIntervals}
 use Rattle.pm_trait.proofs.DeviceViewLaws.{intervals_as}
@@ -10,18 +10,22 @@ use Rattle.tree_model.specs.declared.command.Command.{Command}
 use Rattle.tree_model.specs.declared.command.Command.TheVariants.{Write}
 use Rattle.tree_model.specs.declared.reply.Reply.{Reply}
 use Rattle.tree_model.specs.declared.reply.Reply.TheVariants.{Count as Told}
-use Rattle.volume.specs.Carried.{IsPlanFor, IsAtomic, LeavesState, Follows, Carries}
-use Rattle.volume.specs.Costs.{span_events, fence_events, growth_events, events_of, events_of_write, fences_of_plan, reserved_events}
+use Rattle.volume.specs.Carried.{IsPlanFor, MayCarry, IsAtomic, Follows, Carries}
+use Rattle.volume.specs.Costs.{span_events, fence_events, growth_events, events_of, events_of_write, fences_of_plan}
 use Rattle.volume.specs.declared.plan.Action.TheVariants.{Write as WriteBytes}
-use Rattle.volume.specs.Entered.{EntersPages}
+use Rattle.volatile_index.specs.Index.{pages_of}
+use Rattle.volume.specs.Entered.{MayEnterPages, EntersPages}
 use Rattle.volume.specs.Volume.{VolumeView}
 use Rattle.volume.specs.declared.plan.Writing.{Writing}
 use Rattle.volume.proofs.ContentPlans.{planned_writing}
+use Rattle.volume.proofs.FilePages.{may_enter_written}
 use Rattle.pm_trait.specs.Unfolds.{MayFence, Unfolds}
 use Rattle.entry_steps.proofs.Answered.{failed_as, follows_as}
-use Rattle.pm_trait.proofs.Unfolding.{unfolds_as, unfolds_failed_as}
-use Rattle.data_ops.specs.Writing.{IsWriteOf, IsWritingAt, HasStoredBytes, write_steps}
+use Rattle.data_ops.specs.Writing.{IsWriteOf, MayWriteBytes, HasStoredBytes, write_steps}
 use Rattle.data_ops.proofs.Resizes.{room_of}
+use Rattle.data_ops.proofs.WriteLeft.{leaves_state}
+use Rattle.data_ops.proofs.WriteSteps.{all_intervals, stores_bytes, is_atomic, has_stored}
+use Rattle.data_ops.proofs.Writings
 
 some_events : (writing : Writing) → events_of (WriteBytes writing) ≡ 0 → ⊥
 some_events writing none =
@@ -33,67 +37,91 @@ some_events writing none =
 same_write : (path other : Route) (offset at : ℕ) (bytes more : List ℕ) → ◌≡◌ {A = Command} (Write path offset bytes) (Write other at more) → bytes ≡ more
 same_write path other offset at bytes more e = cc
 
--- the plan has its room
-pub may_begin : (device : DeviceView) (words : ℕ) (writing : Writing) → length device.words ≡ words → IsSettledView device → reserved_events (WriteBytes writing) ≤ device.spare → device.fences < 2 ^ 63 → MayFence device words (events_of_write writing) 3
-may_begin device words writing whole settled room countable = record { whole = whole; settled = settled; room = room_of (events_of_write writing) device.spare room; countable = omega (arith, countable) }
+-- the plan of a write of these bytes, by the size that the call has
+module _ {volume : VolumeView} {old : DeviceView} {writing : Writing} {bytes : List ℕ} (planned : (state : State) × (path : Route) × IsPlanFor volume old state (Write path writing.offset bytes) (WriteBytes writing)) where
+  abbrev pages : List ℕ
+  pages = pages_of volume.index writing.inode
 
--- by the volume's own pages
-pub steps_of_volume : {T E : Type 0} {P V : ℕ} {old new : DeviceView} (writing : Writing) (bytes : List ℕ) {result : Result T E} → P ≡ V → Unfolds (write_steps P writing bytes) old new result → Unfolds (write_steps V writing bytes) old new result
-steps_of_volume {old = old} {new = new} writing bytes {result = result} volume made = subst (λ (v : ℕ). Unfolds (write_steps v writing bytes) old new result) volume made
+  settled : IsSettledView old
+  settled = planned.2.stands.settled
 
--- another value is answered, or another fault
-pub stored_as : {T E U F : Type 0} {P : ℕ} {before after : DeviceView} {writing : Writing} {bytes : List ℕ} {value : T} (other : U) → HasStoredBytes {E = E} P before after writing bytes (Ok value) → HasStoredBytes {E = F} P before after writing bytes (Ok other)
-stored_as other stored = record { in_turn = unfolds_as other stored.in_turn; made = stored.made; commit_word = stored.commit_word }
+  may : MayWriteBytes volume.size old.words writing bytes pages
+  may = Writings.may_write_bytes volume old planned.0 planned.1 bytes writing planned.2
 
-pub stored_failed : {T E U F : Type 0} {P : ℕ} {before after : DeviceView} {writing : Writing} {bytes : List ℕ} {fault : E} (other : F) → HasStoredBytes {T = T} P before after writing bytes (Err fault) → HasStoredBytes {T = U} P before after writing bytes (Err other)
-stored_failed other stored = record { in_turn = unfolds_failed_as other stored.in_turn; made = tt; commit_word = stored.commit_word }
+  pub may_take : MayEnterPages volume writing.inode writing.new_pages
+  may_take = may_enter_written volume old planned.0 (Write planned.1 writing.offset bytes) writing planned.2
 
-module _ (volume after : VolumeView) (old new : DeviceView) (writing : Writing) (bytes : List ℕ)
-    (atomic : (state : State) (path : Route) → IsWritingAt volume.size old.words state path bytes writing → IsAtomic volume.size old new state (Write path writing.offset bytes)) where
   -- the command of its plan, of these bytes
-  found : (state : State) (command : Command) → IsWriteOf bytes command → IsPlanFor volume old state command (WriteBytes writing) → (path : Route) × (command ≡ Write path writing.offset bytes)
+  found : (state : State) (command : Command) → IsWriteOf bytes command → IsPlanFor volume old state command (WriteBytes writing)
+      → (path : Route) × (command ≡ Write path writing.offset bytes) × IsPlanFor volume old state (Write path writing.offset bytes) (WriteBytes writing)
   found state command (place, at, ours) plan =
       let (path, offset, more, is, for) = planned_writing volume.size old.words state command writing plan.planned.plan_is in
       let same = same_write place path at offset bytes more (sym ours ∙ is) in
-      (path, is ∙ ap (λ (n : ℕ). Write path n more) (sym for.offset_is) ∙ ap (λ (l : List ℕ). Write path writing.offset l) (sym same))
+      let whole = is ∙ ap (λ (n : ℕ). Write path n more) (sym for.offset_is) ∙ ap (λ (l : List ℕ). Write path writing.offset l) (sym same) in
+      (path, whole, subst (λ (c : Command). IsPlanFor volume old state c (WriteBytes writing)) whole plan)
 
-  by_path : (state : State) (command : Command) (path : Route) → command ≡ Write path writing.offset bytes → IsPlanFor volume old state command (WriteBytes writing) → IsPlanFor volume old state (Write path writing.offset bytes) (WriteBytes writing)
-  by_path state command path same plan = subst (λ (c : Command). IsPlanFor volume old state c (WriteBytes writing)) same plan
+  module _ {P : ℕ} (size : P ≡ volume.size) where
+    pub may_write : {all : List ℕ} → all ≡ pages → MayWriteBytes P old.words writing bytes all
+    may_write are =
+        subst (λ (l : List ℕ). MayWriteBytes P old.words writing bytes l) (sym are)
+        (subst (λ (p : ℕ). MayWriteBytes p old.words writing bytes pages) (sym size) may)
 
-  atomic_of : (state : State) (path : Route) → IsPlanFor volume old state (Write path writing.offset bytes) (WriteBytes writing) → IsAtomic volume.size old new state (Write path writing.offset bytes)
-  atomic_of state path plan = atomic state path (record { reads = plan.stands.reads; planned = plan.planned })
+    -- the plan has its room
+    pub may_begin : MayCarry volume old (WriteBytes writing) → MayFence old (512 * P) (events_of_write writing) 3
+    may_begin ready = record {
+      whole = planned.2.stands.knows.whole ∙ ap (λ (p : ℕ). 512 * p) (sym size);
+      settled = settled;
+      room = room_of (events_of_write writing) old.spare ready.reserved.room;
+      countable = let few = ready.countable in omega (arith, few);
+    }
 
-  pub carried : {E T : Type 0} (done : T) (count : ℕ) → count ≡ length bytes
-      → ((state : State) (path : Route) → IsPlanFor volume old state (Write path writing.offset bytes) (WriteBytes writing) → LeavesState volume after old new state (Write path writing.offset bytes) (Count (length bytes)))
-      → EntersPages volume after writing.inode writing.new_pages → MakesIntervals {E = E} old new (events_of (WriteBytes writing)) (fences_of_plan (WriteBytes writing)) (Ok done) → volume.stopped ≡ false
-      → Carries {E = E} volume after old new (WriteBytes writing) (Count (length bytes)) (IsWriteOf bytes) (Ok (Told count))
-  carried {E} done count long made enters device going = record {
-    meaning = λ state command ours plan.
-        let (path, same) = found state command ours plan in
-        let here = by_path state command path same plan in
-        let follows : Follows {E = E} volume after old new state (Write path writing.offset bytes) (Count (length bytes)) (Ok (Told count)) = record { made = made state path here; atomic = atomic_of state path here } in
-        follows_as (Write path writing.offset bytes) command same follows;
-    answered = record {
-      reply = ap (λ (n : ℕ). let reply : Reply = Told n in reply) long;
-      going = ap (λ (v : VolumeView). v.stopped) enters.rest ∙ going;
-      knows = enters;
-      stopped = tt;
-      size = ap (λ (v : VolumeView). v.size) enters.rest;
-    };
-    device = intervals_as (Told count) device;
-    idle = λ none. absurd (some_events writing none);
-  }
+    module _ {T E : Type 0} {new : DeviceView} {result : Result T E} (unfolds : Unfolds (write_steps P writing bytes) old new result) where
+      made : Unfolds (write_steps volume.size writing bytes) old new result
+      made = subst (λ (p : ℕ). Unfolds (write_steps p writing bytes) old new result) size unfolds
 
-  -- a fence failed, and the volume is stopped
-  pub carried_no_further : {E F T : Type 0} {failed : F} (fault : E) → MakesIntervals {T = T} old new (events_of (WriteBytes writing)) (fences_of_plan (WriteBytes writing)) (Err failed)
-      → after ≡ record volume { stopped = true } → Carries {E = E} volume after old new (WriteBytes writing) (Count (length bytes)) (IsWriteOf bytes) (Err fault)
-  carried_no_further {E} fault device stopped = record {
-    meaning = λ state command ours plan.
-        let (path, same) = found state command ours plan in
-        let here = by_path state command path same plan in
-        let follows : Follows {E = E} volume after old new state (Write path writing.offset bytes) (Count (length bytes)) (Err fault) = record { made = tt; atomic = atomic_of state path here } in
-        follows_as (Write path writing.offset bytes) command same follows;
-    answered = record { reply = tt; going = tt; knows = tt; stopped = ap (λ (v : VolumeView). v.stopped) stopped; size = ap (λ (v : VolumeView). v.size) stopped };
-    device = failed_as fault device;
-    idle = λ none. absurd (some_events writing none);
-  }
+      pub stored : HasStoredBytes volume.size old new writing bytes result
+      stored = has_stored volume.size old new writing bytes pages result may settled made (record { reads = planned.2.stands.reads; planned = planned.2.planned })
+
+      device : MakesIntervals old new (events_of (WriteBytes writing)) (fences_of_plan (WriteBytes writing)) result
+      device = all_intervals volume.size old new writing bytes pages result may settled made
+
+      atomic : (state : State) (path : Route) → IsPlanFor volume old state (Write path writing.offset bytes) (WriteBytes writing) → IsAtomic volume.size old new state (Write path writing.offset bytes)
+      atomic state path plan = is_atomic volume.size old new writing bytes pages result may settled made (record { reads = plan.stands.reads; planned = plan.planned })
+
+    pub carried : {E T : Type 0} {done : T} {new : DeviceView} {after : VolumeView} {list : List ℕ} → Unfolds {E = E} (write_steps P writing bytes) old new (Ok done) → list ≡ writing.new_pages → EntersPages volume after writing.inode list → volume.stopped ≡ false
+        → Carries {E = E} volume after old new (WriteBytes writing) (Count (length bytes)) (IsWriteOf bytes) (Ok (Told writing.count))
+    carried {E} {done = done} {new} {after} unfolds list_is took going =
+        let enters = subst (λ (l : List ℕ). EntersPages volume after writing.inode l) list_is took in
+        let all = device unfolds in
+        let stores = stores_bytes volume.size old new writing bytes pages (Ok done) may settled (made unfolds) in
+        record {
+          meaning = λ state command ours plan.
+              let (path, same, here) = found state command ours plan in
+              let follows : Follows {E = E} volume after old new state (Write path writing.offset bytes) (Count (length bytes)) (Ok (Told writing.count)) = record {
+                made = leaves_state volume old state path bytes writing here new stores after enters all.settled (all.counted, all.grown);
+                atomic = atomic unfolds state path here;
+              } in
+              follows_as (Write path writing.offset bytes) command same follows;
+          answered = record {
+            reply = ap (λ (n : ℕ). let reply : Reply = Told n in reply) (Writings.for_writing volume old planned.0 planned.1 bytes writing planned.2).count_is;
+            going = ap (λ (v : VolumeView). v.stopped) enters.rest ∙ going;
+            knows = enters;
+            stopped = tt;
+            size = ap (λ (v : VolumeView). v.size) enters.rest;
+          };
+          device = intervals_as (Told writing.count) all;
+          idle = λ none. absurd (some_events writing none);
+        }
+
+    -- a fence failed, and the volume is stopped
+    pub carried_no_further : {E F T : Type 0} {new : DeviceView} {after : VolumeView} {failed : F} (fault : E) → Unfolds {T = T} (write_steps P writing bytes) old new (Err failed)
+        → after ≡ record volume { stopped = true } → Carries {E = E} volume after old new (WriteBytes writing) (Count (length bytes)) (IsWriteOf bytes) (Err fault)
+    carried_no_further {E} {new = new} {after} fault unfolds stopped = record {
+      meaning = λ state command ours plan.
+          let (path, same, here) = found state command ours plan in
+          let follows : Follows {E = E} volume after old new state (Write path writing.offset bytes) (Count (length bytes)) (Err fault) = record { made = tt; atomic = atomic unfolds state path here } in
+          follows_as (Write path writing.offset bytes) command same follows;
+      answered = record { reply = tt; going = tt; knows = tt; stopped = ap (λ (v : VolumeView). v.stopped) stopped; size = ap (λ (v : VolumeView). v.size) stopped };
+      device = failed_as fault (device unfolds);
+      idle = λ none. absurd (some_events writing none);
+    }

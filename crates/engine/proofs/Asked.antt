@@ -1,17 +1,29 @@
 -- What a plan's action says of its command.
-use Rattle.std.proofs.Common.{◌≡◌, ◌⊎◌, inl, inr, ℕ, List, refl, sym, subst}
+use Rattle.std.proofs.Common.{◌≡◌, ◌⊎◌, inl, inr, ℕ, List, refl, sym, ap, subst, ◌∙◌}
+use Rattle.pm_trait.specs.DeviceView.{DeviceView}
+use Rattle.layout.specs.declared.kinds.NodeKind.{NodeKind}
 use Rattle.tree_model.specs.PathText.{Route}
 use Rattle.tree_model.specs.Run.{State}
 use Rattle.tree_model.specs.declared.command.Command.{Command}
 use Rattle.tree_model.specs.declared.command.Command.TheVariants.{Create, Mkdir, Link, Unlink, Rmdir, Rename, Write, Truncate, Read, Stat as Tell, List as Show, Df}
 use Rattle.data_ops.specs.Cutting.{IsTruncation}
+use Rattle.data_ops.specs.Writing.{IsWriteOf}
+use Rattle.volume.specs.Volume.{VolumeView}
+use Rattle.volume.specs.Carried.{IsPlanFor}
+use Rattle.volume.specs.Prepared.{IsChange, making}
 use Rattle.volume.specs.declared.plan.Action.{Action}
 use Rattle.volume.specs.declared.plan.Action.TheVariants.{Make, Name, Remove, Move, Write as WriteBytes, WriteNothing, Resize, KeepSize, KeepNames, Read as ReadBytes, Status, Names, Space}
+use Rattle.volume.specs.declared.plan.NewEntry.{NewEntry}
+use Rattle.volume.specs.declared.plan.NewName.{NewName}
+use Rattle.volume.specs.declared.plan.Removal.{Removal}
 use Rattle.volume.specs.declared.plan.Moving.{Moving}
 use Rattle.volume.specs.declared.plan.Writing.{Writing}
 use Rattle.volume.specs.declared.plan.Resizing.{Resizing}
-use Rattle.volume.specs.Planned.{IsMovingFor, IsWritingFor, IsResizingFor, IsPlanOf}
-use Rattle.volume.proofs.Plans.{nothing_or}
+use Rattle.volume.specs.Planned.{IsMovingFor, IsWritingFor, IsResizingFor, IsPlanOf, IsPlanned}
+use Rattle.volume.proofs.Plans.{nothing_or, planned_making}
+use Rattle.volume.proofs.PlanActions.{planned_linking}
+use Rattle.engine.proofs.Removals.{removing, planned_removal}
+use Rattle.engine.proofs.Told.{state_is}
 
 abbrev pub IsRename : Command → Type 0
 IsRename command = (from : Route) × (to : Route) × (command ≡ Rename from to)
@@ -55,17 +67,65 @@ asked P I state (Tell path) action is = subst (IsAskedBy (Tell path)) (sym is) t
 asked P I state (Show path) action is = subst (IsAskedBy (Show path)) (sym is) tt
 asked P I state Df action is = subst (IsAskedBy Df) (sym is) tt
 
--- ---- by the two
+-- ---- a plan was made for the command, and its action is one of two
 
-module _ (P : ℕ) (I : List ℕ) (state : State) (command : Command) (action : Action) (plan : IsPlanOf P I state command action) where
-  pub renamed : ((moving : Moving) × (action ≡ Move moving)) ⊎ (action ≡ KeepNames) → IsRename command
-  renamed (inl (moving, is)) = subst (IsAskedBy command) is (asked P I state command action plan)
-  renamed (inr is) = subst (IsAskedBy command) is (asked P I state command action plan)
+module _ {volume : VolumeView} {device : DeviceView} {state : State} {command : Command} {plan action : Action} (planned : IsPlanFor volume device state command plan) (is : plan ≡ action) where
+  asked_as : {other : Action} → action ≡ other → IsAskedBy command other
+  asked_as same = subst (IsAskedBy command) (is ∙ same) (asked volume.size device.words state command plan planned.planned.plan_is)
 
-  pub written : ((writing : Writing) × (action ≡ WriteBytes writing)) ⊎ (action ≡ WriteNothing) → IsWrite command
-  written (inl (writing, is)) = subst (IsAskedBy command) is (asked P I state command action plan)
-  written (inr is) = subst (IsAskedBy command) is (asked P I state command action plan)
+  renames : ((moving : Moving) × (action ≡ Move moving)) ⊎ (action ≡ KeepNames) → IsRename command
+  renames (inl (moving, same)) = asked_as same
+  renames (inr same) = asked_as same
 
-  pub truncated : ((resizing : Resizing) × (action ≡ Resize resizing)) ⊎ (action ≡ KeepSize) → IsTruncation command
-  truncated (inl (resizing, is)) = subst (IsAskedBy command) is (asked P I state command action plan)
-  truncated (inr is) = subst (IsAskedBy command) is (asked P I state command action plan)
+  written : ((writing : Writing) × (action ≡ WriteBytes writing)) ⊎ (action ≡ WriteNothing) → IsWrite command
+  written (inl (writing, same)) = asked_as same
+  written (inr same) = asked_as same
+
+  -- with the bytes that were taken from it
+  pub writes : {bytes : List ℕ} → ((writing : Writing) × (action ≡ WriteBytes writing)) ⊎ (action ≡ WriteNothing) → ((path : Route) (offset : ℕ) (other : List ℕ) → command ≡ Write path offset other → bytes ≡ other) → IsWriteOf bytes command
+  writes one taken =
+      let (path, offset, other, write) = written one in
+      (path, offset, write ∙ ap (Write path offset) (sym (taken path offset other write)))
+
+  pub truncates : ((resizing : Resizing) × (action ≡ Resize resizing)) ⊎ (action ≡ KeepSize) → IsTruncation command
+  truncates (inl (resizing, same)) = asked_as same
+  truncates (inr same) = asked_as same
+
+-- either changes something
+pub either_changes : {X : Type 0} {action other : Action} (f : X → Action) → ((x : X) × (action ≡ f x)) ⊎ (action ≡ other) → ((x : X) → IsChange (f x)) → IsChange other → IsChange action
+either_changes f (inl (x, is)) one two = subst IsChange (sym is) (one x)
+either_changes f (inr is) one two = subst IsChange (sym is) two
+
+-- ---- so it is a plan for the command of this form
+
+module _ {volume : VolumeView} {device : DeviceView} {command : Command} {plan action : Action} (planned : (state : State) × IsPlanFor volume device state command plan) (is : plan ≡ action) where
+  plan_as : {other : Action} → action ≡ other → IsPlanned volume.size device.words planned.0 command other
+  plan_as same = subst (IsPlanned volume.size device.words planned.0 command) (is ∙ same) planned.1.planned
+
+  for : {other : Command} → command ≡ other → IsPlanFor volume device planned.0 other plan
+  for same = subst (λ (c : Command). IsPlanFor volume device planned.0 c plan) same planned.1
+
+  pub for_making : {entry : NewEntry} {kind : NodeKind} → action ≡ Make entry → entry.kind ≡ kind → (state : State) × (path : Route) × IsPlanFor volume device state (making kind path) plan
+  for_making {entry} same kind_is =
+      let (path, makes) = planned_making volume.size device.words planned.0 command entry (plan_as same).plan_is in
+      (planned.0, path, for (makes ∙ ap (λ (k : NodeKind). making k path) kind_is))
+
+  pub for_linking : {link : NewName} → action ≡ Name link → (state : State) × (from : Route) × (to : Route) × IsPlanFor volume device state (Link from to) plan
+  for_linking {link} same =
+      let (from, to, links, new) = planned_linking volume.size device.words planned.0 command link (plan_as same).plan_is in
+      (planned.0, from, to, for links)
+
+  pub for_removing : {removal : Removal} {kind : NodeKind} → action ≡ Remove removal → removal.loss.kind ≡ kind → (state : State) × (path : Route) × IsPlanFor volume device state (removing kind path) plan
+  for_removing {removal} same kind_is =
+      let (path, removes) = planned_removal volume.size device.words planned.0 (state_is volume device planned.1.stands).tree command removal (plan_as same) in
+      (planned.0, path, for (removes ∙ ap (λ (k : NodeKind). removing k path) kind_is))
+
+  pub for_renaming : ((moving : Moving) × (action ≡ Move moving)) ⊎ (action ≡ KeepNames) → (state : State) × (from : Route) × (to : Route) × IsPlanFor volume device state (Rename from to) plan
+  for_renaming one = let (from, to, same) = renames planned.1 is one in (planned.0, from, to, for same)
+
+  pub for_writing : {bytes : List ℕ} → ((writing : Writing) × (action ≡ WriteBytes writing)) ⊎ (action ≡ WriteNothing) → ((path : Route) (offset : ℕ) (other : List ℕ) → command ≡ Write path offset other → bytes ≡ other)
+      → (state : State) × (path : Route) × (offset : ℕ) × IsPlanFor volume device state (Write path offset bytes) plan
+  for_writing one taken = let (path, offset, same) = writes planned.1 is one taken in (planned.0, path, offset, for same)
+
+  pub for_truncating : ((resizing : Resizing) × (action ≡ Resize resizing)) ⊎ (action ≡ KeepSize) → (state : State) × (path : Route) × (size : ℕ) × IsPlanFor volume device state (Truncate path size) plan
+  for_truncating one = let (path, size, same) = truncates planned.1 is one in (planned.0, path, size, for same)

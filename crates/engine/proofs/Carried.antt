@@ -20,7 +20,7 @@ use Rattle.image_reading.proofs.Tidied.{tidied}
 use Rattle.engine.proofs.Might.{might_take}
 use Rattle.engine.specs.Exec.{Executed, HasFailed, Does, LeavesVolume, KeepsBytes}
 use Rattle.engine.specs.Replies.{IsTold, IsChangeReply}
-use Rattle.engine.specs.Session.{SessionView}
+use Rattle.engine.specs.Session.{SessionView, session_of}
 
 growth_fences : (pages : List ℕ) → fences_for_growth pages ≢ 0
 growth_fences [] none = omega (arith, none)
@@ -70,27 +70,31 @@ change_told session device Stopped is = absurd is
 accepted_change : (P : ℕ) (state : State) (c : Command) → is_changing c ≡ true → refusal_of P state.tree state.room c ≡ None → IsTrue (may_fail P state c)
 accepted_change P state c changes accepted = let none = ap is_none accepted in ap (λ b. b && is_none (refusal_of P state.tree state.room c)) changes ∙ none
 
-module _ (old new : SessionView) (before after : DeviceView) (action : Action) (answer : Answer) {IsOurs : Command → Type 0} where
-  pub does_carried : (state : State) (c : Command) (result : Result Reply PmFault) → IsOurs c → IsChangeReply (reply_of answer) → IsChange action → IsPlanFor old.volume before state c action
-      → Carries old.volume new.volume before after action answer IsOurs result → Does old new before after state (Ok c) result
-  does_carried state c result ours told change plan_for carries = record {
+-- a plan was carried out whose action changes something
+module _ {old new : VolumeView} {before after : DeviceView} {action : Action} {answer : Answer} {IsOurs : Command → Type 0} {result : Result Reply PmFault} (carries : Carries old new before after action answer IsOurs result) where
+  pub does_carried : {bytes : List ℕ} {c : Command} {other : Action} → IsChangeReply (reply_of answer) → action ≡ other → IsChange other → ((state : State) → IsPlanFor old before state c action → IsOurs c)
+      → (state : State) → IsPlanFor old before state c action → Does (session_of old bytes) (session_of new bytes) before after state (Ok c) result
+  does_carried {bytes} {c} told is other_changes ours state plan_for = record {
     executed = executed result follows.made carries.answered.reply carries.device.counted;
     failed = failed result carries.device.halts carries.device.fewer;
     stays = follows.stays;
   }
     where
-      follows : Follows old.volume new.volume before after state c answer result
-      follows = carries.meaning state c ours plan_for
+      follows : Follows old new before after state c answer result
+      follows = carries.meaning state c (ours state plan_for) plan_for
+
+      change : IsChange action
+      change = subst IsChange (sym is) other_changes
 
       changes : is_changing c ≡ true
-      changes = change_is old.volume.size before.words state c action plan_for.planned.plan_is ∙ change
+      changes = change_is old.size before.words state c action plan_for.planned.plan_is ∙ change
 
-      executed : (result : Result Reply PmFault) → OnOk result (LeavesState old.volume new.volume before after state c answer) → IfOk result (λ replied. replied ≡ reply_of answer)
-          → OnOk result (after.fences ≡ before.fences + fences_of_plan action) → IfOk result (λ replied. Executed old.volume.size state (Ok c) new replied before after)
+      executed : (result : Result Reply PmFault) → OnOk result (LeavesState old new before after state c answer) → IfOk result (λ replied. replied ≡ reply_of answer)
+          → OnOk result (after.fences ≡ before.fences + fences_of_plan action) → IfOk result (λ replied. Executed old.size state (Ok c) (session_of new bytes) replied before after)
       executed (Ok replied) left is made = record {
         answer = answer;
         new = left.later;
-        replied = record { reply_is = is; told = change_told new after answer told };
+        replied = record { reply_is = is; told = change_told (session_of new bytes) after answer told };
         step = inl left.steps;
         stands = left.stands;
         any_moment = follows.any_moment;
@@ -106,16 +110,16 @@ module _ (old new : SessionView) (before after : DeviceView) (action : Action) (
       executed (Err fault) left is made = tt
 
       failed : (result : Result Reply PmFault) → OnErr result (EndsInFault after.trail) → OnErr result (after.fences < before.fences + fences_of_plan action)
-          → OnErr result (HasFailed old.volume.size state (Ok c) before after)
+          → OnErr result (HasFailed old.size state (Ok c) before after)
       failed (Ok replied) last fewer = tt
       failed (Err fault) last fewer = record {
-        fails = record { accepted = accepted_change old.volume.size state c changes plan_for.planned.accepted; answered = refl };
+        fails = record { accepted = accepted_change old.size state c changes plan_for.planned.accepted; answered = refl };
         any_moment = follows.any_moment;
         no_ack = carries.device.no_ack;
         last = last;
         action = action;
         planned = plan_for.planned;
-        might = might_take old.volume.size before.words state c action (tidied plan_for.stands.tidy) plan_for.stands.reads plan_for.planned;
+        might = might_take old.size before.words state c action (tidied plan_for.stands.tidy) plan_for.stands.reads plan_for.planned;
         least = carries.device.least_fences;
         fewer = fewer;
         events = carries.device.grown;

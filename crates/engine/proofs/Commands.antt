@@ -1,5 +1,5 @@
 -- What a line leaves for which nothing was done, and what preparing it adds to what was done.
-use Rattle.std.proofs.Common.{◌≡◌, inl, inr, ℕ, List, false, Option, Some, None, refl, sym, ap, subst, ◌∙◌, arith}
+use Rattle.std.proofs.Common.{◌≡◌, inl, inr, ℕ, List, false, Option, Some, refl, sym, ap, subst, ◌∙◌, arith}
 use Rattle.std.specs.Prelude.{IsTrue, ◌⊎◌, Result, Ok, Err, OnErr, IfOk}
 use Rattle.pm_trait.specs.Trail.{Trail}
 use Rattle.pm_trait.specs.DeviceView.{DeviceView}
@@ -22,13 +22,14 @@ use Rattle.tree_model.specs.declared.reply.Reply.TheVariants as reply
 use Rattle.image_reading.specs.Reading.{Reads}
 use Rattle.volume.specs.Volume.{VolumeView}
 use Rattle.volume.specs.Stands.{StandsFor}
+use Rattle.volume.specs.Carried.{IsPlanFor}
 use Rattle.volume.specs.Crashes.{MayReadAs}
 use Rattle.volume.specs.Prepared.{IsRefusal, IsSameButPlaces, IsSameButRoom, Prepares}
 use Rattle.volume.specs.declared.plan.Action.{Action}
 use Rattle.volume.specs.Costs.{events_of, fences_of_plan}
 use Rattle.engine.specs.Exec.{Executed, HasFailed, IsPlannedFor, MightTake, Does, LeavesVolume}
 use Rattle.engine.specs.Replies.{IsReplyOf, IsChangeReply}
-use Rattle.engine.specs.Session.{SessionView}
+use Rattle.engine.specs.Session.{SessionView, session_of}
 use Rattle.engine.specs.Run.{command_of, tree_after_line, IsAt}
 use Rattle.engine.proofs.Acknowledged.{stands_at, may_be_there, may_more}
 use Rattle.engine.proofs.Causes.{not_refused}
@@ -85,14 +86,14 @@ module _ (old new : SessionView) (before after : DeviceView) (size : new.volume.
       does_still state (Ok c) (Refused refusal) (reply.Refused refusal) stands (record { reply_is = refl; told = tt }) (step_refused old.volume.size state c refusal refused) refl
       (refused_cause old.volume.size state c refusal refused)
 
-  -- a command that changes nothing was answered
-  pub does_told : (state : State) (c : Command) (replied : Reply) → StandsFor new.volume after state → is_changing c ≡ false → refusal_of new.volume.size state.tree state.room c ≡ None
-      → IsReplyOf new after (step new.volume.size state.tree state.room c).answer replied → Does old new before after state (Ok c) (Ok replied)
-  does_told state c replied stands reads accepted is_reply =
-      does_still state (Ok c) (step new.volume.size state.tree state.room c).answer replied stands is_reply
-      (inl (subst (λ (p : ℕ). Steps p state c (step new.volume.size state.tree state.room c).answer state) size (told_steps new.volume.size state c reads (state_is new.volume after stands).room accepted)))
-      (no_fences-reading state c (step new.volume.size state.tree state.room c).answer state reads)
-      (λ is. absurd (not_refused new.volume.size state c NoMemory accepted is))
+-- a command that changes nothing was answered
+pub does_told : {volume : VolumeView} {device : DeviceView} {state : State} {c : Command} {action : Action} {old new : List ℕ} {replied : Reply} → IsPlanFor volume device state c action → is_changing c ≡ false
+    → IsReplyOf (session_of volume new) device (step volume.size state.tree state.room c).answer replied → Does (session_of volume old) (session_of volume new) device device state (Ok c) (Ok replied)
+does_told {volume} {device} {state} {c} {old = old} {new = new} {replied = replied} planned reads is_reply =
+    let answer = (step volume.size state.tree state.room c).answer in
+    does_still (session_of volume old) (session_of volume new) device device refl refl refl refl state (Ok c) answer replied planned.stands is_reply
+    (inl (told_steps volume.size state c reads (state_is volume device planned.stands).room planned.planned.accepted)) (no_fences-reading state c answer state reads)
+    (λ is. absurd (not_refused volume.size state c NoMemory planned.planned.accepted is))
 
 -- ---- after a preparation
 

@@ -1,6 +1,8 @@
 -- The deepest place, as it stands in the list; and what a volume says of the places of a listing.
-use Rattle.std.proofs.Common.{◌≡◌, inl, inr, ℕ, zero, suc, ◌+◌, ◌<◌, ◌≤◌, true, false, IsTrue, List, [], ◌∷◌, ◌++◌, length, take, Option, Some, None, is_some, Contains, refl, sym, ap, subst, ◌∙◌, arith, take_all}
-use Rattle.std.specs.Prelude.{slice_get, slice_index_or, slice_set}
+use Rattle.std.proofs.Common.{◌≡◌, inl, inr, ℕ, zero, suc, ◌+◌, ◌-◌, ◌<◌, ◌≤◌, true, false, IsTrue, List, [], ◌∷◌, ◌++◌, length, take, Option, Some, None, is_some, Contains, refl, sym, ap, subst, ◌∙◌, arith, take_all}
+use Rattle.std.specs.Prelude.{slice_get, slice_index_or, slice_set, vec_len}
+use Rattle.std.specs.declared.vec.Vec.{Vec}
+use Rattle.std.specs.declared.alloc.Global.{Global}
 use Rattle.std.proofs.lemmas.List.{take_more, take_more_set, length-set}
 use Rattle.std.proofs.lemmas.List.Elements.{Contains-get_or}
 use Rattle.std.proofs.lemmas.Option.{slice_get_within, get_or_from_slice_get}
@@ -21,24 +23,43 @@ pub contains_got : {X : Type 0} (xs : List X) (k : ℕ) (x : X) → slice_get xs
 contains_got xs k x is = subst (Contains xs) (get_or_from_slice_get xs k x x is) (Contains-get_or xs k x (slice_get_within xs k x is))
 
 -- what is read at a place is one element
-pub one_element : {X : Type 0} (xs : List X) (k : ℕ) (a b : X) → k < length xs → a ≡ slice_index_or xs k a → b ≡ slice_index_or xs k b → a ≡ b
+one_element : {X : Type 0} (xs : List X) (k : ℕ) (a b : X) → k < length xs → a ≡ slice_index_or xs k a → b ≡ slice_index_or xs k b → a ≡ b
 one_element [] k a b within is too = absurd (omega (arith, within))
 one_element (x ∷ xs) zero a b within is too = is ∙ sym too
 one_element (x ∷ xs) (suc k) a b within is too = one_element xs k a b (omega (arith, within)) is too
 
--- ---- the deepest place
+-- ---- the deepest place, as it is read
 
-module _ (places : List Place) (k : ℕ) (last : k + 1 ≡ length places) where
-  pub split_last : (place : Place) → place ≡ slice_index_or places k place → places ≡ take k places ++ place ∷ []
-  split_last place is =
-      sym (take_all (k + 1) places (omega (arith, last))) ∙ take_more places k place (omega (arith, last)) ∙ ap (λ (p : Place). take k places ++ p ∷ []) (sym is)
+module _ (places : Vec Place Global) {len : ℕ} {place : Place} (some : 1 ≤ vec_len places) (is : len ≡ vec_len places) (read : place ≡ slice_index_or places.items (len - 1) place) where
+  last : (len - 1) + 1 ≡ length places.items
+  last = let size = places.ok.0 in omega (arith, some, is, size)
 
-  pub set_last : (new : Place) → slice_set places k new ≡ take k places ++ new ∷ []
-  set_last new =
-      sym (take_all (k + 1) (slice_set places k new) (omega (arith, last, length-set places k new))) ∙ take_more_set places k new (omega (arith, last))
+  pub split_last : places.items ≡ take (len - 1) places.items ++ place ∷ []
+  split_last =
+      sym (take_all ((len - 1) + 1) places.items (omega (arith, last))) ∙ take_more places.items (len - 1) place (omega (arith, last)) ∙ ap (λ (p : Place). take (len - 1) places.items ++ p ∷ []) (sym read)
 
-  pub deepest : (tree : Tree) (place : Place) → place ≡ slice_index_or places k place → IsWay tree places → IsPlaceAt tree (route_through tree (take k places)) place
-  deepest tree place is way = (way_but_one tree [] (take k places) place (subst (λ (ps : List Place). IsWayFrom tree [] ps) (split_last place is) way.way)).1
+  -- its next name is passed, by what is read once more
+  pub set_last : {other : Place} → other ≡ slice_index_or places.items (len - 1) other
+      → slice_set places.items (len - 1) (record { directory = other.directory; next = place.next + 1 }) ≡ take (len - 1) places.items ++ place_at place.directory (place.next + 1) ∷ []
+  set_last {other} again =
+      let new : Place = record { directory = other.directory; next = place.next + 1 } in
+      sym (take_all ((len - 1) + 1) (slice_set places.items (len - 1) new) (omega (arith, last, length-set places.items (len - 1) new))) ∙ take_more_set places.items (len - 1) new (omega (arith, last))
+      ∙ ap (λ (p : Place). take (len - 1) places.items ++ place_at p.directory (place.next + 1) ∷ []) (one_element places.items (len - 1) other place (omega (arith, last)) again read)
+
+  pub deepest : {tree : Tree} → IsWay tree places.items → IsPlaceAt tree (route_through tree (take (len - 1) places.items)) place
+  deepest {tree} way = (way_but_one tree [] (take (len - 1) places.items) place (subst (λ (ps : List Place). IsWayFrom tree [] ps) split_last way.way)).1
+
+  -- a volume has its directory, and a next name there where it hasn't passed as many as there are
+  module _ {volume : VolumeView} {device : DeviceView} (way : (state : State) × StandsFor volume device state × IsWay state.tree places.items) where
+    pub in_index : (1 ≤ place.directory) × (place.directory ≤ inodes_of_index volume.index)
+    in_index = directory_within volume device place.directory way.1 (deepest way.2).directory
+
+    pub has_next : {count : ℕ} → ((device : DeviceView) (state : State) → StandsFor volume device state → is_directory state.tree place.directory ≡ true → count ≡ length (names_in state.tree place.directory))
+        → (place.next ≡ count → ⊥) → place.next < count
+    has_next {count} names differ = less place.next count (deepest way.2).within (names device way.0 way.1 (deepest way.2).directory) differ
+      where
+        less : (a b : ℕ) {c : ℕ} → a ≤ c → b ≡ c → (a ≡ b → ⊥) → a < b
+        less a b within same differ = omega (arith, within, same, differ)
 
 -- ---- the index has the names of each place
 
@@ -88,17 +109,6 @@ module _ (volume : VolumeView) (device : DeviceView) (state : State) (stands : S
 
   pub node_led_to : (places : List Place) (inode : ℕ) → LeadsTo state.tree places inode → HasNode volume device inode
   node_led_to places inode leads = (state, stands, is_tree.present (route_through state.tree places) inode leads.named)
-
-  -- the place that is deepest: its directory is in the index, and it has a next name where it hasn't passed as many as there are
-  module _ (places : List Place) (k : ℕ) (last : k + 1 ≡ length places) (place : Place) (is : place ≡ slice_index_or places k place) (way : IsWay state.tree places) where
-    pub in_index : (1 ≤ place.directory) × (place.directory ≤ inodes_of_index volume.index)
-    in_index = directory_within volume device place.directory stands (deepest places k last state.tree place is way).directory
-
-    pub has_next : (count : ℕ) → count ≡ length (names_in state.tree place.directory) → (place.next ≡ count → ⊥) → place.next < count
-    has_next count counted differ = less place.next count (deepest places k last state.tree place is way).within counted differ
-      where
-        less : (a b : ℕ) {c : ℕ} → a ≤ c → b ≡ c → (a ≡ b → ⊥) → a < b
-        less a b within same differ = omega (arith, within, same, differ)
 
 -- a node that is no directory is a file
 pub file_or_directory : (tree : Tree) (inode : ℕ) → IsTrue (is_some (node_at tree inode)) → is_directory tree inode ≡ false → IsTrue (is_file tree inode)

@@ -15,6 +15,7 @@ use Rattle.tree_model.specs.Run.{State, IsVolumeState, Steps, is_changing}
 use Rattle.tree_model.specs.declared.command.Command.{Command}
 use Rattle.tree_model.specs.declared.command.Command.TheVariants.{Create, Mkdir, Link, Unlink, Rmdir, Rename, Write, Truncate, Read, Stat as Tell, List as Show, Df}
 use Rattle.tree_model.specs.declared.reply.Refusal.TheVariants.{NotDir}
+use Rattle.tree_model.specs.declared.reply.Reply.{Reply}
 use Rattle.tree_model.specs.declared.reply.Reply.TheVariants as reply
 use Rattle.tree_model.specs.declared.reply.Stat.{Stat}
 use Rattle.tree_model.specs.declared.reply.Free.{Free}
@@ -28,8 +29,10 @@ use Rattle.volume.specs.Planned.{IsPlanOf}
 use Rattle.volume.specs.declared.plan.Reading.{Reading}
 use Rattle.volume.specs.declared.plan.Action.{Action}
 use Rattle.volume.specs.Carried.{IsPlanFor}
+use Rattle.volume.specs.Prepared.{is_change}
+use Rattle.volume.proofs.Plans.{change_is}
 use Rattle.engine.specs.Replies.{IsReplyOf}
-use Rattle.engine.specs.Session.{session_of}
+use Rattle.engine.specs.Session.{SessionView, session_of}
 
 -- ---- the step of an accepted command
 
@@ -182,64 +185,80 @@ module _ (volume : VolumeView) (device : DeviceView) where
       is_there None directory = directory
       is_there (Some node) directory = refl
 
-  module _ (state : State) (c : Command) (action : Action) (reads : is_changing c ≡ false) (planned : IsPlanFor volume device state c action) where
-    -- the node that is told of
-    pub node_told : (inode : ℕ) → action ≡ Status inode → HasNode volume device inode
-    node_told inode is =
-        let (path, c_is, inode_is) = status_of_plan volume.size device.words state c inode reads (subst (λ (a : Action). IsPlanOf volume.size device.words state c a) is planned.planned.plan_is) in
-        let there = status_there volume.size state.tree state.room path (state_is planned.stands).tree (ap (refusal_of volume.size state.tree state.room) (sym c_is) ∙ planned.planned.accepted) in
-        (state, planned.stands, subst (λ (id : ℕ). IsTrue (is_some (node_at state.tree id))) (sym inode_is) there)
+-- ---- what is told where a plan was made for the command
 
-    -- the directory that is listed
-    pub directory_listed : (inode : ℕ) → action ≡ Names inode → is_directory state.tree inode ≡ true
-    directory_listed inode is =
-        let (path, c_is, inode_is) = names_of_plan volume.size device.words state c inode reads (subst (λ (a : Action). IsPlanOf volume.size device.words state c a) is planned.planned.plan_is) in
-        let there = listed_there volume.size state.tree state.room path (state_is planned.stands).tree (ap (refusal_of volume.size state.tree state.room) (sym c_is) ∙ planned.planned.accepted) in
-        ap (is_directory state.tree) inode_is ∙ there
+module _ {volume : VolumeView} {device : DeviceView} {state : State} {c : Command} {action : Action} (planned : IsPlanFor volume device state c action) where
+  -- it may change the tree where its action does
+  pub changes_as : {other : Action} → action ≡ other → is_changing c ≡ is_change other
+  changes_as is = change_is volume.size device.words state c action planned.planned.plan_is ∙ ap is_change is
 
-    answered_by : (answer : Answer) → answer_of (untaken volume.size) state.tree state.room c ≡ answer → answer ≡ (step volume.size state.tree state.room c).answer
-    answered_by answer is = sym (accepted_answer volume.size state.tree state.room c planned.planned.accepted ∙ is)
+  plan_as : {other : Action} → action ≡ other → IsPlanOf volume.size device.words state c other
+  plan_as is = subst (IsPlanOf volume.size device.words state c) is planned.planned.plan_is
 
-    pub status_replied : (bytes : List ℕ) (inode : ℕ) (status : Stat) → action ≡ Status inode → status ≡ status_of state.tree inode
-        → IsReplyOf (session_of volume bytes) device (step volume.size state.tree state.room c).answer (reply.Status status)
-    status_replied bytes inode status is told =
-        let (path, c_is, inode_is) = status_of_plan volume.size device.words state c inode reads (subst (λ (a : Action). IsPlanOf volume.size device.words state c a) is planned.planned.plan_is) in
-        subst (λ (answer : Answer). IsReplyOf (session_of volume bytes) device answer (reply.Status status))
-        (answered_by (StatusAnswer status) (ap (answer_of (untaken volume.size) state.tree state.room) c_is ∙ ap (λ (id : ℕ). StatusAnswer (status_of state.tree id)) (sym inode_is) ∙ ap StatusAnswer (sym told)))
-        (record { reply_is = refl; told = tt })
+  accepted_as : {other : Command} → c ≡ other → refusal_of volume.size state.tree state.room other ≡ None
+  accepted_as is = ap (refusal_of volume.size state.tree state.room) (sym is) ∙ planned.planned.accepted
 
-    pub names_replied : (bytes : List ℕ) (inode count : ℕ) → action ≡ Names inode → volume.stopped ≡ false → count ≡ length (entries_of volume.index inode) → count ≡ length (names_in state.tree inode)
-        → IsReplyOf (session_of volume bytes) device (step volume.size state.tree state.room c).answer (reply.Names inode count)
-    names_replied bytes inode count is going indexed counted =
-        let (path, c_is, inode_is) = names_of_plan volume.size device.words state c inode reads (subst (λ (a : Action). IsPlanOf volume.size device.words state c a) is planned.planned.plan_is) in
-        subst (λ (answer : Answer). IsReplyOf (session_of volume bytes) device answer (reply.Names inode count))
-        (answered_by (Listed inode (names_in state.tree inode)) (ap (answer_of (untaken volume.size) state.tree state.room) c_is ∙ ap (λ (id : ℕ). Listed id (names_in state.tree id)) (sym inode_is)))
-        (record {
-          reply_is = ap (λ (n : ℕ). reply.Names inode n) counted;
-          told = record { state = state; stands = planned.stands; going = going; directory = directory_listed inode is; names_are = refl; all = sym indexed ∙ counted };
-        })
+  is_tree : IsTree state.tree
+  is_tree = (state_is volume device planned.stands).tree
 
-    -- the file that is read
-    pub file_read : (reading : Reading) → action ≡ ReadBytes reading → IsTrue (is_file state.tree reading.inode) × (reading.count ≤ read_limit)
-    file_read reading is =
-        let (path, c_is, inode_is) = reading_of_plan volume.size device.words state c reading reads (subst (λ (a : Action). IsPlanOf volume.size device.words state c a) is planned.planned.plan_is) in
-        let there = read_there volume.size state.tree state.room path (state_is planned.stands).tree reading.offset reading.count (ap (refusal_of volume.size state.tree state.room) (sym c_is) ∙ planned.planned.accepted) in
-        (subst (λ (id : ℕ). IsTrue (is_file state.tree id)) (id_is volume.size state.tree state.room path (state_is planned.stands).tree reading.inode inode_is) there.0, there.1)
+  -- the node that is told of
+  pub node_told : {inode : ℕ} → action ≡ Status inode → HasNode volume device inode
+  node_told {inode} is =
+      let (path, c_is, inode_is) = status_of_plan volume.size device.words state c inode (changes_as is) (plan_as is) in
+      let there = status_there volume.size state.tree state.room path is_tree (accepted_as c_is) in
+      (state, planned.stands, subst (λ (id : ℕ). IsTrue (is_some (node_at state.tree id))) (sym inode_is) there)
 
-    pub read_replied : (bytes : List ℕ) (reading : Reading) (count : ℕ) → action ≡ ReadBytes reading → bytes ≡ take reading.count (drop reading.offset (bytes_of state.tree reading.inode)) → count ≡ length bytes
-        → IsReplyOf (session_of volume bytes) device (step volume.size state.tree state.room c).answer (reply.Bytes count)
-    read_replied bytes reading count is read counted =
-        let (path, c_is, inode_is) = reading_of_plan volume.size device.words state c reading reads (subst (λ (a : Action). IsPlanOf volume.size device.words state c a) is planned.planned.plan_is) in
-        let id = id_is volume.size state.tree state.room path (state_is planned.stands).tree reading.inode inode_is in
-        subst (λ (answer : Answer). IsReplyOf (session_of volume bytes) device answer (reply.Bytes count))
-        (answered_by (BytesAnswer bytes) (ap (answer_of (untaken volume.size) state.tree state.room) c_is
-        ∙ ap (λ (i : ℕ). BytesAnswer (take reading.count (drop reading.offset (bytes_of state.tree i)))) id ∙ ap BytesAnswer (sym read)))
-        (record { reply_is = ap reply.Bytes counted; told = refl })
+  -- the directory that is listed
+  pub directory_listed : {inode : ℕ} → action ≡ Names inode → is_directory state.tree inode ≡ true
+  directory_listed {inode} is =
+      let (path, c_is, inode_is) = names_of_plan volume.size device.words state c inode (changes_as is) (plan_as is) in
+      ap (is_directory state.tree) inode_is ∙ listed_there volume.size state.tree state.room path is_tree (accepted_as c_is)
 
-    pub space_replied : (bytes : List ℕ) (free : Free) → action ≡ Space → free ≡ space_of (untaken volume.size) state.tree state.room
-        → IsReplyOf (session_of volume bytes) device (step volume.size state.tree state.room c).answer (reply.Space free)
-    space_replied bytes free is told =
-        let c_is = space_of_plan volume.size device.words state c reads (subst (λ (a : Action). IsPlanOf volume.size device.words state c a) is planned.planned.plan_is) in
-        subst (λ (answer : Answer). IsReplyOf (session_of volume bytes) device answer (reply.Space free))
-        (answered_by (SpaceAnswer free) (ap (answer_of (untaken volume.size) state.tree state.room) c_is ∙ ap SpaceAnswer (sym told)))
-        (record { reply_is = refl; told = tt })
+  answered_by : {session : SessionView} {answer : Answer} {replied : Reply} → answer_of (untaken volume.size) state.tree state.room c ≡ answer → IsReplyOf session device answer replied
+      → IsReplyOf session device (step volume.size state.tree state.room c).answer replied
+  answered_by {session} {answer} {replied} is told =
+      subst (λ (a : Answer). IsReplyOf session device a replied) (sym (accepted_answer volume.size state.tree state.room c planned.planned.accepted ∙ is)) told
+
+  pub status_replied : {inode : ℕ} {status : Stat} (bytes : List ℕ) → action ≡ Status inode → status ≡ status_of state.tree inode
+      → IsReplyOf (session_of volume bytes) device (step volume.size state.tree state.room c).answer (reply.Status status)
+  status_replied {inode} bytes is told =
+      let (path, c_is, inode_is) = status_of_plan volume.size device.words state c inode (changes_as is) (plan_as is) in
+      answered_by (ap (answer_of (untaken volume.size) state.tree state.room) c_is ∙ ap (λ (id : ℕ). StatusAnswer (status_of state.tree id)) (sym inode_is) ∙ ap StatusAnswer (sym told))
+      (record { reply_is = refl; told = tt })
+
+  pub names_replied : {inode count : ℕ} (bytes : List ℕ) → action ≡ Names inode → volume.stopped ≡ false → count ≡ length (entries_of volume.index inode) → count ≡ length (names_in state.tree inode)
+      → IsReplyOf (session_of volume bytes) device (step volume.size state.tree state.room c).answer (reply.Names inode count)
+  names_replied {inode} bytes is going indexed counted =
+      let (path, c_is, inode_is) = names_of_plan volume.size device.words state c inode (changes_as is) (plan_as is) in
+      answered_by (ap (answer_of (untaken volume.size) state.tree state.room) c_is ∙ ap (λ (id : ℕ). Listed id (names_in state.tree id)) (sym inode_is))
+      (record {
+        reply_is = ap (λ (n : ℕ). reply.Names inode n) counted;
+        told = record { state = state; stands = planned.stands; going = going; directory = directory_listed is; names_are = refl; all = sym indexed ∙ counted };
+      })
+
+  -- the inode of the path that is read
+  path_read : {reading : Reading} → action ≡ ReadBytes reading → (path : Route) × (c ≡ Read path reading.offset reading.count) × (id_of state.tree path ≡ reading.inode)
+  path_read {reading} is =
+      let (path, c_is, inode_is) = reading_of_plan volume.size device.words state c reading (changes_as is) (plan_as is) in
+      (path, c_is, id_is volume.size state.tree state.room path is_tree reading.inode inode_is)
+
+  -- the file that is read
+  pub file_read : {reading : Reading} → action ≡ ReadBytes reading → IsTrue (is_file state.tree reading.inode) × (reading.count ≤ read_limit)
+  file_read {reading} is =
+      let (path, c_is, id) = path_read is in
+      let there = read_there volume.size state.tree state.room path is_tree reading.offset reading.count (accepted_as c_is) in
+      (subst (λ (i : ℕ). IsTrue (is_file state.tree i)) id there.0, there.1)
+
+  pub read_replied : {bytes : List ℕ} {reading : Reading} {count : ℕ} → action ≡ ReadBytes reading → bytes ≡ take reading.count (drop reading.offset (bytes_of state.tree reading.inode)) → count ≡ length bytes
+      → IsReplyOf (session_of volume bytes) device (step volume.size state.tree state.room c).answer (reply.Bytes count)
+  read_replied {bytes} {reading} is read counted =
+      let (path, c_is, id) = path_read is in
+      answered_by (ap (answer_of (untaken volume.size) state.tree state.room) c_is
+      ∙ ap (λ (i : ℕ). BytesAnswer (take reading.count (drop reading.offset (bytes_of state.tree i)))) id ∙ ap BytesAnswer (sym read))
+      (record { reply_is = ap reply.Bytes counted; told = refl })
+
+  pub space_replied : {free : Free} (bytes : List ℕ) → action ≡ Space → free ≡ space_of (untaken volume.size) state.tree state.room
+      → IsReplyOf (session_of volume bytes) device (step volume.size state.tree state.room c).answer (reply.Space free)
+  space_replied bytes is told =
+      let c_is = space_of_plan volume.size device.words state c (changes_as is) (plan_as is) in
+      answered_by (ap (answer_of (untaken volume.size) state.tree state.room) c_is ∙ ap SpaceAnswer (sym told)) (record { reply_is = refl; told = tt })

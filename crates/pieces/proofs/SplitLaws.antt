@@ -1,5 +1,5 @@
 -- A piece in two, and two in one.
-use Rattle.std.proofs.Common.{◌≡◌, ℕ, suc, ◌+◌, ◌-◌, ◌<◌, ◌≤◌, Bool, true, cond, List, [], ◌∷◌, ◌++◌, length, take, drop, get_or, set, slice_index, All, vec_len, sym, ap, ◌∙◌, arith, add-one, append_assoc, length-set, get_or-set_same}
+use Rattle.std.proofs.Common.{◌≡◌, ℕ, suc, ◌+◌, ◌-◌, ◌<◌, ◌≤◌, Bool, true, cond, List, [], ◌∷◌, ◌++◌, length, take, drop, get_or, set, slice_index, All, vec_len, vec_capacity, sym, ap, ◌∙◌, arith, add-one, append_assoc, length-append, length-set, get_or-set_same}
 use Rattle.std.specs.List.{insert, remove}
 use Rattle.std.specs.declared.vec.Vec.{Vec}
 use Rattle.std.specs.declared.alloc.Global.{Global}
@@ -78,11 +78,11 @@ module _ {T : Type 0} where
       drop_at (take (k + 1) pieces) (drop (suc (k + 1)) pieces) (k + 1) (length-take-le (k + 1) pieces (omega arith))
       ∙ ap (λ n. drop n pieces) (sym (add-one (k + 1)))
 
-  pub first_read : (pieces rest : List (Vec T Global)) (k : ℕ) (first : Vec T Global) → rest ≡ remove pieces (k + 1) → k + 1 < length pieces → first ≡ get_or rest k first → first ≡ get_or pieces k first
+  first_read : (pieces rest : List (Vec T Global)) (k : ℕ) (first : Vec T Global) → rest ≡ remove pieces (k + 1) → k + 1 < length pieces → first ≡ get_or rest k first → first ≡ get_or pieces k first
   first_read pieces rest k first is within read =
       read ∙ ap (λ ps. get_or ps k first) is ∙ get_or-remove_below pieces (k + 1) first k (omega arith) within
 
-  pub items_joined : (pieces rest : List (Vec T Global)) (k : ℕ) (first second new : Vec T Global) → rest ≡ remove pieces (k + 1) → k + 1 < length pieces → first ≡ get_or rest k first → second ≡ get_or pieces (k + 1) second → new.items ≡ first.items ++ second.items → items_of (set rest k new) ≡ items_of pieces
+  items_joined : (pieces rest : List (Vec T Global)) (k : ℕ) (first second new : Vec T Global) → rest ≡ remove pieces (k + 1) → k + 1 < length pieces → first ≡ get_or rest k first → second ≡ get_or pieces (k + 1) second → new.items ≡ first.items ++ second.items → items_of (set rest k new) ≡ items_of pieces
   items_joined pieces rest k first second new is within read second_read new_is =
       let front = items_of (take k pieces) in
       let back = items_of (drop (k + 1 + 1) pieces) in
@@ -100,20 +100,6 @@ module _ {T : Type 0} where
       ∙ ap (λ (p : Vec T Global). front ++ (p.items ++ items_of (drop (k + 1) pieces))) (first_read pieces rest k first is within read)
       ∙ sym (items_around pieces k first (omega arith))
 
-  -- so with the piece that an appending left, where it went well
-  pub made_joined : (pieces rest : List (Vec T Global)) (k : ℕ) (first second new : Vec T Global) (ok : Bool) → rest ≡ remove pieces (k + 1) → k + 1 < length pieces → first ≡ get_or rest k first → second ≡ get_or pieces (k + 1) second
-      → ok ≡ true → new.items ≡ cond ok (first.items ++ second.items) first.items → (new.items ≡ first.items ++ second.items) × (items_of (set rest k new) ≡ items_of pieces)
-  made_joined pieces rest k first second new ok is within read second_read well new_is =
-      let all : new.items ≡ first.items ++ second.items = went_well ok new.items (first.items ++ second.items) first.items well new_is in
-      (all, items_joined pieces rest k first second new is within read second_read all)
-
-  -- the piece that gets the other has room for it
-  pub room_joined : (pieces rest : List (Vec T Global)) (k : ℕ) (first second : Vec T Global) → rest ≡ remove pieces (k + 1) → k + 1 < length pieces → first ≡ get_or rest k first → second ≡ get_or pieces (k + 1) second → All IsPiece pieces → IsTogetherPiece pieces k
-      → (vec_len first + vec_len second ≤ 256) × IsPiece first
-  room_joined pieces rest k first second is within read second_read sized few =
-      let here = first_read pieces rest k first is within read in
-      (few_of pieces k first second few here second_read, piece_of pieces k first sized (omega arith) here)
-
   pub count_joined : (pieces rest : List (Vec T Global)) (k j : ℕ) (new : Vec T Global) → rest ≡ remove pieces (k + 1) → k + 1 < length pieces → j ≤ k → count_before (set rest k new) j ≡ count_before pieces j
   count_joined pieces rest k j new is within before =
       count_before-set rest k j new before
@@ -127,8 +113,22 @@ module _ {T : Type 0} where
       ∙ counted.count j (omega arith)
       ∙ sym (count_joined pieces rest k j new is within (omega arith))
 
-  pub sized_joined : (pieces rest : List (Vec T Global)) (k : ℕ) (new : Vec T Global) → rest ≡ remove pieces (k + 1) → IsPiece new → All IsPiece pieces → All IsPiece (set rest k new)
+  sized_joined : (pieces rest : List (Vec T Global)) (k : ℕ) (new : Vec T Global) → rest ≡ remove pieces (k + 1) → IsPiece new → All IsPiece pieces → All IsPiece (set rest k new)
   sized_joined pieces rest k new is this sized =
       All-set IsPiece rest k new this
       (All-same IsPiece rest (remove pieces (k + 1)) is
       (All-append IsPiece (take (k + 1) pieces) (drop (suc (k + 1)) pieces) (All-take IsPiece (k + 1) pieces sized) (All-drop IsPiece (suc (k + 1)) pieces sized)))
+
+  -- what an appending to a piece leaves
+  pub made_joined : (pieces : List (Vec T Global)) (k : ℕ) (new : Vec T Global) {rest : List (Vec T Global)} {first second : Vec T Global} {ok : Bool} → All IsPiece pieces → IsTogetherPiece pieces k → k + 1 < length pieces → rest ≡ remove pieces (k + 1) → first ≡ get_or rest k first → second ≡ get_or pieces (k + 1) second
+      → (vec_len first + vec_len second ≤ vec_capacity first → ok ≡ true) → new.items ≡ cond ok (first.items ++ second.items) first.items → vec_capacity first ≤ vec_capacity new → All IsPiece (set rest k new) × (items_of (set rest k new) ≡ items_of pieces)
+  made_joined pieces k new {rest} {first} {second} {ok} sized few within rest_is read second_read succeeds made capacity =
+      let here = first_read pieces rest k first rest_is within read in
+      let together = few_of pieces k first second few here second_read in
+      let least = (piece_of pieces k first sized (omega arith) here).capacity in
+      let is : new.items ≡ first.items ++ second.items = went_well ok new.items (first.items ++ second.items) first.items (succeeds (omega arith)) made in
+      let new_len = new.ok.0 in
+      let first_len = first.ok.0 in
+      let second_len = second.ok.0 in
+      let this : IsPiece new = record { len = omega (arith, ap length is, length-append first.items second.items); capacity = omega arith } in
+      (sized_joined pieces rest k new rest_is this sized, items_joined pieces rest k first second new rest_is within read second_read is)

@@ -16,7 +16,8 @@ use Rattle.page_state.proofs.PageLaws.{own_words_apart}
 use Rattle.image_laws.specs.Drop.{GivesPages}
 use Rattle.volume.specs.Costs.{count_of}
 use Rattle.volume.specs.Entered.{pages_of_option}
-use Rattle.removal_steps.specs.Steps.{AreFilePages, IsEmptied, MayEmpty, IsCut, count_cut}
+use Rattle.volume.specs.declared.plan.Loss.{Loss}
+use Rattle.removal_steps.specs.Steps.{AreFilePages, IsEmptied, MayEmpty, CanDisown, IsCut, number_of, count_cut}
 use Rattle.removal_steps.proofs.Pages.{pages_settled}
 use Rattle.removal_steps.proofs.Emptied.{number_is_own}
 
@@ -67,7 +68,13 @@ not_of_file P i j k I pages file emptied inside same =
 
 -- ---- the two calls, one after the other
 
-module _ (P i : ℕ) (pages : List ℕ) (emptied : Option ℕ) {a : List ℕ} {ta : Option Trail} (size : IsVolumeSize P) (whole : length a ≡ 512 * P) (settled : IsSettledAt a ta) (file : AreFilePages P a i pages) (may : MayEmpty P a emptied) where
+module _ {P : ℕ} {a pages : List ℕ} {emptied : Option ℕ} {loss : Option Loss} {ta : Option Trail} (size : IsVolumeSize P) (can : CanDisown P a loss pages emptied) (whole : length a ≡ 512 * P) (settled : IsSettledAt a ta) where
+  file : AreFilePages P a (number_of loss) pages
+  file = can.file
+
+  may : MayEmpty P a emptied
+  may = can.emptied_is
+
   owner_is_own : (j w : ℕ) → IsOwnerWord P j w → IsOwnWord P j w
   owner_is_own j w at = inr (record { field = 0; is_field = omega arith; at = at })
 
@@ -75,7 +82,7 @@ module _ (P i : ℕ) (pages : List ℕ) (emptied : Option ℕ) {a : List ℕ} {t
   off_file j w is own some =
       let page = is_emptied P a emptied j may is in
       own_words_apart P (slice_index pages some.index) j w (file.in_range.each some.index some.before) page.in_range
-      (not_of_file P i j some.index a pages file page some.before) (owner_is_own (slice_index pages some.index) w some.is) own
+      (not_of_file P (number_of loss) j some.index a pages file page some.before) (owner_is_own (slice_index pages some.index) w some.is) own
 
   pub apart : (w : ℕ) → OfSome pages (IsOwnerWord P) w → OfSome (pages_of_option emptied) (IsOwnerWord P) w → ⊥
   apart w some other =

@@ -28,7 +28,7 @@ use Rattle.entry_steps.proofs.Reserved.{enough}
 use Rattle.removal_steps.specs.Steps.{AreGonePages, gone_pages}
 use Rattle.removal_steps.proofs.NodePages
 use Rattle.rename_ptr.specs.Steps.{steps_of}
-use Rattle.rename_ptr.specs.Renaming.{IsMovingAt, IsRenamed, HasRenamed}
+use Rattle.rename_ptr.specs.Renaming.{IsMovingAt, IsMovable, IsRenamed, HasRenamed}
 use Rattle.rename_ptr.proofs.MovedState
 use Rattle.rename_ptr.proofs.MovedVolume
 use Rattle.rename_ptr.proofs.Moves
@@ -37,50 +37,17 @@ use Rattle.rename_ptr.proofs.Turned
 some_events : (moving : Moving) → events_of (Move moving) ≡ 0 → ⊥
 some_events moving none = omega (arith, none)
 
--- by other names of the volume's size and the pages
-pub begins_at : (P Q : ℕ) (old : DeviceView) (moving : Moving) (all pages : List ℕ) → P ≡ Q → all ≡ pages → MayFence old (512 * Q) (events_in (steps_of Q moving pages)) 8 → MayFence old (512 * P) (events_in (steps_of P moving all)) 8
-begins_at P Q old moving all pages size are begins =
-    subst (λ (p : ℕ). MayFence old (512 * p) (events_in (steps_of p moving all)) 8) (sym size) (subst (λ (l : List ℕ). MayFence old (512 * Q) (events_in (steps_of Q moving l)) 8) (sym are) begins)
-
-pub made_at : {T E : Type 0} {P Q : ℕ} {old new : DeviceView} (moving : Moving) {all pages : List ℕ} {result : Result T E} → P ≡ Q → all ≡ pages → Unfolds (steps_of P moving all) old new result → Unfolds (steps_of Q moving pages) old new result
-made_at {Q = Q} {old = old} {new} moving {all} {result = result} size are made =
-    subst (λ (l : List ℕ). Unfolds (steps_of Q moving l) old new result) are (subst (λ (p : ℕ). Unfolds (steps_of p moving all) old new result) size made)
-
 -- the move of a plan
 same_moving : (moving other : Moving) → ◌≡◌ {A = Action} (Move moving) (Move other) → moving ≡ other
 same_moving moving other e = cc
 
-pub stored_as : {T E : Type 0} (volume : VolumeView) (old new : DeviceView) (action : Action) (moving : Moving) (result : Result T E) → action ≡ Move moving → HasRenamed volume.size old new moving (gone_pages volume moving.replaced) result
-    → (other : Moving) → action ≡ Move other → HasRenamed volume.size old new other (gone_pages volume other.replaced) result
-stored_as volume old new action moving result is renamed other same = subst (λ (m : Moving). HasRenamed volume.size old new m (gone_pages volume m.replaced) result) (same_moving moving other (sym is ∙ same)) renamed
+-- The plan of a move, whose action this is, with a name of bytes.
+module _ {volume : VolumeView} {old : DeviceView} {action : Action} {moving : Moving} (planned : (state : State) × (from : Route) × (to : Route) × IsPlanFor volume old state (Rename from to) action) (is : action ≡ Move moving) where
+  pub plan : IsPlanFor volume old planned.0 (Rename planned.1 planned.2) (Move moving)
+  plan = subst (IsPlanFor volume old planned.0 (Rename planned.1 planned.2)) is planned.3
 
--- The plan of a move, with a name of bytes, and the steps that it took.
-module _ (volume after : VolumeView) (old new : DeviceView) (moving : Moving) (is_name : IsName moving.to_name) (of_bytes : IsBytes moving.to_name)
-    (state : State) (from to : Route) (plan : IsPlanFor volume old state (Rename from to) (Move moving)) where
-  -- the plan of a volume that stands is one at its words
-  pub moving_at : (state : State) (from to : Route) → IsPlanFor volume old state (Rename from to) (Move moving) → IsMovingAt volume.size old.words state from to moving
-  moving_at state from to plan = record { tidy = plan.stands.tidy; reads = plan.stands.reads; planned = plan.planned; is_name = is_name; of_bytes = of_bytes }
-
-  pub at : IsMovingAt volume.size old.words state from to moving
-  at = moving_at state from to plan
-
-  replaced_reached : (loss : Loss) → moving.replaced ≡ Some loss → Reached volume.size old.words loss.inode
-  replaced_reached loss is = Moves.replaced_reached from to at loss (Moves.target_at from to at loss is)
-
-  pub node_in_index : (loss : Loss) → moving.replaced ≡ Some loss → (1 ≤ loss.inode) × (loss.inode ≤ inodes_of_index volume.index)
-  node_in_index loss is = in_index volume old loss.inode (state, plan.stands) (replaced_reached loss is)
-
-  pub are : AreGonePages volume.size old.words moving.replaced (gone_pages volume moving.replaced)
-  are = NodePages.gone_pages_are volume old state plan.stands moving.replaced replaced_reached
-
-  -- what was reserved is enough for all steps
-  pub may_begin : MayCarry volume old (Move moving) → MayFence old (512 * volume.size) (events_in (steps_of volume.size moving (gone_pages volume moving.replaced))) 8
-  may_begin ready = record {
-    whole = Moves.whole from to at;
-    settled = plan.stands.settled;
-    room = subst (λ (n : ℕ). n ≤ old.spare) (Turned.costs old from to at (gone_pages volume moving.replaced) are) (enough (events_of (Move moving)) kept_events old.spare ready.reserved.room);
-    countable = let few = ready.countable in omega (arith, few);
-  }
+  abbrev gone : List ℕ
+  gone = gone_pages volume moving.replaced
 
   -- the command of its plan
   found : (state : State) (command : Command) → IsPlanFor volume old state command (Move moving) → (from : Route) × (to : Route) × (command ≡ Rename from to)
@@ -89,54 +56,100 @@ module _ (volume after : VolumeView) (old new : DeviceView) (moving : Moving) (i
   by_command : (state : State) (command : Command) (from to : Route) → command ≡ Rename from to → IsPlanFor volume old state command (Move moving) → IsPlanFor volume old state (Rename from to) (Move moving)
   by_command state command from to same plan = subst (λ (c : Command). IsPlanFor volume old state c (Move moving)) same plan
 
-  module _ {T E : Type 0} (result : Result T E) (made : Unfolds (steps_of volume.size moving (gone_pages volume moving.replaced)) old new result) where
-    pub has_renamed : HasRenamed volume.size old new moving (gone_pages volume moving.replaced) result
-    has_renamed = Turned.has_renamed old from to at (gone_pages volume moving.replaced) are new result plan.stands.settled made
+  module _ {bytes : List ℕ} (name : bytes ≡ moving.to_name) (is_name : IsName bytes) (of_bytes : IsBytes bytes) where
+    -- the plan of a volume that stands is one at its words
+    moving_at : (state : State) (from to : Route) → IsPlanFor volume old state (Rename from to) (Move moving) → IsMovingAt volume.size old.words state from to moving
+    moving_at state from to plan = record { tidy = plan.stands.tidy; reads = plan.stands.reads; planned = plan.planned; is_name = subst IsName name is_name; of_bytes = subst IsBytes name of_bytes }
 
-    device : MakesIntervals old new (events_of (Move moving)) (fences_of_plan (Move moving)) result
-    device = Turned.all_intervals old from to at (gone_pages volume moving.replaced) are new result plan.stands.settled made
+    at : IsMovingAt volume.size old.words planned.0 planned.1 planned.2 moving
+    at = moving_at planned.0 planned.1 planned.2 plan
 
-    atomic : (state : State) (from to : Route) → IsMovingAt volume.size old.words state from to moving → IsAtomic volume.size old new state (Rename from to)
-    atomic state from to at = let under = Turned.underway old from to at (gone_pages volume moving.replaced) are new result plan.stands.settled made in record { any_moment = under.any_moment; stays = under.stays }
+    replaced_reached : (loss : Loss) → moving.replaced ≡ Some loss → Reached volume.size old.words loss.inode
+    replaced_reached loss is = Moves.replaced_reached planned.1 planned.2 at loss (Moves.target_at planned.1 planned.2 at loss is)
 
-  module _ {E T : Type 0} (done : T) (made : Unfolds {E = E} (steps_of volume.size moving (gone_pages volume moving.replaced)) old new (Ok done)) (has : HasMoved volume after moving) where
-    renamed : IsRenamed volume.size old.words new.words moving
-    renamed = (has_renamed (Ok done) made).made
+    pub node_in_index : (loss : Loss) → moving.replaced ≡ Some loss → (1 ≤ loss.inode) × (loss.inode ≤ inodes_of_index volume.index)
+    node_in_index loss is = in_index volume old loss.inode (planned.0, plan.stands) (replaced_reached loss is)
 
-    follows : (state : State) (from to : Route) → IsPlanFor volume old state (Rename from to) (Move moving) → Follows {E = E} volume after old new state (Rename from to) Done (Ok Told)
-    follows state from to plan =
-        let all = device (Ok done) made in
-        let at = moving_at state from to plan in
-        record {
-          made = MovedState.leaves_state from to at new.words renamed volume after refl plan.stands.knows has old new refl all.settled (all.counted, all.grown);
-          atomic = atomic (Ok done) made state from to at;
-        }
+    are : AreGonePages volume.size old.words moving.replaced gone
+    are = NodePages.gone_pages_are volume old planned.0 plan.stands moving.replaced replaced_reached
 
-    pub carried : volume.stopped ≡ false → Carries {E = E} volume after old new (Move moving) Done (λ (command : Command). Unit {0}) (Ok Told)
-    carried going = record {
-      meaning = λ state command ours plan.
-          let (from, to, same) = found state command plan in
-          follows_as (Rename from to) command same (follows state from to (by_command state command from to same plan));
-      answered = record {
-        reply = refl;
-        going = MovedVolume.same_state from to at new.words renamed volume after refl plan.stands.knows has ∙ going;
-        knows = has;
-        stopped = tt;
-        size = MovedVolume.same_size from to at new.words renamed volume after refl plan.stands.knows has;
-      };
-      device = intervals_as Told (device (Ok done) made);
-      idle = λ none. absurd (some_events moving none);
-    }
+    -- by the size and the pages that the call has
+    module _ {P : ℕ} {all : List ℕ} (size : P ≡ volume.size) (pages : all ≡ gone) where
+      pub planned_at : IsMovable P old.words moving
+      planned_at = (planned.0, planned.1, planned.2, subst (λ (p : ℕ). IsMovingAt p old.words planned.0 planned.1 planned.2 moving) (sym size) at)
 
-  -- a fence failed, and the volume is stopped
-  pub carried_no_further : {E F T : Type 0} {failed : F} (fault : E) → Unfolds {T = T} (steps_of volume.size moving (gone_pages volume moving.replaced)) old new (Err failed)
-      → after ≡ record volume { stopped = true } → Carries {E = E} volume after old new (Move moving) Done (λ (command : Command). Unit {0}) (Err fault)
-  carried_no_further {failed = failed} fault made stopped = record {
-    meaning = λ state command ours plan.
-        let (from, to, same) = found state command plan in
-        follows_as (Rename from to) command same
-        (record { made = tt; atomic = atomic (Err failed) made state from to (moving_at state from to (by_command state command from to same plan)) });
-    answered = record { reply = tt; going = tt; knows = tt; stopped = ap (λ (v : VolumeView). v.stopped) stopped; size = ap (λ (v : VolumeView). v.size) stopped };
-    device = failed_as fault (device (Err failed) made);
-    idle = λ none. absurd (some_events moving none);
-  }
+      pub are_at : AreGonePages P old.words moving.replaced all
+      are_at =
+          subst (λ (l : List ℕ). AreGonePages P old.words moving.replaced l) (sym pages)
+          (subst (λ (p : ℕ). AreGonePages p old.words moving.replaced gone) (sym size) are)
+
+      -- what was reserved is enough for all steps
+      pub may_begin : MayCarry volume old action → MayFence old (512 * P) (events_in (steps_of P moving all)) 8
+      may_begin carry =
+          let ready = subst (MayCarry volume old) is carry in
+          subst (λ (p : ℕ). MayFence old (512 * p) (events_in (steps_of p moving all)) 8) (sym size)
+          (subst (λ (l : List ℕ). MayFence old (512 * volume.size) (events_in (steps_of volume.size moving l)) 8) (sym pages) (record {
+            whole = Moves.whole planned.1 planned.2 at;
+            settled = plan.stands.settled;
+            room = subst (λ (n : ℕ). n ≤ old.spare) (Turned.costs old planned.1 planned.2 at gone are) (enough (events_of (Move moving)) kept_events old.spare ready.reserved.room);
+            countable = let few = ready.countable in omega (arith, few);
+          }))
+
+      module _ {T E : Type 0} {new : DeviceView} {result : Result T E} (unfolds : Unfolds (steps_of P moving all) old new result) where
+        made : Unfolds (steps_of volume.size moving gone) old new result
+        made = subst (λ (l : List ℕ). Unfolds (steps_of volume.size moving l) old new result) pages (subst (λ (p : ℕ). Unfolds (steps_of p moving all) old new result) size unfolds)
+
+        has_renamed : HasRenamed volume.size old new moving gone result
+        has_renamed = Turned.has_renamed old planned.1 planned.2 at gone are new result plan.stands.settled made
+
+        pub stored : (other : Moving) → action ≡ Move other → HasRenamed volume.size old new other (gone_pages volume other.replaced) result
+        stored other same = subst (λ (m : Moving). HasRenamed volume.size old new m (gone_pages volume m.replaced) result) (same_moving moving other (sym is ∙ same)) has_renamed
+
+        device : MakesIntervals old new (events_of (Move moving)) (fences_of_plan (Move moving)) result
+        device = Turned.all_intervals old planned.1 planned.2 at gone are new result plan.stands.settled made
+
+        atomic : (state : State) (from to : Route) → IsMovingAt volume.size old.words state from to moving → IsAtomic volume.size old new state (Rename from to)
+        atomic state from to at = let under = Turned.underway old from to at gone are new result plan.stands.settled made in record { any_moment = under.any_moment; stays = under.stays }
+
+      module _ {E T : Type 0} {done : T} {new : DeviceView} {after : VolumeView} (unfolds : Unfolds {E = E} (steps_of P moving all) old new (Ok done)) (has : HasMoved volume after moving) where
+        renamed : IsRenamed volume.size old.words new.words moving
+        renamed = (has_renamed unfolds).made
+
+        follows : (state : State) (from to : Route) → IsPlanFor volume old state (Rename from to) (Move moving) → Follows {E = E} volume after old new state (Rename from to) Done (Ok Told)
+        follows state from to plan =
+            let all = device unfolds in
+            let at = moving_at state from to plan in
+            record {
+              made = MovedState.leaves_state from to at new.words renamed volume after refl plan.stands.knows has old new refl all.settled (all.counted, all.grown);
+              atomic = atomic unfolds state from to at;
+            }
+
+        pub carried : volume.stopped ≡ false → Carries {E = E} volume after old new action Done (λ (command : Command). Unit {0}) (Ok Told)
+        carried going = subst (λ (a : Action). Carries {E = E} volume after old new a Done (λ (command : Command). Unit {0}) (Ok Told)) (sym is) (record {
+          meaning = λ state command ours plan.
+              let (from, to, same) = found state command plan in
+              follows_as (Rename from to) command same (follows state from to (by_command state command from to same plan));
+          answered = record {
+            reply = refl;
+            going = MovedVolume.same_state planned.1 planned.2 at new.words renamed volume after refl plan.stands.knows has ∙ going;
+            knows = has;
+            stopped = tt;
+            size = MovedVolume.same_size planned.1 planned.2 at new.words renamed volume after refl plan.stands.knows has;
+          };
+          device = intervals_as Told (device unfolds);
+          idle = λ none. absurd (some_events moving none);
+        })
+
+      -- a fence failed, and the volume is stopped
+      pub carried_no_further : {E F T : Type 0} {new : DeviceView} {after : VolumeView} {failed : F} (fault : E) → Unfolds {T = T} (steps_of P moving all) old new (Err failed)
+          → after ≡ record volume { stopped = true } → Carries {E = E} volume after old new action Done (λ (command : Command). Unit {0}) (Err fault)
+      carried_no_further {E = E} {new = new} {after} fault unfolds stopped =
+          subst (λ (a : Action). Carries {E = E} volume after old new a Done (λ (command : Command). Unit {0}) (Err fault)) (sym is) (record {
+            meaning = λ state command ours plan.
+                let (from, to, same) = found state command plan in
+                follows_as (Rename from to) command same
+                (record { made = tt; atomic = atomic unfolds state from to (moving_at state from to (by_command state command from to same plan)) });
+            answered = record { reply = tt; going = tt; knows = tt; stopped = ap (λ (v : VolumeView). v.stopped) stopped; size = ap (λ (v : VolumeView). v.size) stopped };
+            device = failed_as fault (device unfolds);
+            idle = λ none. absurd (some_events moving none);
+          })
