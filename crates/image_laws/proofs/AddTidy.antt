@@ -85,10 +85,10 @@ module _ {P : ℕ} {B C D : List ℕ} {p : Route} {d s i y : ℕ} {name : List �
   slot_forward : (t : ℕ) → IsReachedSlot P B t → IsReachedSlot P D t
   slot_forward t r =
       let now = (reached_slot_forward P B C written.alike t r).1 in
-      let o = added.same_owner P C D p d s i can only stored t now.live.held.in_range in
+      let o = slots.same_owner only t now.live.held.in_range in
       record {
         owner = subst (Reached P D) (sym o) (added.reached_forward P C D p d s i can only stored (slot_owner P C t) now.owner);
-        directory = ap (inode_kind D) o ∙ added.kind_reached P C D p d s i can only stored (slot_owner P C t) now.owner ∙ now.directory;
+        directory = ap (inode_kind D) o ∙ slots.kind_reached only can.coherent (slot_owner P C t) now.owner ∙ now.directory;
         live = added.live_forward P C D p d s i can only stored t now.live;
       }
 
@@ -96,7 +96,7 @@ module _ {P : ℕ} {B C D : List ℕ} {p : Route} {d s i y : ℕ} {name : List �
   slot_cases t r = elim (added.slot_cases P C D p d s i can only stored t r) [ inl e ↦ inl e | inr old ↦ inr (reached_slot P B C written.alike t old).1 ]
 
   pub new_owner : slot_owner P D s ≡ d
-  new_owner = added.same_owner P C D p d s i can only stored s can.slot.held.in_range ∙ can.slot.owner
+  new_owner = slots.same_owner only s can.slot.held.in_range ∙ can.slot.owner
 
   -- the slot of the new name
   pub new_slot : IsReachedSlot P D s
@@ -223,7 +223,7 @@ module _ {P : ℕ} {B C D : List ℕ} {p : Route} {d s i y : ℕ} {name : List �
     files = λ x k j r file. page_same paged x k j (λ none. none);
     owner = new_owner;
     owners = λ j lt ne. paged.owner j lt (λ none. none);
-    new_name = slots.same_name P C D s only s ∙ written.name_is;
+    new_name = slots.same_name only s ∙ written.name_is;
     new_inode = stored;
     names = λ t r. name_same t (old_slot t r);
     inodes = λ t r. number_same t (old_slot t r);

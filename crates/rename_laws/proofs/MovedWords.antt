@@ -97,10 +97,10 @@ module _ (P : ℕ) (I : List ℕ) (pa pb : Route) (s d : ℕ) (c : CanMove P I p
   left_pointer t = by.pointer t ∙ (here.only P I pa pb s d c).pointer t
 
   left_held : (t : ℕ) → IsHeld P (left P I s d) t → IsHeld P I t
-  left_held t held = here.held_back P I pa pb s d c t (only_slot.held_back P (moved P I s d) (left P I s d) s by t held)
+  left_held t held = here.held_back P I pa pb s d c t (only_slot.held_back by t held)
 
   held_left : (t : ℕ) → IsHeld P I t → IsHeld P (left P I s d) t
-  held_left t held = only_slot.held_forward P (moved P I s d) (left P I s d) s by t (here.held_forward P I pa pb s d c t held)
+  held_left t held = only_slot.held_forward by t (here.held_forward P I pa pb s d c t held)
 
   left_target : slot_inode P (left P I s d) d ≡ slot_inode P I s
   left_target = by.inode d (λ e. here.apart P I pa pb s d c (sym e)) ∙ here.number_new P I pa pb s d c
@@ -109,7 +109,7 @@ module _ (P : ℕ) (I : List ℕ) (pa pb : Route) (s d : ℕ) (c : CanMove P I p
   slot_before : (t : ℕ) → IsReachedSlot P (left P I s d) t → IsReachedSlot P (moved P I s d) t
   slot_before t r =
       let ns : t ≢ s = λ e. r.live.names (ap (slot_inode P (left P I s d)) e ∙ left_number) in
-      let owner = only_slot.same_owner P (moved P I s d) (left P I s d) s by t r.live.held.in_range in
+      let owner = only_slot.same_owner by t r.live.held.in_range in
       let reached : Reached P (moved P I s d) (slot_owner P (moved P I s d) t) =
       subst (Reached P (moved P I s d)) owner (r.owner.0, (same_left.names r.owner.0 (slot_owner P (left P I s d) t)).1 r.owner.1) in
       record {
@@ -117,7 +117,7 @@ module _ (P : ℕ) (I : List ℕ) (pa pb : Route) (s d : ℕ) (c : CanMove P I p
         directory = sym (by.node_kind (slot_owner P (moved P I s d) t) (reached-le P (moved P I s d) coherent (slot_owner P (moved P I s d) t) reached))
             ∙ ap (inode_kind (left P I s d)) (sym owner) ∙ r.directory;
         live = record {
-          held = only_slot.held_back P (moved P I s d) (left P I s d) s by t r.live.held;
+          held = only_slot.held_back by t r.live.held;
           names = λ z. r.live.names (by.inode t ns ∙ z);
           stays = λ q held points. absurd (elim (cases_eq q d) [
             | inl e ↦ (let mine = sym (ap (slot_pointer P (moved P I s d)) e ∙ is_left.pointer) ∙ points in ns (omega (arith, mine)))
@@ -139,7 +139,7 @@ module _ (P : ℕ) (I : List ℕ) (pa pb : Route) (s d : ℕ) (c : CanMove P I p
             let slot = slot_before t child.slot in
             record {
               slot = slot;
-              owner = sym (only_slot.same_owner P (moved P I s d) (left P I s d) s by t child.slot.live.held.in_range) ∙ child.owner;
+              owner = sym (only_slot.same_owner by t child.slot.live.held.in_range) ∙ child.owner;
               directory = sym (by.node_kind (slot_inode P (moved P I s d) t) ((coherent Rule.inodes t).most slot))
                   ∙ ap (inode_kind (left P I s d)) (sym (by.inode t ns)) ∙ child.directory;
             }) (links.directory (sym kind ∙ two));
