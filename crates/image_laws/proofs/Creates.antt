@@ -2,31 +2,27 @@
 use Rattle.std.proofs.Common.{◌≡◌, ◌≢◌, ◌⊎◌, inl, inr, ℕ, ◌<◌, List, ◌∷◌, length, reverse, refl, sym, ap, subst, ◌∙◌, arith}
 use Rattle.std.proofs.lemmas.List.{get_or-set_other}
 use Rattle.layout.specs.Fields.{word, page_owner}
-use Rattle.layout.specs.Geometry.{data_pages_of, page_of_slot, slot_word_of}
-use Rattle.layout.proofs.GeometryLaws.{page_of_slot_below, slot_word_within}
+use Rattle.layout.specs.Geometry.{page_of_slot, slot_word_of}
+use Rattle.layout.proofs.GeometryLaws.{slot_word_within}
 use Rattle.layout.specs.Name.{name_in_words}
 use Rattle.tree_model.specs.PathText.{Route}
 use Rattle.tree_model.specs.Tree.{Node, Tree, Room}
 use Rattle.tree_model.specs.Step.{with_new}
 use Rattle.image_reading.specs.Reading.{slot_owner, IsLive, Reached, IsRoomOf, Reads, HasRoom}
-use Rattle.image_reading.specs.Repairs.{IsLitterPage}
 use Rattle.image_reading.specs.Soundness.{Rule, IsCoherent}
 use Rattle.image_reading.specs.Tidy.{IsTidied}
-use Rattle.image_counts.proofs.Counting.{none_counted}
 use Rattle.image_laws.specs.Add.{IsFreeSlot, with_node}
 use Rattle.image_laws.specs.Commits.{Commits}
 use Rattle.image_laws.specs.Create.{IsEmptyNode, MakesNode, CanName, CanMake, IsVacant, committed, CreateLaw}
 use Rattle.image_laws.specs.Frame.{SameMeaning}
 use Rattle.image_laws.specs.Quiet.{IsMix}
 use Rattle.image_laws.proofs.Adds.{only, stored, add_law, add_tree_law, add_room_law}
-use Rattle.image_laws.proofs.Decide.{dec_eq}
 use Rattle.image_laws.proofs.Free.{mix_one}
 use Rattle.image_laws.proofs.Making as making
 use Rattle.image_laws.proofs.MakeTidy.{tidy_after}
 use Rattle.image_laws.proofs.Meaning.{same_itself, same_chained}
-use Rattle.image_laws.proofs.Ready.{IsCleanSlot, IsNamed, IsTidyBut, tidy_but, no_pointer}
+use Rattle.image_laws.proofs.Ready.{IsCleanSlot, IsNamed, IsTidyBut, tidy_but, no_pointer, owned_kept, held_room, dead_zero}
 use Rattle.image_laws.specs.Stages.{IsReady, IsReadySlot, IsFreeInode}
-use Rattle.image_laws.proofs.Rooms.{dec_room}
 
 -- ---- from an image that is ready
 
@@ -80,42 +76,19 @@ module _ (P : ℕ) (W B C : List ℕ) (p path : Route) (node : Node) (d s i : �
 
 -- a free inode of a tidy image owns no page
 pub free_inode : (P : ℕ) (W : List ℕ) (p : Route) (d i : ℕ) (name : List ℕ) → CanMake P W p d i name → IsFreeInode P W i
-unfolding page_owner
 free_inode P W p d i name can = record {
   least = can.least;
   most = can.most;
   unreached = can.unreached;
-  no_pages = λ j lt e. none_counted (IsLitterPage P W) can.place.tidy.repaired.of_pages j (record {
-    in_range = lt;
-    free = λ kept. elim kept [
-      | inl file ↦ can.unreached (subst (Reached P W) e file.owner)
-      | inr room ↦ can.unreached (subst (Reached P W) e room.reached)
-    ];
-    nonzero = (0, omega arith, λ z. (let least = can.least in omega (arith, e, z, least)));
-  });
+  no_pages = λ j lt e. owned_kept P W j can.place.tidy lt (λ z. (let least = can.least in omega (arith, e, z, least))) (λ kept. elim kept [
+    | inl file ↦ can.unreached (subst (Reached P W) e file.owner)
+    | inr room ↦ can.unreached (subst (Reached P W) e room.reached)
+  ]);
 }
 
 module _ (P : ℕ) (W : List ℕ) (p : Route) (d s : ℕ) (name : List ℕ) (can : CanName P W p d name) (vacant : IsVacant P W d s) where
-  d_reached : Reached P W d
-  d_reached = (p, can.path)
-
-  -- the page of a held slot is kept
   pub room_here : IsRoomOf P W d (page_of_slot s)
-  unfolding slot_owner page_owner
-  room_here = elim (dec_room P W d d_reached can.directory (page_of_slot s)) [
-    | yes room ↦ room
-    | no none ↦ absurd (none_counted (IsLitterPage P W) can.tidy.repaired.of_pages (page_of_slot s) (record {
-      in_range = below;
-      free = λ kept. elim kept [
-        | inl file ↦ (let one = (can.tidy.coherent Rule.page_kinds (page_of_slot s)).file below file.owner file.file in let two = vacant.held.kind in omega (arith, one, two))
-        | inr room ↦ none (subst (λ x. IsRoomOf P W x (page_of_slot s)) vacant.owner room)
-      ];
-      nonzero = (0, omega arith, vacant.held.owned);
-    }))
-  ]
-    where
-      below : page_of_slot s < data_pages_of P
-      below = page_of_slot_below P s vacant.held.in_range
+  room_here = held_room P W d s can.tidy (p, can.path) can.directory vacant.held vacant.owner
 
   but : IsTidyBut P W (page_of_slot s)
   but = tidy_but P W (page_of_slot s) can.tidy
@@ -133,14 +106,7 @@ module _ (P : ℕ) (W : List ℕ) (p : Route) (d s : ℕ) (name : List ℕ) (can
 
   clean : (t f : ℕ) → page_of_slot t ≡ page_of_slot s → (IsLive P W t → ⊥) → f < 16 → word W (slot_word_of P t f) ≡ 0
   unfolding slot_owner
-  clean t f at dead lt = elim (dec_eq (word W (slot_word_of P t f)) 0) [
-    | yes e ↦ e
-    | no ne ↦ absurd (but.slots t (record {
-      page = subst (λ j. IsRoomOf P W (page_owner P W j) j) (sym at) (subst (λ x. IsRoomOf P W x (page_of_slot s)) (sym vacant.owner) room_here);
-      dead = dead;
-      nonzero = (f, lt, ne);
-    }))
-  ]
+  clean t f at dead lt = dead_zero P W t f can.tidy (subst (λ j. IsRoomOf P W (page_owner P W j) j) (sym at) (subst (λ x. IsRoomOf P W x (page_of_slot s)) (sym vacant.owner) room_here)) dead lt
 
   pub ready_slot : IsReadySlot P W p d s name
   ready_slot = record {

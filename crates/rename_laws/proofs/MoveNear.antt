@@ -4,7 +4,6 @@ use Rattle.std.proofs.lemmas.Bool.{cases_eq}
 use Rattle.layout.specs.Fields.{word, inode_kind, inode_links, inode_size, page_owner, page_offset, slot_inode, slot_name, slot_pointer}
 use Rattle.layout.specs.Name.{name_in_words}
 use Rattle.layout.specs.Geometry.{inodes_of, data_pages_of, page_of_slot, inode_word_of, descriptor_word_of, slot_word_of}
-use Rattle.layout.proofs.GeometryLaws.{page_of_slot_below}
 use Rattle.tree_model.specs.PathText.{Route}
 use Rattle.image_reading.specs.Counts.{Count}
 use Rattle.image_reading.specs.Litter.{IsZeroSlot}
@@ -13,7 +12,7 @@ use Rattle.image_reading.specs.Repairs.{IsLitterPage, IsLitterInode}
 use Rattle.image_reading.specs.Soundness.{Rule}
 use Rattle.image_reading.proofs.Credits.{count_same}
 use Rattle.image_counts.proofs.Counting.{none_counted}
-use Rattle.image_counts.proofs.Decided.{room_or_not, room_owner}
+use Rattle.image_counts.proofs.Decided.{room_owner}
 use Rattle.image_counts.proofs.Links.{links_counted, link_word_law}
 use Rattle.image_laws.specs.Move.{CanMove}
 use Rattle.image_laws.proofs.Addresses.{descriptor-ne_inode, descriptor-ne_page, descriptor-ne_slot, inode-ne_slot, page-ne_inode, page-ne_slot, slot-ne_slot, descriptor_word-one, inode_word-one}
@@ -22,7 +21,7 @@ use Rattle.image_laws.proofs.KeptPages.{KeepsPages, by_words, held_owner_same, h
 use Rattle.image_laws.proofs.KeptSlots as slot_laws
 use Rattle.image_laws.proofs.KeptSlots.{KeepsSlots}
 use Rattle.image_laws.proofs.Paths.{reached_pos, reached-le, reach}
-use Rattle.image_laws.proofs.Ready.{tidy_but, no_pointer}
+use Rattle.image_laws.proofs.Ready.{tidy_but, no_pointer, held_room, dead_zero}
 use Rattle.image_laws.proofs.Rooms.{room_law}
 use Rattle.image_laws.proofs.Trees.{tree_law}
 use Rattle.image_laws.proofs.Words.{slot_words-same}
@@ -82,12 +81,6 @@ module _ (P : ℕ) (W : List ℕ) (pb : Route) (s x d : ℕ) where
   opened_here (Vacant name) j can new = absurd new
   opened_here (Opened page name) j can new = new ∙ sym can.2
   opened_here (Taken r) j can new = absurd new
-
-  here_opened : (target : Target) (j : ℕ) → CanTake P W pb s x d target → IsOpenedPage target j → (t : ℕ) → page_of_slot t ≡ page_of_slot d
-      → IsOpenedPage target (page_of_slot t)
-  here_opened (Vacant name) j can new t at = absurd new
-  here_opened (Opened page name) j can new t at = at ∙ can.2
-  here_opened (Taken r) j can new t at = absurd new
 
   opened_zeros : (I : List ℕ) (target : Target) (t : ℕ) → HasNewPage P I x d target → IsOpenedPage target (page_of_slot t) → t ≢ d
       → IsZeroSlot P I t
@@ -382,47 +375,26 @@ module _ (P : ℕ) (W I : List ℕ) (pa pb : Route) (s x d : ℕ) (target : Targ
   room_back : (y j : ℕ) → IsRoomOf P I y j → IsRoomOf P W y j
   room_back y j = (slot_laws.rooms kept (λ t none. none) y j).1
 
-  room_old : (y j : ℕ) → IsRoomOf P I y j → IsOpenedPage target j → ⊥
-  room_old y j room new = let (t, at, o, live) = room.slot in live_old t live (subst (IsOpenedPage target) (sym at) new)
-
   -- slot d stands in a page with a name, where its page is an old one
   target_room : (IsOpenedPage target (page_of_slot d) → ⊥) → IsRoomOf P W (page_owner P W (page_of_slot d)) (page_of_slot d)
   unfolding slot_owner page_owner
   target_room old =
       let (held, owner) = held_owner P W pb s x d target take old in
-      elim (room_or_not P W x (page_of_slot d) x_reached ready.can.target_directory) [
-        | inl room ↦ subst (λ y. IsRoomOf P W y (page_of_slot d)) (sym owner) room
-        | inr none ↦ absurd (none_counted (IsLitterPage P W) ready.can.tidy.repaired.of_pages (page_of_slot d) (record {
-          in_range = page_of_slot_below P d held.in_range;
-          free = λ kept. elim kept [
-            | inl file ↦ (let one = sym (ap (inode_kind W) owner) ∙ file.file in let two = ready.can.target_directory in omega (arith, one, two))
-            | inr room ↦ none (subst (λ y. IsRoomOf P W y (page_of_slot d)) owner room)
-          ];
-          nonzero = (0, omega arith, held.owned);
-        }))
-      ]
+      subst (λ y. IsRoomOf P W y (page_of_slot d)) (sym owner) (held_room P W x d ready.can.tidy x_reached ready.can.target_directory held owner)
 
   -- ---- nothing else is to be repaired
-
-  clean_old : (t f : ℕ) → t ≢ d → (IsOpenedPage target (page_of_slot t) → ⊥) → IsRoomOf P W (page_owner P W (page_of_slot t)) (page_of_slot t)
-      → (IsLive P I t → ⊥) → f < 16
-      → word I (slot_word_of P t f) ≡ 0
-  clean_old t f ne old room dead lt = slot_word_same t f lt ne old ∙ elim (cases_eq (word W (slot_word_of P t f)) 0) [
-    | inl zero ↦ zero
-    | inr nonzero ↦ absurd ((tidy_but P W 0 ready.can.tidy).slots t (record { page = room; dead = λ live. dead (live_forth t live); nonzero = (f, lt, nonzero) }))
-  ]
 
   clean : (t f : ℕ) → t ≢ d → IsRoomOf P I (page_owner P I (page_of_slot t)) (page_of_slot t) ⊎ (page_of_slot t ≡ page_of_slot d)
       → (IsLive P I t → ⊥) → f < 16
       → word I (slot_word_of P t f) ≡ 0
   clean t f ne where_is dead lt = elim (opened_or_not target (page_of_slot t)) [
     | inl new ↦ opened_zeros P W pb s x d I target t ready.page new ne f lt
-    | inr old ↦ clean_old t f ne old (elim where_is [
+    | inr old ↦ slot_word_same t f lt ne old ∙ dead_zero P W t f ready.can.tidy (elim where_is [
       | inl room ↦
           let was = room_back (page_owner P I (page_of_slot t)) (page_of_slot t) room in
           subst (λ y. IsRoomOf P W y (page_of_slot t)) (sym (room_owner P W (page_owner P I (page_of_slot t)) (page_of_slot t) was)) was
       | inr at ↦ subst (λ j. IsRoomOf P W (page_owner P W j) j) (sym at) (target_room (subst (λ j. IsOpenedPage target j → ⊥) at old))
-    ]) dead lt
+    ]) (λ live. dead (live_forth t live)) lt
   ]
 
   litter_page : (j : ℕ) → IsLitterPage P I j → j ≡ page_of_slot d

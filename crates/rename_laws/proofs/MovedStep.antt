@@ -1,9 +1,8 @@
 -- What a rename leaves is a state that the step allows.
-use Rattle.std.proofs.Common.{◌≡◌, ◌⊎◌, inl, inr, ℕ, Bool, true, false, cond, List, Option, Some, None, is_some, unwrap_or, refl, sym, ap, subst, ◌∙◌, arith}
-use Rattle.layout.specs.Fields.{inode_kind, page_owner, slot_inode}
+use Rattle.std.proofs.Common.{◌≡◌, ◌⊎◌, inl, inr, ℕ, Bool, true, false, cond, List, Option, Some, None, is_some, unwrap_or, refl, sym, ap, subst, ◌∙◌}
+use Rattle.layout.specs.Fields.{slot_inode}
 use Rattle.layout.specs.Geometry.{page_of_slot}
 use Rattle.layout.specs.Name.{name_in_words}
-use Rattle.layout.proofs.GeometryLaws.{page_of_slot_below}
 use Rattle.tree_model.specs.PathText.{Route}
 use Rattle.tree_model.specs.Run.{State}
 use Rattle.tree_model.specs.Step.{gaining, losing, id_of, is_same_node, pages_after, room_after, tree_after}
@@ -11,10 +10,8 @@ use Rattle.tree_model.specs.Table.{get, remove}
 use Rattle.tree_model.specs.Tree.{Room, IsRoom, root_id, parent, id_at, is_directory}
 use Rattle.tree_model.specs.declared.command.Command.TheVariants.{Rename}
 use Rattle.tree_model.proofs.RoomLaws.{get-room_after}
-use Rattle.image_reading.specs.Reading.{IsDirectory, slot_owner, IsHeld, Reached, IsRoomOf, Reads, HasRoom, ReadsAs}
-use Rattle.image_reading.specs.Repairs.{IsLitterPage}
+use Rattle.image_reading.specs.Reading.{IsDirectory, slot_owner, Reached, IsRoomOf, Reads, HasRoom, ReadsAs}
 use Rattle.image_reading.specs.Soundness.{IsCoherent}
-use Rattle.image_counts.proofs.Counting.{none_counted}
 use Rattle.image_counts.proofs.States.{is_room}
 use Rattle.image_laws.specs.Add.{with_page}
 use Rattle.image_laws.specs.Create.{CanName}
@@ -22,6 +19,7 @@ use Rattle.image_laws.specs.CreateStep.{IsStepped}
 use Rattle.image_laws.specs.Move.{HasRoomMoved}
 use Rattle.image_laws.specs.Remove.{without_page}
 use Rattle.image_laws.proofs.CreateSteps.{not_full}
+use Rattle.image_laws.proofs.Ready.{held_room}
 use Rattle.image_laws.proofs.RoomLeft.{HasPages, room_left}
 use Rattle.image_laws.proofs.Rooms.{dec_room}
 use Rattle.image_laws.proofs.Trees.{directory_is, is_directory-reached}
@@ -112,23 +110,8 @@ module _ (P : ℕ) (W I J G K : List ℕ) (old : State) (pa pb from to : Route) 
   pages_then_is (Opened page name) take full = rooms.then_more old.tree old.room x fits full
   pages_then_is (Taken r) take full = rooms.then_none old.tree old.room fits
 
-  -- a page that x owns has a name
-  owned_room : IsHeld P W d → slot_owner P W d ≡ x → IsRoomOf P W x (page_of_slot d)
-  unfolding slot_owner page_owner
-  owned_room held owner = elim (dec_room P W x x_reached ready.can.target_directory (page_of_slot d)) [
-    | yes there ↦ there
-    | no none ↦ absurd (none_counted (IsLitterPage P W) ready.can.tidy.repaired.of_pages (page_of_slot d) (record {
-      in_range = page_of_slot_below P d held.in_range;
-      free = λ kept. elim kept [
-        | inl file ↦ (let one = file.file in let two = ap (inode_kind W) owner ∙ ready.can.target_directory in omega (arith, one, two))
-        | inr room ↦ none (subst (λ y. IsRoomOf P W y (page_of_slot d)) owner room)
-      ];
-      nonzero = (0, omega arith, held.owned);
-    }))
-  ]
-
   page_there : (now : Target) → CanTake P W pb s x d now → IsRoomOf P W x (page_of_slot d) ⊎ IsOpenedPage now (page_of_slot d)
-  page_there (Vacant name) take = inl (owned_room take.1.held take.1.owner)
+  page_there (Vacant name) take = inl (held_room P W x d ready.can.tidy x_reached ready.can.target_directory take.1.held take.1.owner)
   page_there (Opened page name) take = inr take.2
   page_there (Taken r) take =
       inl (record { reached = x_reached; directory = ready.can.target_directory; slot = (d, refl, take.entry.1, take.entry.0.live) })
