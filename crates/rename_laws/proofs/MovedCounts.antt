@@ -10,6 +10,7 @@ use Rattle.image_reading.specs.Repairs.{IsLitterPage, IsLitterInode}
 use Rattle.image_reading.specs.Soundness.{Rule, HasLinks}
 use Rattle.image_reading.proofs.Credits.{count_same, count_more, at_most-count}
 use Rattle.image_laws.specs.Move.{CanMove, moved}
+use Rattle.image_laws.proofs.Decide.{none_or_not, both_or_not}
 use Rattle.image_laws.proofs.KeptSlots.{count_some}
 use Rattle.image_laws.proofs.OnlySlot.{OnlySlot}
 use Rattle.image_laws.proofs.Paths.{reached_pos, reach}
@@ -33,11 +34,6 @@ holds_some X (inr never) some = absurd (never some)
 holds_same : (X Y : Type 0) (x : X ⊎ ¬ X) (y : Y ⊎ ¬ Y) → X ↔ Y → holds x ≡ holds y
 holds_same X Y (inl x) y same = sym (holds_some Y y (same.0 x))
 holds_same X Y (inr never) y same = sym (holds_none Y y (λ h. never (same.1 h)))
-
-both : (X Y : Type 0) → X ⊎ ¬ X → Y ⊎ ¬ Y → (X × Y) ⊎ ¬ (X × Y)
-both X Y (inl x) (inl y) = inl (x, y)
-both X Y (inl x) (inr never) = inr (λ h. never h.1)
-both X Y (inr never) y = inr (λ h. never h.0)
 
 -- ---- s and d lose what Q says, and d gets it where A stands
 
@@ -249,10 +245,10 @@ module _ (P : ℕ) (I : List ℕ) (pa pb : Route) (s d : ℕ) (c : CanMove P I p
     directory_count x n r two fallen =
         let (k, children, links) = near.children x r two in
         let dir = cases_eq (inode_kind I (slot_inode P I s)) 2 in
-        let some : (slot_inode P I d ≢ 0) ⊎ ¬ (slot_inode P I d ≢ 0) = elim (cases_eq (slot_inode P I d) 0) [ inl none ↦ inr (λ some. some none) | inr some ↦ inl some ] in
-        let source = both (x ≡ slot_owner P I s) (IsDirectory I (slot_inode P I s)) (cases_eq x (slot_owner P I s)) dir in
-        let new = both (x ≡ slot_owner P I d) (IsDirectory I (slot_inode P I s)) (cases_eq x (slot_owner P I d)) dir in
-        let target = both (IsInto x) (slot_inode P I d ≢ 0) new some in
+        let some : (slot_inode P I d ≢ 0) ⊎ ¬ (slot_inode P I d ≢ 0) = none_or_not (slot_inode P I d ≡ 0) (cases_eq (slot_inode P I d) 0) in
+        let source = both_or_not (x ≡ slot_owner P I s) (IsDirectory I (slot_inode P I s)) (cases_eq x (slot_owner P I s)) dir in
+        let new = both_or_not (x ≡ slot_owner P I d) (IsDirectory I (slot_inode P I s)) (cases_eq x (slot_owner P I d)) dir in
+        let target = both_or_not (IsInto x) (slot_inode P I d ≢ 0) new some in
         let (m, count, total) = count_moved (IsChildOf P I x) (IsChildOf P (moved P I s d) x) (IsFrom x) (IsReplaced x) (IsInto x) k s d (here.apart P I pa pb s d c)
         ((λ child. (sym child.owner, child.directory)), (λ h. record { slot = here.source_slot P I pa pb s d c; owner = sym h.0; directory = h.1 })) (
           (λ child. let named = child.slot.live.names in ((sym child.owner, sym (near.kinds named) ∙ child.directory), named)),
