@@ -8,6 +8,7 @@ use Rattle.tree_model.specs.PathText.{Route}
 use Rattle.image_reading.specs.Counts.{AtMost}
 use Rattle.image_reading.specs.Reading.{slot_owner, IsHeld, IsLive, Reached, IsNameOf}
 use Rattle.image_reading.specs.Soundness.{Rule, HasLinks}
+use Rattle.image_counts.proofs.Paths.{in_range}
 use Rattle.image_laws.specs.Add.{IsFreeSlot, IsOldFile, CanAdd}
 use Rattle.image_laws.specs.Agrees.{Alike}
 use Rattle.image_laws.specs.Frame.{SameMeaning, SameShape}
@@ -50,11 +51,8 @@ module _ (P : ℕ) (B C : List ℕ) (p : Route) (d s i : ℕ) (name : List ℕ) 
   d_reached : Reached P B d
   d_reached = (p, place.slot.path)
 
-  pos : (x : ℕ) → Reached P B x → 1 ≤ x
-  pos x r = let h = reached_pos P B x r in omega (arith, h)
-
-  range : (x : ℕ) → Reached P B x → x ≤ inodes_of P
-  range x r = reached-le P B place.coherent x r
+  range : (x : ℕ) → Reached P B x → (1 ≤ x) × (x ≤ inodes_of P)
+  range x r = in_range P B place.coherent x r
 
   not_live : (t : ℕ) → IsLive P B t → t ≢ s
   not_live t l e = l.names (ap (slot_inode P B) e ∙ place.slot.free)
@@ -106,11 +104,11 @@ module _ (P : ℕ) (B C : List ℕ) (p : Route) (d s i : ℕ) (name : List ℕ) 
 
   links_same : (x : ℕ) → Reached P B x → x ≢ i → inode_links C x ≡ inode_links B x
   unfolding inode_links
-  links_same x r ne = inode_same x 1 (pos x r) (range x r) (omega arith) (inr ne)
+  links_same x r ne = inode_same x 1 (range x r).0 (range x r).1 (omega arith) (inr ne)
 
   inode_kind_same : (x : ℕ) → Reached P B x → inode_kind C x ≡ inode_kind B x
   unfolding inode_kind
-  inode_kind_same x r = inode_same x 0 (pos x r) (range x r) (omega arith) (inl (λ e. omega (arith, e)))
+  inode_kind_same x r = inode_same x 0 (range x r).0 (range x r).1 (omega arith) (inl (λ e. omega (arith, e)))
 
   -- ---- the stores are free
 

@@ -10,6 +10,7 @@ use Rattle.image_reading.specs.Counts.{AtMost}
 use Rattle.image_reading.specs.Reading.{slot_owner, IsHeld, IsLive, Reached, IsNode, IsNameOf, IsChildOf}
 use Rattle.image_reading.specs.Soundness.{Rule, HasLinks}
 use Rattle.image_reading.proofs.Counts.{at_most_none}
+use Rattle.image_counts.proofs.Paths.{in_range}
 use Rattle.image_laws.specs.Add.{IsFreeSlot, IsNewNode, CanAdd}
 use Rattle.image_laws.specs.Create.{IsEmptyNode, node_words, parent_links, IsMadeWord, MakesNode}
 use Rattle.image_laws.specs.Agrees.{Alike}
@@ -23,7 +24,7 @@ use Rattle.image_laws.proofs.Free.{free_law, stores_law}
 use Rattle.image_laws.proofs.KeptPages as pages
 use Rattle.image_laws.proofs.KeptPages.{KeepsPages, by_words, held_owner_same, held_forth}
 use Rattle.image_laws.proofs.Meaning.{shape, reached_slot, slot_name_same}
-use Rattle.image_laws.proofs.Paths.{reached_pos, reached-le, reach}
+use Rattle.image_laws.proofs.Paths.{reach}
 use Rattle.image_laws.proofs.Quiet.{quiet_agrees}
 use Rattle.image_laws.proofs.Ready.{dec_made, not_made}
 use Rattle.image_laws.specs.Stages.{IsReady}
@@ -68,11 +69,8 @@ module _ (P : ℕ) (B C : List ℕ) (p : Route) (node : Node) (d s i : ℕ) (nam
   d_reached : Reached P B d
   d_reached = (p, ready.place.slot.path)
 
-  pos : (x : ℕ) → Reached P B x → 1 ≤ x
-  pos x r = let h = reached_pos P B x r in omega (arith, h)
-
-  range : (x : ℕ) → Reached P B x → x ≤ inodes_of P
-  range x r = reached-le P B ready.place.coherent x r
+  range : (x : ℕ) → Reached P B x → (1 ≤ x) × (x ≤ inodes_of P)
+  range x r = in_range P B ready.place.coherent x r
 
   other_inode : (x : ℕ) → Reached P B x → x ≢ i
   other_inode x r e = ready.inode.unreached (subst (Reached P B) e r)
@@ -89,7 +87,7 @@ module _ (P : ℕ) (B C : List ℕ) (p : Route) (node : Node) (d s i : ℕ) (nam
   descriptor_same j f lt l8 = same_word (descriptor_word_of P j f)
       (λ g l. descriptor-ne_inode P j f i g i_pos ready.inode.most (omega arith))
       (λ k l. descriptor-ne_slot P j f s (2 + k) lt l8)
-      (descriptor-ne_inode P j f d 1 (pos d d_reached) (range d d_reached) (omega arith))
+      (descriptor-ne_inode P j f d 1 (range d d_reached).0 (range d d_reached).1 (omega arith))
 
   -- an inode's words, but the made inode's and the parent's link word
   pub inode_same : (x f : ℕ) → 1 ≤ x → x ≤ inodes_of P → f < 16 → x ≢ i → (f ≢ 1) ⊎ (x ≢ d) → word C (inode_word_of x f) ≡ word B (inode_word_of x f)
@@ -98,7 +96,7 @@ module _ (P : ℕ) (B C : List ℕ) (p : Route) (node : Node) (d s i : ℕ) (nam
       (λ k l. inode-ne_slot P x f s (2 + k) some most lt)
       (elim parent [
         | inl field ↦ inode-ne_field x f d 1 lt (omega arith) field
-        | inr ne ↦ inode-ne_inode x f d 1 some (pos d d_reached) ne lt (omega arith)
+        | inr ne ↦ inode-ne_inode x f d 1 some (range d d_reached).0 ne lt (omega arith)
       ])
 
   -- a slot's words, but name words of the slot
@@ -109,7 +107,7 @@ module _ (P : ℕ) (B C : List ℕ) (p : Route) (node : Node) (d s i : ℕ) (nam
         | inl low ↦ slot-ne_field P t f s (2 + k) lt (omega arith) (λ e. omega (arith, e, low))
         | inr ne ↦ slot-ne_slot P t f s (2 + k) lt (omega arith) ne
       ])
-      (λ e. inode-ne_slot P d 1 t f (pos d d_reached) (range d d_reached) (omega arith) (sym e))
+      (λ e. inode-ne_slot P d 1 t f (range d d_reached).0 (range d d_reached).1 (omega arith) (sym e))
 
   paged : KeepsPages P B C (λ j. ⊥)
   paged = by_words P B C (λ j. ⊥) (λ j f lt l3 none. descriptor_same j f lt (omega (arith, l3)))
@@ -130,7 +128,7 @@ module _ (P : ℕ) (B C : List ℕ) (p : Route) (node : Node) (d s i : ℕ) (nam
 
   pub links_same : (x : ℕ) → Reached P B x → x ≢ d → inode_links C x ≡ inode_links B x
   unfolding inode_links
-  links_same x r ne = inode_same x 1 (pos x r) (range x r) (omega arith) (other_inode x r) (inr ne)
+  links_same x r ne = inode_same x 1 (range x r).0 (range x r).1 (omega arith) (other_inode x r) (inr ne)
 
   -- ---- the made inode
 
@@ -157,7 +155,7 @@ module _ (P : ℕ) (B C : List ℕ) (p : Route) (node : Node) (d s i : ℕ) (nam
     | inl (f, lt, e) ↦ subst (IsFree P B) (sym e) (IsFree.inode i f i_pos ready.inode.most (omega arith) ready.inode.unreached)
     | inr n ↦ elim n [
       | inl (k, lt, e) ↦ subst (IsFree P B) (sym e) (free_name k lt)
-      | inr e ↦ subst (IsFree P B) (sym e) (IsFree.link d (pos d d_reached) (range d d_reached))
+      | inr e ↦ subst (IsFree P B) (sym e) (IsFree.link d (range d d_reached).0 (range d d_reached).1)
     ]
   ]
     where

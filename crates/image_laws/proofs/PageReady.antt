@@ -11,13 +11,14 @@ use Rattle.image_reading.specs.Repairs.{IsLitterSlot, IsLitterPage, IsLitterInod
 use Rattle.image_reading.proofs.Credits.{count_same}
 use Rattle.image_counts.specs.Entries.{IsSlotOf, IsFreePage}
 use Rattle.image_counts.proofs.Decided.{room_below}
+use Rattle.image_counts.proofs.Paths.{in_range}
 use Rattle.image_laws.specs.Add.{IsFreeSlot}
 use Rattle.image_laws.specs.Create.{CanName}
 use Rattle.image_laws.specs.Frame.{SameMeaning}
 use Rattle.image_laws.proofs.KeptPages.{KeepsPages, KeepsDescriptors, by_words, held_owner_same, held_back, page_same, litter_page}
 use Rattle.image_laws.proofs.KeptSlots as slot_laws
 use Rattle.image_laws.proofs.KeptSlots.{KeepsSlots, litter_slot}
-use Rattle.image_laws.proofs.Paths.{reached_pos, reached-le}
+use Rattle.image_laws.proofs.Paths.{reached_pos}
 use Rattle.image_laws.proofs.Ready.{IsCleanSlot, IsTidyBut, tidy_but, no_pointer}
 use Rattle.image_laws.specs.Stages.{IsReadySlot, IsFreeInode}
 use Rattle.image_laws.proofs.Words.{slot_words-same}
@@ -45,25 +46,22 @@ module _ (P : ℕ) (W B : List ℕ) (p : Route) (d j s : ℕ) (name : List ℕ) 
   pub back : (x : ℕ) → Reached P B x → Reached P W x
   back x (q, b) = (q, (taken.same.names q x).1 b)
 
-  pos : (x : ℕ) → Reached P W x → 1 ≤ x
-  pos x r = let h = reached_pos P W x r in omega (arith, h)
-
-  range : (x : ℕ) → Reached P W x → x ≤ inodes_of P
-  range x r = reached-le P W can.tidy.coherent x r
+  range : (x : ℕ) → Reached P W x → (1 ≤ x) × (x ≤ inodes_of P)
+  range x r = in_range P W can.tidy.coherent x r
 
   -- ---- fields
 
   inode_kind_same : (x : ℕ) → Reached P W x → inode_kind B x ≡ inode_kind W x
   unfolding inode_kind
-  inode_kind_same x r = taken.inodes x 0 (pos x r) (range x r) (omega arith)
+  inode_kind_same x r = taken.inodes x 0 (range x r).0 (range x r).1 (omega arith)
 
   inode_size_same : (x : ℕ) → Reached P W x → inode_size B x ≡ inode_size W x
   unfolding inode_size
-  inode_size_same x r = taken.inodes x 2 (pos x r) (range x r) (omega arith)
+  inode_size_same x r = taken.inodes x 2 (range x r).0 (range x r).1 (omega arith)
 
   inode_links_same : (x : ℕ) → Reached P W x → inode_links B x ≡ inode_links W x
   unfolding inode_links
-  inode_links_same x r = taken.inodes x 1 (pos x r) (range x r) (omega arith)
+  inode_links_same x r = taken.inodes x 1 (range x r).0 (range x r).1 (omega arith)
 
   kept_words : KeepsDescriptors P W B (λ x. x ≡ j)
   kept_words x f lt l3 ne = taken.descriptors x f lt (omega (arith, l3)) ne

@@ -14,13 +14,14 @@ use Rattle.image_reading.proofs.Credits.{count_same}
 use Rattle.image_counts.proofs.Counting.{none_counted}
 use Rattle.image_counts.proofs.Decided.{room_owner}
 use Rattle.image_counts.proofs.Links.{links_counted, link_word_law}
+use Rattle.image_counts.proofs.Paths.{in_range}
 use Rattle.image_laws.specs.Move.{CanMove}
 use Rattle.image_laws.proofs.Addresses.{descriptor-ne_inode, descriptor-ne_page, descriptor-ne_slot, inode-ne_slot, page-ne_inode, page-ne_slot, slot-ne_slot, descriptor_word-one, inode_word-one}
 use Rattle.image_laws.proofs.KeptPages as pages
 use Rattle.image_laws.proofs.KeptPages.{KeepsPages, by_words, held_owner_same, held_forth, held_back}
 use Rattle.image_laws.proofs.KeptSlots as slot_laws
 use Rattle.image_laws.proofs.KeptSlots.{KeepsSlots}
-use Rattle.image_laws.proofs.Paths.{reached_pos, reached-le, reach}
+use Rattle.image_laws.proofs.Paths.{reach}
 use Rattle.image_laws.proofs.Ready.{tidy_but, no_pointer, held_room, dead_zero}
 use Rattle.image_laws.proofs.Rooms.{room_law}
 use Rattle.image_laws.proofs.Trees.{tree_law}
@@ -171,11 +172,8 @@ module _ (P : ℕ) (W I : List ℕ) (pa pb : Route) (s x d : ℕ) (target : Targ
   pub back : (y : ℕ) → Reached P I y → Reached P W y
   back y (q, b) = (q, (ready.means.names q y).1 b)
 
-  pos : (y : ℕ) → Reached P W y → 1 ≤ y
-  pos y r = let some = reached_pos P W y r in omega (arith, some)
-
-  range : (y : ℕ) → Reached P W y → y ≤ inodes_of P
-  range y r = reached-le P W ready.can.tidy.coherent y r
+  range : (y : ℕ) → Reached P W y → (1 ≤ y) × (y ≤ inodes_of P)
+  range y r = in_range P W ready.can.tidy.coherent y r
 
   -- ---- words
 
@@ -194,19 +192,19 @@ module _ (P : ℕ) (W I : List ℕ) (pa pb : Route) (s x d : ℕ) (target : Targ
       → word I (slot_word_of P t f) ≡ word W (slot_word_of P t f)
   slot_word_same t f lt ne old =
       ready.others (slot_word_of P t f) (slot-ne_slot P t f d 1 lt (omega arith) ne) (other_slot P W pb s x d target t f take lt ne old)
-      (other_link (slot_word_of P t f) (λ e. inode-ne_slot P x 1 t f (pos x x_reached) (range x x_reached) (omega arith) (sym e)))
+      (other_link (slot_word_of P t f) (λ e. inode-ne_slot P x 1 t f (range x x_reached).0 (range x x_reached).1 (omega arith) (sym e)))
 
   pub descriptor_same : (j f : ℕ) → j < data_pages_of P → f < 8 → (IsOpenedPage target j → ⊥)
       → word I (descriptor_word_of P j f) ≡ word W (descriptor_word_of P j f)
   descriptor_same j f lt l8 old =
       ready.others (descriptor_word_of P j f) (descriptor-ne_slot P j f d 1 lt l8) (other_descriptor P W pb s x d target j f take lt l8 old)
-      (other_link (descriptor_word_of P j f) (descriptor-ne_inode P j f x 1 (pos x x_reached) (range x x_reached) (omega arith)))
+      (other_link (descriptor_word_of P j f) (descriptor-ne_inode P j f x 1 (range x x_reached).0 (range x x_reached).1 (omega arith)))
 
   pub inode_same : (y f : ℕ) → 1 ≤ y → y ≤ inodes_of P → f < 16 → (y ≢ x) ⊎ (f ≢ 1) → word I (inode_word_of y f) ≡ word W (inode_word_of y f)
   inode_same y f some most lt other =
       ready.others (inode_word_of y f) (inode-ne_slot P y f d 1 some most lt) (other_inode P W pb s x d target y f take some most lt)
       (other_link (inode_word_of y f) (λ e.
-      let (same, field) = inode_word-one y f x 1 some (pos x x_reached) lt (omega arith) e in
+      let (same, field) = inode_word-one y f x 1 some (range x x_reached).0 lt (omega arith) e in
       elim other [ inl ne ↦ ne same | inr ne ↦ ne field ]))
 
   pub paged : KeepsPages P W I (IsOpenedPage target)
@@ -217,11 +215,11 @@ module _ (P : ℕ) (W I : List ℕ) (pa pb : Route) (s x d : ℕ) (target : Targ
 
   pub kind_same : (y : ℕ) → Reached P W y → inode_kind I y ≡ inode_kind W y
   unfolding inode_kind
-  kind_same y r = inode_same y 0 (pos y r) (range y r) (omega arith) (inr (λ e. omega (arith, e)))
+  kind_same y r = inode_same y 0 (range y r).0 (range y r).1 (omega arith) (inr (λ e. omega (arith, e)))
 
   pub size_same : (y : ℕ) → Reached P W y → inode_size I y ≡ inode_size W y
   unfolding inode_size
-  size_same y r = inode_same y 2 (pos y r) (range y r) (omega arith) (inr (λ e. omega (arith, e)))
+  size_same y r = inode_same y 2 (range y r).0 (range y r).1 (omega arith) (inr (λ e. omega (arith, e)))
 
   -- ---- held and live slots
 
@@ -347,13 +345,13 @@ module _ (P : ℕ) (W I : List ℕ) (pa pb : Route) (s x d : ℕ) (target : Targ
   still None holds y some never is = is
   still (Some z) holds y some never is =
       let at = risen_is P W pb s x d target z holds in
-      let least : 1 ≤ z = subst (λ u. 1 ≤ u) (sym at.3) (pos x x_reached) in
+      let least : 1 ≤ z = subst (λ u. 1 ≤ u) (sym at.3) (range x x_reached).0 in
       never (subst (IsRising P W s x target) (sym (inode_word-one y 1 z 1 some least (omega arith) (omega arith) is).0) holds)
 
   same_links : (y : ℕ) → Reached P W y → (IsRising P W s x target y → ⊥) → inode_links I y ≡ inode_links W y
   unfolding inode_links
-  same_links y r never = ready.others (inode_word_of y 1) (inode-ne_slot P y 1 d 1 (pos y r) (range y r) (omega arith))
-      (other_inode P W pb s x d target y 1 take (pos y r) (range y r) (omega arith)) (still rising ready.rises y (pos y r) never)
+  same_links y r never = ready.others (inode_word_of y 1) (inode-ne_slot P y 1 d 1 (range y r).0 (range y r).1 (omega arith))
+      (other_inode P W pb s x d target y 1 take (range y r).0 (range y r).1 (omega arith)) (still rising ready.rises y (range y r).0 never)
 
   -- all slots stay
   kept : KeepsSlots P W I (λ t. ⊥)

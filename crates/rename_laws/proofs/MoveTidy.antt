@@ -11,13 +11,14 @@ use Rattle.image_reading.specs.Soundness.{IsCoherent}
 use Rattle.image_reading.specs.Tidy.{IsTidied}
 use Rattle.image_reading.proofs.Credits.{count_same}
 use Rattle.image_counts.proofs.Decided.{room_below, room_owner}
+use Rattle.image_counts.proofs.Paths.{in_range}
 use Rattle.image_laws.specs.Frame.{SameMeaning}
 use Rattle.image_laws.specs.Move.{CanMove, moved}
 use Rattle.image_laws.proofs.Contents.{dec_reached}
 use Rattle.image_laws.proofs.KeptPages.{KeepsPages, by_words, held_forth, held_back, litter_page}
 use Rattle.image_laws.proofs.KeptSlots as slot_laws
 use Rattle.image_laws.proofs.KeptSlots.{KeepsSlots}
-use Rattle.image_laws.proofs.Paths.{reached_pos, reached-le}
+use Rattle.image_laws.proofs.Paths.{reached_pos}
 use Rattle.image_laws.proofs.Ready.{tidy_from}
 use Rattle.rename_laws.proofs.MovedCounts as counts
 use Rattle.rename_laws.proofs.MovedCounts.{IsLowered, IsFallen, IsAlmostTidy}
@@ -57,11 +58,8 @@ module _ (P : ℕ) (I K : List ℕ) (pa pb : Route) (s d : ℕ) (c : CanMove P I
 
   -- ---- fields
 
-  pos : (x : ℕ) → Reached P I x → 1 ≤ x
-  pos x r = let some = reached_pos P I x r in omega (arith, some)
-
-  range : (x : ℕ) → Reached P I x → x ≤ inodes_of P
-  range x r = reached-le P I c.coherent x r
+  range : (x : ℕ) → Reached P I x → (1 ≤ x) × (x ≤ inodes_of P)
+  range x r = in_range P I c.coherent x r
 
   not_out : (x : ℕ) → Reached P (moved P I s d) x → IsOut P I (moved P I s d) d → x ≢ slot_inode P I d
   not_out x r out e = out.1 (subst (Reached P (moved P I s d)) e r)
@@ -69,7 +67,7 @@ module _ (P : ℕ) (I K : List ℕ) (pa pb : Route) (s d : ℕ) (c : CanMove P I
   inode_kind_same : (x : ℕ) → Reached P (moved P I s d) x → inode_kind K x ≡ inode_kind I x
   unfolding inode_kind
   inode_kind_same x r =
-      let was = here.reached_back P I pa pb s d c x r in ended.inodes x 0 (pos x was) (range x was) (omega arith) (λ e. omega (arith, e)) (not_out x r)
+      let was = here.reached_back P I pa pb s d c x r in ended.inodes x 0 (range x was).0 (range x was).1 (omega arith) (λ e. omega (arith, e)) (not_out x r)
 
   -- as the commit leaves it
   pub kind_after : (x : ℕ) → Reached P (moved P I s d) x → inode_kind K x ≡ inode_kind (moved P I s d) x
@@ -78,7 +76,7 @@ module _ (P : ℕ) (I K : List ℕ) (pa pb : Route) (s d : ℕ) (c : CanMove P I
   inode_size_same : (x : ℕ) → Reached P (moved P I s d) x → inode_size K x ≡ inode_size I x
   unfolding inode_size
   inode_size_same x r =
-      let was = here.reached_back P I pa pb s d c x r in ended.inodes x 2 (pos x was) (range x was) (omega arith) (λ e. omega (arith, e)) (not_out x r)
+      let was = here.reached_back P I pa pb s d c x r in ended.inodes x 2 (range x was).0 (range x was).1 (omega arith) (λ e. omega (arith, e)) (not_out x r)
 
   pub paged : KeepsPages P I K (IsSpare P I (moved P I s d) s d)
   paged = by_words P I K (IsSpare P I (moved P I s d) s d) ended.descriptors
@@ -276,7 +274,7 @@ module _ (P : ℕ) (I K : List ℕ) (pa pb : Route) (s d : ℕ) (c : CanMove P I
   no_count x l =
       let r = back x l.reached in
       let was = here.reached_back P I pa pb s d c x r in
-      let count = counts.counted P I pa pb s d c near x (inode_links K x) was (ended.links x (pos x was) (range x was) (not_out x r)) in
+      let count = counts.counted P I pa pb s d c near x (inode_links K x) was (ended.links x (range x was).0 (range x was).1 (not_out x r)) in
       l.other (record {
         file = λ one. count_same (IsNameOf P (moved P I s d) x) (IsNameOf P K x) (inode_links K x) (λ t. slot_laws.names kept x t (λ none. none)) (count.file (sym (kind_after x r) ∙ one));
         directory = λ two.

@@ -10,7 +10,7 @@ use Rattle.tree_model.specs.PathText.{Route}
 use Rattle.image_reading.specs.Counts.{AtMost}
 use Rattle.image_reading.specs.Reading.{HasBytes, IsDirectory, slot_owner, IsHeld, IsLive, Names, Reached, IsReachedSlot, IsChildOf}
 use Rattle.image_reading.specs.Soundness.{Rule, IsCoherent, HasLinks}
-use Rattle.image_counts.proofs.Paths.{one_inode, same_slot, slot_leads}
+use Rattle.image_counts.proofs.Paths.{in_range, one_inode, same_slot, slot_leads}
 use Rattle.image_laws.specs.Create.{IsAmong}
 use Rattle.image_laws.specs.Frame.{SameMeaning}
 use Rattle.image_laws.specs.Free.{IsFree}
@@ -25,7 +25,7 @@ use Rattle.image_laws.proofs.KeptPages.{KeepsPages, by_words}
 use Rattle.image_laws.proofs.Making.{mix_itself, links_more}
 use Rattle.image_laws.proofs.Meaning.{same_chained}
 use Rattle.image_laws.proofs.PageQuiet.{page_quiet_law}
-use Rattle.image_laws.proofs.Paths.{reach, reached_pos, reached-le}
+use Rattle.image_laws.proofs.Paths.{reach}
 use Rattle.image_laws.proofs.Ready.{dec_among}
 use Rattle.image_laws.proofs.Words.{slot_words-same}
 use Rattle.rename_laws.specs.Pointing.{StoresPointing}
@@ -75,11 +75,8 @@ module _ (P : ℕ) (W B I : List ℕ) (pa pb : Route) (s x d : ℕ) (target : Ta
   x_reached : Reached P W x
   x_reached = (pb, can.target_path)
 
-  pos : (y : ℕ) → Reached P W y → 1 ≤ y
-  pos y r = let h = reached_pos P W y r in omega (arith, h)
-
-  range : (y : ℕ) → Reached P W y → y ≤ inodes_of P
-  range y r = reached-le P W can.tidy.coherent y r
+  range : (y : ℕ) → Reached P W y → (1 ≤ y) × (y ≤ inodes_of P)
+  range y r = in_range P W can.tidy.coherent y r
 
   coherent : IsCoherent P B
   coherent = stands.means.coherent
@@ -93,16 +90,16 @@ module _ (P : ℕ) (W B I : List ℕ) (pa pb : Route) (s x d : ℕ) (target : Ta
 
   descriptor_same : (j f : ℕ) → j < data_pages_of P → f < 8 → word I (descriptor_word_of P j f) ≡ word B (descriptor_word_of P j f)
   descriptor_same j f lt l8 = same_word (descriptor_word_of P j f) (descriptor-ne_slot P j f d 1 lt l8) (λ k l. descriptor-ne_slot P j f d (2 + k) lt l8)
-      (descriptor-ne_inode P j f x 1 (pos x x_reached) (range x x_reached) (omega arith))
+      (descriptor-ne_inode P j f x 1 (range x x_reached).0 (range x x_reached).1 (omega arith))
 
   inode_same : (y f : ℕ) → 1 ≤ y → y ≤ inodes_of P → f < 16 → (f ≢ 1) ⊎ (y ≢ x) → word I (inode_word_of y f) ≡ word B (inode_word_of y f)
   inode_same y f some most lt other = same_word (inode_word_of y f) (inode-ne_slot P y f d 1 some most lt) (λ k l. inode-ne_slot P y f d (2 + k) some most lt)
-      (elim other [ inl field ↦ inode-ne_field y f x 1 lt (omega arith) field | inr ne ↦ inode-ne_inode y f x 1 some (pos x x_reached) ne lt (omega arith) ])
+      (elim other [ inl field ↦ inode-ne_field y f x 1 lt (omega arith) field | inr ne ↦ inode-ne_inode y f x 1 some (range x x_reached).0 ne lt (omega arith) ])
 
   -- a slot's words, but the pointer and the name of slot d
   slot_same : (t f : ℕ) → f < 16 → (f ≡ 0) ⊎ (t ≢ d) → word I (slot_word_of P t f) ≡ word B (slot_word_of P t f)
   slot_same t f lt other = same_word (slot_word_of P t f) (apart 1 (omega arith) (omega arith)) (λ k l. apart (2 + k) (omega arith) (omega arith))
-      (λ e. inode-ne_slot P x 1 t f (pos x x_reached) (range x x_reached) (omega arith) (sym e))
+      (λ e. inode-ne_slot P x 1 t f (range x x_reached).0 (range x x_reached).1 (omega arith) (sym e))
     where
       apart : (g : ℕ) → 1 ≤ g → g < 16 → slot_word_of P t f ≢ slot_word_of P d g
       apart g low high = elim other [
@@ -138,19 +135,19 @@ module _ (P : ℕ) (W B I : List ℕ) (pa pb : Route) (s x d : ℕ) (target : Ta
   -- kinds and links of reached inodes
   node_kind_same : (y : ℕ) → Reached P W y → inode_kind I y ≡ inode_kind W y
   unfolding inode_kind
-  node_kind_same y r = inode_same y 0 (pos y r) (range y r) (omega arith) (inl (λ e. omega (arith, e))) ∙ stands.inodes y 0 (pos y r) (range y r) (omega arith)
+  node_kind_same y r = inode_same y 0 (range y r).0 (range y r).1 (omega arith) (inl (λ e. omega (arith, e))) ∙ stands.inodes y 0 (range y r).0 (range y r).1 (omega arith)
 
   kind_opened : (y : ℕ) → Reached P W y → inode_kind B y ≡ inode_kind W y
   unfolding inode_kind
-  kind_opened y r = stands.inodes y 0 (pos y r) (range y r) (omega arith)
+  kind_opened y r = stands.inodes y 0 (range y r).0 (range y r).1 (omega arith)
 
   links_before : (y : ℕ) → Reached P W y → inode_links B y ≡ inode_links W y
   unfolding inode_links
-  links_before y r = stands.inodes y 1 (pos y r) (range y r) (omega arith)
+  links_before y r = stands.inodes y 1 (range y r).0 (range y r).1 (omega arith)
 
   links_same : (y : ℕ) → Reached P W y → y ≢ x → inode_links I y ≡ inode_links B y
   unfolding inode_links
-  links_same y r ne = inode_same y 1 (pos y r) (range y r) (omega arith) (inr ne)
+  links_same y r ne = inode_same y 1 (range y r).0 (range y r).1 (omega arith) (inr ne)
 
   -- ---- slot s, and the numbers of both slots
 
@@ -210,7 +207,7 @@ module _ (P : ℕ) (W B I : List ℕ) (pa pb : Route) (s x d : ℕ) (target : Ta
     | no ne ↦ elim (dec_new_name P d target a) [
       | yes h ↦ inr (let (k, lt, e) = name_word_among P d target a h in subst (IsFree P B) (sym e) (IsFree.name d (2 + k) (omega arith) (omega (arith, lt)) stands.held (unnamed a h)))
       | no unnamed_word ↦ elim (dec_link rising a) [
-        | yes h ↦ inr (subst (IsFree P B) (sym (link_word_is P W s x target rising rises a h)) (IsFree.link x (pos x x_reached) (range x x_reached)))
+        | yes h ↦ inr (subst (IsFree P B) (sym (link_word_is P W s x target rising rises a h)) (IsFree.link x (range x x_reached).0 (range x x_reached).1))
         | no unlinked ↦ inl (other_back a ne ∙ points.others a ne unnamed_word unlinked)
       ]
     ]
@@ -230,8 +227,8 @@ module _ (P : ℕ) (W B I : List ℕ) (pa pb : Route) (s x d : ℕ) (target : Ta
 
   x_links : (inode_links I x ≡ inode_links B x) ⊎ (inode_links I x ≡ inode_links B x + 1)
   x_links = links_of_x rising rises points.links (λ a other e. points.others a
-      (λ at. inode-ne_slot P x 1 d 1 (pos x x_reached) (range x x_reached) (omega arith) (sym e ∙ at))
-      (λ h. let (k, lt, at) = name_word_among P d target a h in inode-ne_slot P x 1 d (2 + k) (pos x x_reached) (range x x_reached) (omega arith) (sym e ∙ at))
+      (λ at. inode-ne_slot P x 1 d 1 (range x x_reached).0 (range x x_reached).1 (omega arith) (sym e ∙ at))
+      (λ h. let (k, lt, at) = name_word_among P d target a h in inode-ne_slot P x 1 d (2 + k) (range x x_reached).0 (range x x_reached).1 (omega arith) (sym e ∙ at))
       other)
 
   enough : (y : ℕ) → Reached P B y → HasLinks P B y (inode_links I y)
@@ -245,7 +242,7 @@ module _ (P : ℕ) (W B I : List ℕ) (pa pb : Route) (s x d : ℕ) (target : Ta
 
   back_links : (y : ℕ) → Reached P B y → inode_links back y ≡ inode_links I y
   unfolding inode_links
-  back_links y r = other_back (inode_word_of y 1) (inode-ne_slot P y 1 d 1 (pos y (known y r)) (range y (known y r)) (omega arith))
+  back_links y r = other_back (inode_word_of y 1) (inode-ne_slot P y 1 d 1 (range y (known y r)).0 (range y (known y r)).1 (omega arith))
 
   back_owner : (j : ℕ) → j < data_pages_of P → page_owner P back j ≡ page_owner P B j
   unfolding page_owner
@@ -323,7 +320,7 @@ module _ (P : ℕ) (W B I : List ℕ) (pa pb : Route) (s x d : ℕ) (target : Ta
   d_words_same none = slot_words-same P B I d (λ f lt. points.others (slot_word_of P d (2 + f))
       (slot-ne_field P d (2 + f) d 1 (omega arith) (omega arith) (λ e. omega (arith, e)))
       (none (slot_word_of P d (2 + f)))
-      (λ h. inode-ne_slot P x 1 d (2 + f) (pos x x_reached) (range x x_reached) (omega arith) (sym (link_word_is P W s x target rising rises (slot_word_of P d (2 + f)) h))))
+      (λ h. inode-ne_slot P x 1 d (2 + f) (range x x_reached).0 (range x x_reached).1 (omega arith) (sym (link_word_is P W s x target rising rises (slot_word_of P d (2 + f)) h))))
 
   d_words : slot_words P I d ≡ words_for P W d target
   d_words = by target points.name_is stands.name_words d_words_same
