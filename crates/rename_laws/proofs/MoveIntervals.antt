@@ -24,7 +24,6 @@ use Rattle.rename_laws.proofs.MoveNear as before
 use Rattle.rename_laws.proofs.MoveSpare as spares
 use Rattle.rename_laws.proofs.MoveSpare.{IsOut, IsSpare, HasCleared}
 use Rattle.rename_laws.proofs.MoveTidy.{HasEnded}
-use Rattle.rename_laws.proofs.Pointing.{pointing_law}
 
 -- ---- what goes, by the target
 
@@ -79,10 +78,10 @@ module _ (P : ℕ) (W I : List ℕ) (pa pb : Route) (s x d : ℕ) (target : Targ
     }
 
     pub clearing : (M : List ℕ) → IsMix (left P I s d) J M → SameMeaning P (moved P I s d) M
-    clearing = words.clears_mix P I pa pb s d c J near clears pointing_law
+    clearing = words.clears_mix P I pa pb s d c J near clears
 
     pub has_cleared : HasCleared P I J s d
-    has_cleared = words.is_cleared P I pa pb s d c J near clears pointing_law
+    has_cleared = words.is_cleared P I pa pb s d c J near clears
 
   -- ---- what goes
 
