@@ -1,5 +1,5 @@
 -- The room after a free slot took an inode number.
-use Rattle.std.proofs.Common.{◌≡◌, ◌≢◌, ◌↔◌, ◌⊎◌, inl, inr, ℕ, ◌+◌, List, ◌∷◌, Option, Some, cond, unwrap_or, refl, sym, ap, subst, ◌∙◌, arith}
+use Rattle.std.proofs.Common.{◌≡◌, ◌≢◌, ◌↔◌, ◌⊎◌, inl, inr, ℕ, ◌+◌, List, ◌∷◌, Some, cond, unwrap_or, refl, sym, ap, subst, ◌∙◌, arith}
 use Rattle.std.proofs.lemmas.Bool.{cases_eq}
 use Rattle.std.specs.Cmp.{nat_cmp_total}
 use Rattle.layout.specs.Fields.{inode_kind, slot_inode, slot_name}
@@ -9,6 +9,7 @@ use Rattle.tree_model.specs.Table.{get, insert}
 use Rattle.tree_model.specs.Tree.{Node, Directory, File, Room, pages_in}
 use Rattle.tree_model.proofs.TableLaws.{get-insert}
 use Rattle.tree_model.proofs.TreeLaws.{same_id_itself, other_id}
+use Rattle.tree_model.proofs.TreeKept.{same_some}
 use Rattle.image_reading.specs.Counts.{Count}
 use Rattle.image_reading.specs.Reading.{slot_owner, Reached, IsNode, IsRoomOf, HasRoom}
 use Rattle.image_reading.proofs.Counts.{count_none, count_one}
@@ -27,14 +28,11 @@ get-here room k v = get-insert nat_cmp_total room k v k ∙ ap (λ b. cond b (So
 pub get-other : (room : Room) (k v x : ℕ) → x ≢ k → get (insert nat_cmp_total room k v) x ≡ get room x
 get-other room k v x other = get-insert nat_cmp_total room k v x ∙ ap (λ b. cond b (Some v) (get room x)) (other_id x k other)
 
-some_same : (x y : ℕ) → ◌≡◌ {A = Option ℕ} (Some x) (Some y) → x ≡ y
-some_same x y e = cc
-
 pub inserted : (P : ℕ) (J : List ℕ) (room : Room) (k v x n : ℕ) → (x ≢ k → (get room x ≡ Some n) ↔ IsEntry P J x n) → IsEntry P J k v
     → (get (insert nat_cmp_total room k v) x ≡ Some n) ↔ IsEntry P J x n
 inserted P J room k v x n others here = elim (cases_eq x k) [
   | inl e ↦ subst (λ y. (get (insert nat_cmp_total room k v) y ≡ Some n) ↔ IsEntry P J y n) (sym e) (
-    (λ h. subst (IsEntry P J k) (some_same v n (sym (get-here room k v) ∙ h)) here),
+    (λ h. subst (IsEntry P J k) (same_some v n (sym (get-here room k v) ∙ h)) here),
     (λ r. get-here room k v ∙ ap Some (count_one (IsRoomOf P J k) v n here.2 r.2)),
   )
   | inr other ↦ let old = others other in ((λ h. old.0 (sym (get-other room k v x other) ∙ h)), (λ r. get-other room k v x other ∙ old.1 r))

@@ -1,46 +1,37 @@
 -- Create and mkdir in a page that the directory has.
-use Rattle.std.proofs.Common.{◌≡◌, ◌≢◌, ◌⊎◌, inl, inr, ℕ, ◌<◌, List, ◌∷◌, length, reverse, refl, sym, ap, subst, ◌∙◌, arith}
-use Rattle.std.proofs.lemmas.List.{get_or-set_other}
+use Rattle.std.proofs.Common.{◌≡◌, ◌⊎◌, inl, inr, ℕ, ◌<◌, List, ◌∷◌, reverse, sym, ap, subst, ◌∙◌, arith}
 use Rattle.layout.specs.Fields.{word, page_owner}
 use Rattle.layout.specs.Geometry.{page_of_slot, slot_word_of}
-use Rattle.layout.proofs.GeometryLaws.{slot_word_within}
 use Rattle.layout.specs.Name.{name_in_words}
 use Rattle.tree_model.specs.PathText.{Route}
 use Rattle.tree_model.specs.Tree.{Node, Tree, Room}
 use Rattle.tree_model.specs.Step.{with_new}
 use Rattle.image_reading.specs.Reading.{slot_owner, IsLive, Reached, IsRoomOf, Reads, HasRoom}
-use Rattle.image_reading.specs.Soundness.{Rule, IsCoherent}
+use Rattle.image_reading.specs.Soundness.{IsCoherent}
 use Rattle.image_reading.specs.Tidy.{IsTidied}
 use Rattle.image_laws.specs.Add.{IsFreeSlot, with_node}
 use Rattle.image_laws.specs.Commits.{Commits}
 use Rattle.image_laws.specs.Create.{IsEmptyNode, MakesNode, CanName, CanMake, IsVacant, committed, CreateLaw}
 use Rattle.image_laws.specs.Frame.{SameMeaning}
 use Rattle.image_laws.specs.Quiet.{IsMix}
-use Rattle.image_laws.proofs.Adds.{only, stored, add_law, add_tree_law, add_room_law}
+use Rattle.image_laws.proofs.Adds.{inside, only, stored, add_law, add_tree_law, add_room_law}
 use Rattle.image_laws.proofs.Free.{mix_one}
 use Rattle.image_laws.proofs.Making as making
 use Rattle.image_laws.proofs.MakeTidy.{tidy_after}
 use Rattle.image_laws.proofs.Meaning.{same_itself, same_chained}
 use Rattle.image_laws.proofs.Ready.{IsCleanSlot, IsNamed, IsTidyBut, tidy_but, no_pointer, owned_kept, held_room, dead_zero}
+use Rattle.image_laws.proofs.Words.{other_word}
 use Rattle.image_laws.specs.Stages.{IsReady, IsReadySlot, IsFreeInode}
 
 -- ---- from an image that is ready
 
 module _ (P : ℕ) (W B C : List ℕ) (p path : Route) (node : Node) (d s i : ℕ) (name : List ℕ) (start : SameMeaning P W B) (ready : IsReady P B p d s i name)
     (empty : IsEmptyNode node) (makes : MakesNode P B C node d s i name) (is : reverse path ≡ name_in_words name ∷ p) where
-  in_image : slot_word_of P s 0 < length C
-  in_image = let below = slot_word_within P s 0 ready.place.slot.held.in_range (omega arith) in
-      let size = makes.size ∙ (ready.place.coherent Rule.head 0).whole refl in omega (arith, below, size)
-
-  pub other_words : (a : ℕ) → a ≢ slot_word_of P s 0 → word (committed P C s i) a ≡ word C a
-  unfolding word
-  other_words a ne = get_or-set_other C (slot_word_of P s 0) a i 0 ne
-
   same_made : SameMeaning P W C
   same_made = same_chained P W B C start (making.same P B C p node d s i name ready makes)
 
   commit : (M : List ℕ) → IsMix C (committed P C s i) M → SameMeaning P W M ⊎ (M ≡ committed P C s i)
-  commit M m = elim (mix_one C M (slot_word_of P s 0) i in_image m) [
+  commit M m = elim (mix_one C M (slot_word_of P s 0) i (inside P C s 0 same_made.coherent ready.place.slot.held.in_range (omega arith)) m) [
     | inl e ↦ inl (subst (SameMeaning P W) (sym e) same_made)
     | inr e ↦ inr e
   ]
@@ -51,7 +42,7 @@ module _ (P : ℕ) (W B C : List ℕ) (p path : Route) (node : Node) (d s i : �
   tidy : IsCleanSlot P B s → IsTidied P (committed P C s i)
   tidy rest =
       let can = making.can_add P B C p node d s i name ready makes in
-      tidy_after P B C (committed P C s i) p node d s i name ready makes can (only P C s i can.coherent) (stored P C s i can.coherent can.slot.held.in_range) other_words
+      tidy_after P B C (committed P C s i) p node d s i name ready makes can (only P C s i can.coherent) (stored P C s i can.coherent can.slot.held.in_range) (other_word C (slot_word_of P s 0) i)
       coherent rest
 
   reads : (T : Tree) → Reads P W T → Reads P (committed P C s i) (with_new T path i node)

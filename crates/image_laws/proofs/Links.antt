@@ -1,15 +1,12 @@
 -- Link, in a page that the directory has and in a new one.
-use Rattle.std.proofs.Common.{◌≡◌, ◌≢◌, ◌⊎◌, inl, inr, ℕ, ◌<◌, List, ◌∷◌, length, reverse, refl, sym, ap, subst, ◌∙◌, arith}
-use Rattle.std.proofs.lemmas.List.{get_or-set_other}
-use Rattle.layout.specs.Fields.{word}
+use Rattle.std.proofs.Common.{◌≡◌, ◌⊎◌, inl, inr, ℕ, List, ◌∷◌, reverse, refl, sym, ap, subst, ◌∙◌, arith}
 use Rattle.layout.specs.Geometry.{page_of_slot, slot_word_of}
-use Rattle.layout.proofs.GeometryLaws.{slot_word_within}
 use Rattle.layout.specs.Name.{name_in_words}
 use Rattle.tree_model.specs.PathText.{Route}
 use Rattle.tree_model.specs.Step.{with_path}
 use Rattle.tree_model.specs.Tree.{Node, Directory, File, Tree, Room}
 use Rattle.image_reading.specs.Reading.{HasBytes, IsNode, IsRoomOf, Reads, HasRoom}
-use Rattle.image_reading.specs.Soundness.{Rule, IsCoherent}
+use Rattle.image_reading.specs.Soundness.{IsCoherent}
 use Rattle.image_reading.specs.Tidy.{IsTidied}
 use Rattle.image_counts.specs.Entries.{IsFreePage}
 use Rattle.image_laws.specs.Add.{CanAdd, IsOldFile, with_page, with_node}
@@ -19,7 +16,7 @@ use Rattle.image_laws.specs.Frame.{SameMeaning}
 use Rattle.image_laws.specs.Grown.{HasGrown}
 use Rattle.image_laws.specs.Link.{MakesLink, CanLink, LinkLaw, NewPageLinkLaw}
 use Rattle.image_laws.specs.Quiet.{IsMix}
-use Rattle.image_laws.proofs.Adds.{only, stored, add_law, add_tree_law, add_room_law}
+use Rattle.image_laws.proofs.Adds.{inside, only, stored, add_law, add_tree_law, add_room_law}
 use Rattle.image_laws.proofs.Contents.{node_of, node_is}
 use Rattle.image_laws.proofs.Creates.{ready_slot, clean_slot, room_here}
 use Rattle.image_laws.proofs.Free.{mix_one}
@@ -30,6 +27,7 @@ use Rattle.image_laws.proofs.Meaning.{same_itself, same_chained}
 use Rattle.image_laws.proofs.PageCreates.{taken, clean}
 use Rattle.image_laws.proofs.PageReady.{HasTaken, page_ready, forth, kind_as_before, no_room}
 use Rattle.image_laws.proofs.Ready.{IsCleanSlot, IsNamed}
+use Rattle.image_laws.proofs.Words.{other_word}
 use Rattle.image_laws.specs.Stages.{IsReadySlot}
 
 -- a file takes no place in a room
@@ -42,19 +40,11 @@ module _ (P : ℕ) (W B C : List ℕ) (p path : Route) (d s i : ℕ) (name : Lis
   can : CanAdd P C p d s i
   can = linking.can_add P B C p d s i name place file makes
 
-  other_words : (a : ℕ) → a ≢ slot_word_of P s 0 → word (committed P C s i) a ≡ word C a
-  unfolding word
-  other_words a ne = get_or-set_other C (slot_word_of P s 0) a i 0 ne
-
-  in_image : slot_word_of P s 0 < length C
-  in_image = let below = slot_word_within P s 0 place.slot.held.in_range (omega arith) in
-      let size = makes.size ∙ (place.coherent Rule.head 0).whole refl in omega (arith, below, size)
-
   same_linked : SameMeaning P W C
   same_linked = same_chained P W B C start (linking.same P B C p d s i name place file makes)
 
   commit : (M : List ℕ) → IsMix C (committed P C s i) M → SameMeaning P W M ⊎ (M ≡ committed P C s i)
-  commit M m = elim (mix_one C M (slot_word_of P s 0) i in_image m) [
+  commit M m = elim (mix_one C M (slot_word_of P s 0) i (inside P C s 0 same_linked.coherent place.slot.held.in_range (omega arith)) m) [
     | inl e ↦ inl (subst (SameMeaning P W) (sym e) same_linked)
     | inr e ↦ inr e
   ]
@@ -63,11 +53,11 @@ module _ (P : ℕ) (W B C : List ℕ) (p path : Route) (d s i : ℕ) (name : Lis
   coherent = (add_law P C p d s i can).coherent
 
   tidy : IsCleanSlot P B s → IsTidied P (committed P C s i)
-  tidy rest = linked.tidy_after P B C (committed P C s i) p d s i name place file makes can (only P C s i can.coherent) (stored P C s i can.coherent can.slot.held.in_range) other_words
+  tidy rest = linked.tidy_after P B C (committed P C s i) p d s i name place file makes can (only P C s i can.coherent) (stored P C s i can.coherent can.slot.held.in_range) (other_word C (slot_word_of P s 0) i)
       coherent rest
 
   pub grown : HasGrown P B (committed P C s i) d s i name
-  grown = linked.grown_after P B C (committed P C s i) p d s i name place file makes can (only P C s i can.coherent) (stored P C s i can.coherent can.slot.held.in_range) other_words
+  grown = linked.grown_after P B C (committed P C s i) p d s i name place file makes can (only P C s i can.coherent) (stored P C s i can.coherent can.slot.held.in_range) (other_word C (slot_word_of P s 0) i)
       (add_law P C p d s i can).coherent
 
   reads : (T : Tree) → Reads P W T → Reads P (committed P C s i) (with_path T path i)

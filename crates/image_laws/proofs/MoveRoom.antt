@@ -1,5 +1,5 @@
 -- The room after a slot took the inode number of another.
-use Rattle.std.proofs.Common.{◌≡◌, ◌≢◌, ◌↔◌, ◌⊎◌, inl, inr, ℕ, ◌+◌, ◌-◌, List, [], ◌∷◌, ◌++◌, Option, Some, unwrap_or, refl, sym, ap, subst, ◌∙◌, arith}
+use Rattle.std.proofs.Common.{◌≡◌, ◌≢◌, ◌↔◌, ◌⊎◌, inl, inr, ℕ, ◌+◌, ◌-◌, List, [], ◌∷◌, ◌++◌, Some, unwrap_or, refl, sym, ap, subst, ◌∙◌, arith}
 use Rattle.std.proofs.lemmas.Bool.{cases_eq}
 use Rattle.std.specs.Cmp.{nat_cmp_total}
 use Rattle.layout.specs.Fields.{inode_kind, slot_inode, slot_pointer, slot_name}
@@ -7,6 +7,7 @@ use Rattle.layout.specs.Geometry.{page_of_slot}
 use Rattle.tree_model.specs.PathText.{Route}
 use Rattle.tree_model.specs.Table.{get, insert, remove}
 use Rattle.tree_model.specs.Tree.{Room, pages_in}
+use Rattle.tree_model.proofs.TreeKept.{same_some}
 use Rattle.image_reading.specs.Counts.{Count}
 use Rattle.image_reading.specs.Reading.{IsDirectory, slot_owner, IsLive, Names, Reached, IsRoomOf, HasRoom}
 use Rattle.image_reading.proofs.Counts.{count_one}
@@ -33,9 +34,6 @@ IsEntryBy D R x n = D x × Count (R x) n
 abbrev pub HasRoomBy : (ℕ → Type 0) → (ℕ → ℕ → Type 0) → Room → Type 0
 HasRoomBy D R room = (x n : ℕ) → (get room x ≡ Some n) ↔ IsEntryBy D R x n
 
-some_same : (x y : ℕ) → ◌≡◌ {A = Option ℕ} (Some x) (Some y) → x ≡ y
-some_same x y e = cc
-
 module _ (D : ℕ → Type 0) (R S : ℕ → ℕ → Type 0) (room : Room) (has : HasRoomBy D R room) where
   same_entry : (x n : ℕ) → (D x → (j : ℕ) → R x j ↔ S x j) → (get room x ≡ Some n) ↔ IsEntryBy D S x n
   same_entry x n same = (
@@ -53,7 +51,7 @@ module _ (D : ℕ → Type 0) (R S : ℕ → ℕ → Type 0) (room : Room) (has 
   other_pages : (k v : ℕ) → ((x : ℕ) → x ≢ k → D x → (j : ℕ) → R x j ↔ S x j) → D k → Count (S k) v → HasRoomBy D S (insert nat_cmp_total room k v)
   other_pages k v same d count x n = elim (cases_eq x k) [
     | inl e ↦ subst (λ y. (get (insert nat_cmp_total room k v) y ≡ Some n) ↔ IsEntryBy D S y n) (sym e) (
-      (λ h. subst (IsEntryBy D S k) (some_same v n (sym (get-here room k v) ∙ h)) (d, count)),
+      (λ h. subst (IsEntryBy D S k) (same_some v n (sym (get-here room k v) ∙ h)) (d, count)),
       (λ (d', count'). get-here room k v ∙ ap Some (count_one (S k) v n count count')),
     )
     | inr ne ↦ let old = same_entry x n (same x ne) in ((λ h. old.0 (sym (get-other room k v x ne) ∙ h)), (λ r. get-other room k v x ne ∙ old.1 r))

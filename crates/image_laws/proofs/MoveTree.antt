@@ -20,9 +20,13 @@ use Rattle.image_laws.proofs.Removes.{moves, move_law}
 use Rattle.image_laws.proofs.Trees.{form_law, is_directory-reached, reverse_path}
 
 -- a path that has a last name isn't the root
-below_root : (path p : Route) (n : List ℕ) → reverse path ≡ n ∷ p → is_root path ≡ false
+pub below_root : (path p : Route) (n : List ℕ) → reverse path ≡ n ∷ p → is_root path ≡ false
 below_root [] p n e = cc
 below_root (name ∷ names) p n e = refl
+
+pub reverse_below : (p : Route) → is_root p ≡ false → reverse p ≡ last_name p ∷ reverse (parent p)
+reverse_below [] e = cc
+reverse_below (name ∷ names) e = reverse_path name names
 
 module _ (P : ℕ) (I J : List ℕ) (pa pb : Route) (s d : ℕ) (c : CanMove P I pa pb s d) (a : GetsNumber P I J d (slot_inode P I s)) (after : HasMoved P I J (slot_name P I s ∷ pa) (slot_name P I d ∷ pb))
     (from to : Route) (from_is : reverse from ≡ slot_name P I s ∷ pa) (to_is : reverse to ≡ slot_name P I d ∷ pb) (T : Tree) (reads : Reads P I T) where
@@ -40,10 +44,6 @@ module _ (P : ℕ) (I J : List ℕ) (pa pb : Route) (s d : ℕ) (c : CanMove P I
 
   holds : is_directory T (slot_owner P I d) ≡ true
   holds = is_directory-reached P I T c.coherent reads (slot_owner P I d) (pb, c.target_path) c.target_directory
-
-  reverse_below : (p : Route) → is_root p ≡ false → reverse p ≡ last_name p ∷ reverse (parent p)
-  reverse_below [] e = cc
-  reverse_below (name ∷ names) e = reverse_path name names
 
   -- no path goes on from the second
   empty : HasNoNames T to

@@ -4,6 +4,7 @@ use Rattle.std.proofs.lemmas.Bool.{cases_eq}
 use Rattle.tree_model.specs.Table.{get, remove}
 use Rattle.tree_model.specs.Tree.{Tree, Room, is_directory, is_number, pages_in}
 use Rattle.tree_model.proofs.TreeLaws.{same_room}
+use Rattle.tree_model.proofs.TreeKept.{none_some}
 use Rattle.image_reading.specs.Reading.{Reads, HasRoom}
 use Rattle.image_reading.specs.Soundness.{IsCoherent}
 use Rattle.image_counts.proofs.Decided.{room_counted}
@@ -36,9 +37,6 @@ pages_left T pages room d has holds x dir = elim (cases_eq d x) [
       (get-here room d (pages_in room d - 1) ∙ ap (λ o. Some (unwrap_or o 0 - 1)) (has d holds) ∙ ap Some (sym (ap (λ b. cond (b && true) (pages d - 1) (pages d)) (is_same d))))
   | inr ne ↦ get-other room d (pages_in room d - 1) x (λ z. ne (sym z)) ∙ has x dir ∙ ap Some (sym (ap (λ b. cond (b && true) (pages x - 1) (pages x)) (not_same d x ne)))
 ]
-
-none_some : (n : ℕ) → ◌≡◌ {A = Option ℕ} None (Some n) → ⊥
-none_some n e = cc
 
 -- A room that has these pages is without entry i the room after, where K reads as the tree after, with a room without that entry.
 module _ (P : ℕ) (K : List ℕ) (T : Tree) (room after : Room) (pages : ℕ → ℕ) (i : ℕ) (coherent : IsCoherent P K) (reads : Reads P K T) (has : HasRoom P K (remove room i))

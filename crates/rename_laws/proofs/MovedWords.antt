@@ -4,7 +4,6 @@ use Rattle.std.proofs.lemmas.Bool.{cases_eq}
 use Rattle.std.proofs.lemmas.List.{get_or-set_other}
 use Rattle.layout.specs.Fields.{word, inode_kind, inode_links, page_owner, slot_inode, slot_pointer}
 use Rattle.layout.specs.Geometry.{inodes_of, data_pages_of, inode_word_of, descriptor_word_of, slot_word_of}
-use Rattle.layout.proofs.GeometryLaws.{slot_word_within}
 use Rattle.tree_model.specs.PathText.{Route}
 use Rattle.image_reading.specs.Reading.{slot_owner, IsHeld, Reached, IsReachedSlot, IsNameOf, IsChildOf}
 use Rattle.image_reading.specs.Soundness.{Rule, IsCoherent, HasLinks}
@@ -21,7 +20,7 @@ use Rattle.image_laws.proofs.Free.{mix_one}
 use Rattle.image_laws.proofs.Meaning.{same_itself, same_chained}
 use Rattle.image_laws.proofs.OnlySlot as only_slot
 use Rattle.image_laws.proofs.OnlySlot.{OnlySlot}
-use Rattle.image_laws.proofs.Adds.{only, stored}
+use Rattle.image_laws.proofs.Adds.{inside, only, stored}
 use Rattle.image_laws.proofs.Paths.{reached-le}
 use Rattle.image_laws.proofs.Pointers.{leave_law}
 use Rattle.image_laws.proofs.Ready.{dec_among}
@@ -54,18 +53,10 @@ module _ (P : ℕ) (I : List ℕ) (pa pb : Route) (s d : ℕ) (c : CanMove P I p
 
   -- ---- the commit
 
-  target_inside : slot_word_of P d 0 < length I
-  target_inside =
-      let below = slot_word_within P d 0 c.held.in_range (omega arith) in let size = (c.coherent Rule.head 0).whole refl in omega (arith, below, size)
-
   pub commits : (M : List ℕ) → IsMix I (moved P I s d) M → (M ≡ I) ⊎ (M ≡ moved P I s d)
-  commits M mix = mix_one I M (slot_word_of P d 0) (slot_inode P I s) target_inside mix
+  commits M mix = mix_one I M (slot_word_of P d 0) (slot_inode P I s) (inside P I d 0 c.coherent c.held.in_range (omega arith)) mix
 
   -- ---- the source's number
-
-  source_inside : slot_word_of P s 0 < length (moved P I s d)
-  source_inside =
-      let below = slot_word_within P s 0 c.source.held.in_range (omega arith) in let size = (coherent Rule.head 0).whole refl in omega (arith, below, size)
 
   is_left : IsLeft P (moved P I s d) s d
   is_left = record {
@@ -80,7 +71,7 @@ module _ (P : ℕ) (I : List ℕ) (pa pb : Route) (s d : ℕ) (c : CanMove P I p
   same_left = leave_law P (moved P I s d) s d is_left
 
   pub leaves : (M : List ℕ) → IsMix (moved P I s d) (left P I s d) M → SameMeaning P (moved P I s d) M
-  leaves M mix = elim (mix_one (moved P I s d) M (slot_word_of P s 0) 0 source_inside mix) [
+  leaves M mix = elim (mix_one (moved P I s d) M (slot_word_of P s 0) 0 (inside P (moved P I s d) s 0 coherent c.source.held.in_range (omega arith)) mix) [
     | inl e ↦ subst (SameMeaning P (moved P I s d)) (sym e) (same_itself P (moved P I s d) coherent)
     | inr e ↦ subst (SameMeaning P (moved P I s d)) (sym e) same_left
   ]

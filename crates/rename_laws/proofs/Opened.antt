@@ -1,6 +1,5 @@
 -- What stands before a rename's pointer is stored, wherever its slot d stands: B are the words W, or those with a new page of directory x.
-use Rattle.std.proofs.Common.{◌≡◌, ◌≢◌, inl, inr, ℕ, ◌+◌, ◌<◌, ◌≤◌, List, length, length-set, refl, sym, subst, ◌∙◌, arith}
-use Rattle.std.proofs.lemmas.List.{get_or-set_other}
+use Rattle.std.proofs.Common.{◌≡◌, inl, inr, ℕ, ◌+◌, ◌<◌, ◌≤◌, List, length, length-set, refl, sym, subst, ◌∙◌, arith}
 use Rattle.layout.specs.Fields.{word, page_offset, slot_inode, slot_pointer, slot_name, slot_words}
 use Rattle.layout.specs.Geometry.{inodes_of, page_of_slot, inode_word_of, descriptor_word_of, slot_word_of}
 use Rattle.tree_model.specs.PathText.{Route}
@@ -14,7 +13,7 @@ use Rattle.image_laws.proofs.Meaning.{same_itself}
 use Rattle.image_laws.proofs.PageCreates.{taken}
 use Rattle.image_laws.proofs.PageReady.{HasTaken, page_ready, entry_same, slot_same, no_pointers}
 use Rattle.image_laws.proofs.Ready.{no_pointer, tidy_but}
-use Rattle.image_laws.proofs.Words.{slot_words-same}
+use Rattle.image_laws.proofs.Words.{slot_words-same, other_word}
 use Rattle.rename_laws.specs.Target.{Target, Vacant, Opened, Taken, CanRename, old_number}
 use Rattle.rename_laws.specs.Ready.{IsTargetOpened, HasNewPage, IsNewPage, IsTargetWord}
 
@@ -102,25 +101,23 @@ module _ (P : ℕ) (W A : List ℕ) (pb : Route) (x d j : ℕ) (name : List ℕ)
   slot_ready : IsReadySlot P after pb x d name
   slot_ready = page_ready P W after pb x j d name can page at took
 
-  owned_word : (a : ℕ) → a ≢ descriptor_word_of P j 0 → word after a ≡ word A a
-  unfolding after word
-  owned_word a ne = get_or-set_other A (descriptor_word_of P j 0) a x 0 ne
-
   owned_slot : (t f : ℕ) → word after (slot_word_of P t f) ≡ word A (slot_word_of P t f)
-  owned_slot t f = owned_word (slot_word_of P t f) (λ e. descriptor-ne_slot P j 0 t f page.0 (omega arith) (sym e))
+  unfolding after
+  owned_slot t f = other_word A (descriptor_word_of P j 0) x (slot_word_of P t f) (λ e. descriptor-ne_slot P j 0 t f page.0 (omega arith) (sym e))
 
   not_target : (a : ℕ) → (IsTargetWord P d (Opened j name) a → ⊥) → word after a ≡ word W a
-  not_target a other = owned_word a (λ e. other (inr (0, omega arith, e))) ∙ makes.empty.others a (λ made. elim made [
+  unfolding after
+  not_target a other = other_word A (descriptor_word_of P j 0) x a (λ e. other (inr (0, omega arith, e))) ∙ makes.empty.others a (λ made. elim made [
     | inl w ↦ other (inl w)
     | inr rest ↦ elim rest [ inl e ↦ other (inr (1, omega arith, e)) | inr e ↦ other (inr (2, omega arith, e)) ]
   ])
 
   new_page : IsNewPage P after x d j
-  unfolding page_offset
+  unfolding after page_offset
   new_page = record {
     owner = took.owner;
     kind = took.kind;
-    offset = owned_word (descriptor_word_of P j 2) (λ e. let field = (descriptor_word-one P j 2 j 0 (omega arith) (omega arith) e).1 in omega (arith, field)) ∙ makes.empty.offset;
+    offset = other_word A (descriptor_word_of P j 0) x (descriptor_word_of P j 2) (λ e. let field = (descriptor_word-one P j 2 j 0 (omega arith) (omega arith) e).1 in omega (arith, field)) ∙ makes.empty.offset;
     zeros = λ t here ne f lt. owned_slot t f ∙ makes.zeros t here ne f lt;
   }
 
