@@ -14,7 +14,7 @@ use Rattle.image_laws.specs.Quiet.{IsMix, IsQuiet}
 use Rattle.image_laws.specs.Resize.{CanResize}
 use Rattle.image_laws.specs.Words.{IsUsed}
 use Rattle.image_laws.proofs.Addresses.{head-ne_descriptor, descriptor-ne_inode, descriptor-ne_slot, descriptor-ne_page, descriptor_word-one}
-use Rattle.image_laws.proofs.Making.{mix_itself}
+use Rattle.image_laws.proofs.Free.{mix_itself}
 use Rattle.image_laws.proofs.NewPage.{links_kept}
 use Rattle.image_laws.proofs.Paths.{reached_pos, reached-le}
 use Rattle.image_laws.proofs.Quiet.{mix_law}

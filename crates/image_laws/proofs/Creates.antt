@@ -15,8 +15,9 @@ use Rattle.image_laws.specs.Create.{IsEmptyNode, MakesNode, CanName, CanMake, Is
 use Rattle.image_laws.specs.Frame.{SameMeaning}
 use Rattle.image_laws.specs.Quiet.{IsMix}
 use Rattle.image_laws.proofs.Adds.{inside, only, stored, add_law, add_tree_law, add_room_law}
-use Rattle.image_laws.proofs.Free.{mix_one}
+use Rattle.image_laws.proofs.Free.{mix_one, stores_law}
 use Rattle.image_laws.proofs.Making as making
+use Rattle.image_laws.proofs.Naming as naming
 use Rattle.image_laws.proofs.MakeTidy.{tidy_after}
 use Rattle.image_laws.proofs.Meaning.{same_itself, same_chained}
 use Rattle.image_laws.proofs.Ready.{IsCleanSlot, IsNamed, IsTidyBut, tidy_but, no_pointer, owned_kept, held_room, dead_zero}
@@ -28,7 +29,7 @@ use Rattle.image_laws.specs.Stages.{IsReady, IsReadySlot, IsFreeInode}
 module _ (P : ℕ) (W B C : List ℕ) (p path : Route) (node : Node) (d s i : ℕ) (name : List ℕ) (start : SameMeaning P W B) (ready : IsReady P B p d s i name)
     (empty : IsEmptyNode node) (makes : MakesNode P B C node d s i name) (is : reverse path ≡ name_in_words name ∷ p) where
   same_made : SameMeaning P W C
-  same_made = same_chained P W B C start (making.same P B C p node d s i name ready makes)
+  same_made = same_chained P W B C start (naming.entries ready.place (making.named P B C p node d s i name ready makes)).same
 
   commit : (M : List ℕ) → IsMix C (committed P C s i) M → SameMeaning P W M ⊎ (M ≡ committed P C s i)
   commit M m = elim (mix_one C M (slot_word_of P s 0) i (inside P C s 0 same_made.coherent ready.place.slot.held.in_range (omega arith)) m) [
@@ -48,7 +49,7 @@ module _ (P : ℕ) (W B C : List ℕ) (p path : Route) (node : Node) (d s i : �
   reads : (T : Tree) → Reads P W T → Reads P (committed P C s i) (with_new T path i node)
   reads T h =
       let can = making.can_add P B C p node d s i name ready makes in
-      let path_is = is ∙ ap (λ n. n ∷ p) (sym (making.name_is P B C p node d s i name ready makes)) in
+      let path_is = is ∙ ap (λ n. n ∷ p) (sym (naming.name_is ready.place (making.named P B C p node d s i name ready makes))) in
       (add_tree_law P C p path d s i can path_is).new_node T node (same_made.reads T h) (making.new_node P B C p node d s i name ready makes) (making.node_made P B C p node d s i name ready makes empty)
 
   pub named : (after : Room → Room) → ((room : Room) → HasRoom P C room → HasRoom P (committed P C s i) (after room)) → IsNamed P W (committed P C s i) (λ T. with_new T path i node) after
@@ -56,7 +57,7 @@ module _ (P : ℕ) (W B C : List ℕ) (p path : Route) (node : Node) (d s i : �
 
   pub created : (after : Room → Room) → ((room : Room) → HasRoom P C room → HasRoom P (committed P C s i) (after room)) → IsCleanSlot P B s → Commits P W B C (committed P C s i) (λ T. with_new T path i node) after
   created after room rest = record {
-    before = λ M m. same_chained P W B M start (making.mixes P B C p node d s i name ready makes M m);
+    before = λ M m. same_chained P W B M start (stores_law P B C M ready.place.coherent (making.stores P B C p node d s i name ready makes) m);
     commit = commit;
     tidy = tidy rest;
     reads = reads;
@@ -120,7 +121,7 @@ module _ (P : ℕ) (W I : List ℕ) (p path : Route) (node : Node) (d s i : ℕ)
 
   room_after : (room : Room) → HasRoom P I room → HasRoom P (committed P I s i) (with_node room i node)
   room_after room has =
-      let here = ((making.shape_made P W I p node d s i name ready makes).directories d (page_of_slot s)).0 (room_here P W p d s name can.place vacant) in
+      let here = ((naming.entries ready.place (making.named P W I p node d s i name ready makes)).rooms d (page_of_slot s)).0 (room_here P W p d s name can.place vacant) in
       (add_room_law P I p d s i (making.can_add P W I p node d s i name ready makes)).old_page room node has (making.node_made P W I p node d s i name ready makes empty) here
 
   pub create_named : IsNamed P W (committed P I s i) (λ T. with_new T path i node) (λ room. with_node room i node)

@@ -26,13 +26,9 @@ module _ (P : ℕ) (B C D : List ℕ) (p : Route) (d s i : ℕ) (name : List ℕ
     (can : CanAdd P C p d s i) (only : OnlySlot P C D s) (stored : slot_inode P D s ≡ i) (others : (a : ℕ) → a ≢ slot_word_of P s 0 → word D a ≡ word C a) (coherent : IsCoherent P D) where
   written : IsWritten P B C s i i name
   written = record {
-    same = linking.same P B C p d s i name place of_file makes;
-    alike = linking.alike_linked P B C p d s i name place of_file makes;
+    named = linking.named P B C p d s i name place of_file makes;
     linked = of_file.reached;
-    descriptors = linking.descriptor_same P B C p d s i name place of_file makes;
     inodes = λ x f some most lt old links. linking.inode_same P B C p d s i name place of_file makes x f some most lt links;
-    slots = linking.slot_same P B C p d s i name place of_file makes;
-    name_is = linking.name_is P B C p d s i name place of_file makes;
   }
 
   kind_same : (x : ℕ) → Reached P B x → inode_kind D x ≡ inode_kind B x

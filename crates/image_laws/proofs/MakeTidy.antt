@@ -38,13 +38,9 @@ module _ (P : ℕ) (B C D : List ℕ) (p : Route) (node : Node) (d s i : ℕ) (n
 
   written : IsWritten P B C s i d name
   written = record {
-    same = making.same P B C p node d s i name ready makes;
-    alike = making.alike_made P B C p node d s i name ready makes;
+    named = making.named P B C p node d s i name ready makes;
     linked = d_reached;
-    descriptors = making.descriptor_same P B C p node d s i name ready makes;
     inodes = λ x f some most lt old links. making.inode_same P B C p node d s i name ready makes x f some most lt (elim old [ inl r ↦ other_inode x r | inr ne ↦ ne ]) links;
-    slots = making.slot_same P B C p node d s i name ready makes;
-    name_is = making.name_is P B C p node d s i name ready makes;
   }
 
   kept : KeepsSlots P B D (λ t. t ≡ s)

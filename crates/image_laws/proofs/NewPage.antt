@@ -1,28 +1,21 @@
 -- A directory takes a new page: nothing is meant by it yet.
-use Rattle.std.proofs.Common.{◌≡◌, ◌≢◌, ◌↔◌, ◌⊎◌, inl, inr, ℕ, ◌-◌, ◌<◌, ◌≤◌, List, length, length-set, refl, sym, ap, subst, ◌∙◌, arith}
+use Rattle.std.proofs.Common.{◌≡◌, ◌≢◌, ◌⊎◌, inl, inr, ℕ, ◌-◌, ◌<◌, ◌≤◌, List, length, length-set, refl, sym, ap, subst, ◌∙◌, arith}
 use Rattle.std.proofs.lemmas.Bool.{cases_eq}
 use Rattle.std.proofs.lemmas.List.{get_or-set_same}
 use Rattle.layout.specs.Fields.{word, inode_links, page_owner, page_kind, page_offset, slot_inode, slot_pointer}
 use Rattle.layout.specs.Geometry.{inodes_of, data_pages_of, page_of_slot, inode_word_of, descriptor_word_of, slot_word_of, page_word_of}
 use Rattle.layout.proofs.GeometryLaws.{descriptor_word_within}
-use Rattle.image_reading.specs.Reading.{IsDirectory, slot_owner, IsHeld, Reached, IsReachedSlot, IsRoomOf}
+use Rattle.image_reading.specs.Reading.{IsDirectory, slot_owner, IsHeld, Reached}
 use Rattle.image_reading.specs.Soundness.{Rule, IsCoherent, HasLinks}
 use Rattle.image_counts.specs.Entries.{IsFreePage}
 use Rattle.image_laws.specs.Create.{IsPageMadeWord, MakesEmptyPage, MakesPage, owned}
 use Rattle.image_laws.specs.Exempt.{IsExempt}
-use Rattle.image_laws.specs.Agrees.{Alike}
-use Rattle.image_laws.specs.Frame.{SameMeaning}
 use Rattle.image_laws.specs.Free.{IsFree, Stores}
 use Rattle.image_laws.proofs.Addresses.{descriptor-ne_inode, descriptor-ne_slot, descriptor-ne_page, page-ne_inode, page-ne_slot, descriptor_word-one, word_in_page, word_in_page-lt, slot_word-in_page}
-use Rattle.image_laws.proofs.Frame.{alike}
-use Rattle.image_laws.proofs.Free.{free_law, stores_law}
-use Rattle.image_laws.proofs.Making.{mix_itself}
-use Rattle.image_laws.proofs.Meaning.{shape, reached_slot, reached_slot_forward, same_chained}
 use Rattle.image_laws.proofs.Paths.{reached_pos, reached-le}
-use Rattle.image_laws.proofs.Quiet.{quiet_agrees}
 use Rattle.image_laws.proofs.Ready.{dec_among, dec_either}
 use Rattle.image_laws.proofs.Decide.{dec_eq}
-use Rattle.image_laws.proofs.Words.{agrees_from_words, other_word}
+use Rattle.image_laws.proofs.Words.{other_word}
 
 pub dec_page_made : (P j a : ℕ) → Dec (IsPageMadeWord P j a)
 dec_page_made P j a = dec_either _ _ (dec_among (page_word_of P j) 512 a) (dec_either _ _ (dec_eq a (descriptor_word_of P j 1)) (dec_eq a (descriptor_word_of P j 2)))
@@ -163,32 +156,3 @@ module _ (P : ℕ) (A : List ℕ) (j d : ℕ) (coherent : IsCoherent P A) (reach
     ];
     links = links_kept P A (owned P A j d) coherent owned_links;
   }
-
--- an interval that stores to free words leaves what is alike
-pub alike_stores : (P : ℕ) (I J : List ℕ) → IsCoherent P I → Stores P I J → Alike P I J
-alike_stores P I J coherent stores = alike P I J (agrees_from_words P I J (quiet_agrees P I J coherent (free_law P I J coherent stores).0)) coherent
-
-pub same_stores : (P : ℕ) (I J : List ℕ) → IsCoherent P I → Stores P I J → SameMeaning P I J
-same_stores P I J coherent stores = stores_law P I J J coherent stores (mix_itself I J stores.size)
-
--- J means what I means, with the same reached slots and rooms
-pub record SameEntries (P : ℕ) (I J : List ℕ) : Type 0 where
-  pub same : SameMeaning P I J
-  pub slots : (t : ℕ) → IsReachedSlot P I t ↔ IsReachedSlot P J t
-  pub rooms : (x j : ℕ) → IsRoomOf P I x j ↔ IsRoomOf P J x j
-
-pub entries_stores : (P : ℕ) (I J : List ℕ) → IsCoherent P I → Stores P I J → SameEntries P I J
-entries_stores P I J coherent stores =
-    let same = alike_stores P I J coherent stores in
-    record {
-      same = same_stores P I J coherent stores;
-      slots = λ t. ((λ r. (reached_slot_forward P I J same t r).1), (λ r. (reached_slot P I J same t r).1));
-      rooms = (shape P I J coherent same).directories;
-    }
-
-pub entries_chained : (P : ℕ) (I J K : List ℕ) → SameEntries P I J → SameEntries P J K → SameEntries P I K
-entries_chained P I J K first second = record {
-  same = same_chained P I J K first.same second.same;
-  slots = λ t. ((λ r. (second.slots t).0 ((first.slots t).0 r)), (λ r. (first.slots t).1 ((second.slots t).1 r)));
-  rooms = λ x j. ((λ room. (second.rooms x j).0 ((first.rooms x j).0 room)), (λ room. (first.rooms x j).1 ((second.rooms x j).1 room)));
-}

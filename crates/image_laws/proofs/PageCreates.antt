@@ -16,7 +16,9 @@ use Rattle.image_laws.specs.Free.{Stores}
 use Rattle.image_laws.proofs.Adds.{add_room_law}
 use Rattle.image_laws.proofs.Creates.{named, created, free_inode}
 use Rattle.image_laws.proofs.Making as making
-use Rattle.image_laws.proofs.NewPage.{made_descriptor, made_inode, made_slot, zero_slot, owned_owner, owned_descriptor, owned_inode, owned_slot, SameEntries, entries_stores, entries_chained}
+use Rattle.image_laws.proofs.Naming as naming
+use Rattle.image_laws.proofs.Free.{SameEntries, entries_stores, entries_chained}
+use Rattle.image_laws.proofs.NewPage.{made_descriptor, made_inode, made_slot, zero_slot, owned_owner, owned_descriptor, owned_inode, owned_slot}
 use Rattle.image_laws.proofs.PageQuiet.{fills_empty}
 use Rattle.image_laws.proofs.PageReady.{HasTaken, page_ready, page_clean, inode_ready, no_room}
 use Rattle.image_laws.proofs.Ready.{IsCleanSlot, IsNamed}
@@ -78,7 +80,7 @@ module _ (P : ℕ) (W A : List ℕ) (p : Route) (d j s : ℕ) (name : List ℕ) 
     room_after : (room : Room) → HasRoom P I room → HasRoom P (committed P I s i) (with_node (with_page room d) i node)
     room_after room has =
         let none : IsRoomOf P I d (page_of_slot s) → ⊥ = λ old. no_room P W (owned P A j d) p d j s name can page at_s taken
-        (((making.shape_made P (owned P A j d) I p node d s i name ready made).directories d (page_of_slot s)).1 old) in
+        (((naming.entries ready.place (making.named P (owned P A j d) I p node d s i name ready made)).rooms d (page_of_slot s)).1 old) in
         (add_room_law P I p d s i (making.can_add P (owned P A j d) I p node d s i name ready made)).new_page room node has (making.node_made P (owned P A j d) I p node d s i name ready made empty) none
 
     pub page_named : IsNamed P W (committed P I s i) (λ T. with_new T path i node) (λ room. with_node (with_page room d) i node)

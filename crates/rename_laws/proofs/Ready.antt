@@ -20,7 +20,8 @@ use Rattle.image_laws.proofs.Addresses.{descriptor-ne_inode, descriptor-ne_slot,
 use Rattle.image_laws.proofs.Counts.{at_most, at_most_more}
 use Rattle.image_laws.proofs.Decide.{dec_eq}
 use Rattle.image_laws.proofs.KeptPages.{KeepsPages, by_words, held_forth, held_back}
-use Rattle.image_laws.proofs.Making.{mix_itself, links_more}
+use Rattle.image_laws.proofs.Free.{mix_itself}
+use Rattle.image_laws.proofs.Making.{links_more}
 use Rattle.image_laws.proofs.Meaning.{same_chained}
 use Rattle.image_laws.proofs.PageQuiet.{page_quiet_law}
 use Rattle.image_laws.proofs.Paths.{reach}
