@@ -165,7 +165,7 @@ module _ (P : ℕ) (I K : List ℕ) (pa pb : Route) (s d : ℕ) (c : CanMove P I
       }
 
   -- all slots of the commit stay
-  kept : KeepsSlots P (moved P I s d) K (λ t. ⊥)
+  pub kept : KeepsSlots P (moved P I s d) K (λ t. ⊥)
   kept = record {
     before = coherent;
     after = ended.means.coherent;

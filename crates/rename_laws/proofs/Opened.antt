@@ -50,13 +50,14 @@ pub record IsOpen (P : ℕ) (W B : List ℕ) (x d : ℕ) (target : Target) : Typ
 -- ---- in a page that was there
 
 module _ (P : ℕ) (W : List ℕ) (pa pb : Route) (s x d : ℕ) where
-  vacant_open : (name : List ℕ) → CanRename P W pa pb s x d (Vacant name) → IsOpen P W W x d (Vacant name)
-  vacant_open name can = let place = can.target_slot.1 in record {
+  same_open : (target : Target) → CanRename P W pa pb s x d target → IsHeld P W d → slot_owner P W d ≡ x → slot_inode P W d ≡ old_number target → HasWords P W W d target → HasNewPage P W x d target
+      → IsOpen P W W x d target
+  same_open target can held owner number words page = record {
     means = same_itself P W can.tidy.coherent;
-    held = place.held;
-    owner = place.owner;
-    number = place.free;
-    name_words = tt;
+    held = held;
+    owner = owner;
+    number = number;
+    name_words = words;
     no_pointer = no_pointer P W 0 (tidy_but P W 0 can.tidy);
     kept = λ t r. r;
     known = λ t r. r;
@@ -64,26 +65,7 @@ module _ (P : ℕ) (W : List ℕ) (pa pb : Route) (s x d : ℕ) where
     names = λ t r. refl;
     numbers = λ t r. refl;
     inodes = λ y f some most lt. refl;
-    page = tt;
-    size = refl;
-    others = λ a other. refl;
-  }
-
-  taken_open : (r : ℕ) → CanRename P W pa pb s x d (Taken r) → IsOpen P W W x d (Taken r)
-  taken_open r can = let place = can.target_slot in record {
-    means = same_itself P W can.tidy.coherent;
-    held = place.entry.0.live.held;
-    owner = place.entry.1;
-    number = place.number;
-    name_words = refl;
-    no_pointer = no_pointer P W 0 (tidy_but P W 0 can.tidy);
-    kept = λ t h. h;
-    known = λ t h. h;
-    owners = λ t h. refl;
-    names = λ t h. refl;
-    numbers = λ t h. refl;
-    inodes = λ y f some most lt. refl;
-    page = tt;
+    page = page;
     size = refl;
     others = λ a other. refl;
   }
@@ -144,7 +126,7 @@ module _ (P : ℕ) (W A : List ℕ) (pb : Route) (x d j : ℕ) (name : List ℕ)
 -- ---- in all three cases
 
 pub opened : (P : ℕ) (W B : List ℕ) (pa pb : Route) (s x d : ℕ) (target : Target) → CanRename P W pa pb s x d target → IsTargetOpened P W B x d target → IsOpen P W B x d target
-opened P W B pa pb s x d (Vacant name) can same = subst (λ I. IsOpen P W I x d (Vacant name)) (sym same) (vacant_open P W pa pb s x d name can)
+opened P W B pa pb s x d (Vacant name) can same = subst (λ I. IsOpen P W I x d (Vacant name)) (sym same) (let place = can.target_slot.1 in same_open P W pa pb s x d (Vacant name) can place.held place.owner place.free tt tt)
 opened P W B pa pb s x d (Opened j name) can (A, makes, same) =
     subst (λ I. IsOpen P W I x d (Opened j name)) (sym same) (opened_open P W A pb x d j name can.target_slot.0 can.target_slot.1 can.target_slot.2 makes)
-opened P W B pa pb s x d (Taken r) can same = subst (λ I. IsOpen P W I x d (Taken r)) (sym same) (taken_open P W pa pb s x d r can)
+opened P W B pa pb s x d (Taken r) can same = subst (λ I. IsOpen P W I x d (Taken r)) (sym same) (let place = can.target_slot in same_open P W pa pb s x d (Taken r) can place.entry.0.live.held place.entry.1 place.number refl tt)
