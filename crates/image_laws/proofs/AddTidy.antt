@@ -1,7 +1,7 @@
 -- A slot of a directory has the number of an inode: but for its links nothing is to be repaired.
 use Rattle.std.proofs.Common.{◌≡◌, ◌≢◌, ◌⊎◌, inl, inr, ℕ, ◌+◌, ◌<◌, ◌≤◌, List, ◌∷◌, sym, ap, subst, ◌∙◌, arith}
 use Rattle.std.proofs.lemmas.Bool.{cases_eq}
-use Rattle.layout.specs.Fields.{word, inode_kind, inode_links, inode_size, page_owner, page_offset, slot_inode, slot_pointer, slot_name}
+use Rattle.layout.specs.Fields.{word, inode_kind, page_owner, page_offset, slot_inode, slot_pointer, slot_name}
 use Rattle.layout.specs.Geometry.{inodes_of, data_pages_of, page_of_slot, inode_word_of, descriptor_word_of, slot_word_of}
 use Rattle.layout.specs.Name.{name_in_words}
 use Rattle.tree_model.specs.PathText.{Route}
@@ -18,6 +18,7 @@ use Rattle.image_laws.specs.Stages.{IsReadySlot}
 use Rattle.image_laws.proofs.Addresses.{descriptor-ne_slot, inode-ne_slot, slot-ne_slot}
 use Rattle.image_laws.proofs.AddRoom.{room_cases, room_forward, room_here}
 use Rattle.image_laws.proofs.AddSlot as added
+use Rattle.image_laws.proofs.KeptInodes.{KeepsInodes, by_inodes}
 use Rattle.image_laws.proofs.KeptPages.{KeepsPages, KeepsDescriptors, by_words, held_owner_same, held_back, page_same, litter_page}
 use Rattle.image_laws.proofs.KeptSlots as slot_laws
 use Rattle.image_laws.proofs.KeptSlots.{KeepsSlots}
@@ -52,17 +53,8 @@ module _ {P : ℕ} {B C D : List ℕ} {p : Route} {d s i y : ℕ} {name : List �
   unfolding slot_pointer
   pointer_same t = only.pointer t ∙ written.named.slots t 1 (omega arith) (inl (omega arith))
 
-  pub node_kind_same : (x : ℕ) → Reached P B x → inode_kind D x ≡ inode_kind B x
-  unfolding inode_kind
-  node_kind_same x r = let (some, most) = in_range P B place.coherent x r in inode_same x 0 some most (omega arith) (inl r) (inl (λ e. omega (arith, e)))
-
-  node_size_same : (x : ℕ) → Reached P B x → inode_size D x ≡ inode_size B x
-  unfolding inode_size
-  node_size_same x r = let (some, most) = in_range P B place.coherent x r in inode_same x 2 some most (omega arith) (inl r) (inl (λ e. omega (arith, e)))
-
-  pub node_links_same : (x : ℕ) → Reached P B x → x ≢ y → inode_links D x ≡ inode_links B x
-  unfolding inode_links
-  node_links_same x r ne = let (some, most) = in_range P B place.coherent x r in inode_same x 1 some most (omega arith) (inl r) (inr ne)
+  pub nodes : KeepsInodes B D (Reached P B) (λ x. x ≡ y)
+  nodes = by_inodes P B D (Reached P B) (λ x. x ≡ y) (in_range P B place.coherent) (λ x f r some most lt links. inode_same x f some most (omega (arith, lt)) (inl r) links)
 
   -- ---- what is reached
 
@@ -101,7 +93,7 @@ module _ {P : ℕ} {B C D : List ℕ} {p : Route} {d s i y : ℕ} {name : List �
   pub new_slot : IsReachedSlot P D s
   new_slot = record {
     owner = subst (Reached P D) (sym new_owner) (reached_forward d d_reached);
-    directory = ap (inode_kind D) new_owner ∙ node_kind_same d d_reached ∙ place.slot.directory;
+    directory = ap (inode_kind D) new_owner ∙ nodes.kind d d_reached ∙ place.slot.directory;
     live = added.live_new P C D p d s i can only stored;
   }
 
@@ -126,7 +118,7 @@ module _ {P : ℕ} {B C D : List ℕ} {p : Route} {d s i y : ℕ} {name : List �
     back = λ t ne r. elim (slot_cases t r) [ inl e ↦ absurd (ne e) | inr old ↦ old ];
     owners = λ t ne was is. held_owner_same paged t was.live.held (λ none. none);
     numbers = λ t ne was. number_same t ne;
-    kinds = λ x was is. node_kind_same x was;
+    kinds = λ x was is. nodes.kind x was;
   }
 
   room_forth : (x j : ℕ) → IsRoomOf P B x j → IsRoomOf P D x j
@@ -162,7 +154,7 @@ module _ {P : ℕ} {B C D : List ℕ} {p : Route} {d s i y : ℕ} {name : List �
     page_cases : (j : ℕ) → IsLitterPage P D j → j ≡ page_of_slot s
     page_cases j l = rest.but.pages j (litter_page P B D (λ j. ⊥) kept_words kept.kinds
         (λ k lt none r. reached_forward (page_owner P B k) r)
-        (λ k none file. subst (λ z. page_offset P B k < pages_of_size z) (sym (node_size_same (page_owner P B k) file.owner)) file.below)
+        (λ k none file. subst (λ z. page_offset P B k < pages_of_size z) (sym (nodes.size (page_owner P B k) file.owner)) file.below)
         (λ k lt none room. room_forth (page_owner P B k) k room)
         j (λ none. none) l)
 

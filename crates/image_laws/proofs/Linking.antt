@@ -1,7 +1,7 @@
 -- The words of a new name are stored and a file's link word is raised: nothing is meant by them yet.
 use Rattle.std.proofs.Common.{◌≡◌, ◌≢◌, ◌⊎◌, inl, inr, ℕ, ◌+◌, ◌<◌, ◌≤◌, List, refl, sym, ap, subst, ◌∙◌, arith}
 use Rattle.std.proofs.lemmas.Bool.{cases_eq}
-use Rattle.layout.specs.Fields.{word, inode_kind, inode_links, page_owner, slot_inode}
+use Rattle.layout.specs.Fields.{word, inode_links, page_owner, slot_inode}
 use Rattle.layout.specs.Geometry.{inodes_of, data_pages_of, inode_word_of, descriptor_word_of, slot_word_of}
 use Rattle.tree_model.specs.PathText.{Route}
 use Rattle.image_reading.specs.Counts.{AtMost}
@@ -16,6 +16,7 @@ use Rattle.image_laws.proofs.Counts.{at_most}
 use Rattle.image_laws.proofs.Decide.{dec_eq}
 use Rattle.image_laws.proofs.Free.{SameEntries}
 use Rattle.image_laws.proofs.Making.{links_more}
+use Rattle.image_laws.proofs.KeptInodes.{KeepsInodes, by_inodes}
 use Rattle.image_laws.proofs.Naming as names
 use Rattle.image_laws.proofs.Naming.{StoresName}
 use Rattle.image_laws.proofs.Paths.{reached_pos, reached-le}
@@ -79,13 +80,8 @@ module _ (P : ℕ) (B C : List ℕ) (p : Route) (d s i : ℕ) (name : List ℕ) 
       ])
       (λ e. inode-ne_slot P i 1 t f i_pos i_most (omega arith) (sym e))
 
-  links_same : (x : ℕ) → Reached P B x → x ≢ i → inode_links C x ≡ inode_links B x
-  unfolding inode_links
-  links_same x r ne = inode_same x 1 (range x r).0 (range x r).1 (omega arith) (inr ne)
-
-  inode_kind_same : (x : ℕ) → Reached P B x → inode_kind C x ≡ inode_kind B x
-  unfolding inode_kind
-  inode_kind_same x r = inode_same x 0 (range x r).0 (range x r).1 (omega arith) (inl (λ e. omega (arith, e)))
+  nodes : KeepsInodes B C (Reached P B) (λ x. x ≡ i)
+  nodes = by_inodes P B C (Reached P B) (λ x. x ≡ i) range (λ x f r some most lt links. inode_same x f some most (omega (arith, lt)) links)
 
   -- ---- the stores are free
 
@@ -98,7 +94,7 @@ module _ (P : ℕ) (B C : List ℕ) (p : Route) (d s i : ℕ) (name : List ℕ) 
   enough_links : (x : ℕ) → Reached P B x → HasLinks P B x (inode_links C x)
   enough_links x r = elim (cases_eq x i) [
     | inl e ↦ subst (λ y. HasLinks P B y (inode_links C y)) (sym e) (subst (HasLinks P B i) (sym makes.links) (links_more P B i (inode_links B i) (place.coherent Rule.links i file.reached)))
-    | inr ne ↦ subst (HasLinks P B x) (sym (links_same x r ne)) (place.coherent Rule.links x r)
+    | inr ne ↦ subst (HasLinks P B x) (sym (nodes.links x r ne)) (place.coherent Rule.links x r)
   ]
 
   pub stores : Stores P B C
@@ -119,7 +115,7 @@ module _ (P : ℕ) (B C : List ℕ) (p : Route) (d s i : ℕ) (name : List ℕ) 
   -- ---- the slot may take the inode
 
   pub old_file : IsOldFile P C i
-  old_file = record { reached = (file.reached.0, (entries.same.names file.reached.0 i).0 file.reached.1); file = inode_kind_same i file.reached ∙ file.file }
+  old_file = record { reached = (file.reached.0, (entries.same.names file.reached.0 i).0 file.reached.1); file = nodes.kind i file.reached ∙ file.file }
 
   name_back : (t : ℕ) → IsNameOf P C i t → IsNameOf P B i t
   name_back t n = record { slot = (entries.slots t).1 n.slot; inode = sym (names.number_same place named t) ∙ n.inode }

@@ -47,10 +47,10 @@ module _ (P : ℕ) (B C D : List ℕ) (p : Route) (node : Node) (d s i : ℕ) (n
   kept = adds.kept ready.place written can only stored others coherent
 
   kind_same : (x : ℕ) → Reached P B x → inode_kind D x ≡ inode_kind B x
-  kind_same = adds.node_kind_same ready.place written can only stored others coherent
+  kind_same = (adds.nodes ready.place written can only stored others coherent).kind
 
   links_same : (x : ℕ) → Reached P B x → x ≢ d → inode_links D x ≡ inode_links B x
-  links_same = adds.node_links_same ready.place written can only stored others coherent
+  links_same = (adds.nodes ready.place written can only stored others coherent).links
 
   new_slot : IsReachedSlot P D s
   new_slot = adds.new_slot ready.place written can only stored others coherent

@@ -16,6 +16,7 @@ use Rattle.image_laws.specs.Free.{IsFree, Stores}
 use Rattle.image_laws.proofs.Addresses.{descriptor-ne_inode, descriptor-ne_slot, inode-ne_inode, inode-ne_field, inode-ne_slot, slot-ne_slot, slot-ne_field}
 use Rattle.image_laws.proofs.Counts.{at_most}
 use Rattle.image_laws.proofs.Free.{SameEntries}
+use Rattle.image_laws.proofs.KeptInodes.{KeepsInodes, by_inodes}
 use Rattle.image_laws.proofs.Naming as names
 use Rattle.image_laws.proofs.Naming.{StoresName}
 use Rattle.image_laws.proofs.Paths.{reach}
@@ -97,13 +98,8 @@ module _ (P : ℕ) (B C : List ℕ) (p : Route) (node : Node) (d s i : ℕ) (nam
       ])
       (λ e. inode-ne_slot P d 1 t f (range d d_reached).0 (range d d_reached).1 (omega arith) (sym e))
 
-  pub links_same : (x : ℕ) → Reached P B x → x ≢ d → inode_links C x ≡ inode_links B x
-  unfolding inode_links
-  links_same x r ne = inode_same x 1 (range x r).0 (range x r).1 (omega arith) (other_inode x r) (inr ne)
-
-  kind_same : (x : ℕ) → Reached P B x → inode_kind C x ≡ inode_kind B x
-  unfolding inode_kind
-  kind_same x r = inode_same x 0 (range x r).0 (range x r).1 (omega arith) (other_inode x r) (inl (λ e. omega (arith, e)))
+  nodes : KeepsInodes B C (Reached P B) (λ x. x ≡ d)
+  nodes = by_inodes P B C (Reached P B) (λ x. x ≡ d) range (λ x f r some most lt links. inode_same x f some most (omega (arith, lt)) (other_inode x r) links)
 
   -- ---- the made inode
 
@@ -144,7 +140,7 @@ module _ (P : ℕ) (B C : List ℕ) (p : Route) (node : Node) (d s i : ℕ) (nam
   enough_links : (x : ℕ) → Reached P B x → HasLinks P B x (inode_links C x)
   enough_links x r = elim (cases_eq x d) [
     | inl e ↦ subst (λ y. HasLinks P B y (inode_links C y)) (sym e) (subst (HasLinks P B d) (sym makes.parent) (links_for node P B d (inode_links B d) (ready.place.coherent Rule.links d d_reached)))
-    | inr ne ↦ subst (HasLinks P B x) (sym (links_same x r ne)) (ready.place.coherent Rule.links x r)
+    | inr ne ↦ subst (HasLinks P B x) (sym (nodes.links x r ne)) (ready.place.coherent Rule.links x r)
   ]
 
   pub stores : Stores P B C
@@ -194,7 +190,7 @@ module _ (P : ℕ) (B C : List ℕ) (p : Route) (node : Node) (d s i : ℕ) (nam
       record {
         slot = m;
         owner = sym (names.owner_same ready.place named t m.live.held) ∙ n.owner;
-        directory = sym (kind_same (slot_inode P B t) r) ∙ ap (inode_kind C) (sym (names.number_same ready.place named t)) ∙ n.directory;
+        directory = sym (nodes.kind (slot_inode P B t) r) ∙ ap (inode_kind C) (sym (names.number_same ready.place named t)) ∙ n.directory;
       }
 
   pub can_add : CanAdd P C p d s i
