@@ -190,13 +190,6 @@ module _ (P : ℕ) (I J : List ℕ) (p : Route) (d s i : ℕ) (c : CanAdd P I p 
         })
       ]
 
-  -- what a reached slot of J names
-  slot_names : (x : ℕ) → IsReachedSlot P J x → (2 ≤ slot_inode P J x) × (slot_inode P J x ≤ inodes_of P)
-  slot_names x r = elim (slot_cases x r) [
-    | inl e ↦ subst (λ z. (2 ≤ z) × (z ≤ inodes_of P)) (sym (ap (slot_inode P J) e ∙ stored)) (c.least, c.most)
-    | inr old ↦ subst (λ z. (2 ≤ z) × (z ≤ inodes_of P)) (sym (same_inode x old)) ((c.coherent Rule.inodes x).least old, (c.coherent Rule.inodes x).most old)
-  ]
-
   kind_of : (inode_kind I i ≡ 1) ⊎ (inode_kind I i ≡ 2)
   kind_of = elim c.node [ inl f ↦ f.kind | inr q ↦ inl q.file ]
 

@@ -43,9 +43,6 @@ module _ (P : ℕ) (B C : List ℕ) (p : Route) (d s i : ℕ) (name : List ℕ) 
     | inr ne ↦ let some = i_pos in omega (arith, some, ne)
   ]
 
-  d_reached : Reached P B d
-  d_reached = (p, place.slot.path)
-
   range : (x : ℕ) → Reached P B x → (1 ≤ x) × (x ≤ inodes_of P)
   range x r = in_range P B place.coherent x r
 

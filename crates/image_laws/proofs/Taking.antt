@@ -33,9 +33,6 @@ module _ (P : ℕ) (W A : List ℕ) (p : Route) (d j : ℕ) (coherent : IsCohere
   pub owning_stores : Stores P A (owned P A j d)
   owning_stores = owned_stores P A j d same_page.coherent d_reached d_directory page.0 unowned fills.kind fills.numbers fills.pointers
 
-  pub same_owned : SameMeaning P A (owned P A j d)
-  same_owned = same_stores P A (owned P A j d) same_page.coherent owning_stores
-
   pub quiet : IsPageQuiet P W A (owned P A j d)
   quiet = record {
     making = λ M m. stores_law P W A M coherent fills.stores m;
