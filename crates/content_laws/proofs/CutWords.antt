@@ -2,10 +2,10 @@
 use Rattle.std.proofs.Common.{◌≡◌, ◌≢◌, ◌⊎◌, inl, inr, ℕ, ◌<◌, ◌≤◌, List, length, refl, sym, ap, subst, ◌∙◌, arith}
 use Rattle.std.proofs.lemmas.Bool.{cases_eq, cases_lt}
 use Rattle.std.proofs.lemmas.List.{get_or-set_same, get_or-set_other}
-use Rattle.layout.specs.Fields.{word, inode_size, page_owner, page_kind, page_offset}
+use Rattle.layout.specs.Fields.{word, inode_size, page_owner, page_offset}
 use Rattle.layout.specs.Geometry.{inodes_of, data_pages_of, inode_word_of, descriptor_word_of, slot_word_of}
 use Rattle.layout.proofs.GeometryLaws.{inode_word_within}
-use Rattle.image_reading.specs.Reading.{HasBytes, Reached, pages_of_size}
+use Rattle.image_reading.specs.Reading.{pages_of_size}
 use Rattle.image_reading.specs.Soundness.{Rule}
 use Rattle.image_laws.specs.Resize.{CanResize, HasResized}
 use Rattle.image_laws.proofs.Addresses.{descriptor-ne_inode, descriptor-ne_slot, inode-ne_inode, inode-ne_field, inode-ne_slot, descriptor_word-one}
@@ -75,9 +75,6 @@ module _ (P : ℕ) (W : List ℕ) (i z : ℕ) (can : CanCut P W i z) where
       ]
     ]
   ]
-
-  pub past_kind : (j : ℕ) → IsPastCut P W i z j → page_kind P W j ≡ 1
-  past_kind j g = (can.tidy.coherent Rule.page_kinds j).file g.in_range (subst (Reached P W) (sym g.owner) can.reached) (subst (HasBytes W) (sym g.owner) can.file)
 
   module _ (J K : List ℕ) (h : Cuts P W J K i z) where
     -- ---- from the size to the owners

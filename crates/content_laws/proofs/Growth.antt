@@ -96,10 +96,6 @@ module _ (P : ℕ) (W A B : List ℕ) (i z offset : ℕ) (bytes pages : List ℕ
       ∙ taken_slot P W A B i z offset bytes pages can fills takes s f
       ∙ fill_slot P W A i z offset bytes pages can fills s f lt held
 
-  page_back : (k j : ℕ) → IsPageOf P (sized B i z) i k j → IsPageOf P B i k j
-  unfolding page_owner page_kind page_offset
-  page_back k j g = record { in_range = g.in_range; owner = sym (from_descriptor j 0) ∙ g.owner; kind = sym (from_descriptor j 1) ∙ g.kind; offset = sym (from_descriptor j 2) ∙ g.offset }
-
   page_forward : (k j : ℕ) → IsPageOf P B i k j → IsPageOf P (sized B i z) i k j
   unfolding page_owner page_kind page_offset
   page_forward k j g = record { in_range = g.in_range; owner = from_descriptor j 0 ∙ g.owner; kind = from_descriptor j 1 ∙ g.kind; offset = from_descriptor j 2 ∙ g.offset }

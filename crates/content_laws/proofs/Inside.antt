@@ -10,7 +10,7 @@ use Rattle.image_reading.specs.Soundness.{IsCoherent}
 use Rattle.image_laws.specs.Frame.{SameBytes}
 use Rattle.image_laws.specs.Quiet.{IsMix, MixesBytes}
 use Rattle.image_laws.proofs.Addresses.{descriptor-ne_page, page_word-one}
-use Rattle.image_laws.proofs.Making.{mix_itself}
+use Rattle.image_laws.proofs.Free.{mix_itself}
 use Rattle.image_laws.proofs.Quiet.{write_law}
 use Rattle.content_laws.specs.Inside.{CanWrite, WritesInside, InsideLaw}
 use Rattle.content_laws.specs.Mix.{IsBytesWord, StoresContent}

@@ -1,19 +1,17 @@
 -- What images with one shape mean, by their nodes.
-use Rattle.std.proofs.Common.{◌≡◌, ◌≢◌, ◌↔◌, inl, inr, ℕ, ◌<◌, List, Option, Some, reverse, sym, ap, subst, ◌∙◌}
+use Rattle.std.proofs.Common.{◌≡◌, ◌≢◌, ◌↔◌, inl, inr, ℕ, ◌<◌, List, Some, reverse, sym, ap, subst, ◌∙◌}
 use Rattle.std.proofs.lemmas.Bool.{cases_eq}
 use Rattle.layout.specs.Fields.{inode_size}
 use Rattle.tree_model.specs.PathText.{Route}
 use Rattle.tree_model.specs.Step.{with_bytes}
 use Rattle.tree_model.specs.Tree.{Node, File, Tree, Room, node_at}
 use Rattle.tree_model.proofs.TreeLaws.{node_at-with_bytes_here, node_at-with_bytes_other}
+use Rattle.tree_model.proofs.TreeKept.{same_some}
 use Rattle.image_reading.specs.Reading.{HasBytes, Names, Reached, IsPageOf, IsNode, IsRoomOf, Reads, HasRoom, pages_of_size}
 use Rattle.image_reading.specs.Soundness.{IsCoherent}
 use Rattle.image_reading.proofs.Credits.{count_same}
 use Rattle.image_laws.specs.Frame.{SameInode, SameShape, SameMeaning}
 use Rattle.image_laws.proofs.Contents.{one_node}
-
-some_same : (x y : Node) → ◌≡◌ {A = Option Node} (Some x) (Some y) → x ≡ y
-some_same x y e = cc
 
 module _ (P : ℕ) (I J : List ℕ) (names : (q : Route) (x : ℕ) → Names P I q x ↔ Names P J q x) where
   pub forth : (x : ℕ) → Reached P I x → Reached P J x
@@ -27,7 +25,7 @@ module _ (P : ℕ) (I J : List ℕ) (names : (q : Route) (x : ℕ) → Names P I
       (others : (x : ℕ) (y : Node) → Reached P I x → x ≢ i → IsNode P I x y ↔ IsNode P J x y) (reads : Reads P I T) where
     here : (y : Node) → (node_at (with_bytes T i bytes) i ≡ Some y) ↔ (Reached P J i × IsNode P J i y)
     here y = (
-      (λ e. (forth i reached, subst (IsNode P J i) (some_same (File bytes) y (sym (node_at-with_bytes_here T i bytes) ∙ e)) is)),
+      (λ e. (forth i reached, subst (IsNode P J i) (same_some (File bytes) y (sym (node_at-with_bytes_here T i bytes) ∙ e)) is)),
       (λ (r, k). node_at-with_bytes_here T i bytes ∙ ap Some (one_node P J coherent i (File bytes) y r is k)),
     )
 

@@ -9,7 +9,7 @@ use Rattle.image_reading.specs.Reading.{HasBytes, Reached, IsContent, Reads}
 use Rattle.image_reading.specs.Soundness.{IsCoherent}
 use Rattle.image_laws.specs.Frame.{SameMeaning}
 use Rattle.image_laws.specs.Quiet.{IsMix}
-use Rattle.image_laws.proofs.Making.{mix_itself}
+use Rattle.image_laws.proofs.Free.{mix_itself}
 use Rattle.content_laws.specs.Growth.{CanGrow, FillsFile, TakesPages, FillingLaw, MeansFilled, GrowthTakingLaw}
 use Rattle.content_laws.specs.Inside.{CanWrite, WritesInside}
 use Rattle.content_laws.specs.Moments.{IsEarly, InsideOnceLaw, GrowthHangsLaw, GrowthOnceLaw}

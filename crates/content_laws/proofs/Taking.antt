@@ -1,10 +1,11 @@
 -- Growth's second interval: the new pages' owners.
-use Rattle.std.proofs.Common.{◌≡◌, ◌≢◌, ◌⊎◌, inl, inr, ℕ, ◌+◌, ◌-◌, ◌/◌, ◌%◌, ◌^◌, ◌<◌, ◌≤◌, List, Option, Some, slice_get, slice_index, sym, ap, subst, ◌∙◌, arith}
+use Rattle.std.proofs.Common.{◌≡◌, ◌≢◌, ◌⊎◌, inl, inr, ℕ, ◌+◌, ◌-◌, ◌/◌, ◌%◌, ◌^◌, ◌<◌, ◌≤◌, List, Some, slice_get, slice_index, sym, ap, subst, ◌∙◌, arith}
 use Rattle.std.specs.Prelude.{Contains}
 use Rattle.std.proofs.lemmas.Bool.{cases_lt}
 use Rattle.std.proofs.lemmas.Option.{slice_get-get_or}
 use Rattle.layout.specs.Fields.{word, inode_kind, inode_links, inode_size, page_owner, page_kind, page_offset, page_byte}
 use Rattle.layout.specs.Geometry.{inodes_of, data_pages_of, inode_word_of, descriptor_word_of, page_word_of, slot_word_of}
+use Rattle.tree_model.proofs.TreeKept.{same_some}
 use Rattle.image_reading.specs.Reading.{Reached, IsPageOf, pages_of_size}
 use Rattle.image_reading.specs.Soundness.{Rule, IsCoherent}
 use Rattle.image_laws.specs.Exempt.{IsExempt}
@@ -13,7 +14,7 @@ use Rattle.image_laws.specs.Quiet.{IsMix, IsQuiet}
 use Rattle.image_laws.specs.Resize.{CanResize}
 use Rattle.image_laws.specs.Words.{IsUsed}
 use Rattle.image_laws.proofs.Addresses.{head-ne_descriptor, descriptor-ne_inode, descriptor-ne_slot, descriptor-ne_page, descriptor_word-one}
-use Rattle.image_laws.proofs.Making.{mix_itself}
+use Rattle.image_laws.proofs.Free.{mix_itself}
 use Rattle.image_laws.proofs.NewPage.{links_kept}
 use Rattle.image_laws.proofs.Paths.{reached_pos, reached-le}
 use Rattle.image_laws.proofs.Quiet.{mix_law}
@@ -22,9 +23,6 @@ use Rattle.content_laws.specs.Growth.{CanGrow, FillsFile, TakesPages}
 use Rattle.content_laws.proofs.Filling.{filled, fill_inode, fill_owner, fill_descriptor}
 use Rattle.content_laws.proofs.Lists.{contains_at, place_of, contains_or_not}
 use Rattle.content_laws.proofs.Meaning.{forth}
-
-some_same : (h j : ℕ) → ◌≡◌ {A = Option ℕ} (Some h) (Some j) → h ≡ j
-some_same h j e = cc
 
 -- a used word is no owner
 used_not_owner : (P : ℕ) (I : List ℕ) → IsCoherent P I → (j : ℕ) → j < data_pages_of P → {a : ℕ} → IsUsed P I a → a ≡ descriptor_word_of P j 0 → ⊥
@@ -211,7 +209,7 @@ module _ (P : ℕ) (W A B : List ℕ) (i z offset : ℕ) (bytes pages : List ℕ
   }
     where
       same_place : (h j : ℕ) (m n : ℕ) → slice_get pages m ≡ Some h → slice_get pages n ≡ Some j → m ≡ n → h ≡ j
-      same_place h j m n a b e = some_same h j (sym a ∙ ap (slice_get pages) e ∙ b)
+      same_place h j m n a b e = same_some h j (sym a ∙ ap (slice_get pages) e ∙ b)
 
       one : (h j k : ℕ) → h < j → k < pages_of_size z → IsPageOf P B i k h → IsPageOf P B i k j → ⊥
       one h j k lt below f g = elim (which_page k h f) [

@@ -10,9 +10,8 @@ use Rattle.image_laws.specs.Frame.{SameMeaning}
 use Rattle.image_laws.specs.Free.{Stores}
 use Rattle.image_laws.specs.Quiet.{IsMix}
 use Rattle.image_laws.specs.Stages.{MayFree}
-use Rattle.image_laws.proofs.Free.{stores_law}
+use Rattle.image_laws.proofs.Free.{stores_law, same_stores}
 use Rattle.image_laws.proofs.Given as lost
-use Rattle.image_laws.proofs.NewPage.{same_stores}
 use Rattle.image_laws.proofs.Paths.{reached_pos, reached-le}
 use Rattle.image_laws.proofs.Stages as stages
 use Rattle.content_laws.specs.Cut.{MayTrim, ClearsPages, TrimmingLaw, ReleasingLaw}

@@ -1,7 +1,7 @@
 -- A slot of a directory has the number of an inode: but for its links nothing is to be repaired.
 use Rattle.std.proofs.Common.{◌≡◌, ◌≢◌, ◌⊎◌, inl, inr, ℕ, ◌+◌, ◌<◌, ◌≤◌, List, ◌∷◌, sym, ap, subst, ◌∙◌, arith}
 use Rattle.std.proofs.lemmas.Bool.{cases_eq}
-use Rattle.layout.specs.Fields.{word, inode_kind, inode_links, inode_size, page_owner, page_offset, slot_inode, slot_pointer, slot_name}
+use Rattle.layout.specs.Fields.{word, inode_kind, page_owner, page_offset, slot_inode, slot_pointer, slot_name}
 use Rattle.layout.specs.Geometry.{inodes_of, data_pages_of, page_of_slot, inode_word_of, descriptor_word_of, slot_word_of}
 use Rattle.layout.specs.Name.{name_in_words}
 use Rattle.tree_model.specs.PathText.{Route}
@@ -13,17 +13,18 @@ use Rattle.image_counts.specs.Entries.{IsSlotOf}
 use Rattle.image_counts.proofs.Decided.{room_below}
 use Rattle.image_counts.proofs.Paths.{in_range}
 use Rattle.image_laws.specs.Add.{CanAdd}
-use Rattle.image_laws.specs.Agrees.{Alike}
-use Rattle.image_laws.specs.Frame.{SameMeaning, SameShape}
 use Rattle.image_laws.specs.Grown.{HasGrown}
 use Rattle.image_laws.specs.Stages.{IsReadySlot}
 use Rattle.image_laws.proofs.Addresses.{descriptor-ne_slot, inode-ne_slot, slot-ne_slot}
 use Rattle.image_laws.proofs.AddRoom.{room_cases, room_forward, room_here}
 use Rattle.image_laws.proofs.AddSlot as added
+use Rattle.image_laws.proofs.KeptInodes.{KeepsInodes, by_inodes}
 use Rattle.image_laws.proofs.KeptPages.{KeepsPages, KeepsDescriptors, by_words, held_owner_same, held_back, page_same, litter_page}
 use Rattle.image_laws.proofs.KeptSlots as slot_laws
 use Rattle.image_laws.proofs.KeptSlots.{KeepsSlots}
-use Rattle.image_laws.proofs.Meaning.{shape, reached_slot, reached_slot_forward}
+use Rattle.image_laws.proofs.Free.{SameEntries}
+use Rattle.image_laws.proofs.Naming as naming
+use Rattle.image_laws.proofs.Naming.{StoresName}
 use Rattle.image_laws.proofs.OnlySlot.{OnlySlot}
 use Rattle.image_laws.proofs.OnlySlot as slots
 use Rattle.image_laws.proofs.Ready.{IsCleanSlot, tidy_from}
@@ -31,50 +32,40 @@ use Rattle.image_laws.proofs.Words.{slot_words-same}
 
 -- From B to C no word that is used has changed but a link word, y's: slot s has a name, and inode i may be a new node.
 pub record IsWritten (P : ℕ) (B C : List ℕ) (s i y : ℕ) (name : List ℕ) : Type 0 where
-  pub same : SameMeaning P B C
-  pub alike : Alike P B C
+  pub named : StoresName P B C s name
   pub linked : Reached P B y
-  pub descriptors : (j f : ℕ) → j < data_pages_of P → f < 8 → word C (descriptor_word_of P j f) ≡ word B (descriptor_word_of P j f)
   pub inodes : (x f : ℕ) → 1 ≤ x → x ≤ inodes_of P → f < 16 → Reached P B x ⊎ (x ≢ i) → (f ≢ 1) ⊎ (x ≢ y) → word C (inode_word_of x f) ≡ word B (inode_word_of x f)
-  pub slots : (t f : ℕ) → f < 16 → (f < 2) ⊎ (t ≢ s) → word C (slot_word_of P t f) ≡ word B (slot_word_of P t f)
-  pub name_is : slot_name P C s ≡ name_in_words name
 
 module _ {P : ℕ} {B C D : List ℕ} {p : Route} {d s i y : ℕ} {name : List ℕ} (place : IsReadySlot P B p d s name) (written : IsWritten P B C s i y name)
     (can : CanAdd P C p d s i) (only : OnlySlot P C D s) (stored : slot_inode P D s ≡ i) (others : (a : ℕ) → a ≢ slot_word_of P s 0 → word D a ≡ word C a) (coherent : IsCoherent P D) where
   -- ---- which words stay
 
   descriptor_same : (j f : ℕ) → j < data_pages_of P → f < 8 → word D (descriptor_word_of P j f) ≡ word B (descriptor_word_of P j f)
-  descriptor_same j f lt l8 = others (descriptor_word_of P j f) (descriptor-ne_slot P j f s 0 lt l8) ∙ written.descriptors j f lt l8
+  descriptor_same j f lt l8 = others (descriptor_word_of P j f) (descriptor-ne_slot P j f s 0 lt l8) ∙ written.named.descriptors j f lt l8
 
   inode_same : (x f : ℕ) → 1 ≤ x → x ≤ inodes_of P → f < 16 → Reached P B x ⊎ (x ≢ i) → (f ≢ 1) ⊎ (x ≢ y) → word D (inode_word_of x f) ≡ word B (inode_word_of x f)
   inode_same x f some most lt old links = others (inode_word_of x f) (inode-ne_slot P x f s 0 some most lt) ∙ written.inodes x f some most lt old links
 
   slot_same : (t f : ℕ) → f < 16 → t ≢ s → word D (slot_word_of P t f) ≡ word B (slot_word_of P t f)
-  slot_same t f lt ne = others (slot_word_of P t f) (slot-ne_slot P t f s 0 lt (omega arith) ne) ∙ written.slots t f lt (inr ne)
+  slot_same t f lt ne = others (slot_word_of P t f) (slot-ne_slot P t f s 0 lt (omega arith) ne) ∙ written.named.slots t f lt (inr ne)
 
   pointer_same : (t : ℕ) → slot_pointer P D t ≡ slot_pointer P B t
   unfolding slot_pointer
-  pointer_same t = only.pointer t ∙ written.slots t 1 (omega arith) (inl (omega arith))
+  pointer_same t = only.pointer t ∙ written.named.slots t 1 (omega arith) (inl (omega arith))
 
-  pub node_kind_same : (x : ℕ) → Reached P B x → inode_kind D x ≡ inode_kind B x
-  unfolding inode_kind
-  node_kind_same x r = let (some, most) = in_range P B place.coherent x r in inode_same x 0 some most (omega arith) (inl r) (inl (λ e. omega (arith, e)))
-
-  node_size_same : (x : ℕ) → Reached P B x → inode_size D x ≡ inode_size B x
-  unfolding inode_size
-  node_size_same x r = let (some, most) = in_range P B place.coherent x r in inode_same x 2 some most (omega arith) (inl r) (inl (λ e. omega (arith, e)))
-
-  pub node_links_same : (x : ℕ) → Reached P B x → x ≢ y → inode_links D x ≡ inode_links B x
-  unfolding inode_links
-  node_links_same x r ne = let (some, most) = in_range P B place.coherent x r in inode_same x 1 some most (omega arith) (inl r) (inr ne)
+  pub nodes : KeepsInodes B D (Reached P B) (λ x. x ≡ y)
+  nodes = by_inodes P B D (Reached P B) (λ x. x ≡ y) (in_range P B place.coherent) (λ x f r some most lt links. inode_same x f some most (omega (arith, lt)) (inl r) links)
 
   -- ---- what is reached
 
+  entries : SameEntries P B C
+  entries = naming.entries place written.named
+
   pub reached_forward : (x : ℕ) → Reached P B x → Reached P D x
-  reached_forward x (q, b) = added.reached_forward P C D p d s i can only stored x (q, (written.same.names q x).0 b)
+  reached_forward x (q, b) = added.reached_forward P C D p d s i can only stored x (q, (entries.same.names q x).0 b)
 
   pub reached_cases : (x : ℕ) → Reached P D x → Reached P B x ⊎ (x ≡ i)
-  reached_cases x r = elim (added.reached_cases P C D p d s i can only stored x r) [ inl (q, b) ↦ inl (q, (written.same.names q x).1 b) | inr e ↦ inr e ]
+  reached_cases x r = elim (added.reached_cases P C D p d s i can only stored x r) [ inl (q, b) ↦ inl (q, (entries.same.names q x).1 b) | inr e ↦ inr e ]
 
   new_reached : Reached P D i
   new_reached = (slot_name P C s ∷ p, added.names_new P C D p d s i can only stored)
@@ -84,25 +75,25 @@ module _ {P : ℕ} {B C D : List ℕ} {p : Route} {d s i y : ℕ} {name : List �
 
   slot_forward : (t : ℕ) → IsReachedSlot P B t → IsReachedSlot P D t
   slot_forward t r =
-      let now = (reached_slot_forward P B C written.alike t r).1 in
-      let o = added.same_owner P C D p d s i can only stored t now.live.held.in_range in
+      let now = (entries.slots t).0 r in
+      let o = slots.same_owner only t now.live.held.in_range in
       record {
         owner = subst (Reached P D) (sym o) (added.reached_forward P C D p d s i can only stored (slot_owner P C t) now.owner);
-        directory = ap (inode_kind D) o ∙ added.kind_reached P C D p d s i can only stored (slot_owner P C t) now.owner ∙ now.directory;
+        directory = ap (inode_kind D) o ∙ slots.kind_reached only can.coherent (slot_owner P C t) now.owner ∙ now.directory;
         live = added.live_forward P C D p d s i can only stored t now.live;
       }
 
   slot_cases : (t : ℕ) → IsReachedSlot P D t → (t ≡ s) ⊎ IsReachedSlot P B t
-  slot_cases t r = elim (added.slot_cases P C D p d s i can only stored t r) [ inl e ↦ inl e | inr old ↦ inr (reached_slot P B C written.alike t old).1 ]
+  slot_cases t r = elim (added.slot_cases P C D p d s i can only stored t r) [ inl e ↦ inl e | inr old ↦ inr ((entries.slots t).1 old) ]
 
   pub new_owner : slot_owner P D s ≡ d
-  new_owner = added.same_owner P C D p d s i can only stored s can.slot.held.in_range ∙ can.slot.owner
+  new_owner = slots.same_owner only s can.slot.held.in_range ∙ can.slot.owner
 
   -- the slot of the new name
   pub new_slot : IsReachedSlot P D s
   new_slot = record {
     owner = subst (Reached P D) (sym new_owner) (reached_forward d d_reached);
-    directory = ap (inode_kind D) new_owner ∙ node_kind_same d d_reached ∙ place.slot.directory;
+    directory = ap (inode_kind D) new_owner ∙ nodes.kind d d_reached ∙ place.slot.directory;
     live = added.live_new P C D p d s i can only stored;
   }
 
@@ -127,17 +118,14 @@ module _ {P : ℕ} {B C D : List ℕ} {p : Route} {d s i y : ℕ} {name : List �
     back = λ t ne r. elim (slot_cases t r) [ inl e ↦ absurd (ne e) | inr old ↦ old ];
     owners = λ t ne was is. held_owner_same paged t was.live.held (λ none. none);
     numbers = λ t ne was. number_same t ne;
-    kinds = λ x was is. node_kind_same x was;
+    kinds = λ x was is. nodes.kind x was;
   }
 
-  shaped : SameShape P B C
-  shaped = shape P B C place.coherent written.alike
-
   room_forth : (x j : ℕ) → IsRoomOf P B x j → IsRoomOf P D x j
-  room_forth x j room = room_forward P C D p d s i can only stored x j ((shaped.directories x j).0 room)
+  room_forth x j room = room_forward P C D p d s i can only stored x j ((entries.rooms x j).0 room)
 
   room_back : (x j : ℕ) → IsRoomOf P D x j → ((x ≡ d) × (j ≡ page_of_slot s)) ⊎ IsRoomOf P B x j
-  room_back x j room = elim (room_cases P C D p d s i can only stored x j room) [ inl new ↦ inl new | inr old ↦ inr ((shaped.directories x j).1 old) ]
+  room_back x j room = elim (room_cases P C D p d s i can only stored x j room) [ inl new ↦ inl new | inr old ↦ inr ((entries.rooms x j).1 old) ]
 
   -- ---- nothing is to be repaired
 
@@ -166,7 +154,7 @@ module _ {P : ℕ} {B C D : List ℕ} {p : Route} {d s i y : ℕ} {name : List �
     page_cases : (j : ℕ) → IsLitterPage P D j → j ≡ page_of_slot s
     page_cases j l = rest.but.pages j (litter_page P B D (λ j. ⊥) kept_words kept.kinds
         (λ k lt none r. reached_forward (page_owner P B k) r)
-        (λ k none file. subst (λ z. page_offset P B k < pages_of_size z) (sym (node_size_same (page_owner P B k) file.owner)) file.below)
+        (λ k none file. subst (λ z. page_offset P B k < pages_of_size z) (sym (nodes.size (page_owner P B k) file.owner)) file.below)
         (λ k lt none room. room_forth (page_owner P B k) k room)
         j (λ none. none) l)
 
@@ -223,7 +211,7 @@ module _ {P : ℕ} {B C D : List ℕ} {p : Route} {d s i y : ℕ} {name : List �
     files = λ x k j r file. page_same paged x k j (λ none. none);
     owner = new_owner;
     owners = λ j lt ne. paged.owner j lt (λ none. none);
-    new_name = slots.same_name P C D s only s ∙ written.name_is;
+    new_name = slots.same_name only s ∙ naming.name_is place written.named;
     new_inode = stored;
     names = λ t r. name_same t (old_slot t r);
     inodes = λ t r. number_same t (old_slot t r);

@@ -1,20 +1,18 @@
 -- The tree after a free slot took an inode number.
-use Rattle.std.proofs.Common.{◌≡◌, ◌≢◌, ◌↔◌, inl, inr, ℕ, true, false, cond, List, ◌∷◌, reverse, Option, Some, refl, sym, ap, subst, ◌∙◌}
+use Rattle.std.proofs.Common.{◌≡◌, ◌≢◌, ◌↔◌, inl, inr, ℕ, true, false, cond, List, ◌∷◌, reverse, Some, refl, sym, ap, subst, ◌∙◌}
 use Rattle.std.proofs.lemmas.Bool.{cases_eq}
 use Rattle.layout.specs.Fields.{slot_name}
 use Rattle.tree_model.specs.PathText.{Route}
 use Rattle.tree_model.specs.Tree.{Node, Tree, id_at, node_at}
 use Rattle.tree_model.specs.Step.{with_new, with_path}
 use Rattle.tree_model.proofs.TreeLaws.{is_same, same_route, is_same_itself, id_at-with_new, id_at-with_path, node_at-with_new_here, node_at-with_new_other}
+use Rattle.tree_model.proofs.TreeKept.{same_some}
 use Rattle.image_reading.specs.Reading.{slot_owner, Names, Reached, IsNode, Reads}
 use Rattle.image_counts.proofs.Paths.{one_inode}
 use Rattle.image_counts.proofs.Slots.{same_reverse}
 use Rattle.image_laws.specs.Add.{CanAdd, HasAdded, IsOldFile, ReadsAdded}
 use Rattle.image_laws.proofs.Contents.{one_node}
 use Rattle.image_laws.proofs.Paths.{slot_of, reached-le}
-
-some_same : {X : Type 0} (x y : X) → ◌≡◌ {A = Option X} (Some x) (Some y) → x ≡ y
-some_same x y e = cc
 
 module _ (P : ℕ) (I J : List ℕ) (p path : Route) (d s i : ℕ) (can : CanAdd P I p d s i) (added : HasAdded P I J p s i) (is : reverse path ≡ slot_name P I s ∷ p) where
   -- the path is new
@@ -27,7 +25,7 @@ module _ (P : ℕ) (I J : List ℕ) (p path : Route) (d s i : ℕ) (can : CanAdd
   names_after T q x reads = elim (is_same q path) as (λ t. is_same q path ≡ t → (cond t (Some i) (id_at T q) ≡ Some x) ↔ Names P J (reverse q) x) [
     | true ↦ λ tie.
         let there : reverse q ≡ slot_name P I s ∷ p = ap reverse (same_route q path tie) ∙ is in (
-          (λ e. (added.names (reverse q) x).1 (inr (there, sym (some_same i x e)))),
+          (λ e. (added.names (reverse q) x).1 (inr (there, sym (same_some i x e)))),
           (λ b. elim ((added.names (reverse q) x).0 b) [
             | inl old ↦ absurd (absent x (subst (λ z. Names P I z x) there old))
             | inr new ↦ ap Some (sym new.1)
@@ -64,7 +62,7 @@ module _ (P : ℕ) (I J : List ℕ) (p path : Route) (d s i : ℕ) (can : CanAdd
   new_node_here : (T : Tree) (node z : Node) → IsNode P I i node → (node_at (with_new T path i node) i ≡ Some z) ↔ (Reached P J i × IsNode P J i z)
   new_node_here T node z is_node =
       let here : IsNode P J i node = (added.nodes i node can.most).0 is_node in (
-        (λ e. (reached_new, subst (IsNode P J i) (some_same node z (sym (node_at-with_new_here T path i node) ∙ e)) here)),
+        (λ e. (reached_new, subst (IsNode P J i) (same_some node z (sym (node_at-with_new_here T path i node) ∙ e)) here)),
         (λ (r, k). node_at-with_new_here T path i node ∙ ap Some (one_node P J added.coherent i node z r here k)),
       )
 

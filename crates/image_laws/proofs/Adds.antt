@@ -1,7 +1,8 @@
 -- The laws of the word that commits create, mkdir and link.
-use Rattle.std.proofs.Common.{◌≡◌, ℕ, ◌<◌, List, set, refl}
+use Rattle.std.proofs.Common.{◌≡◌, ℕ, ◌<◌, List, length, set, refl, arith}
 use Rattle.layout.specs.Fields.{slot_inode}
 use Rattle.layout.specs.Geometry.{slots_of, slot_word_of}
+use Rattle.layout.proofs.GeometryLaws.{slot_word_within}
 use Rattle.image_reading.specs.Soundness.{Rule, IsCoherent}
 use Rattle.image_laws.specs.Add.{AddLaw, AddTreeLaw, AddRoomLaw}
 use Rattle.image_laws.proofs.Addresses.{some_inode}
@@ -15,6 +16,10 @@ only P I s v coherent = only_slot P I s v (some_inode P ((coherent Rule.head 0).
 
 pub stored : (P : ℕ) (I : List ℕ) (s v : ℕ) → IsCoherent P I → s < slots_of P → slot_inode P (set I (slot_word_of P s 0) v) s ≡ v
 stored P I s v coherent lt = slot_inode-set P I s v ((coherent Rule.head 0).whole refl) lt
+
+-- a slot's words are in the image
+pub inside : (P : ℕ) (I : List ℕ) (s f : ℕ) → IsCoherent P I → s < slots_of P → f < 16 → slot_word_of P s f < length I
+inside P I s f coherent lt few = let below = slot_word_within P s f lt few in let size = (coherent Rule.head 0).whole refl in omega (arith, below, size)
 
 pub add_law : AddLaw
 add_law P I p d s i c =

@@ -18,7 +18,7 @@ use Rattle.image_laws.proofs.Ready.{IsNamed}
 use Rattle.image_laws.proofs.RoomAfter.{room_after_law, empty_node, tree_is}
 use Rattle.image_laws.proofs.Trees.{is_directory-reached, reverse_path}
 
-none_if : {X : Type 0} (o : Option X) → ((x : X) → o ≡ Some x → ⊥) → o ≡ None
+pub none_if : {X : Type 0} (o : Option X) → ((x : X) → o ≡ Some x → ⊥) → o ≡ None
 none_if None f = refl
 none_if (Some x) f = absurd (f x refl)
 

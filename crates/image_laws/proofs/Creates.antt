@@ -1,50 +1,38 @@
 -- Create and mkdir in a page that the directory has.
-use Rattle.std.proofs.Common.{◌≡◌, ◌≢◌, ◌⊎◌, inl, inr, ℕ, ◌<◌, List, ◌∷◌, length, reverse, refl, sym, ap, subst, ◌∙◌, arith}
-use Rattle.std.proofs.lemmas.List.{get_or-set_other}
+use Rattle.std.proofs.Common.{◌≡◌, ◌⊎◌, inl, inr, ℕ, ◌<◌, List, ◌∷◌, reverse, sym, ap, subst, ◌∙◌, arith}
 use Rattle.layout.specs.Fields.{word, page_owner}
-use Rattle.layout.specs.Geometry.{data_pages_of, page_of_slot, slot_word_of}
-use Rattle.layout.proofs.GeometryLaws.{page_of_slot_below, slot_word_within}
+use Rattle.layout.specs.Geometry.{page_of_slot, slot_word_of}
 use Rattle.layout.specs.Name.{name_in_words}
 use Rattle.tree_model.specs.PathText.{Route}
 use Rattle.tree_model.specs.Tree.{Node, Tree, Room}
 use Rattle.tree_model.specs.Step.{with_new}
 use Rattle.image_reading.specs.Reading.{slot_owner, IsLive, Reached, IsRoomOf, Reads, HasRoom}
-use Rattle.image_reading.specs.Repairs.{IsLitterPage}
-use Rattle.image_reading.specs.Soundness.{Rule, IsCoherent}
+use Rattle.image_reading.specs.Soundness.{IsCoherent}
 use Rattle.image_reading.specs.Tidy.{IsTidied}
-use Rattle.image_counts.proofs.Counting.{none_counted}
 use Rattle.image_laws.specs.Add.{IsFreeSlot, with_node}
 use Rattle.image_laws.specs.Commits.{Commits}
 use Rattle.image_laws.specs.Create.{IsEmptyNode, MakesNode, CanName, CanMake, IsVacant, committed, CreateLaw}
 use Rattle.image_laws.specs.Frame.{SameMeaning}
 use Rattle.image_laws.specs.Quiet.{IsMix}
-use Rattle.image_laws.proofs.Adds.{only, stored, add_law, add_tree_law, add_room_law}
-use Rattle.image_laws.proofs.Decide.{dec_eq}
-use Rattle.image_laws.proofs.Free.{mix_one}
+use Rattle.image_laws.proofs.Adds.{inside, only, stored, add_law, add_tree_law, add_room_law}
+use Rattle.image_laws.proofs.Free.{mix_one, stores_law}
 use Rattle.image_laws.proofs.Making as making
+use Rattle.image_laws.proofs.Naming as naming
 use Rattle.image_laws.proofs.MakeTidy.{tidy_after}
 use Rattle.image_laws.proofs.Meaning.{same_itself, same_chained}
-use Rattle.image_laws.proofs.Ready.{IsCleanSlot, IsNamed, IsTidyBut, tidy_but, no_pointer}
+use Rattle.image_laws.proofs.Ready.{IsCleanSlot, IsNamed, IsTidyBut, tidy_but, no_pointer, owned_kept, held_room, dead_zero}
+use Rattle.image_laws.proofs.Words.{other_word}
 use Rattle.image_laws.specs.Stages.{IsReady, IsReadySlot, IsFreeInode}
-use Rattle.image_laws.proofs.Rooms.{dec_room}
 
 -- ---- from an image that is ready
 
 module _ (P : ℕ) (W B C : List ℕ) (p path : Route) (node : Node) (d s i : ℕ) (name : List ℕ) (start : SameMeaning P W B) (ready : IsReady P B p d s i name)
     (empty : IsEmptyNode node) (makes : MakesNode P B C node d s i name) (is : reverse path ≡ name_in_words name ∷ p) where
-  in_image : slot_word_of P s 0 < length C
-  in_image = let below = slot_word_within P s 0 ready.place.slot.held.in_range (omega arith) in
-      let size = makes.size ∙ (ready.place.coherent Rule.head 0).whole refl in omega (arith, below, size)
-
-  pub other_words : (a : ℕ) → a ≢ slot_word_of P s 0 → word (committed P C s i) a ≡ word C a
-  unfolding word
-  other_words a ne = get_or-set_other C (slot_word_of P s 0) a i 0 ne
-
   same_made : SameMeaning P W C
-  same_made = same_chained P W B C start (making.same P B C p node d s i name ready makes)
+  same_made = same_chained P W B C start (naming.entries ready.place (making.named P B C p node d s i name ready makes)).same
 
   commit : (M : List ℕ) → IsMix C (committed P C s i) M → SameMeaning P W M ⊎ (M ≡ committed P C s i)
-  commit M m = elim (mix_one C M (slot_word_of P s 0) i in_image m) [
+  commit M m = elim (mix_one C M (slot_word_of P s 0) i (inside P C s 0 same_made.coherent ready.place.slot.held.in_range (omega arith)) m) [
     | inl e ↦ inl (subst (SameMeaning P W) (sym e) same_made)
     | inr e ↦ inr e
   ]
@@ -55,13 +43,13 @@ module _ (P : ℕ) (W B C : List ℕ) (p path : Route) (node : Node) (d s i : �
   tidy : IsCleanSlot P B s → IsTidied P (committed P C s i)
   tidy rest =
       let can = making.can_add P B C p node d s i name ready makes in
-      tidy_after P B C (committed P C s i) p node d s i name ready makes can (only P C s i can.coherent) (stored P C s i can.coherent can.slot.held.in_range) other_words
+      tidy_after P B C (committed P C s i) p node d s i name ready makes can (only P C s i can.coherent) (stored P C s i can.coherent can.slot.held.in_range) (other_word C (slot_word_of P s 0) i)
       coherent rest
 
   reads : (T : Tree) → Reads P W T → Reads P (committed P C s i) (with_new T path i node)
   reads T h =
       let can = making.can_add P B C p node d s i name ready makes in
-      let path_is = is ∙ ap (λ n. n ∷ p) (sym (making.name_is P B C p node d s i name ready makes)) in
+      let path_is = is ∙ ap (λ n. n ∷ p) (sym (naming.name_is ready.place (making.named P B C p node d s i name ready makes))) in
       (add_tree_law P C p path d s i can path_is).new_node T node (same_made.reads T h) (making.new_node P B C p node d s i name ready makes) (making.node_made P B C p node d s i name ready makes empty)
 
   pub named : (after : Room → Room) → ((room : Room) → HasRoom P C room → HasRoom P (committed P C s i) (after room)) → IsNamed P W (committed P C s i) (λ T. with_new T path i node) after
@@ -69,7 +57,7 @@ module _ (P : ℕ) (W B C : List ℕ) (p path : Route) (node : Node) (d s i : �
 
   pub created : (after : Room → Room) → ((room : Room) → HasRoom P C room → HasRoom P (committed P C s i) (after room)) → IsCleanSlot P B s → Commits P W B C (committed P C s i) (λ T. with_new T path i node) after
   created after room rest = record {
-    before = λ M m. same_chained P W B M start (making.mixes P B C p node d s i name ready makes M m);
+    before = λ M m. same_chained P W B M start (stores_law P B C M ready.place.coherent (making.stores P B C p node d s i name ready makes) m);
     commit = commit;
     tidy = tidy rest;
     reads = reads;
@@ -80,42 +68,19 @@ module _ (P : ℕ) (W B C : List ℕ) (p path : Route) (node : Node) (d s i : �
 
 -- a free inode of a tidy image owns no page
 pub free_inode : (P : ℕ) (W : List ℕ) (p : Route) (d i : ℕ) (name : List ℕ) → CanMake P W p d i name → IsFreeInode P W i
-unfolding page_owner
 free_inode P W p d i name can = record {
   least = can.least;
   most = can.most;
   unreached = can.unreached;
-  no_pages = λ j lt e. none_counted (IsLitterPage P W) can.place.tidy.repaired.of_pages j (record {
-    in_range = lt;
-    free = λ kept. elim kept [
-      | inl file ↦ can.unreached (subst (Reached P W) e file.owner)
-      | inr room ↦ can.unreached (subst (Reached P W) e room.reached)
-    ];
-    nonzero = (0, omega arith, λ z. (let least = can.least in omega (arith, e, z, least)));
-  });
+  no_pages = λ j lt e. owned_kept P W j can.place.tidy lt (λ z. (let least = can.least in omega (arith, e, z, least))) (λ kept. elim kept [
+    | inl file ↦ can.unreached (subst (Reached P W) e file.owner)
+    | inr room ↦ can.unreached (subst (Reached P W) e room.reached)
+  ]);
 }
 
 module _ (P : ℕ) (W : List ℕ) (p : Route) (d s : ℕ) (name : List ℕ) (can : CanName P W p d name) (vacant : IsVacant P W d s) where
-  d_reached : Reached P W d
-  d_reached = (p, can.path)
-
-  -- the page of a held slot is kept
   pub room_here : IsRoomOf P W d (page_of_slot s)
-  unfolding slot_owner page_owner
-  room_here = elim (dec_room P W d d_reached can.directory (page_of_slot s)) [
-    | yes room ↦ room
-    | no none ↦ absurd (none_counted (IsLitterPage P W) can.tidy.repaired.of_pages (page_of_slot s) (record {
-      in_range = below;
-      free = λ kept. elim kept [
-        | inl file ↦ (let one = (can.tidy.coherent Rule.page_kinds (page_of_slot s)).file below file.owner file.file in let two = vacant.held.kind in omega (arith, one, two))
-        | inr room ↦ none (subst (λ x. IsRoomOf P W x (page_of_slot s)) vacant.owner room)
-      ];
-      nonzero = (0, omega arith, vacant.held.owned);
-    }))
-  ]
-    where
-      below : page_of_slot s < data_pages_of P
-      below = page_of_slot_below P s vacant.held.in_range
+  room_here = held_room P W d s can.tidy (p, can.path) can.directory vacant.held vacant.owner
 
   but : IsTidyBut P W (page_of_slot s)
   but = tidy_but P W (page_of_slot s) can.tidy
@@ -133,14 +98,7 @@ module _ (P : ℕ) (W : List ℕ) (p : Route) (d s : ℕ) (name : List ℕ) (can
 
   clean : (t f : ℕ) → page_of_slot t ≡ page_of_slot s → (IsLive P W t → ⊥) → f < 16 → word W (slot_word_of P t f) ≡ 0
   unfolding slot_owner
-  clean t f at dead lt = elim (dec_eq (word W (slot_word_of P t f)) 0) [
-    | yes e ↦ e
-    | no ne ↦ absurd (but.slots t (record {
-      page = subst (λ j. IsRoomOf P W (page_owner P W j) j) (sym at) (subst (λ x. IsRoomOf P W x (page_of_slot s)) (sym vacant.owner) room_here);
-      dead = dead;
-      nonzero = (f, lt, ne);
-    }))
-  ]
+  clean t f at dead lt = dead_zero P W t f can.tidy (subst (λ j. IsRoomOf P W (page_owner P W j) j) (sym at) (subst (λ x. IsRoomOf P W x (page_of_slot s)) (sym vacant.owner) room_here)) dead lt
 
   pub ready_slot : IsReadySlot P W p d s name
   ready_slot = record {
@@ -163,7 +121,7 @@ module _ (P : ℕ) (W I : List ℕ) (p path : Route) (node : Node) (d s i : ℕ)
 
   room_after : (room : Room) → HasRoom P I room → HasRoom P (committed P I s i) (with_node room i node)
   room_after room has =
-      let here = ((making.shape_made P W I p node d s i name ready makes).directories d (page_of_slot s)).0 (room_here P W p d s name can.place vacant) in
+      let here = ((naming.entries ready.place (making.named P W I p node d s i name ready makes)).rooms d (page_of_slot s)).0 (room_here P W p d s name can.place vacant) in
       (add_room_law P I p d s i (making.can_add P W I p node d s i name ready makes)).old_page room node has (making.node_made P W I p node d s i name ready makes empty) here
 
   pub create_named : IsNamed P W (committed P I s i) (λ T. with_new T path i node) (λ room. with_node room i node)

@@ -1,5 +1,5 @@
 -- What is decided of numbers, slots and steps.
-use Rattle.std.proofs.Common.{◌≡◌, inl, inr, ℕ, ◌≤◌, List, arith}
+use Rattle.std.proofs.Common.{◌≡◌, ◌⊎◌, inl, inr, ℕ, ◌≤◌, List, arith}
 use Rattle.std.proofs.lemmas.Bool.{cases_eq, cases_lt}
 use Rattle.layout.specs.Fields.{inode_kind, slot_inode}
 use Rattle.layout.specs.Geometry.{inodes_of}
@@ -10,6 +10,24 @@ use Rattle.image_counts.proofs.Decided.{IsDecided, live_or_not}
 pub told : {A : Type 0} → IsDecided A → Dec A
 told (inl a) = yes a
 told (inr n) = no n
+
+pub decided : {A : Type 0} → Dec A → IsDecided A
+decided (yes a) = inl a
+decided (no n) = inr n
+
+pub none_or_not : (A : Type 0) → IsDecided A → IsDecided (¬ A)
+none_or_not A (inl a) = inr (λ none. none a)
+none_or_not A (inr none) = inl none
+
+pub both_or_not : (A B : Type 0) → IsDecided A → IsDecided B → IsDecided (A × B)
+both_or_not A B (inl a) (inl b) = inl (a, b)
+both_or_not A B (inl a) (inr none) = inr (λ h. none h.1)
+both_or_not A B (inr none) b = inr (λ h. none h.0)
+
+pub either_or_not : (A B : Type 0) → IsDecided A → IsDecided B → IsDecided (A ⊎ B)
+either_or_not A B (inl a) b = inl (inl a)
+either_or_not A B (inr none) (inl b) = inl (inr b)
+either_or_not A B (inr none) (inr never) = inr (λ h. elim h [ inl a ↦ none a | inr b ↦ never b ])
 
 pub dec_eq : (a b : ℕ) → Dec (a ≡ b)
 dec_eq a b = elim (cases_eq a b) [ inl e ↦ yes e | inr n ↦ no n ]

@@ -1,6 +1,5 @@
 -- Unlink and rmdir leave a state that the step allows.
-use Rattle.std.proofs.Common.{◌≡◌, ◌≢◌, inl, inr, ℕ, ◌+◌, ◌-◌, Bool, true, false, cond, ◌&&◌, List, ◌∷◌, reverse, Option, Some, None, unwrap_or, refl, sym, ap, subst, ◌∙◌, add-zero}
-use Rattle.std.proofs.lemmas.Bool.{cases_eq}
+use Rattle.std.proofs.Common.{◌≡◌, ℕ, ◌+◌, ◌-◌, Bool, true, false, cond, ◌&&◌, List, ◌∷◌, reverse, Some, None, unwrap_or, refl, sym, ap, subst, ◌∙◌, add-zero}
 use Rattle.layout.specs.Fields.{slot_inode, slot_name}
 use Rattle.layout.specs.Geometry.{page_of_slot}
 use Rattle.tree_model.specs.PathText.{Route}
@@ -9,53 +8,32 @@ use Rattle.tree_model.specs.Run.{State}
 use Rattle.tree_model.specs.Step.{without_path, without_unnamed, room_after, tree_after, pages_after}
 use Rattle.tree_model.specs.Table.{get, remove}
 use Rattle.tree_model.specs.Tree.{Tree, Room, IsRoom, root_id, parent, id_at, is_directory, is_number, pages_in}
-use Rattle.tree_model.proofs.TreeLaws.{same_room}
 use Rattle.image_reading.specs.Reading.{slot_owner, Names, Reads, IsRoomOf, HasRoom, ReadsAs}
 use Rattle.image_reading.specs.Soundness.{IsCoherent}
-use Rattle.image_counts.proofs.Decided.{room_counted}
 use Rattle.image_counts.proofs.States.{is_room}
 use Rattle.image_laws.specs.CreateStep.{IsStepped}
 use Rattle.image_laws.specs.Drop.{CanDrop, Drops}
 use Rattle.image_laws.specs.DropStep.{Removal, removing, DropStepLaw}
 use Rattle.image_laws.specs.Remove.{HasRoomRemoved, without_page}
-use Rattle.image_laws.proofs.AddRoom.{get-here, get-other}
 use Rattle.image_laws.proofs.CreateSteps.{parent_is}
 use Rattle.image_laws.proofs.DropTidy.{drop_law, owner_after}
-use Rattle.image_laws.proofs.RemoveRoom.{get-gone, get-left}
 use Rattle.image_laws.proofs.Pruned.{directory_before}
-use Rattle.image_laws.proofs.RoomAfter.{clash, room_at, is_same, not_same}
+use Rattle.image_laws.proofs.RoomAfter.{room_at}
+use Rattle.image_laws.proofs.RoomLeft.{HasPages, lost, lost_none, pages_left, room_left}
 use Rattle.image_laws.proofs.Rooms.{dec_room}
-use Rattle.image_laws.proofs.Trees.{directory_is, is_directory-reached}
+use Rattle.image_laws.proofs.Trees.{is_directory-reached}
 
 -- what both commands leave
 tree_is : (kind : Removal) (T : Tree) (path : Route) (n : ℕ) → tree_after n T (removing kind path) ≡ without_unnamed (without_path T path)
 tree_is Removal.file T path n = refl
 tree_is Removal.directory T path n = refl
 
--- the pages of a directory after
-left_pages : Tree → Room → ℕ → Bool → ℕ → ℕ
-left_pages T room d gives x = cond (is_number (Some d) x && gives) (pages_in room x + 0 - 1) (pages_in room x + 0)
-
-pages_are : (kind : Removal) (T : Tree) (room : Room) (path : Route) (d : ℕ) (gives : Bool) (x : ℕ) → id_at T (parent path) ≡ Some d → pages_after T room (removing kind path) gives x ≡ left_pages T room d gives x
-unfolding left_pages
-pages_are Removal.file T room path d gives x e = ap (λ o. cond (is_number (Some (unwrap_or o root_id)) x && gives) (pages_in room x + 0 - 1) (pages_in room x + 0)) e
-pages_are Removal.directory T room path d gives x e = ap (λ o. cond (is_number (Some (unwrap_or o root_id)) x && gives) (pages_in room x + 0 - 1) (pages_in room x + 0)) e
-
-kept_pages : (T : Tree) (room : Room) (d x : ℕ) → left_pages T room d false x ≡ pages_in room x
-unfolding left_pages
-kept_pages T room d x = never (is_number (Some d) x) ∙ add-zero (pages_in room x)
-  where
-    never : (b : Bool) → cond (b && false) (pages_in room x + 0 - 1) (pages_in room x + 0) ≡ pages_in room x + 0
-    never true = refl
-    never false = refl
-
-given_other : (T : Tree) (room : Room) (d x : ℕ) → d ≢ x → left_pages T room d true x ≡ pages_in room x
-unfolding left_pages
-given_other T room d x ne = ap (λ b. cond (b && true) (pages_in room x + 0 - 1) (pages_in room x + 0)) (not_same d x ne) ∙ add-zero (pages_in room x)
-
-given_here : (T : Tree) (room : Room) (d : ℕ) → left_pages T room d true d ≡ pages_in room d - 1
-unfolding left_pages
-given_here T room d = ap (λ b. cond (b && true) (pages_in room d + 0 - 1) (pages_in room d + 0)) (is_same d) ∙ ap (λ n. n - 1) (add-zero (pages_in room d))
+pages_are : (kind : Removal) (T : Tree) (room : Room) (path : Route) (d : ℕ) (gives : Bool) (x : ℕ) → id_at T (parent path) ≡ Some d → pages_after T room (removing kind path) gives x ≡ lost d gives (pages_in room x) x
+unfolding lost
+pages_are Removal.file T room path d gives x e =
+    ap (λ o. cond (is_number (Some (unwrap_or o root_id)) x && gives) (pages_in room x + 0 - 1) (pages_in room x + 0)) e ∙ ap (λ n. lost d gives n x) (add-zero (pages_in room x))
+pages_are Removal.directory T room path d gives x e =
+    ap (λ o. cond (is_number (Some (unwrap_or o root_id)) x && gives) (pages_in room x + 0 - 1) (pages_in room x + 0)) e ∙ ap (λ n. lost d gives n x) (add-zero (pages_in room x))
 
 module _ (P : ℕ) (W I J K : List ℕ) (old : State) (p path : Route) (s y n : ℕ) (kind : Removal) (can : CanDrop P W p s) (h : Drops P W I J K s y)
     (is : reverse path ≡ slot_name P W s ∷ p) (reads : ReadsAs P W old) where
@@ -73,49 +51,18 @@ module _ (P : ℕ) (W I J K : List ℕ) (old : State) (p path : Route) (s y n : 
 
   -- the room after, at each number
   after_at : (gives : Bool) (x : ℕ) → get (room_after n old.tree old.room (removing kind path) gives) x
-      ≡ cond (is_directory (without_unnamed (without_path old.tree path)) x) (Some (left_pages old.tree old.room (slot_owner P W s) gives x)) None
+      ≡ cond (is_directory (without_unnamed (without_path old.tree path)) x) (Some (lost (slot_owner P W s) gives (pages_in old.room x) x)) None
   after_at gives x =
       get-room_after n old.tree old.room (removing kind path) gives x
       ∙ ap (λ U. cond (is_directory U x) (Some (pages_after old.tree old.room (removing kind path) gives x)) None) (tree_is kind old.tree path n)
       ∙ ap (λ k. cond (is_directory (without_unnamed (without_path old.tree path)) x) (Some k) None) (pages_are kind old.tree old.room path (slot_owner P W s) gives x above)
 
-  none_some : (k : ℕ) → ◌≡◌ {A = Option ℕ} None (Some k) → ⊥
-  none_some k e = cc
-
-  -- a room of the last image whose entries, but for the inode's, are these
-  same_after : (gives : Bool) (R : Room) → HasRoom P K (remove R (slot_inode P W s)) → ((x : ℕ) → is_directory old.tree x ≡ true → get R x ≡ Some (left_pages old.tree old.room (slot_owner P W s) gives x))
-      → remove R (slot_inode P W s) ≡ room_after n old.tree old.room (removing kind path) gives
-  same_after gives R has each = same_room (remove R (slot_inode P W s)) (room_after n old.tree old.room (removing kind path) gives) (λ x.
-      at x (is_directory (without_unnamed (without_path old.tree path)) x) refl ∙ sym (after_at gives x))
-    where
-      entry : (x : ℕ) → is_directory (without_unnamed (without_path old.tree path)) x ≡ true → (k : ℕ) × (get (remove R (slot_inode P W s)) x ≡ Some k)
-      entry x dir =
-          let (r, two) = directory_is P K (without_unnamed (without_path old.tree path)) tidy_coherent read x dir in
-          let (k, pages) = room_counted P K x r two in
-          (k, (has x k).1 (r, two, pages))
-
-      none : (x : ℕ) (o : Option ℕ) → get (remove R (slot_inode P W s)) x ≡ o → is_directory (without_unnamed (without_path old.tree path)) x ≡ false → o ≡ None
-      none x None e dir = refl
-      none x (Some k) e dir =
-          let (r, two, pages) = (has x k).0 e in
-          absurd (clash (sym (is_directory-reached P K (without_unnamed (without_path old.tree path)) tidy_coherent read x r two) ∙ dir))
-
-      other : (x : ℕ) → is_directory (without_unnamed (without_path old.tree path)) x ≡ true → x ≢ slot_inode P W s
-      other x dir e =
-          let (k, there) = entry x dir in
-          none_some k (sym (ap (get (remove R (slot_inode P W s))) e ∙ get-gone R (slot_inode P W s)) ∙ there)
-
-      old_directory : (x : ℕ) → is_directory (without_unnamed (without_path old.tree path)) x ≡ true → is_directory old.tree x ≡ true
-      old_directory x dir = directory_before old.tree path x dir
-
-      at : (x : ℕ) (b : Bool) → is_directory (without_unnamed (without_path old.tree path)) x ≡ b → get (remove R (slot_inode P W s)) x
-          ≡ cond (is_directory (without_unnamed (without_path old.tree path)) x) (Some (left_pages old.tree old.room (slot_owner P W s) gives x)) None
-      at x true dir =
-          get-left R (slot_inode P W s) x (other x dir) ∙ each x (old_directory x dir)
-          ∙ sym (ap (λ c. cond c (Some (left_pages old.tree old.room (slot_owner P W s) gives x)) None) dir)
-      at x false dir =
-          none x (get (remove R (slot_inode P W s)) x) refl dir
-          ∙ sym (ap (λ c. cond c (Some (left_pages old.tree old.room (slot_owner P W s) gives x)) None) dir)
+  -- a room that has the old pages, or one less
+  same_after : (gives : Bool) (room : Room) → HasRoom P K (remove room (slot_inode P W s)) → HasPages old.tree (λ x. lost (slot_owner P W s) gives (pages_in old.room x) x) room
+      → remove room (slot_inode P W s) ≡ room_after n old.tree old.room (removing kind path) gives
+  same_after gives room has each =
+      room_left P K (without_unnamed (without_path old.tree path)) room (room_after n old.tree old.room (removing kind path) gives) (λ x. lost (slot_owner P W s) gives (pages_in old.room x) x)
+      (slot_inode P W s) tidy_coherent read has (after_at gives) (λ x dir. each x (directory_before old.tree path x dir))
 
   stepped : (gives : Bool) (R : Room) → HasRoom P K (remove R (slot_inode P W s)) → remove R (slot_inode P W s) ≡ room_after n old.tree old.room (removing kind path) gives
       → IsStepped P K old (removing kind path) n
@@ -135,26 +82,19 @@ module _ (P : ℕ) (W I J K : List ℕ) (old : State) (p path : Route) (s y n : 
   old_entry : (x : ℕ) → is_directory old.tree x ≡ true → get old.room x ≡ Some (pages_in old.room x)
   old_entry x dir = room_at old.tree old.room x old_fits ∙ ap (λ b. cond b (Some (pages_in old.room x)) None) dir
 
-  less_entry : (x : ℕ) → is_directory old.tree x ≡ true → get (without_page old.room (slot_owner P W s)) x ≡ Some (left_pages old.tree old.room (slot_owner P W s) true x)
-  less_entry x dir = elim (cases_eq (slot_owner P W s) x) [
-    | inl e ↦ subst (λ z. get (without_page old.room (slot_owner P W s)) z ≡ Some (left_pages old.tree old.room (slot_owner P W s) true z)) e
-        (get-here old.room (slot_owner P W s) (pages_in old.room (slot_owner P W s) - 1) ∙ ap Some (sym (given_here old.tree old.room (slot_owner P W s))))
-    | inr ne ↦ get-other old.room (slot_owner P W s) (pages_in old.room (slot_owner P W s) - 1) x (λ z. ne (sym z)) ∙ old_entry x dir
-        ∙ ap Some (sym (given_other old.tree old.room (slot_owner P W s) x ne))
-  ]
-
   less_room : HasRoomRemoved P W K (slot_owner P W s) s (slot_inode P W s)
   less_room = (drop_law P W I J K p s y can h).room
 
   -- the room after, where the slot's page keeps a name
   pub drop_room_kept : IsRoomOf P K (slot_owner P W s) (page_of_slot s) → remove old.room (slot_inode P W s) ≡ room_after n old.tree old.room (removing kind path) false
   drop_room_kept here =
-      same_after false old.room (less_room.kept old.room reads.room here) (λ x dir. old_entry x dir ∙ ap Some (sym (kept_pages old.tree old.room (slot_owner P W s) x)))
+      same_after false old.room (less_room.kept old.room reads.room here) (λ x dir. old_entry x dir ∙ ap Some (sym (lost_none (slot_owner P W s) (pages_in old.room x) x)))
 
   -- and where it is given back
   pub drop_room_given : (IsRoomOf P K (slot_owner P W s) (page_of_slot s) → ⊥)
       → remove (without_page old.room (slot_owner P W s)) (slot_inode P W s) ≡ room_after n old.tree old.room (removing kind path) true
-  drop_room_given none = same_after true (without_page old.room (slot_owner P W s)) (less_room.given old.room reads.room none) less_entry
+  drop_room_given none = same_after true (without_page old.room (slot_owner P W s)) (less_room.given old.room reads.room none)
+      (pages_left old.tree (pages_in old.room) old.room (slot_owner P W s) old_entry (is_directory-reached P W old.tree can.tidy.coherent reads.tree (slot_owner P W s) (p, can.path) can.slot.directory))
 
   pub drop_stepped : IsStepped P K old (removing kind path) n
   drop_stepped =

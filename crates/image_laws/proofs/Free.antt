@@ -1,17 +1,21 @@
 -- A free word isn't used.
-use Rattle.std.proofs.Common.{◌≡◌, ◌≢◌, ◌⊎◌, inl, inr, ℕ, ◌+◌, ◌*◌, ◌<◌, ◌≤◌, List, refl, sym, ap, subst, ◌∙◌, arith, length, get_or, set, length-set}
+use Rattle.std.proofs.Common.{◌≡◌, ◌≢◌, ◌↔◌, ◌⊎◌, inl, inr, ℕ, ◌+◌, ◌*◌, ◌<◌, ◌≤◌, List, refl, sym, ap, subst, ◌∙◌, arith, length, get_or, set, length-set}
 use Rattle.std.proofs.lemmas.Bool.{cases_eq}
 use Rattle.std.proofs.lemmas.List.{get_or-set_other, ext_get_or}
 use Rattle.layout.specs.Fields.{word, inode_size, page_owner, page_kind}
 use Rattle.layout.specs.Geometry.{inodes_of, data_pages_of, page_of_slot, inode_word_of, descriptor_word_of, page_word_of, slot_word_of}
-use Rattle.image_reading.specs.Reading.{slot_owner, IsHeld, Reached, IsReachedSlot, IsPageOf}
+use Rattle.image_reading.specs.Reading.{slot_owner, IsHeld, Reached, IsReachedSlot, IsPageOf, IsRoomOf}
 use Rattle.image_reading.specs.Soundness.{IsCoherent}
-use Rattle.image_laws.specs.Free.{IsFree, FreeLaw, StoresLaw}
+use Rattle.image_laws.specs.Free.{IsFree, Stores, FreeLaw, StoresLaw}
 use Rattle.image_laws.specs.Quiet.{IsMix}
 use Rattle.image_laws.specs.Words.{IsUsed, IsByteOf}
 use Rattle.image_laws.proofs.Addresses.{head-ne_inode, head-ne_slot, descriptor-ne_inode, descriptor-ne_slot, inode-ne_slot, page-ne_inode, head-ne_descriptor, head-ne_page, descriptor-ne_page, inode_word-one, descriptor_word-one, slot_word-one, slot_in_page, page_word-one, word_in_page, word_in_page-lt, slot_word-in_page}
-use Rattle.image_laws.proofs.Quiet.{mix_law}
-use Rattle.image_laws.proofs.Words.{bytes_from_words}
+use Rattle.image_laws.specs.Agrees.{Alike}
+use Rattle.image_laws.specs.Frame.{SameMeaning}
+use Rattle.image_laws.proofs.Frame.{alike}
+use Rattle.image_laws.proofs.Meaning.{shape, reached_slot, reached_slot_forward, same_chained}
+use Rattle.image_laws.proofs.Quiet.{mix_law, quiet_agrees}
+use Rattle.image_laws.proofs.Words.{agrees_from_words, bytes_from_words}
 use Rattle.image_laws.proofs.Paths.{reached_pos, reached-le}
 
 module _ (P : ℕ) (I : List ℕ) (coherent : IsCoherent P I) where
@@ -147,3 +151,36 @@ mix_one A M x v lt m = elim (m.words x) [
     | inr ne ↦ elim (m.words b) [ inl f ↦ f ∙ sym (get_or-set_other A x b v 0 ne) | inr f ↦ f ]
   ]))
 ]
+
+-- a new image is a mix
+pub mix_itself : (I J : List ℕ) → length J ≡ length I → IsMix I J J
+mix_itself I J size = record { size = size; words = λ a. inr refl }
+
+-- an interval that stores to free words leaves what is alike
+pub alike_stores : (P : ℕ) (I J : List ℕ) → IsCoherent P I → Stores P I J → Alike P I J
+alike_stores P I J coherent stores = alike P I J (agrees_from_words P I J (quiet_agrees P I J coherent (free_law P I J coherent stores).0)) coherent
+
+pub same_stores : (P : ℕ) (I J : List ℕ) → IsCoherent P I → Stores P I J → SameMeaning P I J
+same_stores P I J coherent stores = stores_law P I J J coherent stores (mix_itself I J stores.size)
+
+-- J means what I means, with the same reached slots and rooms
+pub record SameEntries (P : ℕ) (I J : List ℕ) : Type 0 where
+  pub same : SameMeaning P I J
+  pub slots : (t : ℕ) → IsReachedSlot P I t ↔ IsReachedSlot P J t
+  pub rooms : (x j : ℕ) → IsRoomOf P I x j ↔ IsRoomOf P J x j
+
+pub entries_stores : (P : ℕ) (I J : List ℕ) → IsCoherent P I → Stores P I J → SameEntries P I J
+entries_stores P I J coherent stores =
+    let same = alike_stores P I J coherent stores in
+    record {
+      same = same_stores P I J coherent stores;
+      slots = λ t. ((λ r. (reached_slot_forward P I J same t r).1), (λ r. (reached_slot P I J same t r).1));
+      rooms = (shape P I J coherent same).directories;
+    }
+
+pub entries_chained : (P : ℕ) (I J K : List ℕ) → SameEntries P I J → SameEntries P J K → SameEntries P I K
+entries_chained P I J K first second = record {
+  same = same_chained P I J K first.same second.same;
+  slots = λ t. ((λ r. (second.slots t).0 ((first.slots t).0 r)), (λ r. (first.slots t).1 ((second.slots t).1 r)));
+  rooms = λ x j. ((λ room. (second.rooms x j).0 ((first.rooms x j).0 room)), (λ room. (first.rooms x j).1 ((second.rooms x j).1 room)));
+}

@@ -1,7 +1,5 @@
 -- What an index of the image holds after create and mkdir.
-use Rattle.std.proofs.Common.{◌≡◌, ◌≢◌, inl, inr, ℕ, List, sym, ◌∙◌}
-use Rattle.std.proofs.lemmas.List.{get_or-set_other}
-use Rattle.layout.specs.Fields.{word}
+use Rattle.std.proofs.Common.{◌≡◌, inl, inr, ℕ, List, sym, ◌∙◌}
 use Rattle.layout.specs.Geometry.{page_of_slot, slot_word_of}
 use Rattle.tree_model.specs.PathText.{Route}
 use Rattle.tree_model.specs.Tree.{Node}
@@ -14,17 +12,14 @@ use Rattle.image_laws.proofs.Making as making
 use Rattle.image_laws.proofs.MakeTidy.{grown_after}
 use Rattle.image_laws.proofs.PageCreates.{taken}
 use Rattle.image_laws.proofs.PageReady.{page_ready, inode_ready, forth, back, owner_same, entry_same, slot_same, file_page_same, kind_as_before}
+use Rattle.image_laws.proofs.Words.{other_word}
 use Rattle.image_laws.specs.Stages.{IsReady}
-
-other_words : (P : ℕ) (I : List ℕ) (s i a : ℕ) → a ≢ slot_word_of P s 0 → word (committed P I s i) a ≡ word I a
-unfolding word
-other_words P I s i a ne = get_or-set_other I (slot_word_of P s 0) a i 0 ne
 
 -- from an image that is ready
 grown_from : (P : ℕ) (B I : List ℕ) (p : Route) (node : Node) (d s i : ℕ) (name : List ℕ) → IsReady P B p d s i name → MakesNode P B I node d s i name → HasGrown P B (committed P I s i) d s i name
 grown_from P B I p node d s i name ready makes =
     let can = making.can_add P B I p node d s i name ready makes in
-    grown_after P B I (committed P I s i) p node d s i name ready makes can (only P I s i can.coherent) (stored P I s i can.coherent can.slot.held.in_range) (other_words P I s i) (add_law P I p d s i can).coherent
+    grown_after P B I (committed P I s i) p node d s i name ready makes can (only P I s i can.coherent) (stored P I s i can.coherent can.slot.held.in_range) (other_word I (slot_word_of P s 0) i) (add_law P I p d s i can).coherent
 
 pub grown_law : GrownLaw
 grown_law P W I p node d s i name can vacant makes = grown_from P W I p node d s i name (is_ready P W p d s i name can vacant) makes

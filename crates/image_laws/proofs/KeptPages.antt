@@ -2,9 +2,21 @@
 use Rattle.std.proofs.Common.{◌≡◌, ◌↔◌, inl, inr, ℕ, ◌<◌, List, sym, ap, subst, ◌∙◌, arith}
 use Rattle.layout.specs.Fields.{word, inode_kind, inode_size, page_owner, page_kind, page_offset}
 use Rattle.layout.specs.Geometry.{data_pages_of, page_of_slot, descriptor_word_of}
-use Rattle.layout.proofs.GeometryLaws.{page_of_slot_below}
+use Rattle.layout.proofs.GeometryLaws.{page_of_slot_below, slot_below}
 use Rattle.image_reading.specs.Reading.{slot_owner, IsHeld, Reached, IsRoomOf, IsPageOf, pages_of_size}
 use Rattle.image_reading.specs.Repairs.{IsKeptFilePage, IsKept, IsLitterPage}
+
+-- the slots of a page are held together
+pub owner_with : (P : ℕ) (I : List ℕ) (s t : ℕ) → page_of_slot t ≡ page_of_slot s → slot_owner P I t ≡ slot_owner P I s
+unfolding slot_owner
+owner_with P I s t at = ap (page_owner P I) at
+
+pub held_with : (P : ℕ) (I : List ℕ) (s t : ℕ) → page_of_slot t ≡ page_of_slot s → IsHeld P I s → IsHeld P I t
+held_with P I s t at held = record {
+  in_range = slot_below P t (subst (λ j. j < data_pages_of P) (sym at) (page_of_slot_below P s held.in_range));
+  kind = ap (page_kind P I) at ∙ held.kind;
+  owned = λ z. held.owned (sym (owner_with P I s t at) ∙ z);
+}
 
 pub record KeepsPages (P : ℕ) (A K : List ℕ) (Page : ℕ → Type 0) : Type 0 where
   pub owner : (j : ℕ) → j < data_pages_of P → ¬ Page j → page_owner P K j ≡ page_owner P A j

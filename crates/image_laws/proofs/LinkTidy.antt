@@ -26,17 +26,13 @@ module _ (P : ℕ) (B C D : List ℕ) (p : Route) (d s i : ℕ) (name : List ℕ
     (can : CanAdd P C p d s i) (only : OnlySlot P C D s) (stored : slot_inode P D s ≡ i) (others : (a : ℕ) → a ≢ slot_word_of P s 0 → word D a ≡ word C a) (coherent : IsCoherent P D) where
   written : IsWritten P B C s i i name
   written = record {
-    same = linking.same P B C p d s i name place of_file makes;
-    alike = linking.alike_linked P B C p d s i name place of_file makes;
+    named = linking.named P B C p d s i name place of_file makes;
     linked = of_file.reached;
-    descriptors = linking.descriptor_same P B C p d s i name place of_file makes;
     inodes = λ x f some most lt old links. linking.inode_same P B C p d s i name place of_file makes x f some most lt links;
-    slots = linking.slot_same P B C p d s i name place of_file makes;
-    name_is = linking.name_is P B C p d s i name place of_file makes;
   }
 
   kind_same : (x : ℕ) → Reached P B x → inode_kind D x ≡ inode_kind B x
-  kind_same = adds.node_kind_same place written can only stored others coherent
+  kind_same = (adds.nodes place written can only stored others coherent).kind
 
   links_after : inode_links D i ≡ inode_links B i + 1
   links_after = only.links i (reached-le P B place.coherent i of_file.reached) ∙ makes.links
@@ -52,7 +48,7 @@ module _ (P : ℕ) (B C D : List ℕ) (p : Route) (d s i : ℕ) (name : List ℕ
     | inl e ↦ subst (λ y. Count (IsNameOf P D y) (inode_links D y)) (sym e)
         (subst (Count (IsNameOf P D i)) (sym links_after) (count_gained (IsNameOf P B i) (IsNameOf P D i) s (inode_links B i) (names_same i) (not_before i)
         (record { slot = adds.new_slot place written can only stored others coherent; inode = stored }) (subst (λ y. Count (IsNameOf P B y) (inode_links B y)) e count)))
-    | inr ne ↦ subst (Count (IsNameOf P D x)) (sym (adds.node_links_same place written can only stored others coherent x r ne))
+    | inr ne ↦ subst (Count (IsNameOf P D x)) (sym ((adds.nodes place written can only stored others coherent).links x r ne))
         (count_kept (IsNameOf P B x) (IsNameOf P D x) s (inode_links B x) (names_same x) (not_before x) (λ n. ne (sym n.inode ∙ stored)) count)
   ]
 
@@ -70,7 +66,7 @@ module _ (P : ℕ) (B C D : List ℕ) (p : Route) (d s i : ℕ) (name : List ℕ
           m,
           count_kept (IsChildOf P B x) (IsChildOf P D x) s m (slot_laws.children (adds.kept place written can only stored others coherent) x)
               (λ n. adds.old_slot place written can only stored others coherent s n.slot refl) (no_child x) children,
-          adds.node_links_same place written can only stored others coherent x r other ∙ e,
+          (adds.nodes place written can only stored others coherent).links x r other ∙ e,
         );
   }
 

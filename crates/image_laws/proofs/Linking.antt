@@ -1,28 +1,24 @@
 -- The words of a new name are stored and a file's link word is raised: nothing is meant by them yet.
 use Rattle.std.proofs.Common.{◌≡◌, ◌≢◌, ◌⊎◌, inl, inr, ℕ, ◌+◌, ◌<◌, ◌≤◌, List, refl, sym, ap, subst, ◌∙◌, arith}
 use Rattle.std.proofs.lemmas.Bool.{cases_eq}
-use Rattle.layout.specs.Fields.{word, inode_kind, inode_links, page_owner, slot_inode, slot_pointer, slot_name}
+use Rattle.layout.specs.Fields.{word, inode_links, page_owner, slot_inode}
 use Rattle.layout.specs.Geometry.{inodes_of, data_pages_of, inode_word_of, descriptor_word_of, slot_word_of}
-use Rattle.layout.specs.Name.{IsNameWords, name_in_words}
 use Rattle.tree_model.specs.PathText.{Route}
 use Rattle.image_reading.specs.Counts.{AtMost}
-use Rattle.image_reading.specs.Reading.{slot_owner, IsHeld, IsLive, Reached, IsNameOf}
+use Rattle.image_reading.specs.Reading.{IsLive, Reached, IsNameOf}
 use Rattle.image_reading.specs.Soundness.{Rule, HasLinks}
-use Rattle.image_laws.specs.Add.{IsFreeSlot, IsOldFile, CanAdd}
-use Rattle.image_laws.specs.Agrees.{Alike}
-use Rattle.image_laws.specs.Frame.{SameMeaning, SameShape}
+use Rattle.image_counts.proofs.Paths.{in_range}
+use Rattle.image_laws.specs.Add.{IsOldFile, CanAdd}
 use Rattle.image_laws.specs.Free.{IsFree, Stores}
 use Rattle.image_laws.specs.Link.{IsLinkedWord, MakesLink}
-use Rattle.image_laws.specs.Quiet.{IsMix}
 use Rattle.image_laws.proofs.Addresses.{descriptor-ne_inode, descriptor-ne_slot, inode-ne_inode, inode-ne_field, inode-ne_slot, slot-ne_slot, slot-ne_field}
 use Rattle.image_laws.proofs.Counts.{at_most}
 use Rattle.image_laws.proofs.Decide.{dec_eq}
-use Rattle.image_laws.proofs.Free.{stores_law}
-use Rattle.image_laws.proofs.Making.{mix_itself, links_more}
-use Rattle.image_laws.proofs.KeptPages as pages
-use Rattle.image_laws.proofs.KeptPages.{KeepsPages, by_words, held_owner_same, held_forth}
-use Rattle.image_laws.proofs.Meaning.{shape, reached_slot, slot_name_same}
-use Rattle.image_laws.proofs.NewPage.{alike_stores}
+use Rattle.image_laws.proofs.Free.{SameEntries}
+use Rattle.image_laws.proofs.Making.{links_more}
+use Rattle.image_laws.proofs.KeptInodes.{KeepsInodes, by_inodes}
+use Rattle.image_laws.proofs.Naming as names
+use Rattle.image_laws.proofs.Naming.{StoresName}
 use Rattle.image_laws.proofs.Paths.{reached_pos, reached-le}
 use Rattle.image_laws.proofs.Ready.{dec_among, dec_either}
 use Rattle.image_laws.specs.Stages.{IsReadySlot}
@@ -47,14 +43,8 @@ module _ (P : ℕ) (B C : List ℕ) (p : Route) (d s i : ℕ) (name : List ℕ) 
     | inr ne ↦ let some = i_pos in omega (arith, some, ne)
   ]
 
-  d_reached : Reached P B d
-  d_reached = (p, place.slot.path)
-
-  pos : (x : ℕ) → Reached P B x → 1 ≤ x
-  pos x r = let h = reached_pos P B x r in omega (arith, h)
-
-  range : (x : ℕ) → Reached P B x → x ≤ inodes_of P
-  range x r = reached-le P B place.coherent x r
+  range : (x : ℕ) → Reached P B x → (1 ≤ x) × (x ≤ inodes_of P)
+  range x r = in_range P B place.coherent x r
 
   not_live : (t : ℕ) → IsLive P B t → t ≢ s
   not_live t l e = l.names (ap (slot_inode P B) e ∙ place.slot.free)
@@ -87,30 +77,8 @@ module _ (P : ℕ) (B C : List ℕ) (p : Route) (d s i : ℕ) (name : List ℕ) 
       ])
       (λ e. inode-ne_slot P i 1 t f i_pos i_most (omega arith) (sym e))
 
-  paged : KeepsPages P B C (λ j. ⊥)
-  paged = by_words P B C (λ j. ⊥) (λ j f lt l3 none. descriptor_same j f lt (omega (arith, l3)))
-
-  owner_same : (j : ℕ) → j < data_pages_of P → page_owner P C j ≡ page_owner P B j
-  owner_same j lt = paged.owner j lt (λ none. none)
-
-  slot_owner_same : (t : ℕ) → IsHeld P B t → slot_owner P C t ≡ slot_owner P B t
-  slot_owner_same t held = held_owner_same paged t held (λ none. none)
-
-  pub slot_inode_same : (t : ℕ) → slot_inode P C t ≡ slot_inode P B t
-  unfolding slot_inode
-  slot_inode_same t = slot_same t 0 (omega arith) (inl (omega arith))
-
-  pub pointer_same : (t : ℕ) → slot_pointer P C t ≡ slot_pointer P B t
-  unfolding slot_pointer
-  pointer_same t = slot_same t 1 (omega arith) (inl (omega arith))
-
-  links_same : (x : ℕ) → Reached P B x → x ≢ i → inode_links C x ≡ inode_links B x
-  unfolding inode_links
-  links_same x r ne = inode_same x 1 (pos x r) (range x r) (omega arith) (inr ne)
-
-  inode_kind_same : (x : ℕ) → Reached P B x → inode_kind C x ≡ inode_kind B x
-  unfolding inode_kind
-  inode_kind_same x r = inode_same x 0 (pos x r) (range x r) (omega arith) (inl (λ e. omega (arith, e)))
+  nodes : KeepsInodes B C (Reached P B) (λ x. x ≡ i)
+  nodes = by_inodes P B C (Reached P B) (λ x. x ≡ i) range (λ x f r some most lt links. inode_same x f some most (omega (arith, lt)) links)
 
   -- ---- the stores are free
 
@@ -123,59 +91,31 @@ module _ (P : ℕ) (B C : List ℕ) (p : Route) (d s i : ℕ) (name : List ℕ) 
   enough_links : (x : ℕ) → Reached P B x → HasLinks P B x (inode_links C x)
   enough_links x r = elim (cases_eq x i) [
     | inl e ↦ subst (λ y. HasLinks P B y (inode_links C y)) (sym e) (subst (HasLinks P B i) (sym makes.links) (links_more P B i (inode_links B i) (place.coherent Rule.links i file.reached)))
-    | inr ne ↦ subst (HasLinks P B x) (sym (links_same x r ne)) (place.coherent Rule.links x r)
+    | inr ne ↦ subst (HasLinks P B x) (sym (nodes.links x r ne)) (place.coherent Rule.links x r)
   ]
 
-  stores : Stores P B C
+  pub stores : Stores P B C
+  unfolding page_owner
   stores = record {
     size = makes.size;
     words = λ a. elim (dec_linked P s i a) [ no n ↦ inl (makes.others a n) | yes m ↦ inr (free_linked a m) ];
-    owners = λ j lt. inl (owner_same j lt);
+    owners = λ j lt. inl (descriptor_same j 0 lt (omega arith));
     links = enough_links;
   }
 
-  pub mixes : (M : List ℕ) → IsMix B C M → SameMeaning P B M
-  mixes M m = stores_law P B C M place.coherent stores m
+  pub named : StoresName P B C s name
+  named = record { stores = stores; descriptors = descriptor_same; slots = slot_same; words = makes.words }
 
-  pub same : SameMeaning P B C
-  same = mixes C (mix_itself B C makes.size)
-
-  pub alike_linked : Alike P B C
-  alike_linked = alike_stores P B C place.coherent stores
-
-  pub shape_linked : SameShape P B C
-  shape_linked = shape P B C place.coherent alike_linked
-
-  -- ---- held and live slots
-
-  held_back : (t : ℕ) → IsHeld P C t → IsHeld P B t
-  held_back t = pages.held_back paged t (λ none. none)
-
-  held_forward : (t : ℕ) → IsHeld P B t → IsHeld P C t
-  held_forward t = held_forth paged t (λ none. none)
+  entries : SameEntries P B C
+  entries = names.entries place named
 
   -- ---- the slot may take the inode
 
-  pub name_is : slot_name P C s ≡ name_in_words name
-  unfolding slot_name
-  name_is = ap name_in_words makes.words
-
   pub old_file : IsOldFile P C i
-  old_file = record { reached = (file.reached.0, (same.names file.reached.0 i).0 file.reached.1); file = inode_kind_same i file.reached ∙ file.file }
-
-  free_slot : IsFreeSlot P C p d s
-  free_slot = record {
-    path = (same.names p d).0 place.slot.path;
-    directory = inode_kind_same d d_reached ∙ place.slot.directory;
-    held = held_forward s place.slot.held;
-    owner = slot_owner_same s place.slot.held ∙ place.slot.owner;
-    free = slot_inode_same s ∙ place.slot.free;
-    no_pointer = pointer_same s ∙ place.slot.no_pointer;
-    no_target = λ t h e. place.slot.no_target t (held_back t h) (sym (pointer_same t) ∙ e);
-  }
+  old_file = record { reached = (file.reached.0, (entries.same.names file.reached.0 i).0 file.reached.1); file = nodes.kind i file.reached ∙ file.file }
 
   name_back : (t : ℕ) → IsNameOf P C i t → IsNameOf P B i t
-  name_back t n = let (k, m) = reached_slot P B C alike_linked t n.slot in record { slot = m; inode = sym (slot_inode_same t) ∙ n.inode }
+  name_back t n = record { slot = (entries.slots t).1 n.slot; inode = sym (names.number_same place named t) ∙ n.inode }
 
   name_room : AtMost 1 (IsNameOf P C i) (inode_links C i)
   name_room xs distinct all =
@@ -183,16 +123,4 @@ module _ (P : ℕ) (B C : List ℕ) (p : Route) (d s i : ℕ) (name : List ℕ) 
       let links = makes.links in omega (arith, le, links)
 
   pub can_add : CanAdd P C p d s i
-  can_add = record {
-    coherent = same.coherent;
-    slot = free_slot;
-    name = subst IsNameWords (sym makes.words) place.is_name;
-    new = λ t r o e.
-        let (k, m) = reached_slot P B C alike_linked t r in
-        place.new t m (sym (slot_owner_same t m.live.held) ∙ o) (sym (slot_name_same P B C alike_linked t m) ∙ e ∙ name_is);
-    least = i_least;
-    most = i_most;
-    node = inr old_file;
-    name_link = λ _. name_room;
-    child_link = λ two. let one = old_file.file in absurd (omega (arith, one, two));
-  }
+  can_add = names.may_add place named i i_least i_most (inr old_file) (λ _. name_room) (λ two. let one = old_file.file in absurd (omega (arith, one, two)))

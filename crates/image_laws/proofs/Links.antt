@@ -1,15 +1,12 @@
 -- Link, in a page that the directory has and in a new one.
-use Rattle.std.proofs.Common.{◌≡◌, ◌≢◌, ◌⊎◌, inl, inr, ℕ, ◌<◌, List, ◌∷◌, length, reverse, refl, sym, ap, subst, ◌∙◌, arith}
-use Rattle.std.proofs.lemmas.List.{get_or-set_other}
-use Rattle.layout.specs.Fields.{word}
+use Rattle.std.proofs.Common.{◌≡◌, ◌⊎◌, inl, inr, ℕ, List, ◌∷◌, reverse, refl, sym, ap, subst, ◌∙◌, arith}
 use Rattle.layout.specs.Geometry.{page_of_slot, slot_word_of}
-use Rattle.layout.proofs.GeometryLaws.{slot_word_within}
 use Rattle.layout.specs.Name.{name_in_words}
 use Rattle.tree_model.specs.PathText.{Route}
 use Rattle.tree_model.specs.Step.{with_path}
 use Rattle.tree_model.specs.Tree.{Node, Directory, File, Tree, Room}
 use Rattle.image_reading.specs.Reading.{HasBytes, IsNode, IsRoomOf, Reads, HasRoom}
-use Rattle.image_reading.specs.Soundness.{Rule, IsCoherent}
+use Rattle.image_reading.specs.Soundness.{IsCoherent}
 use Rattle.image_reading.specs.Tidy.{IsTidied}
 use Rattle.image_counts.specs.Entries.{IsFreePage}
 use Rattle.image_laws.specs.Add.{CanAdd, IsOldFile, with_page, with_node}
@@ -19,17 +16,19 @@ use Rattle.image_laws.specs.Frame.{SameMeaning}
 use Rattle.image_laws.specs.Grown.{HasGrown}
 use Rattle.image_laws.specs.Link.{MakesLink, CanLink, LinkLaw, NewPageLinkLaw}
 use Rattle.image_laws.specs.Quiet.{IsMix}
-use Rattle.image_laws.proofs.Adds.{only, stored, add_law, add_tree_law, add_room_law}
+use Rattle.image_laws.proofs.Adds.{inside, only, stored, add_law, add_tree_law, add_room_law}
 use Rattle.image_laws.proofs.Contents.{node_of, node_is}
 use Rattle.image_laws.proofs.Creates.{ready_slot, clean_slot, room_here}
-use Rattle.image_laws.proofs.Free.{mix_one}
+use Rattle.image_laws.proofs.Free.{mix_one, stores_law}
 use Rattle.image_laws.proofs.Grown.{grown_with_page}
 use Rattle.image_laws.proofs.Linking as linking
+use Rattle.image_laws.proofs.Naming as naming
 use Rattle.image_laws.proofs.LinkTidy as linked
 use Rattle.image_laws.proofs.Meaning.{same_itself, same_chained}
 use Rattle.image_laws.proofs.PageCreates.{taken, clean}
 use Rattle.image_laws.proofs.PageReady.{HasTaken, page_ready, forth, kind_as_before, no_room}
 use Rattle.image_laws.proofs.Ready.{IsCleanSlot, IsNamed}
+use Rattle.image_laws.proofs.Words.{other_word}
 use Rattle.image_laws.specs.Stages.{IsReadySlot}
 
 -- a file takes no place in a room
@@ -42,19 +41,11 @@ module _ (P : ℕ) (W B C : List ℕ) (p path : Route) (d s i : ℕ) (name : Lis
   can : CanAdd P C p d s i
   can = linking.can_add P B C p d s i name place file makes
 
-  other_words : (a : ℕ) → a ≢ slot_word_of P s 0 → word (committed P C s i) a ≡ word C a
-  unfolding word
-  other_words a ne = get_or-set_other C (slot_word_of P s 0) a i 0 ne
-
-  in_image : slot_word_of P s 0 < length C
-  in_image = let below = slot_word_within P s 0 place.slot.held.in_range (omega arith) in
-      let size = makes.size ∙ (place.coherent Rule.head 0).whole refl in omega (arith, below, size)
-
   same_linked : SameMeaning P W C
-  same_linked = same_chained P W B C start (linking.same P B C p d s i name place file makes)
+  same_linked = same_chained P W B C start (naming.entries place (linking.named P B C p d s i name place file makes)).same
 
   commit : (M : List ℕ) → IsMix C (committed P C s i) M → SameMeaning P W M ⊎ (M ≡ committed P C s i)
-  commit M m = elim (mix_one C M (slot_word_of P s 0) i in_image m) [
+  commit M m = elim (mix_one C M (slot_word_of P s 0) i (inside P C s 0 same_linked.coherent place.slot.held.in_range (omega arith)) m) [
     | inl e ↦ inl (subst (SameMeaning P W) (sym e) same_linked)
     | inr e ↦ inr e
   ]
@@ -63,16 +54,16 @@ module _ (P : ℕ) (W B C : List ℕ) (p path : Route) (d s i : ℕ) (name : Lis
   coherent = (add_law P C p d s i can).coherent
 
   tidy : IsCleanSlot P B s → IsTidied P (committed P C s i)
-  tidy rest = linked.tidy_after P B C (committed P C s i) p d s i name place file makes can (only P C s i can.coherent) (stored P C s i can.coherent can.slot.held.in_range) other_words
+  tidy rest = linked.tidy_after P B C (committed P C s i) p d s i name place file makes can (only P C s i can.coherent) (stored P C s i can.coherent can.slot.held.in_range) (other_word C (slot_word_of P s 0) i)
       coherent rest
 
   pub grown : HasGrown P B (committed P C s i) d s i name
-  grown = linked.grown_after P B C (committed P C s i) p d s i name place file makes can (only P C s i can.coherent) (stored P C s i can.coherent can.slot.held.in_range) other_words
+  grown = linked.grown_after P B C (committed P C s i) p d s i name place file makes can (only P C s i can.coherent) (stored P C s i can.coherent can.slot.held.in_range) (other_word C (slot_word_of P s 0) i)
       (add_law P C p d s i can).coherent
 
   reads : (T : Tree) → Reads P W T → Reads P (committed P C s i) (with_path T path i)
   reads T h =
-      let path_is = is ∙ ap (λ n. n ∷ p) (sym (linking.name_is P B C p d s i name place file makes)) in
+      let path_is = is ∙ ap (λ n. n ∷ p) (sym (naming.name_is place (linking.named P B C p d s i name place file makes))) in
       (add_tree_law P C p path d s i can path_is).old_file T (same_linked.reads T h) (linking.old_file P B C p d s i name place file makes)
 
   -- the node that the file is
@@ -97,7 +88,7 @@ module _ (P : ℕ) (W B C : List ℕ) (p path : Route) (d s i : ℕ) (name : Lis
 
   pub is_link : (after : Room → Room) → ((room : Room) → HasRoom P C room → HasRoom P (committed P C s i) (after room)) → IsCleanSlot P B s → Commits P W B C (committed P C s i) (λ T. with_path T path i) after
   is_link after room rest = record {
-    before = λ M m. same_chained P W B M start (linking.mixes P B C p d s i name place file makes M m);
+    before = λ M m. same_chained P W B M start (stores_law P B C M place.coherent (linking.stores P B C p d s i name place file makes) m);
     commit = commit;
     tidy = tidy rest;
     reads = reads;
@@ -115,7 +106,7 @@ module _ (P : ℕ) (W I : List ℕ) (p path : Route) (d s i : ℕ) (name : List 
 
   same_room : (room : Room) → HasRoom P I room → HasRoom P (committed P I s i) room
   same_room =
-      let here = ((linking.shape_linked P W I p d s i name place_here can.file makes).directories d (page_of_slot s)).0 (room_here P W p d s name can.place vacant) in
+      let here = ((naming.entries place_here (linking.named P W I p d s i name place_here can.file makes)).rooms d (page_of_slot s)).0 (room_here P W p d s name can.place vacant) in
       old_page_room P W W I p path d s i name itself place_here can.file makes is here
 
   pub link_named : IsNamed P W (committed P I s i) (λ T. with_path T path i) (λ room. room)
@@ -149,7 +140,7 @@ module _ (P : ℕ) (W A I : List ℕ) (p path : Route) (d j s i : ℕ) (name : L
   more_room : (room : Room) → HasRoom P I room → HasRoom P (committed P I s i) (with_page room d)
   more_room =
       let none : IsRoomOf P I d (page_of_slot s) → ⊥ = λ room. no_room P W (owned P A j d) p d j s name can.place page at page_taken
-      (((linking.shape_linked P (owned P A j d) I p d s i name place_there file_there makes).directories d (page_of_slot s)).1 room) in
+      (((naming.entries place_there (linking.named P (owned P A j d) I p d s i name place_there file_there makes)).rooms d (page_of_slot s)).1 room) in
       new_page_room P W (owned P A j d) I p path d s i name page_taken.same place_there file_there makes is none
 
   pub page_link_named : IsNamed P W (committed P I s i) (λ T. with_path T path i) (λ room. with_page room d)

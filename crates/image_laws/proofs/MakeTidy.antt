@@ -38,23 +38,19 @@ module _ (P : ℕ) (B C D : List ℕ) (p : Route) (node : Node) (d s i : ℕ) (n
 
   written : IsWritten P B C s i d name
   written = record {
-    same = making.same P B C p node d s i name ready makes;
-    alike = making.alike_made P B C p node d s i name ready makes;
+    named = making.named P B C p node d s i name ready makes;
     linked = d_reached;
-    descriptors = making.descriptor_same P B C p node d s i name ready makes;
     inodes = λ x f some most lt old links. making.inode_same P B C p node d s i name ready makes x f some most lt (elim old [ inl r ↦ other_inode x r | inr ne ↦ ne ]) links;
-    slots = making.slot_same P B C p node d s i name ready makes;
-    name_is = making.name_is P B C p node d s i name ready makes;
   }
 
   kept : KeepsSlots P B D (λ t. t ≡ s)
   kept = adds.kept ready.place written can only stored others coherent
 
   kind_same : (x : ℕ) → Reached P B x → inode_kind D x ≡ inode_kind B x
-  kind_same = adds.node_kind_same ready.place written can only stored others coherent
+  kind_same = (adds.nodes ready.place written can only stored others coherent).kind
 
   links_same : (x : ℕ) → Reached P B x → x ≢ d → inode_links D x ≡ inode_links B x
-  links_same = adds.node_links_same ready.place written can only stored others coherent
+  links_same = (adds.nodes ready.place written can only stored others coherent).links
 
   new_slot : IsReachedSlot P D s
   new_slot = adds.new_slot ready.place written can only stored others coherent

@@ -1,5 +1,5 @@
 -- The room after a slot took the inode number of another.
-use Rattle.std.proofs.Common.{◌≡◌, ◌≢◌, ◌↔◌, ◌⊎◌, inl, inr, ℕ, ◌+◌, ◌-◌, List, [], ◌∷◌, ◌++◌, Option, Some, unwrap_or, refl, sym, ap, subst, ◌∙◌, arith}
+use Rattle.std.proofs.Common.{◌≡◌, ◌≢◌, ◌↔◌, ◌⊎◌, inl, inr, ℕ, ◌+◌, ◌-◌, List, [], ◌∷◌, ◌++◌, Some, unwrap_or, refl, sym, ap, subst, ◌∙◌, arith}
 use Rattle.std.proofs.lemmas.Bool.{cases_eq}
 use Rattle.std.specs.Cmp.{nat_cmp_total}
 use Rattle.layout.specs.Fields.{inode_kind, slot_inode, slot_pointer, slot_name}
@@ -7,19 +7,19 @@ use Rattle.layout.specs.Geometry.{page_of_slot}
 use Rattle.tree_model.specs.PathText.{Route}
 use Rattle.tree_model.specs.Table.{get, insert, remove}
 use Rattle.tree_model.specs.Tree.{Room, pages_in}
+use Rattle.tree_model.proofs.TreeKept.{same_some}
 use Rattle.image_reading.specs.Counts.{Count}
 use Rattle.image_reading.specs.Reading.{IsDirectory, slot_owner, IsLive, Names, Reached, IsRoomOf, HasRoom}
-use Rattle.image_reading.specs.Soundness.{IsCoherent}
 use Rattle.image_reading.proofs.Counts.{count_one}
 use Rattle.image_reading.proofs.Credits.{count_same, count_more}
 use Rattle.image_counts.proofs.Decided.{room_counted}
 use Rattle.image_counts.proofs.Paths.{one_path}
 use Rattle.image_laws.specs.Add.{with_page}
-use Rattle.image_laws.specs.Move.{HasMoved, HasRoomMoved, MoveRoomLaw, moved}
+use Rattle.image_laws.specs.Move.{CanMove, HasMoved, HasRoomMoved, MoveRoomLaw, moved}
 use Rattle.image_laws.specs.Remove.{without_page}
 use Rattle.image_laws.proofs.AddRoom.{get-here, get-other}
 use Rattle.image_laws.proofs.MoveSlot as slots
-use Rattle.image_laws.proofs.MoveSlot.{Moves}
+use Rattle.image_laws.proofs.OnlySlot.{GetsNumber, same_owner, same_name, kind_reached}
 use Rattle.image_laws.proofs.Paths.{reached_pos, reached-le}
 use Rattle.image_laws.proofs.RemoveRoom.{count_less, removed_entry}
 use Rattle.image_laws.proofs.Removes.{moves, move_law}
@@ -33,9 +33,6 @@ IsEntryBy D R x n = D x × Count (R x) n
 -- the keys are the directories, and each has the number of its pages
 abbrev pub HasRoomBy : (ℕ → Type 0) → (ℕ → ℕ → Type 0) → Room → Type 0
 HasRoomBy D R room = (x n : ℕ) → (get room x ≡ Some n) ↔ IsEntryBy D R x n
-
-some_same : (x y : ℕ) → ◌≡◌ {A = Option ℕ} (Some x) (Some y) → x ≡ y
-some_same x y e = cc
 
 module _ (D : ℕ → Type 0) (R S : ℕ → ℕ → Type 0) (room : Room) (has : HasRoomBy D R room) where
   same_entry : (x n : ℕ) → (D x → (j : ℕ) → R x j ↔ S x j) → (get room x ≡ Some n) ↔ IsEntryBy D S x n
@@ -54,7 +51,7 @@ module _ (D : ℕ → Type 0) (R S : ℕ → ℕ → Type 0) (room : Room) (has 
   other_pages : (k v : ℕ) → ((x : ℕ) → x ≢ k → D x → (j : ℕ) → R x j ↔ S x j) → D k → Count (S k) v → HasRoomBy D S (insert nat_cmp_total room k v)
   other_pages k v same d count x n = elim (cases_eq x k) [
     | inl e ↦ subst (λ y. (get (insert nat_cmp_total room k v) y ≡ Some n) ↔ IsEntryBy D S y n) (sym e) (
-      (λ h. subst (IsEntryBy D S k) (some_same v n (sym (get-here room k v) ∙ h)) (d, count)),
+      (λ h. subst (IsEntryBy D S k) (same_some v n (sym (get-here room k v) ∙ h)) (d, count)),
       (λ (d', count'). get-here room k v ∙ ap Some (count_one (S k) v n count count')),
     )
     | inr ne ↦ let old = same_entry x n (same x ne) in ((λ h. old.0 (sym (get-other room k v x ne) ∙ h)), (λ r. get-other room k v x ne ∙ old.1 r))
@@ -72,31 +69,31 @@ module _ (D : ℕ → Type 0) (R S : ℕ → ℕ → Type 0) (room : Room) (has 
 
 -- ---- the pages of directories after the move
 
-module _ (P : ℕ) (I J : List ℕ) (pa pb : Route) (s d i : ℕ) (coherent : IsCoherent P I) (a : Moves P I J pa pb s d i) (after : HasMoved P I J (slot_name P I s ∷ pa) (slot_name P I d ∷ pb)) where
+module _ (P : ℕ) (I J : List ℕ) (pa pb : Route) (s d : ℕ) (c : CanMove P I pa pb s d) (a : GetsNumber P I J d (slot_inode P I s)) (after : HasMoved P I J (slot_name P I s ∷ pa) (slot_name P I d ∷ pb)) where
   -- what stood at the new path
   pub replaced_live : slot_inode P I d ≢ 0 → IsLive P I d
   replaced_live some = record {
-    held = a.held;
+    held = c.held;
     names = some;
     stays = λ q h points same. elim (cases_eq q d) [
-      | inl e ↦ slots.apart P I J pa pb s d i coherent a (let x = sym (sym (ap (slot_pointer P I) e) ∙ points) ∙ a.pointer in omega (arith, x))
-      | inr ne ↦ (let z = a.alone q h ne in omega (arith, z, points))
+      | inl e ↦ slots.apart P I J pa pb s d c a (let x = sym (sym (ap (slot_pointer P I) e) ∙ points) ∙ c.pointer in omega (arith, x))
+      | inr ne ↦ (let z = c.alone q h ne in omega (arith, z, points))
     ];
   }
 
   -- it holds no live slot
   pub no_owner : (t : ℕ) → IsLive P I t → Reached P I (slot_owner P I t) → IsDirectory I (slot_owner P I t) → slot_owner P I t ≢ slot_inode P I d
   no_owner t live reached directory e =
-      a.leaf (replaced_live (λ z. reached_pos P I (slot_owner P I t) reached (e ∙ z))) (ap (inode_kind I) (sym e) ∙ directory) t live e
+      c.leaf (replaced_live (λ z. reached_pos P I (slot_owner P I t) reached (e ∙ z))) (ap (inode_kind I) (sym e) ∙ directory) t live e
 
   pub target_reached : Reached P J (slot_owner P I d)
-  target_reached = (pb, subst (Names P J pb) (slots.owner_same P I J pa pb s d i coherent a d a.held.in_range) (slots.pb_stays P I J pa pb s d i coherent a))
+  target_reached = (pb, subst (Names P J pb) (same_owner a.only d c.held.in_range) (slots.pb_stays P I J pa pb s d c a))
 
   reached_back : (x : ℕ) → Reached P J x → Reached P I x
-  reached_back = slots.reached_back P I J pa pb s d i coherent a
+  reached_back = slots.reached_back P I J pa pb s d c a
 
   kind_same : (x : ℕ) → Reached P I x → inode_kind J x ≡ inode_kind I x
-  kind_same = slots.kind_reached P I J pa pb s d i coherent a
+  kind_same = kind_reached a.only c.coherent
 
   -- what is reached but the replaced stays reached
   pub reached_forward : (x : ℕ) → x ≢ slot_inode P I d → Reached P I x → Reached P J x
@@ -105,22 +102,22 @@ module _ (P : ℕ) (I J : List ℕ) (pa pb : Route) (s d i : ℕ) (coherent : Is
       go : (q : Route) (x : ℕ) → Names P I q x → x ≢ slot_inode P I d → Reached P J x
       go [] x b ne = ([], b)
       go (m ∷ q) x (t, b, l) ne =
-          let owner = slots.owner_same P I J pa pb s d i coherent a t l.live.held.in_range in
+          let owner = same_owner a.only t l.live.held.in_range in
           elim (cases_eq t s) [
             | inl e ↦
-                let is : x ≡ i = sym l.inode ∙ ap (slot_inode P I) e ∙ a.inode in (
+                let is : x ≡ slot_inode P I s = sym l.inode ∙ ap (slot_inode P I) e in (
                   slot_name P I d ∷ pb,
                   (after.names (slot_name P I d ∷ pb) x).1 (inr (
                     [],
                     refl,
                     (
                       s,
-                      a.source_path,
+                      c.source_path,
                       record {
-                        directory = a.source_directory;
-                        live = a.source;
+                        directory = c.source_directory;
+                        live = c.source;
                         name = refl;
-                        inode = a.inode ∙ sym is;
+                        inode = sym is;
                         in_range = l.in_range;
                       },
                     ),
@@ -135,8 +132,8 @@ module _ (P : ℕ) (I J : List ℕ) (pa pb : Route) (s d i : ℕ) (coherent : Is
                     subst (Names P J r) (sym owner) above,
                     record {
                       directory = ap (inode_kind J) owner ∙ kind_same (slot_owner P I t) (q, b) ∙ l.directory;
-                      live = slots.live_forward P I J pa pb s d i coherent a t ns nd l.live;
-                      name = slots.name_same P I J pa pb s d i coherent a t ∙ l.name;
+                      live = slots.live_forward P I J pa pb s d c a t ns nd l.live;
+                      name = same_name a.only t ∙ l.name;
                       inode = a.only.inode t nd ∙ l.inode;
                       in_range = l.in_range;
                     },
@@ -151,18 +148,18 @@ module _ (P : ℕ) (I J : List ℕ) (pa pb : Route) (s d i : ℕ) (coherent : Is
       let directory : IsDirectory I (slot_inode P I d) = sym (kind_same (slot_inode P I d) old) ∙ two in
       let here : Names P I (slot_name P I d ∷ pb) (slot_inode P I d) = (
         d,
-        a.target_path,
+        c.target_path,
         record {
-          directory = a.target_directory;
+          directory = c.target_directory;
           live = replaced_live (reached_pos P I (slot_inode P I d) old);
           name = refl;
           inode = refl;
-          in_range = reached-le P I coherent (slot_inode P I d) old;
+          in_range = reached-le P I c.coherent (slot_inode P I d) old;
         },
       ) in
       elim ((after.names q (slot_inode P I d)).0 b) [
-        | inl (stays, under, other) ↦ other (one_path P I coherent q (slot_name P I d ∷ pb) (slot_inode P I d) directory stays here)
-        | inr (r, is, below) ↦ slots.not_under P I J pa pb s d i coherent a r (one_path P I coherent (slot_name P I d ∷ pb) (r ++ slot_name P I s ∷ pa) (slot_inode P I d) directory here below)
+        | inl (stays, under, other) ↦ other (one_path P I c.coherent q (slot_name P I d ∷ pb) (slot_inode P I d) directory stays here)
+        | inr (r, is, below) ↦ slots.not_under P I J pa pb s d c a r (one_path P I c.coherent (slot_name P I d ∷ pb) (r ++ slot_name P I s ∷ pa) (slot_inode P I d) directory here below)
       ]
 
   -- ---- pages with a live slot
@@ -170,25 +167,25 @@ module _ (P : ℕ) (I J : List ℕ) (pa pb : Route) (s d i : ℕ) (coherent : Is
   pub room_back : (x j : ℕ) → IsRoomOf P J x j → ((x ≡ slot_owner P I d) × (j ≡ page_of_slot d)) ⊎ IsRoomOf P I x j
   room_back x j room =
       let (t, at, o, live) = room.slot in
-      let owner = sym (slots.owner_same P I J pa pb s d i coherent a t live.held.in_range) ∙ o in
+      let owner = sym (same_owner a.only t live.held.in_range) ∙ o in
       elim (cases_eq t d) [
         | inl e ↦ inl (sym owner ∙ ap (slot_owner P I) e, sym at ∙ ap page_of_slot e)
         | inr ne ↦ inr (record {
           reached = reached_back x room.reached;
           directory = sym (kind_same x (reached_back x room.reached)) ∙ room.directory;
-          slot = (t, at, owner, slots.live_back P I J pa pb s d i coherent a t ne live);
+          slot = (t, at, owner, slots.live_back P I J pa pb s d c a t ne live);
         })
       ]
 
   pub room_new : IsRoomOf P J (slot_owner P I d) (page_of_slot d)
   room_new = record {
     reached = target_reached;
-    directory = kind_same (slot_owner P I d) (pb, a.target_path) ∙ a.target_directory;
-    slot = (d, refl, slots.owner_same P I J pa pb s d i coherent a d a.held.in_range, slots.live_new P I J pa pb s d i coherent a);
+    directory = kind_same (slot_owner P I d) (pb, c.target_path) ∙ c.target_directory;
+    slot = (d, refl, same_owner a.only d c.held.in_range, slots.live_new P I J pa pb s d c a);
   }
 
   pub room_old : IsRoomOf P I (slot_owner P I s) (page_of_slot s)
-  room_old = record { reached = (pa, a.source_path); directory = a.source_directory; slot = (s, refl, refl, a.source) }
+  room_old = record { reached = (pa, c.source_path); directory = c.source_directory; slot = (s, refl, refl, c.source) }
 
   pub room_cases : (x j : ℕ) → IsRoomOf P I x j → ((x ≡ slot_owner P I s) × (j ≡ page_of_slot s)) ⊎ IsRoomOf P J x j
   room_cases x j room =
@@ -202,7 +199,7 @@ module _ (P : ℕ) (I J : List ℕ) (pa pb : Route) (s d i : ℕ) (coherent : Is
           | inr nd ↦ inr (record {
             reached = reached_forward x (λ same. no_owner t live reached directory (o ∙ same)) room.reached;
             directory = kind_same x room.reached ∙ room.directory;
-            slot = (t, at, slots.owner_same P I J pa pb s d i coherent a t live.held.in_range ∙ o, slots.live_forward P I J pa pb s d i coherent a t ns nd live);
+            slot = (t, at, same_owner a.only t live.held.in_range ∙ o, slots.live_forward P I J pa pb s d c a t ns nd live);
           })
         ]
       ]
@@ -251,11 +248,11 @@ module _ (P : ℕ) (I J : List ℕ) (pa pb : Route) (s d i : ℕ) (coherent : Is
 
   target_dir : IsDir (slot_owner P I d)
   unfolding IsDir
-  target_dir = ((pb, a.target_path), a.target_directory)
+  target_dir = ((pb, c.target_path), c.target_directory)
 
   source_dir : IsDir (slot_owner P I s)
   unfolding IsDir
-  source_dir = ((pa, a.source_path), a.source_directory)
+  source_dir = ((pa, c.source_path), c.source_directory)
 
   grown_same : HadPage → (room : Room) → HasRoom P I room → HasRoomBy IsDir Grown room
   grown_same had room has = same_pages IsDir (IsRoomOf P I) Grown room (before room has) (λ x _ j. same_before had x j)
@@ -331,4 +328,4 @@ module _ (P : ℕ) (I J : List ℕ) (pa pb : Route) (s d i : ℕ) (coherent : Is
   }
 
 pub move_room_law : MoveRoomLaw
-move_room_law P I pa pb s d c = room_moved P I (moved P I s d) pa pb s d (slot_inode P I s) c.coherent (moves P I pa pb s d c) (move_law P I pa pb s d c)
+move_room_law P I pa pb s d c = room_moved P I (moved P I s d) pa pb s d c (moves P I pa pb s d c) (move_law P I pa pb s d c)

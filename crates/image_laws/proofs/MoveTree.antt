@@ -10,25 +10,28 @@ use Rattle.tree_model.proofs.TreeKept.{none_some, some_is, is_some_at}
 use Rattle.tree_model.proofs.TreeLess.{HasNoNames, less_was, less_kept}
 use Rattle.tree_model.proofs.TreeMoved.{not_some, came_from, at_to, at_self, clear}
 use Rattle.image_reading.specs.Reading.{slot_owner, Names, Reached, Reads}
-use Rattle.image_reading.specs.Soundness.{IsCoherent}
 use Rattle.image_counts.proofs.Slots.{same_reverse}
-use Rattle.image_laws.specs.Move.{HasMoved, MoveTreeLaw, moved}
+use Rattle.image_laws.specs.Move.{CanMove, HasMoved, MoveTreeLaw, moved}
 use Rattle.image_laws.proofs.CreateSteps.{parent_is}
 use Rattle.image_laws.proofs.MoveSlot as slots
-use Rattle.image_laws.proofs.MoveSlot.{Moves}
+use Rattle.image_laws.proofs.OnlySlot.{GetsNumber}
 use Rattle.image_laws.proofs.Pruned.{reads_pruned}
 use Rattle.image_laws.proofs.Removes.{moves, move_law}
 use Rattle.image_laws.proofs.Trees.{form_law, is_directory-reached, reverse_path}
 
 -- a path that has a last name isn't the root
-below_root : (path p : Route) (n : List ℕ) → reverse path ≡ n ∷ p → is_root path ≡ false
+pub below_root : (path p : Route) (n : List ℕ) → reverse path ≡ n ∷ p → is_root path ≡ false
 below_root [] p n e = cc
 below_root (name ∷ names) p n e = refl
 
-module _ (P : ℕ) (I J : List ℕ) (pa pb : Route) (s d i : ℕ) (coherent : IsCoherent P I) (a : Moves P I J pa pb s d i) (after : HasMoved P I J (slot_name P I s ∷ pa) (slot_name P I d ∷ pb))
+pub reverse_below : (p : Route) → is_root p ≡ false → reverse p ≡ last_name p ∷ reverse (parent p)
+reverse_below [] e = cc
+reverse_below (name ∷ names) e = reverse_path name names
+
+module _ (P : ℕ) (I J : List ℕ) (pa pb : Route) (s d : ℕ) (c : CanMove P I pa pb s d) (a : GetsNumber P I J d (slot_inode P I s)) (after : HasMoved P I J (slot_name P I s ∷ pa) (slot_name P I d ∷ pb))
     (from to : Route) (from_is : reverse from ≡ slot_name P I s ∷ pa) (to_is : reverse to ≡ slot_name P I d ∷ pb) (T : Tree) (reads : Reads P I T) where
   form : IsTree T
-  form = form_law P I T coherent reads
+  form = form_law P I T c.coherent reads
 
   from_below : is_root from ≡ false
   from_below = below_root from pa (slot_name P I s) from_is
@@ -37,14 +40,10 @@ module _ (P : ℕ) (I J : List ℕ) (pa pb : Route) (s d i : ℕ) (coherent : Is
   to_below = below_root to pb (slot_name P I d) to_is
 
   held : id_at T (parent to) ≡ Some (slot_owner P I d)
-  held = (reads.names (parent to) (slot_owner P I d)).1 (subst (λ q. Names P I q (slot_owner P I d)) (sym (parent_is to pb (slot_name P I d) to_is)) a.target_path)
+  held = (reads.names (parent to) (slot_owner P I d)).1 (subst (λ q. Names P I q (slot_owner P I d)) (sym (parent_is to pb (slot_name P I d) to_is)) c.target_path)
 
   holds : is_directory T (slot_owner P I d) ≡ true
-  holds = is_directory-reached P I T coherent reads (slot_owner P I d) (pb, a.target_path) a.target_directory
-
-  reverse_below : (p : Route) → is_root p ≡ false → reverse p ≡ last_name p ∷ reverse (parent p)
-  reverse_below [] e = cc
-  reverse_below (name ∷ names) e = reverse_path name names
+  holds = is_directory-reached P I T c.coherent reads (slot_owner P I d) (pb, c.target_path) c.target_directory
 
   -- no path goes on from the second
   empty : HasNoNames T to
@@ -52,7 +51,7 @@ module _ (P : ℕ) (I J : List ℕ) (pa pb : Route) (s d i : ℕ) (coherent : Is
       let (x, found) = some_is (id_at T p) there in
       let named = subst (λ q. Names P I q x) (reverse_below p below) ((reads.names p x).0 found) in
       let (t, above, leads) = named in
-      slots.none_below P I J pa pb s d i coherent a t (reverse (parent p)) (ap reverse same ∙ to_is) above leads
+      slots.none_below P I J pa pb s d c a t (reverse (parent p)) (ap reverse same ∙ to_is) above leads
 
   front : (p r : Route) → p ≡ from ++ r → reverse p ≡ reverse r ++ slot_name P I s ∷ pa
   front p r e = ap reverse e ∙ reverse-append from r ∙ ap (λ q. reverse r ++ q) from_is
@@ -68,7 +67,7 @@ module _ (P : ℕ) (I J : List ℕ) (pa pb : Route) (s d i : ℕ) (coherent : Is
   to_front p r e = same_reverse p (to ++ reverse r) (e ∙ sym (front_to (to ++ reverse r) (reverse r) refl ∙ ap (λ q. q ++ slot_name P I d ∷ pb) (reverse-reverse r)))
 
   outside : rest_after from to ≡ None
-  outside = not_some (rest_after from to) (λ r e. slots.not_under P I J pa pb s d i coherent a (reverse r) (sym to_is ∙ front to r (rest_after-some from to r e)))
+  outside = not_some (rest_after from to) (λ r e. slots.not_under P I J pa pb s d c a (reverse r) (sym to_is ∙ front to r (rest_after-some from to r e)))
 
   -- ---- the paths
 
@@ -113,8 +112,8 @@ module _ (P : ℕ) (I J : List ℕ) (pa pb : Route) (s d i : ℕ) (coherent : Is
   ]
 
   pub reads_moved : Reads P J (without_unnamed (with_moved (without_path T to) from to))
-  reads_moved = reads_pruned P I J T (with_moved (without_path T to) from to) coherent reads (λ x. refl) (λ q x. (names_forth q x, names_back q x)) before after.nodes
+  reads_moved = reads_pruned P I J T (with_moved (without_path T to) from to) c.coherent reads (λ x. refl) (λ q x. (names_forth q x, names_back q x)) before after.nodes
 
 pub move_tree_law : MoveTreeLaw
 move_tree_law P I pa pb from to s d T c from_is to_is reads =
-    reads_moved P I (moved P I s d) pa pb s d (slot_inode P I s) c.coherent (moves P I pa pb s d c) (move_law P I pa pb s d c) from to from_is to_is T reads
+    reads_moved P I (moved P I s d) pa pb s d c (moves P I pa pb s d c) (move_law P I pa pb s d c) from to from_is to_is T reads

@@ -1,7 +1,7 @@
 -- A directory takes a new page: nothing is meant by it yet.
 use Rattle.std.proofs.Common.{◌≡◌, ◌≢◌, ◌⊎◌, inl, inr, ℕ, ◌-◌, ◌<◌, ◌≤◌, List, length, length-set, refl, sym, ap, subst, ◌∙◌, arith}
 use Rattle.std.proofs.lemmas.Bool.{cases_eq}
-use Rattle.std.proofs.lemmas.List.{get_or-set_same, get_or-set_other}
+use Rattle.std.proofs.lemmas.List.{get_or-set_same}
 use Rattle.layout.specs.Fields.{word, inode_links, page_owner, page_kind, page_offset, slot_inode, slot_pointer}
 use Rattle.layout.specs.Geometry.{inodes_of, data_pages_of, page_of_slot, inode_word_of, descriptor_word_of, slot_word_of, page_word_of}
 use Rattle.layout.proofs.GeometryLaws.{descriptor_word_within}
@@ -10,18 +10,12 @@ use Rattle.image_reading.specs.Soundness.{Rule, IsCoherent, HasLinks}
 use Rattle.image_counts.specs.Entries.{IsFreePage}
 use Rattle.image_laws.specs.Create.{IsPageMadeWord, MakesEmptyPage, MakesPage, owned}
 use Rattle.image_laws.specs.Exempt.{IsExempt}
-use Rattle.image_laws.specs.Agrees.{Alike}
-use Rattle.image_laws.specs.Frame.{SameMeaning}
 use Rattle.image_laws.specs.Free.{IsFree, Stores}
 use Rattle.image_laws.proofs.Addresses.{descriptor-ne_inode, descriptor-ne_slot, descriptor-ne_page, page-ne_inode, page-ne_slot, descriptor_word-one, word_in_page, word_in_page-lt, slot_word-in_page}
-use Rattle.image_laws.proofs.Frame.{alike}
-use Rattle.image_laws.proofs.Free.{free_law, stores_law}
-use Rattle.image_laws.proofs.Making.{mix_itself}
 use Rattle.image_laws.proofs.Paths.{reached_pos, reached-le}
-use Rattle.image_laws.proofs.Quiet.{quiet_agrees}
 use Rattle.image_laws.proofs.Ready.{dec_among, dec_either}
 use Rattle.image_laws.proofs.Decide.{dec_eq}
-use Rattle.image_laws.proofs.Words.{agrees_from_words}
+use Rattle.image_laws.proofs.Words.{other_word}
 
 pub dec_page_made : (P j a : ℕ) → Dec (IsPageMadeWord P j a)
 dec_page_made P j a = dec_either _ _ (dec_among (page_word_of P j) 512 a) (dec_either _ _ (dec_eq a (descriptor_word_of P j 1)) (dec_eq a (descriptor_word_of P j 2)))
@@ -105,10 +99,6 @@ module _ (P : ℕ) (W A : List ℕ) (j : ℕ) (coherent : IsCoherent P W) (page 
 
 module _ (P : ℕ) (A : List ℕ) (j d : ℕ) (coherent : IsCoherent P A) (reached : Reached P A d) (directory : IsDirectory A d) (lt_j : j < data_pages_of P) (unowned : page_owner P A j ≡ 0) (kind : page_kind P A j ≡ 2)
     (zero_inode : (t : ℕ) → page_of_slot t ≡ j → slot_inode P A t ≡ 0) (zero_pointer : (t : ℕ) → page_of_slot t ≡ j → slot_pointer P A t ≡ 0) where
-  other_word : (a : ℕ) → a ≢ descriptor_word_of P j 0 → word (owned P A j d) a ≡ word A a
-  unfolding word
-  other_word a ne = get_or-set_other A (descriptor_word_of P j 0) a d 0 ne
-
   pub in_image : descriptor_word_of P j 0 < length A
   in_image = let below = descriptor_word_within P j 0 ((coherent Rule.head 0).size refl) lt_j (omega arith) in
       let size = (coherent Rule.head 0).whole refl in omega (arith, below, size)
@@ -118,15 +108,15 @@ module _ (P : ℕ) (A : List ℕ) (j d : ℕ) (coherent : IsCoherent P A) (reach
   owned_owner = get_or-set_same A (descriptor_word_of P j 0) d 0 in_image
 
   pub owned_descriptor : (x f : ℕ) → f < 8 → (x ≢ j) ⊎ (1 ≤ f) → word (owned P A j d) (descriptor_word_of P x f) ≡ word A (descriptor_word_of P x f)
-  owned_descriptor x f l8 other = other_word (descriptor_word_of P x f) (λ e.
+  owned_descriptor x f l8 other = other_word A (descriptor_word_of P j 0) d (descriptor_word_of P x f) (λ e.
       let (same_page, same_field) = descriptor_word-one P x f j 0 l8 (omega arith) e in
       elim other [ inl ne ↦ ne same_page | inr some ↦ omega (arith, some, same_field) ])
 
   pub owned_inode : (x f : ℕ) → 1 ≤ x → x ≤ inodes_of P → f < 16 → word (owned P A j d) (inode_word_of x f) ≡ word A (inode_word_of x f)
-  owned_inode x f some most lt = other_word (inode_word_of x f) (λ e. descriptor-ne_inode P j 0 x f some most lt (sym e))
+  owned_inode x f some most lt = other_word A (descriptor_word_of P j 0) d (inode_word_of x f) (λ e. descriptor-ne_inode P j 0 x f some most lt (sym e))
 
   pub owned_slot : (t f : ℕ) → word (owned P A j d) (slot_word_of P t f) ≡ word A (slot_word_of P t f)
-  owned_slot t f = other_word (slot_word_of P t f) (λ e. descriptor-ne_slot P j 0 t f lt_j (omega arith) (sym e))
+  owned_slot t f = other_word A (descriptor_word_of P j 0) d (slot_word_of P t f) (λ e. descriptor-ne_slot P j 0 t f lt_j (omega arith) (sym e))
 
   exempt : IsExempt P A (owned P A j d) j d
   unfolding page_kind page_offset slot_inode slot_pointer slot_owner
@@ -158,7 +148,7 @@ module _ (P : ℕ) (A : List ℕ) (j d : ℕ) (coherent : IsCoherent P A) (reach
     size = length-set A (descriptor_word_of P j 0) d;
     words = λ a. elim (cases_eq a (descriptor_word_of P j 0)) [
       | inl e ↦ inr (subst (IsFree P A) (sym e) (IsFree.owner j lt_j))
-      | inr ne ↦ inl (other_word a ne)
+      | inr ne ↦ inl (other_word A (descriptor_word_of P j 0) d a ne)
     ];
     owners = λ x lt. elim (cases_eq x j) [
       | inl e ↦ inr (d, subst (λ z. IsExempt P A (owned P A j d) z d) (sym e) exempt)
@@ -166,10 +156,3 @@ module _ (P : ℕ) (A : List ℕ) (j d : ℕ) (coherent : IsCoherent P A) (reach
     ];
     links = links_kept P A (owned P A j d) coherent owned_links;
   }
-
--- an interval that stores to free words leaves what is alike
-pub alike_stores : (P : ℕ) (I J : List ℕ) → IsCoherent P I → Stores P I J → Alike P I J
-alike_stores P I J coherent stores = alike P I J (agrees_from_words P I J (quiet_agrees P I J coherent (free_law P I J coherent stores).0)) coherent
-
-pub same_stores : (P : ℕ) (I J : List ℕ) → IsCoherent P I → Stores P I J → SameMeaning P I J
-same_stores P I J coherent stores = stores_law P I J J coherent stores (mix_itself I J stores.size)

@@ -6,11 +6,14 @@ use Rattle.layout.specs.Geometry.{inodes_of, data_pages_of, slots_of, page_of_sl
 use Rattle.layout.proofs.GeometryLaws.{page_of_slot_below, slot_word_within}
 use Rattle.layout.specs.Name.{name_in_words}
 use Rattle.tree_model.specs.Tree.{Node, Directory, File}
-use Rattle.image_reading.specs.Reading.{slot_owner, IsHeld, IsPageOf, IsNode}
+use Rattle.image_reading.specs.Reading.{slot_owner, IsHeld, Reached, IsPageOf, IsNode}
 use Rattle.image_reading.specs.Soundness.{Rule, PointsAtHeld, IsOnlyPointer, IsCoherent}
 use Rattle.image_laws.proofs.Addresses.{head-ne_slot, descriptor-ne_slot, inode-ne_slot0, slot-ne_slot, slot-ne_field, page-ne_slot}
 use Rattle.image_laws.proofs.KeptPages as pages
 use Rattle.image_laws.proofs.KeptPages.{KeepsPages, held_forth, page_same}
+use Rattle.image_laws.proofs.Meaning.{page_kind_is}
+use Rattle.image_laws.proofs.Paths.{reached-le}
+use Rattle.image_laws.proofs.Within.{IsWhole, whole, whole_same}
 use Rattle.image_laws.proofs.Words.{slot_words-same}
 
 pub record OnlySlot (P : ℕ) (I J : List ℕ) (s : ℕ) : Type 0 where
@@ -53,8 +56,13 @@ pub slot_inode-set : (P : ℕ) (I : List ℕ) (s v : ℕ) → length I ≡ 512 *
 unfolding slot_inode word
 slot_inode-set P I s v e lt = get_or-set_same I (slot_word_of P s 0) v 0 (let b = slot_word_within P s 0 lt (omega arith) in omega (arith, b, e))
 
+-- slot s has number v
+pub record GetsNumber (P : ℕ) (I J : List ℕ) (s v : ℕ) : Type 0 where
+  pub only : OnlySlot P I J s
+  pub number : slot_inode P J s ≡ v
+
 -- what such a change leaves
-module _ (P : ℕ) (I J : List ℕ) (s : ℕ) (only : OnlySlot P I J s) where
+module _ {P : ℕ} {I J : List ℕ} {s : ℕ} (only : OnlySlot P I J s) where
   paged : KeepsPages P I J (λ j. ⊥)
   paged = record { owner = λ j lt none. only.owner j lt; kind = λ j lt none. only.kind j lt; offset = λ j lt none. only.offset j lt }
 
@@ -88,6 +96,19 @@ module _ (P : ℕ) (I J : List ℕ) (s : ℕ) (only : OnlySlot P I J s) where
 
   pub one_pointer_kept : IsCoherent P I → (t : ℕ) → IsOnlyPointer P J t
   one_pointer_kept coherent t r lt hr ht nonzero = only.pointer t ∙ coherent Rule.one_pointer t r lt (held_back r hr) (held_back t ht) (λ z. nonzero (only.pointer r ∙ z))
+
+  -- what stays of pages whose owners were reached
+  pub kind_reached : IsCoherent P I → (x : ℕ) → Reached P I x → inode_kind J x ≡ inode_kind I x
+  kind_reached coherent x r = only.node_kind x (reached-le P I coherent x r)
+
+  pub whole_kept : IsCoherent P I → (x : ℕ) → Reached P I x → inode_kind J x ≡ 1 → IsWhole P J x
+  whole_kept coherent x r k =
+      whole_same P I J x (only.node_size x (reached-le P I coherent x r)) (λ n j lt g. page_forward x n j g) (λ n j lt g. page_back x n j g)
+      (whole P I x coherent r (sym (kind_reached coherent x r) ∙ k))
+
+  pub page_kind_kept : IsCoherent P I → (j : ℕ) → j < data_pages_of P → Reached P I (page_owner P I j) → page_kind P J j ≡ inode_kind J (page_owner P J j)
+  page_kind_kept coherent j lt r =
+      only.kind j lt ∙ page_kind_is P I coherent j lt r ∙ sym (kind_reached coherent (page_owner P I j) r) ∙ ap (inode_kind J) (sym (only.owner j lt))
 
   module _ (held : IsHeld P I s) where
     -- no file has bytes where the slot stands

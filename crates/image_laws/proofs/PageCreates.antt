@@ -11,14 +11,14 @@ use Rattle.image_counts.specs.Entries.{IsFreePage}
 use Rattle.image_laws.specs.Add.{with_page, with_node}
 use Rattle.image_laws.specs.Commits.{Commits}
 use Rattle.image_laws.specs.Create.{IsEmptyNode, MakesEmptyPage, MakesNode, CanName, owned, committed, NewPageLaw}
-use Rattle.image_laws.specs.Agrees.{Alike}
 use Rattle.image_laws.specs.Frame.{SameMeaning}
 use Rattle.image_laws.specs.Free.{Stores}
 use Rattle.image_laws.proofs.Adds.{add_room_law}
 use Rattle.image_laws.proofs.Creates.{named, created, free_inode}
 use Rattle.image_laws.proofs.Making as making
-use Rattle.image_laws.proofs.Meaning.{shape, reached_slot, reached_slot_forward, same_chained}
-use Rattle.image_laws.proofs.NewPage.{made_descriptor, made_inode, made_slot, zero_slot, owned_owner, owned_descriptor, owned_inode, owned_slot, alike_stores}
+use Rattle.image_laws.proofs.Naming as naming
+use Rattle.image_laws.proofs.Free.{SameEntries, entries_stores, entries_chained}
+use Rattle.image_laws.proofs.NewPage.{made_descriptor, made_inode, made_slot, zero_slot, owned_owner, owned_descriptor, owned_inode, owned_slot}
 use Rattle.image_laws.proofs.PageQuiet.{fills_empty}
 use Rattle.image_laws.proofs.PageReady.{HasTaken, page_ready, page_clean, inode_ready, no_room}
 use Rattle.image_laws.proofs.Ready.{IsCleanSlot, IsNamed}
@@ -33,9 +33,6 @@ module _ (P : ℕ) (W A : List ℕ) (p : Route) (d j s : ℕ) (name : List ℕ) 
   same_page : SameMeaning P W A
   same_page = taking.same_page P W A p d j can.tidy.coherent can.path can.directory page fills
 
-  alike_page : Alike P W A
-  alike_page = taking.alike_page P W A p d j can.tidy.coherent can.path can.directory page fills
-
   d_reached : Reached P A d
   d_reached = taking.d_reached P W A p d j can.tidy.coherent can.path can.directory page fills
 
@@ -48,11 +45,8 @@ module _ (P : ℕ) (W A : List ℕ) (p : Route) (d j s : ℕ) (name : List ℕ) 
   owning_stores : Stores P A (owned P A j d)
   owning_stores = taking.owning_stores P W A p d j can.tidy.coherent can.path can.directory page fills
 
-  same_owned : SameMeaning P A (owned P A j d)
-  same_owned = taking.same_owned P W A p d j can.tidy.coherent can.path can.directory page fills
-
-  alike_owned : Alike P A (owned P A j d)
-  alike_owned = alike_stores P A (owned P A j d) same_page.coherent owning_stores
+  entries : SameEntries P W (owned P A j d)
+  entries = entries_chained P W A (owned P A j d) (entries_stores P W A can.tidy.coherent fills.stores) (entries_stores P A (owned P A j d) same_page.coherent owning_stores)
 
   pub taken : HasTaken P W (owned P A j d) j d
   unfolding page_kind slot_inode slot_pointer
@@ -66,15 +60,9 @@ module _ (P : ℕ) (W A : List ℕ) (p : Route) (d j s : ℕ) (name : List ℕ) 
     inodes = λ x f some most lt. owned_inode P A j d same_page.coherent d_reached d_directory page.0 unowned makes.kind makes.numbers makes.pointers x f some most lt
         ∙ made_inode P W A j can.tidy.coherent page makes x f some most lt;
     slots = λ t f lt ne. owned_slot P A j d same_page.coherent d_reached d_directory page.0 unowned makes.kind makes.numbers makes.pointers t f ∙ made_slot P W A j can.tidy.coherent page makes t f lt ne;
-    same = same_chained P W A (owned P A j d) same_page same_owned;
-    reached_slots = λ t. (
-      (λ r. (reached_slot_forward P A (owned P A j d) alike_owned t (reached_slot_forward P W A alike_page t r).1).1),
-      (λ r. (reached_slot P W A alike_page t (reached_slot P A (owned P A j d) alike_owned t r).1).1),
-    );
-    rooms = λ x y.
-        let first = (shape P W A can.tidy.coherent alike_page).directories x y in
-        let second = (shape P A (owned P A j d) same_page.coherent alike_owned).directories x y in
-        ((λ room. second.0 (first.0 room)), (λ room. first.1 (second.1 room)));
+    same = entries.same;
+    reached_slots = entries.slots;
+    rooms = entries.rooms;
   }
 
   -- a page of zeros is clean
@@ -89,20 +77,17 @@ module _ (P : ℕ) (W A : List ℕ) (p : Route) (d j s : ℕ) (name : List ℕ) 
       inode = inode_ready P W (owned P A j d) p d j s name can page at_s taken i free;
     }
 
-    start : SameMeaning P W (owned P A j d)
-    start = same_chained P W A (owned P A j d) same_page same_owned
-
     room_after : (room : Room) → HasRoom P I room → HasRoom P (committed P I s i) (with_node (with_page room d) i node)
     room_after room has =
         let none : IsRoomOf P I d (page_of_slot s) → ⊥ = λ old. no_room P W (owned P A j d) p d j s name can page at_s taken
-        (((making.shape_made P (owned P A j d) I p node d s i name ready made).directories d (page_of_slot s)).1 old) in
+        (((naming.entries ready.place (making.named P (owned P A j d) I p node d s i name ready made)).rooms d (page_of_slot s)).1 old) in
         (add_room_law P I p d s i (making.can_add P (owned P A j d) I p node d s i name ready made)).new_page room node has (making.node_made P (owned P A j d) I p node d s i name ready made empty) none
 
     pub page_named : IsNamed P W (committed P I s i) (λ T. with_new T path i node) (λ room. with_node (with_page room d) i node)
-    page_named = named P W (owned P A j d) I p path node d s i name start ready empty made is (λ room. with_node (with_page room d) i node) room_after
+    page_named = named P W (owned P A j d) I p path node d s i name entries.same ready empty made is (λ room. with_node (with_page room d) i node) room_after
 
     pub page_created : IsCleanSlot P (owned P A j d) s → Commits P W (owned P A j d) I (committed P I s i) (λ T. with_new T path i node) (λ room. with_node (with_page room d) i node)
-    page_created rest = created P W (owned P A j d) I p path node d s i name start ready empty made is (λ room. with_node (with_page room d) i node) room_after rest
+    page_created rest = created P W (owned P A j d) I p path node d s i name entries.same ready empty made is (λ room. with_node (with_page room d) i node) room_after rest
 
 pub new_page_law : NewPageLaw
 new_page_law P W A I p path node d j s i name can page at_s empty zero made is =

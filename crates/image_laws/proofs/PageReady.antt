@@ -1,7 +1,7 @@
 -- Where the directory has taken a new page, a node can be made in it.
 use Rattle.std.proofs.Common.{◌≡◌, ◌≢◌, ◌↔◌, inl, inr, ℕ, ◌+◌, ◌<◌, ◌≤◌, List, sym, ap, subst, ◌∙◌, arith}
 use Rattle.std.proofs.lemmas.Bool.{cases_eq}
-use Rattle.layout.specs.Fields.{word, inode_kind, inode_links, inode_size, page_owner, page_kind, page_offset, slot_inode, slot_pointer, slot_name}
+use Rattle.layout.specs.Fields.{word, inode_links, page_owner, page_kind, page_offset, slot_inode, slot_pointer, slot_name}
 use Rattle.layout.specs.Geometry.{inodes_of, data_pages_of, page_of_slot, inode_word_of, descriptor_word_of, slot_word_of}
 use Rattle.layout.proofs.GeometryLaws.{slot_below}
 use Rattle.layout.specs.Name.{name_in_words}
@@ -11,13 +11,15 @@ use Rattle.image_reading.specs.Repairs.{IsLitterSlot, IsLitterPage, IsLitterInod
 use Rattle.image_reading.proofs.Credits.{count_same}
 use Rattle.image_counts.specs.Entries.{IsSlotOf, IsFreePage}
 use Rattle.image_counts.proofs.Decided.{room_below}
+use Rattle.image_counts.proofs.Paths.{in_range}
 use Rattle.image_laws.specs.Add.{IsFreeSlot}
 use Rattle.image_laws.specs.Create.{CanName}
 use Rattle.image_laws.specs.Frame.{SameMeaning}
+use Rattle.image_laws.proofs.KeptInodes.{KeepsInodes, by_inodes}
 use Rattle.image_laws.proofs.KeptPages.{KeepsPages, KeepsDescriptors, by_words, held_owner_same, held_back, page_same, litter_page}
 use Rattle.image_laws.proofs.KeptSlots as slot_laws
 use Rattle.image_laws.proofs.KeptSlots.{KeepsSlots, litter_slot}
-use Rattle.image_laws.proofs.Paths.{reached_pos, reached-le}
+use Rattle.image_laws.proofs.Paths.{reached_pos}
 use Rattle.image_laws.proofs.Ready.{IsCleanSlot, IsTidyBut, tidy_but, no_pointer}
 use Rattle.image_laws.specs.Stages.{IsReadySlot, IsFreeInode}
 use Rattle.image_laws.proofs.Words.{slot_words-same}
@@ -45,25 +47,10 @@ module _ (P : ℕ) (W B : List ℕ) (p : Route) (d j s : ℕ) (name : List ℕ) 
   pub back : (x : ℕ) → Reached P B x → Reached P W x
   back x (q, b) = (q, (taken.same.names q x).1 b)
 
-  pos : (x : ℕ) → Reached P W x → 1 ≤ x
-  pos x r = let h = reached_pos P W x r in omega (arith, h)
-
-  range : (x : ℕ) → Reached P W x → x ≤ inodes_of P
-  range x r = reached-le P W can.tidy.coherent x r
-
   -- ---- fields
 
-  inode_kind_same : (x : ℕ) → Reached P W x → inode_kind B x ≡ inode_kind W x
-  unfolding inode_kind
-  inode_kind_same x r = taken.inodes x 0 (pos x r) (range x r) (omega arith)
-
-  inode_size_same : (x : ℕ) → Reached P W x → inode_size B x ≡ inode_size W x
-  unfolding inode_size
-  inode_size_same x r = taken.inodes x 2 (pos x r) (range x r) (omega arith)
-
-  inode_links_same : (x : ℕ) → Reached P W x → inode_links B x ≡ inode_links W x
-  unfolding inode_links
-  inode_links_same x r = taken.inodes x 1 (pos x r) (range x r) (omega arith)
+  nodes : KeepsInodes W B (Reached P W) (λ x. ⊥)
+  nodes = by_inodes P W B (Reached P W) (λ x. ⊥) (in_range P W can.tidy.coherent) (λ x f r some most lt links. taken.inodes x f some most (omega (arith, lt)))
 
   kept_words : KeepsDescriptors P W B (λ x. x ≡ j)
   kept_words x f lt l3 ne = taken.descriptors x f lt (omega (arith, l3)) ne
@@ -106,7 +93,7 @@ module _ (P : ℕ) (W B : List ℕ) (p : Route) (d j s : ℕ) (name : List ℕ) 
     back = λ t none. (taken.reached_slots t).1;
     owners = λ t none was is. held_owner_same paged t was.live.held (before_elsewhere t was);
     numbers = λ t none was. slot_inode_same t (before_elsewhere t was);
-    kinds = λ x was is. inode_kind_same x was;
+    kinds = λ x was is. nodes.kind x was;
   }
 
   -- ---- what is to be repaired
@@ -130,7 +117,7 @@ module _ (P : ℕ) (W B : List ℕ) (p : Route) (d j s : ℕ) (name : List ℕ) 
   only_page x l = elim (cases_eq x j) [
     | inl e ↦ e
     | inr ne ↦ (tidy_but P W j can.tidy).pages x (litter_page P W B (λ y. y ≡ j) kept_words kept.kinds (λ y lt other r. forth (page_owner P W y) r)
-        (λ y other file. subst (λ z. page_offset P W y < pages_of_size z) (sym (inode_size_same (page_owner P W y) file.owner)) file.below) (λ y lt other. (taken.rooms (page_owner P W y) y).0) x ne l)
+        (λ y other file. subst (λ z. page_offset P W y < pages_of_size z) (sym (nodes.size (page_owner P W y) file.owner)) file.below) (λ y lt other. (taken.rooms (page_owner P W y) y).0) x ne l)
   ]
 
   no_inode : (x : ℕ) → IsLitterInode P B x → ⊥
@@ -146,10 +133,10 @@ module _ (P : ℕ) (W B : List ℕ) (p : Route) (d j s : ℕ) (name : List ℕ) 
   -- ---- links
 
   links_forth : (x : ℕ) → Reached P W x → IsLinkCount P W x (inode_links W x) → IsLinkCount P B x (inode_links B x)
-  links_forth x r count = subst (IsLinkCount P B x) (sym (inode_links_same x r)) (record {
-    file = λ file. count_same (IsNameOf P W x) (IsNameOf P B x) (inode_links W x) (λ t. slot_laws.names kept x t (λ none. none)) (count.file (sym (inode_kind_same x r) ∙ file));
+  links_forth x r count = subst (IsLinkCount P B x) (sym (nodes.links x r (λ none. none))) (record {
+    file = λ file. count_same (IsNameOf P W x) (IsNameOf P B x) (inode_links W x) (λ t. slot_laws.names kept x t (λ none. none)) (count.file (sym (nodes.kind x r) ∙ file));
     directory = λ dir.
-        let (m, children, e) = count.directory (sym (inode_kind_same x r) ∙ dir) in
+        let (m, children, e) = count.directory (sym (nodes.kind x r) ∙ dir) in
         (m, count_same (IsChildOf P W x) (IsChildOf P B x) m (λ t. slot_laws.children kept x t (λ none. none)) children, e);
   })
 
@@ -173,7 +160,7 @@ module _ (P : ℕ) (W B : List ℕ) (p : Route) (d j s : ℕ) (name : List ℕ) 
   unfolding slot_owner
   free_slot = record {
     path = (taken.same.names p d).0 can.path;
-    directory = inode_kind_same d (p, can.path) ∙ can.directory;
+    directory = nodes.kind d (p, can.path) ∙ can.directory;
     held = held;
     owner = owner_is;
     free = taken.numbers s at_s;
@@ -239,4 +226,4 @@ module _ (P : ℕ) (W B : List ℕ) (p : Route) (d j s : ℕ) (name : List ℕ) 
   file_page_same x k y r = ((λ g. (page_same paged x k y (file_elsewhere x k y g)).0 g), (λ g. (page_same paged x k y (page_elsewhere x k y r g)).1 g))
 
   pub kind_as_before : (x : ℕ) → Reached P W x → HasBytes W x → HasBytes B x
-  kind_as_before x r file = inode_kind_same x r ∙ file
+  kind_as_before x r file = nodes.kind x r ∙ file

@@ -8,6 +8,7 @@ use Rattle.tree_model.specs.Tree.{Node, Directory, File}
 use Rattle.image_reading.specs.Reading.{Reached}
 use Rattle.image_reading.specs.Soundness.{Rule, IsCoherent, HasLinks}
 use Rattle.image_counts.specs.Entries.{IsFreePage}
+use Rattle.image_counts.proofs.Paths.{in_range}
 use Rattle.image_laws.specs.Create.{IsMadeWord, CanMake, IsPageMadeWord, MakesNamedPage}
 use Rattle.image_laws.specs.Free.{IsFree}
 use Rattle.image_laws.specs.Link.{IsLinkedWord, CanLink}
@@ -16,7 +17,6 @@ use Rattle.image_laws.proofs.Addresses.{descriptor-ne_inode, descriptor-ne_page,
 use Rattle.image_laws.proofs.Linking.{dec_linked, not_linked}
 use Rattle.image_laws.proofs.Making.{links_for, links_more}
 use Rattle.image_laws.proofs.NewPage.{dec_page_made, not_page_made, free_page_word}
-use Rattle.image_laws.proofs.Paths.{reached_pos, reached-le}
 use Rattle.image_laws.proofs.Ready.{dec_made, not_made}
 use Rattle.image_laws.proofs.Taking.{taking_law}
 use Rattle.image_laws.proofs.Words.{slot_words-same}
@@ -99,11 +99,8 @@ module _ (P : ℕ) (W A : List ℕ) (p : Route) (node : Node) (d j s i : ℕ) (n
   coherent : IsCoherent P W
   coherent = can.place.tidy.coherent
 
-  pos : (x : ℕ) → Reached P W x → 1 ≤ x
-  pos x r = let h = reached_pos P W x r in omega (arith, h)
-
-  range : (x : ℕ) → Reached P W x → x ≤ inodes_of P
-  range x r = reached-le P W coherent x r
+  range : (x : ℕ) → Reached P W x → (1 ≤ x) × (x ≤ inodes_of P)
+  range x r = in_range P W coherent x r
 
   i_pos : 1 ≤ i
   i_pos = let two = can.least in omega (arith, two)
@@ -115,12 +112,12 @@ module _ (P : ℕ) (W A : List ℕ) (p : Route) (node : Node) (d j s i : ℕ) (n
   unfolding inode_links
   links_kept x r ne = makes.others (inode_word_of x 1)
       (not_page_made P j (inode_word_of x 1)
-      (λ w l e. page-ne_inode P j w x 1 (pos x r) (range x r) (omega arith) (sym e))
-      (λ f low high e. descriptor-ne_inode P j f x 1 (pos x r) (range x r) (omega arith) (sym e)))
+      (λ w l e. page-ne_inode P j w x 1 (range x r).0 (range x r).1 (omega arith) (sym e))
+      (λ f low high e. descriptor-ne_inode P j f x 1 (range x r).0 (range x r).1 (omega arith) (sym e)))
       (not_made P node d s i (inode_word_of x 1)
-      (λ f lt. inode-ne_inode x 1 i f (pos x r) i_pos (λ e. can.unreached (subst (Reached P W) e r)) (omega arith) (omega arith))
-      (λ k lt. inode-ne_slot P x 1 s (2 + k) (pos x r) (range x r) (omega arith))
-      (inode-ne_inode x 1 d 1 (pos x r) (pos d d_reached) ne (omega arith) (omega arith)))
+      (λ f lt. inode-ne_inode x 1 i f (range x r).0 i_pos (λ e. can.unreached (subst (Reached P W) e r)) (omega arith) (omega arith))
+      (λ k lt. inode-ne_slot P x 1 s (2 + k) (range x r).0 (range x r).1 (omega arith))
+      (inode-ne_inode x 1 d 1 (range x r).0 (range d d_reached).0 ne (omega arith) (omega arith)))
 
   node_links : (x : ℕ) → Reached P W x → HasLinks P W x (inode_links A x)
   node_links x r = elim (cases_eq x d) [
@@ -136,7 +133,7 @@ module _ (P : ℕ) (W A : List ℕ) (p : Route) (node : Node) (d j s i : ℕ) (n
     | inl (f, lt, e) ↦ subst (IsFree P W) (sym e) (free_inode_word f lt)
     | inr n ↦ elim n [
       | inl (k, lt, e) ↦ subst (IsFree P W) (sym e) (free_name P W j s page at k lt)
-      | inr e ↦ subst (IsFree P W) (sym e) (IsFree.link d (pos d d_reached) (range d d_reached))
+      | inr e ↦ subst (IsFree P W) (sym e) (IsFree.link d (range d d_reached).0 (range d d_reached).1)
     ]
   ]
   free_made (File bytes) a m = elim m [
@@ -151,7 +148,7 @@ module _ (P : ℕ) (W A : List ℕ) (p : Route) (node : Node) (d j s i : ℕ) (n
     no_owner = λ x lt. not_made P node d s i (descriptor_word_of P x 0)
         (λ f l. descriptor-ne_inode P x 0 i f i_pos can.most (omega arith))
         (λ k l. descriptor-ne_slot P x 0 s (2 + k) lt (omega arith))
-        (descriptor-ne_inode P x 0 d 1 (pos d d_reached) (range d d_reached) (omega arith));
+        (descriptor-ne_inode P x 0 d 1 (range d d_reached).0 (range d d_reached).1 (omega arith));
     links = node_links;
     others = makes.others;
   })
@@ -166,21 +163,18 @@ module _ (P : ℕ) (W A : List ℕ) (p : Route) (d j s i : ℕ) (name : List ℕ
   file_coherent : IsCoherent P W
   file_coherent = can.place.tidy.coherent
 
-  file_pos : (x : ℕ) → Reached P W x → 1 ≤ x
-  file_pos x r = let h = reached_pos P W x r in omega (arith, h)
-
-  file_range : (x : ℕ) → Reached P W x → x ≤ inodes_of P
-  file_range x r = reached-le P W file_coherent x r
+  file_range : (x : ℕ) → Reached P W x → (1 ≤ x) × (x ≤ inodes_of P)
+  file_range x r = in_range P W file_coherent x r
 
   other_links : (x : ℕ) → Reached P W x → x ≢ i → inode_links A x ≡ inode_links W x
   unfolding inode_links
   other_links x r ne = makes.others (inode_word_of x 1)
       (not_page_made P j (inode_word_of x 1)
-      (λ w l e. page-ne_inode P j w x 1 (file_pos x r) (file_range x r) (omega arith) (sym e))
-      (λ f low high e. descriptor-ne_inode P j f x 1 (file_pos x r) (file_range x r) (omega arith) (sym e)))
+      (λ w l e. page-ne_inode P j w x 1 (file_range x r).0 (file_range x r).1 (omega arith) (sym e))
+      (λ f low high e. descriptor-ne_inode P j f x 1 (file_range x r).0 (file_range x r).1 (omega arith) (sym e)))
       (not_linked P s i (inode_word_of x 1)
-      (λ k lt. inode-ne_slot P x 1 s (2 + k) (file_pos x r) (file_range x r) (omega arith))
-      (inode-ne_inode x 1 i 1 (file_pos x r) (file_pos i can.file.reached) ne (omega arith) (omega arith)))
+      (λ k lt. inode-ne_slot P x 1 s (2 + k) (file_range x r).0 (file_range x r).1 (omega arith))
+      (inode-ne_inode x 1 i 1 (file_range x r).0 (file_range i can.file.reached).0 ne (omega arith) (omega arith)))
 
   file_links : (x : ℕ) → Reached P W x → HasLinks P W x (inode_links A x)
   file_links x r = elim (cases_eq x i) [
@@ -191,7 +185,7 @@ module _ (P : ℕ) (W A : List ℕ) (p : Route) (d j s i : ℕ) (name : List ℕ
   free_linked : (a : ℕ) → IsLinkedWord P s i a → IsFree P W a
   free_linked a m = elim m [
     | inl (k, lt, e) ↦ subst (IsFree P W) (sym e) (free_name P W j s page at k lt)
-    | inr e ↦ subst (IsFree P W) (sym e) (IsFree.link i (file_pos i can.file.reached) (file_range i can.file.reached))
+    | inr e ↦ subst (IsFree P W) (sym e) (IsFree.link i (file_range i can.file.reached).0 (file_range i can.file.reached).1)
   ]
 
   pub paged_link_fills : FillsPage P W A j
@@ -200,7 +194,7 @@ module _ (P : ℕ) (W A : List ℕ) (p : Route) (d j s i : ℕ) (name : List ℕ
     free = free_linked;
     no_owner = λ x lt. not_linked P s i (descriptor_word_of P x 0)
         (λ k l. descriptor-ne_slot P x 0 s (2 + k) lt (omega arith))
-        (descriptor-ne_inode P x 0 i 1 (file_pos i can.file.reached) (file_range i can.file.reached) (omega arith));
+        (descriptor-ne_inode P x 0 i 1 (file_range i can.file.reached).0 (file_range i can.file.reached).1 (omega arith));
     links = file_links;
     others = makes.others;
   })

@@ -1,5 +1,5 @@
 -- A tree without the ids that have no path left is what an image reads as, where its paths are the image's.
-use Rattle.std.proofs.Common.{◌≡◌, ◌↔◌, ◌⊎◌, inl, inr, ℕ, ◌==◌, ◌≤◌, Bool, true, false, cond, ◌||◌, T, List, [], ◌∷◌, reverse, Option, Some, None, refl, sym, ap, subst, ◌∙◌, is_eq, arith}
+use Rattle.std.proofs.Common.{◌≡◌, ◌↔◌, ◌⊎◌, inl, inr, ℕ, ◌==◌, ◌≤◌, Bool, true, false, cond, ◌||◌, T, List, [], ◌∷◌, reverse, Some, None, refl, sym, ap, subst, ◌∙◌, is_eq, arith}
 use Rattle.std.proofs.lemmas.List.{reverse-reverse}
 use Rattle.std.proofs.lemmas.Bool.Decides.{nat_tests}
 use Rattle.std.specs.FinMap.Entries.{find, is_sorted}
@@ -11,6 +11,7 @@ use Rattle.tree_model.specs.Step.{without_path, without_unnamed}
 use Rattle.tree_model.proofs.TableLaws.{get-retain}
 use Rattle.tree_model.specs.Tree.{Node, Tree, route_cmp, route_cmp_total, id_at, node_at, is_directory, is_directory_node}
 use Rattle.tree_model.proofs.TreeLaws.{is_same, other_route, same_id}
+use Rattle.tree_model.proofs.TreeKept.{none_some}
 use Rattle.image_reading.specs.Reading.{Names, Reached, IsNode, Reads}
 use Rattle.image_reading.specs.Soundness.{IsCoherent}
 use Rattle.image_laws.proofs.Paths.{reached-le}
@@ -39,9 +40,6 @@ found_has (e ∷ es) q i is = elim (is_same q e.0) as (λ t. is_same q e.0 ≡ t
   | true ↦ λ tie is. or_left (e.1 == i) (has_path es i) (let same : e.1 ≡ i = cc in grind (arith, nat_tests))
   | false ↦ λ tie is. or_right (e.1 == i) (has_path es i) (found_has es q i is)
 ] refl is
-
-none_some : {X : Type 0} (x : X) → ◌≡◌ {A = Option X} None (Some x) → ⊥
-none_some x e = cc
 
 has_found : (es : List (Route × ℕ)) (i : ℕ) → T (is_sorted route_cmp es) → has_path es i ≡ true → (q : Route) × (find route_cmp q es ≡ Some i)
 unfolding has_path

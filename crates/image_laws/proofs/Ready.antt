@@ -1,18 +1,19 @@
 -- What create and mkdir need of the image in which they make a node, and that words are or aren't among those stored.
-use Rattle.std.proofs.Common.{◌≡◌, ◌≢◌, ◌⊎◌, inl, inr, ℕ, ◌+◌, ◌<◌, List, subst, arith}
+use Rattle.std.proofs.Common.{◌≡◌, ◌≢◌, ◌⊎◌, inl, inr, ℕ, ◌+◌, ◌<◌, List, sym, ap, subst, ◌∙◌, arith}
 use Rattle.std.proofs.lemmas.Bool.{cases_eq, cases_lt}
-use Rattle.layout.specs.Fields.{word, slot_pointer}
-use Rattle.layout.specs.Geometry.{page_of_slot, inode_word_of, slot_word_of}
+use Rattle.layout.specs.Fields.{word, inode_kind, page_owner, slot_pointer}
+use Rattle.layout.specs.Geometry.{data_pages_of, page_of_slot, inode_word_of, slot_word_of}
+use Rattle.layout.proofs.GeometryLaws.{page_of_slot_below}
 use Rattle.tree_model.specs.Tree.{Node, Directory, File, Tree, Room}
-use Rattle.image_reading.specs.Reading.{IsHeld, IsLive, Reads, HasRoom}
-use Rattle.image_reading.specs.Repairs.{IsPointer, IsLitterSlot, IsLitterPage, IsLitterInode, IsLitterCount}
+use Rattle.image_reading.specs.Reading.{IsDirectory, slot_owner, IsHeld, IsLive, Reached, IsRoomOf, Reads, HasRoom}
+use Rattle.image_reading.specs.Repairs.{IsKept, IsPointer, IsLitterSlot, IsLitterPage, IsLitterInode, IsLitterCount}
 use Rattle.image_reading.specs.Soundness.{IsCoherent}
 use Rattle.image_reading.specs.Tidy.{IsTidied}
 use Rattle.image_reading.proofs.Counts.{count_none}
 use Rattle.image_counts.proofs.Counting.{none_counted}
 use Rattle.image_laws.specs.Create.{IsAmong, IsMadeWord}
 use Rattle.image_laws.proofs.Decide.{dec_eq}
-use Rattle.image_laws.proofs.Rooms.{dec_some}
+use Rattle.image_laws.proofs.Rooms.{dec_room, dec_some}
 
 -- ---- tidy, and tidy but for one page
 
@@ -47,6 +48,31 @@ tidy_from P I j coherent t none = record {
 
 pub no_pointer : (P : ℕ) (I : List ℕ) (j : ℕ) → IsTidyBut P I j → (s : ℕ) → IsHeld P I s → slot_pointer P I s ≡ 0
 no_pointer P I j t s h = elim (cases_eq (slot_pointer P I s) 0) [ inl e ↦ e | inr n ↦ absurd (t.pointers s (record { held = h; nonzero = n })) ]
+
+-- ---- pages of a tidy image
+
+-- what has an owner is kept
+pub owned_kept : (P : ℕ) (W : List ℕ) (j : ℕ) → IsTidied P W → j < data_pages_of P → page_owner P W j ≢ 0 → ¬ IsKept P W j → ⊥
+unfolding page_owner
+owned_kept P W j tidy lt owned free = none_counted (IsLitterPage P W) tidy.repaired.of_pages j (record { in_range = lt; free = free; nonzero = (0, omega arith, owned) })
+
+-- a directory's page has a name,
+pub held_room : (P : ℕ) (W : List ℕ) (d s : ℕ) → IsTidied P W → Reached P W d → IsDirectory W d → IsHeld P W s → slot_owner P W s ≡ d → IsRoomOf P W d (page_of_slot s)
+unfolding slot_owner
+held_room P W d s tidy reached two held owner = elim (dec_room P W d reached two (page_of_slot s)) [
+  | yes room ↦ room
+  | no none ↦ absurd (owned_kept P W (page_of_slot s) tidy (page_of_slot_below P s held.in_range) held.owned (λ kept. elim kept [
+    | inl file ↦ (let one = sym (ap (inode_kind W) owner) ∙ file.file in omega (arith, one, two))
+    | inr room ↦ none (subst (λ x. IsRoomOf P W x (page_of_slot s)) owner room)
+  ]))
+]
+
+-- and its slots that aren't live are zero
+pub dead_zero : (P : ℕ) (W : List ℕ) (t f : ℕ) → IsTidied P W → IsRoomOf P W (page_owner P W (page_of_slot t)) (page_of_slot t) → ¬ IsLive P W t → f < 16 → word W (slot_word_of P t f) ≡ 0
+dead_zero P W t f tidy room dead lt = elim (cases_eq (word W (slot_word_of P t f)) 0) [
+  | inl zero ↦ zero
+  | inr nonzero ↦ absurd ((tidy_but P W 0 tidy).slots t (record { page = room; dead = dead; nonzero = (f, lt, nonzero) }))
+]
 
 -- ---- ready for a new name
 

@@ -8,7 +8,7 @@ use Rattle.image_reading.specs.Reading.{IsDirectory, slot_owner, Names, Reached,
 use Rattle.image_reading.specs.Soundness.{Rule}
 use Rattle.image_counts.proofs.Paths.{one_path}
 use Rattle.image_laws.specs.Remove.{CanRemove}
-use Rattle.image_laws.proofs.OnlySlot.{same_owner}
+use Rattle.image_laws.proofs.OnlySlot.{same_owner, kind_reached}
 use Rattle.image_laws.proofs.Paths.{reach}
 use Rattle.image_laws.proofs.Removes.{removes, remove_law}
 use Rattle.image_laws.proofs.RemoveSlot as removed
@@ -21,16 +21,16 @@ module _ (P : ℕ) (I : List ℕ) (p : Route) (s : ℕ) (c : CanRemove P I p s) 
   i_reached = reach P I s old_slot ((c.coherent Rule.inodes s).most old_slot)
 
   pub reached_back : (x : ℕ) → Reached P (set I (slot_word_of P s 0) 0) x → Reached P I x
-  reached_back x r = removed.reached_back P I (set I (slot_word_of P s 0) 0) p (slot_owner P I s) s (slot_inode P I s) c.coherent (removes P I p s c) x r
+  reached_back x r = removed.reached_back P I (set I (slot_word_of P s 0) 0) p s c (removes P I p s c) x r
 
   pub reached_forward : (x : ℕ) → x ≢ slot_inode P I s → Reached P I x → Reached P (set I (slot_word_of P s 0) 0) x
-  reached_forward x ne (q, b) = elim (removed.names_cases P I (set I (slot_word_of P s 0) 0) p (slot_owner P I s) s (slot_inode P I s) c.coherent (removes P I p s c) q x b) [
+  reached_forward x ne (q, b) = elim (removed.names_cases P I (set I (slot_word_of P s 0) 0) p s c (removes P I p s c) q x b) [
     | inl old ↦ (q, old)
     | inr gone ↦ absurd (ne gone.1)
   ]
 
   pub kind_same : (x : ℕ) → Reached P I x → inode_kind (set I (slot_word_of P s 0) 0) x ≡ inode_kind I x
-  kind_same x r = removed.kind_reached P I (set I (slot_word_of P s 0) 0) p (slot_owner P I s) s (slot_inode P I s) c.coherent (removes P I p s c) x r
+  kind_same x r = kind_reached (removes P I p s c).only c.coherent x r
 
   -- a directory that goes is gone
   pub directory_gone : IsDirectory I (slot_inode P I s) → Reached P (set I (slot_word_of P s 0) 0) (slot_inode P I s) → ⊥
@@ -48,7 +48,7 @@ module _ (P : ℕ) (I : List ℕ) (p : Route) (s : ℕ) (c : CanRemove P I p s) 
   d_reached = reached_forward (slot_owner P I s) (owner_other s old_slot) (p, c.path)
 
   pub owner_same : (t : ℕ) → IsReachedSlot P I t → slot_owner P (set I (slot_word_of P s 0) 0) t ≡ slot_owner P I t
-  owner_same t r = same_owner P I (set I (slot_word_of P s 0) 0) s (removes P I p s c).only t r.live.held.in_range
+  owner_same t r = same_owner (removes P I p s c).only t r.live.held.in_range
 
   pub slot_forward : (t : ℕ) → t ≢ s → IsReachedSlot P I t → IsReachedSlot P (set I (slot_word_of P s 0) 0) t
   slot_forward t ne r =
@@ -56,13 +56,13 @@ module _ (P : ℕ) (I : List ℕ) (p : Route) (s : ℕ) (c : CanRemove P I p s) 
       record {
         owner = subst (Reached P (set I (slot_word_of P s 0) 0)) (sym o) (reached_forward (slot_owner P I t) (owner_other t r) r.owner);
         directory = ap (inode_kind (set I (slot_word_of P s 0) 0)) o ∙ kind_same (slot_owner P I t) r.owner ∙ r.directory;
-        live = removed.live_forward P I (set I (slot_word_of P s 0) 0) p (slot_owner P I s) s (slot_inode P I s) c.coherent (removes P I p s c) t ne r.live;
+        live = removed.live_forward P I (set I (slot_word_of P s 0) 0) p s c (removes P I p s c) t ne r.live;
       }
 
   pub slot_back : (t : ℕ) → IsReachedSlot P (set I (slot_word_of P s 0) 0) t → IsReachedSlot P I t × (t ≢ s)
   slot_back t r = (
-    (removed.slot_back P I (set I (slot_word_of P s 0) 0) p (slot_owner P I s) s (slot_inode P I s) c.coherent (removes P I p s c) t r).reached,
-    removed.other P I (set I (slot_word_of P s 0) 0) p (slot_owner P I s) s (slot_inode P I s) c.coherent (removes P I p s c) t r.live,
+    (removed.slot_back P I (set I (slot_word_of P s 0) 0) p s c (removes P I p s c) t r).reached,
+    removed.other P I (set I (slot_word_of P s 0) 0) p s c (removes P I p s c) t r.live,
   )
 
   slot_of_room : (X : List ℕ) (x j : ℕ) → IsRoomOf P X x j → (t : ℕ) × IsReachedSlot P X t × (page_of_slot t ≡ j) × (slot_owner P X t ≡ x)

@@ -1,5 +1,5 @@
 -- The room after a slot gave up its inode number.
-use Rattle.std.proofs.Common.{◌≡◌, ◌≢◌, ◌↔◌, ◌⊎◌, inl, inr, ℕ, ◌-◌, List, [], ◌∷◌, length, Option, Some, None, cond, refl, sym, ap, subst, ◌∙◌, set, arith}
+use Rattle.std.proofs.Common.{◌≡◌, ◌≢◌, ◌↔◌, ◌⊎◌, inl, inr, ℕ, ◌-◌, List, [], ◌∷◌, length, Some, None, cond, refl, sym, ap, subst, ◌∙◌, set, arith}
 use Rattle.std.proofs.lemmas.Bool.{cases_eq}
 use Rattle.std.specs.Cmp.{nat_cmp_total}
 use Rattle.layout.specs.Fields.{slot_inode}
@@ -9,6 +9,7 @@ use Rattle.tree_model.specs.Table.{get, remove}
 use Rattle.tree_model.specs.Tree.{Room, pages_in}
 use Rattle.tree_model.proofs.TableLaws.{get-remove}
 use Rattle.tree_model.proofs.TreeLaws.{same_id_itself, other_id}
+use Rattle.tree_model.proofs.TreeKept.{none_some}
 use Rattle.image_reading.specs.Counts.{Count, IsIn, IsDistinct}
 use Rattle.image_reading.specs.Reading.{IsDirectory, slot_owner, Reached, IsRoomOf, HasRoom}
 use Rattle.image_reading.proofs.Counts.{count_one}
@@ -80,9 +81,6 @@ get-gone room i = get-remove nat_cmp_total room i i ∙ ap (λ b. cond b None (g
 
 pub get-left : (room : Room) (i x : ℕ) → x ≢ i → get (remove room i) x ≡ get room x
 get-left room i x ne = get-remove nat_cmp_total room i x ∙ ap (λ b. cond b None (get room x)) (other_id x i ne)
-
-none_some : (n : ℕ) → ◌≡◌ {A = Option ℕ} None (Some n) → ⊥
-none_some n e = cc
 
 pub removed_entry : (P : ℕ) (J : List ℕ) (room : Room) (i x n : ℕ) → (x ≢ i → (get room x ≡ Some n) ↔ IsEntry P J x n) → (Reached P J i → IsDirectory J i → ⊥)
     → (get (remove room i) x ≡ Some n) ↔ IsEntry P J x n

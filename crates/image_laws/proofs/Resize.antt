@@ -13,11 +13,10 @@ use Rattle.image_reading.specs.Soundness.{Rule, IsCoherent, HasLinks}
 use Rattle.image_reading.proofs.Credits.{count_same}
 use Rattle.image_laws.specs.Resize.{IsStored}
 use Rattle.image_laws.proofs.Addresses.{head-ne_inode, descriptor-ne_inode, inode-ne_slot, inode-ne_inode, inode-ne_field, page-ne_inode}
-use Rattle.image_laws.proofs.KeptPages as pages
-use Rattle.image_laws.proofs.KeptPages.{KeepsPages, held_forth, page_same}
+use Rattle.image_laws.proofs.KeptPages.{KeepsPages, held_forth, held_back, page_same}
 use Rattle.image_laws.proofs.Meaning.{page_kind_is}
 use Rattle.image_laws.proofs.Paths.{reached_pos}
-use Rattle.image_laws.proofs.Within.{IsWhole, whole, whole_same, OldSlot, Within, within_coherent}
+use Rattle.image_laws.proofs.Within.{IsWhole, whole, whole_same, OldSlot, Within, within_coherent, old_links}
 use Rattle.image_laws.proofs.Words.{slot_words-same}
 
 pub record OnlySize (P : ℕ) (I J : List ℕ) (i : ℕ) : Type 0 where
@@ -77,24 +76,18 @@ module _ (P : ℕ) (I J : List ℕ) (i z : ℕ) (coherent : IsCoherent P I) (a :
   paged : KeepsPages P I J (λ j. ⊥)
   paged = record { owner = λ j lt none. a.only.owner j lt; kind = λ j lt none. a.only.kind j lt; offset = λ j lt none. a.only.offset j lt }
 
-  held_forward : (t : ℕ) → IsHeld P I t → IsHeld P J t
-  held_forward t = held_forth paged t (λ none. none)
-
-  held_back : (t : ℕ) → IsHeld P J t → IsHeld P I t
-  held_back t = pages.held_back paged t (λ none. none)
-
   live_forward : (t : ℕ) → IsLive P I t → IsLive P J t
   live_forward t l = record {
-    held = held_forward t l.held;
+    held = held_forth paged t (λ none. none) l.held;
     names = λ e. l.names (sym (a.only.inode t) ∙ e);
-    stays = λ q h points same. l.stays q (held_back q h) (sym (a.only.pointer q) ∙ points) (sym (a.only.inode q) ∙ same ∙ a.only.inode t);
+    stays = λ q h points same. l.stays q (held_back paged q (λ none. none) h) (sym (a.only.pointer q) ∙ points) (sym (a.only.inode q) ∙ same ∙ a.only.inode t);
   }
 
   live_back : (t : ℕ) → IsLive P J t → IsLive P I t
   live_back t l = record {
-    held = held_back t l.held;
+    held = held_back paged t (λ none. none) l.held;
     names = λ e. l.names (a.only.inode t ∙ e);
-    stays = λ q h points same. l.stays q (held_forward q h) (a.only.pointer q ∙ points) (a.only.inode q ∙ same ∙ sym (a.only.inode t));
+    stays = λ q h points same. l.stays q (held_forth paged q (λ none. none) h) (a.only.pointer q ∙ points) (a.only.inode q ∙ same ∙ sym (a.only.inode t));
   }
 
   names_forward : (q : Route) (x : ℕ) → Names P I q x → Names P J q x
@@ -137,8 +130,9 @@ module _ (P : ℕ) (I J : List ℕ) (i z : ℕ) (coherent : IsCoherent P I) (a :
   page_forward : (x k j : ℕ) → IsPageOf P I x k j → IsPageOf P J x k j
   page_forward x k j = (page_same paged x k j (λ none. none)).1
 
-  slot_back : (t : ℕ) → IsReachedSlot P J t → OldSlot P I J t
+  slot_back : (t : ℕ) → IsReachedSlot P J t → OldSlot P I J (λ u. ⊥) t
   slot_back t r = let o = owner_same t r.live.held.in_range in record {
+    other = λ none. none;
     reached = record {
       owner = subst (Reached P I) o (reached_back (slot_owner P J t) r.owner);
       live = live_back t r.live;
@@ -163,27 +157,31 @@ module _ (P : ℕ) (I J : List ℕ) (i z : ℕ) (coherent : IsCoherent P I) (a :
         (whole P I x coherent m (sym (a.only.node_kind x) ∙ k))
   ]
 
-  within : Within P I J
+  within : Within P I J (λ t. ⊥)
   within = record {
     size = a.only.size;
     head = a.only.head;
     pointers = λ t. record {
-      other = λ held z. (coherent Rule.pointers t).other (held_back t held) (sym (a.only.pointer t) ∙ z);
+      other = λ held z. (coherent Rule.pointers t).other (held_back paged t (λ none. none) held) (sym (a.only.pointer t) ∙ z);
       held = λ held nonzero.
           let e = a.only.pointer t in
-          subst (λ x. IsHeld P J (x - 1)) (sym e) (held_forward (slot_pointer P I t - 1) ((coherent Rule.pointers t).held (held_back t held) (λ z. nonzero (e ∙ z))));
+          subst (λ x. IsHeld P J (x - 1)) (sym e) (held_forth paged (slot_pointer P I t - 1) (λ none. none) ((coherent Rule.pointers t).held (held_back paged t (λ none. none) held) (λ z. nonzero (e ∙ z))));
     };
-    one_pointer = λ t r lt hr ht nonzero. a.only.pointer t ∙ coherent Rule.one_pointer t r lt (held_back r hr) (held_back t ht) (λ y. nonzero (a.only.pointer r ∙ y));
-    slots = slot_back;
-    inodes = λ x r. record { reached = reached_back x r; kind = a.only.node_kind x; own = a.only.own x };
-    links = λ x r. subst (HasLinks P I x) (sym (a.only.links x)) (coherent Rule.links x (reached_back x r));
+    one_pointer = λ t r lt hr ht nonzero. a.only.pointer t ∙ coherent Rule.one_pointer t r lt (held_back paged r (λ none. none) hr) (held_back paged t (λ none. none) ht) (λ y. nonzero (a.only.pointer r ∙ y));
+    slots = λ t r. inr (slot_back t r);
+    new = λ t none. absurd none;
+    named = λ t r. a.only.node_kind (slot_inode P I t);
+    inodes = λ x r. inl (record { reached = reached_back x r; kind = a.only.node_kind x; own = a.only.own x });
+    links = λ x r. old_links P I J x (inode_links J x) slot_back (λ t r. a.only.node_kind (slot_inode P I t)) (a.only.node_kind x)
+        (subst (HasLinks P I x) (sym (a.only.links x)) (coherent Rule.links x (reached_back x r)));
     kinds = λ j lt r. let o = a.only.owner j lt in
-        a.only.kind j lt ∙ page_kind_is P I coherent j lt (subst (Reached P I) o (reached_back (page_owner P J j) r)) ∙ ap (inode_kind I) (sym o);
+        a.only.kind j lt ∙ page_kind_is P I coherent j lt (subst (Reached P I) o (reached_back (page_owner P J j) r)) ∙ ap (inode_kind I) (sym o)
+        ∙ sym (a.only.node_kind (page_owner P J j));
     files = files;
   }
 
   pub resized_coherent : IsCoherent P J
-  resized_coherent = within_coherent P I J coherent within
+  resized_coherent = within_coherent P I J (λ t. ⊥) coherent within
 
   -- the content after: as many bytes as the new size, as they stand in the pages
   pub resized_content : (bytes : List ℕ) → IsStored P I i z bytes → IsContent P J i bytes

@@ -1,5 +1,5 @@
 -- The laws of the word that commits a write past the size and a truncation.
-use Rattle.std.proofs.Common.{◌≡◌, ◌≢◌, ◌↔◌, inl, inr, ℕ, ◌<◌, ◌≤◌, List, length, set, Option, Some, refl, sym, ap, subst, ◌∙◌, arith}
+use Rattle.std.proofs.Common.{◌≡◌, ◌≢◌, ◌↔◌, inl, inr, ℕ, ◌<◌, ◌≤◌, List, length, set, Some, refl, sym, ap, subst, ◌∙◌, arith}
 use Rattle.std.proofs.lemmas.Bool.{cases_eq}
 use Rattle.std.proofs.lemmas.List.{get_or-set_same}
 use Rattle.layout.specs.Fields.{word, inode_size}
@@ -8,6 +8,7 @@ use Rattle.layout.proofs.GeometryLaws.{inode_word_within}
 use Rattle.tree_model.specs.Step.{with_bytes}
 use Rattle.tree_model.specs.Tree.{Node, File, Tree, node_at}
 use Rattle.tree_model.proofs.TreeLaws.{node_at-with_bytes_here, node_at-with_bytes_other}
+use Rattle.tree_model.proofs.TreeKept.{same_some}
 use Rattle.image_reading.specs.Reading.{Reached, IsNode, Reads}
 use Rattle.image_reading.specs.Soundness.{Rule}
 use Rattle.image_laws.specs.Resize.{CanResize, IsStored, HasResized, ResizeLaw, ResizeTreeLaw, ResizeRoomLaw}
@@ -47,9 +48,6 @@ module _ (P : ℕ) (I : List ℕ) (i z : ℕ) (c : CanResize P I i z) where
 
 -- ---- as a tree
 
-some_same : (x y : Node) → ◌≡◌ {A = Option Node} (Some x) (Some y) → x ≡ y
-some_same x y e = cc
-
 module _ (P : ℕ) (I J : List ℕ) (i z : ℕ) (can : CanResize P I i z) (after : HasResized P I J i z) (T : Tree) (bytes : List ℕ) (stored : IsStored P I i z bytes) (reads : Reads P I T) where
   forth : (x : ℕ) → Reached P I x → Reached P J x
   forth x (q, b) = (q, (after.names q x).0 b)
@@ -60,7 +58,7 @@ module _ (P : ℕ) (I J : List ℕ) (i z : ℕ) (can : CanResize P I i z) (after
   here : (y : Node) → (node_at (with_bytes T i bytes) i ≡ Some y) ↔ (Reached P J i × IsNode P J i y)
   here y =
       let is = after.content bytes stored in (
-        (λ e. (forth i can.reached, subst (IsNode P J i) (some_same (File bytes) y (sym (node_at-with_bytes_here T i bytes) ∙ e)) is)),
+        (λ e. (forth i can.reached, subst (IsNode P J i) (same_some (File bytes) y (sym (node_at-with_bytes_here T i bytes) ∙ e)) is)),
         (λ (r, k). node_at-with_bytes_here T i bytes ∙ ap Some (one_node P J after.coherent i (File bytes) y r is k)),
       )
 

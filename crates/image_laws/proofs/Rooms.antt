@@ -12,20 +12,16 @@ use Rattle.image_reading.specs.Counts.{Count}
 use Rattle.image_reading.specs.Reading.{IsDirectory, Reached, IsRoomOf, HasRoom}
 use Rattle.image_reading.specs.Soundness.{IsCoherent}
 use Rattle.image_reading.proofs.Counts.{count_one}
-use Rattle.image_counts.proofs.Decided.{IsDecided, any_below, room_or_not, room_counted}
+use Rattle.image_counts.proofs.Decided.{any_below, room_or_not, room_counted}
 use Rattle.image_laws.specs.Trees.{RoomLaw}
 use Rattle.image_laws.proofs.Contents.{dec_reached}
-use Rattle.image_laws.proofs.Decide.{told, dec_eq}
+use Rattle.image_laws.proofs.Decide.{told, decided, dec_eq}
 use Rattle.image_laws.proofs.Entries.{Listed, find_has, has_find}
 use Rattle.image_laws.proofs.Paths.{reached-le}
 
 -- whether a number below a bound has what is decided of each
 pub dec_some : (Q : ℕ → Type 0) → ((x : ℕ) → Dec (Q x)) → (n : ℕ) → ((x : ℕ) → Q x → x < n) → Dec ((x : ℕ) × Q x)
 dec_some Q dec n below = elim (any_below Q n (λ x. decided (dec x))) [ inl some ↦ yes some | inr none ↦ no (λ (x, q). none x (below x q) q) ]
-  where
-    decided : {A : Type 0} → Dec A → IsDecided A
-    decided (yes a) = inl a
-    decided (no f) = inr f
 
 -- what a room says of a directory: it has k pages
 abbrev pub IsEntry : ℕ → List ℕ → ℕ → ℕ → Type 0

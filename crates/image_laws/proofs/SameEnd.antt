@@ -13,7 +13,7 @@ use Rattle.image_laws.specs.Taking.{IsNamedPage, SameEndLaw, SameLinkEndLaw}
 use Rattle.image_laws.proofs.Addresses.{descriptor-ne_inode, descriptor-ne_page, descriptor-ne_slot, descriptor_word-one, page-ne_inode}
 use Rattle.image_laws.proofs.NewPage.{dec_page_made, not_page_made, makes_page}
 use Rattle.image_laws.proofs.Paths.{reached_pos, reached-le}
-use Rattle.image_laws.proofs.Words.{slot_words-same}
+use Rattle.image_laws.proofs.Words.{slot_words-same, other_word}
 
 -- ---- a page of zeros
 
@@ -138,10 +138,6 @@ module _ (P : ℕ) (W A : List ℕ) (d j s : ℕ) (name : List ℕ) (volume : Is
   owner_within : descriptor_word_of P j 0 < length W
   owner_within = let below = descriptor_word_within P j 0 volume page.0 (omega arith) in omega (arith, below, whole)
 
-  owned_other : (I : List ℕ) (a : ℕ) → a ≢ descriptor_word_of P j 0 → word (owned P I j d) a ≡ word I a
-  unfolding word
-  owned_other I a ne = get_or-set_other I (descriptor_word_of P j 0) a d 0 ne
-
   owned_here : (I : List ℕ) → length I ≡ length W → word (owned P I j d) (descriptor_word_of P j 0) ≡ d
   unfolding word
   owned_here I same = get_or-set_same I (descriptor_word_of P j 0) d 0 (let within = owner_within in omega (arith, within, same))
@@ -158,14 +154,14 @@ module _ (P : ℕ) (W A : List ℕ) (d j s : ℕ) (name : List ℕ) (volume : Is
           | yes made ↦ page_same a made other
           | no n ↦ beside n ∙ sym (blank_others P W j volume whole page a n)
         ] in
-        owned_other A a ne ∙ same ∙ sym (owned_other B a ne)
+        other_word A (descriptor_word_of P j 0) d a ne ∙ same ∙ sym (other_word B (descriptor_word_of P j 0) d a ne)
   ]
 
   name_end : slot_words P (owned P A j d) s ≡ name
-  name_end = slot_words-same P A (owned P A j d) s (λ f lt. owned_other A (slot_word_of P s (2 + f)) (λ e. descriptor-ne_slot P j 0 s (2 + f) page.0 (omega arith) (sym e))) ∙ named.name_is
+  name_end = slot_words-same P A (owned P A j d) s (λ f lt. other_word A (descriptor_word_of P j 0) d (slot_word_of P s (2 + f)) (λ e. descriptor-ne_slot P j 0 s (2 + f) page.0 (omega arith) (sym e))) ∙ named.name_is
 
   inode_end : (x f : ℕ) → 1 ≤ x → x ≤ inodes_of P → f < 16 → word (owned P A j d) (inode_word_of x f) ≡ word A (inode_word_of x f)
-  inode_end x f some most lt = owned_other A (inode_word_of x f) (λ e. descriptor-ne_inode P j 0 x f some most lt (sym e))
+  inode_end x f some most lt = other_word A (descriptor_word_of P j 0) d (inode_word_of x f) (λ e. descriptor-ne_inode P j 0 x f some most lt (sym e))
 
   links_end : (x : ℕ) → 1 ≤ x → x ≤ inodes_of P → inode_links (owned P A j d) x ≡ inode_links A x
   unfolding inode_links
@@ -174,7 +170,7 @@ module _ (P : ℕ) (W A : List ℕ) (d j s : ℕ) (name : List ℕ) (volume : Is
   -- the page alone changes no inode
   links_blank : (x : ℕ) → 1 ≤ x → x ≤ inodes_of P → inode_links (owned P B j d) x ≡ inode_links W x
   unfolding inode_links
-  links_blank x some most = owned_other B (inode_word_of x 1) (λ e. descriptor-ne_inode P j 0 x 1 some most (omega arith) (sym e))
+  links_blank x some most = other_word B (descriptor_word_of P j 0) d (inode_word_of x 1) (λ e. descriptor-ne_inode P j 0 x 1 some most (omega arith) (sym e))
       ∙ blank_others P W j volume whole page (inode_word_of x 1) (not_page_made P j (inode_word_of x 1)
       (λ w l e. page-ne_inode P j w x 1 some most (omega arith) (sym e))
       (λ f low high e. descriptor-ne_inode P j f x 1 some most (omega arith) (sym e)))

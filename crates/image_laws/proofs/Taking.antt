@@ -10,9 +10,9 @@ use Rattle.image_laws.specs.Taking.{FillsPage, TakingLaw}
 use Rattle.image_laws.specs.Agrees.{Alike}
 use Rattle.image_laws.specs.Frame.{SameMeaning}
 use Rattle.image_laws.specs.Free.{Stores}
-use Rattle.image_laws.proofs.Free.{stores_law}
+use Rattle.image_laws.proofs.Free.{stores_law, alike_stores, same_stores}
 use Rattle.image_laws.proofs.Meaning.{same_chained}
-use Rattle.image_laws.proofs.NewPage.{owned_stores, alike_stores, same_stores}
+use Rattle.image_laws.proofs.NewPage.{owned_stores}
 
 module _ (P : ℕ) (W A : List ℕ) (p : Route) (d j : ℕ) (coherent : IsCoherent P W) (named : Names P W p d) (directory : IsDirectory W d) (page : IsFreePage P W j) (fills : FillsPage P W A j) where
   pub same_page : SameMeaning P W A
@@ -32,9 +32,6 @@ module _ (P : ℕ) (W A : List ℕ) (p : Route) (d j : ℕ) (coherent : IsCohere
 
   pub owning_stores : Stores P A (owned P A j d)
   owning_stores = owned_stores P A j d same_page.coherent d_reached d_directory page.0 unowned fills.kind fills.numbers fills.pointers
-
-  pub same_owned : SameMeaning P A (owned P A j d)
-  same_owned = same_stores P A (owned P A j d) same_page.coherent owning_stores
 
   pub quiet : IsPageQuiet P W A (owned P A j d)
   quiet = record {

@@ -1,5 +1,6 @@
 -- From words to fields.
-use Rattle.std.proofs.Common.{◌≡◌, inl, inr, ℕ, zero, suc, ◌+◌, ◌*◌, ◌/◌, ◌%◌, ◌^◌, ◌<◌, List, refl, ap, subst, arith, add-zero}
+use Rattle.std.proofs.Common.{◌≡◌, ◌≢◌, inl, inr, ℕ, zero, suc, ◌+◌, ◌*◌, ◌/◌, ◌%◌, ◌^◌, ◌<◌, List, set, refl, ap, subst, arith, add-zero}
+use Rattle.std.proofs.lemmas.List.{get_or-set_other}
 use Rattle.layout.specs.Fields.{word, words_from, inode_kind, inode_size, inode_own, page_owner, page_kind, page_offset, slot_inode, slot_pointer, slot_words, page_byte}
 use Rattle.layout.specs.Geometry.{inode_word_of, descriptor_word_of, page_word_of, slot_word_of}
 use Rattle.image_reading.specs.Soundness.{IsCoherent}
@@ -8,6 +9,10 @@ use Rattle.image_laws.specs.Frame.{SameBytes, SameShape}
 use Rattle.image_laws.specs.Words.{IsUsed, IsByteOf, BytesAgree, WordsAgree, WordLaw}
 use Rattle.image_laws.proofs.Frame.{alike, frame}
 use Rattle.image_laws.proofs.Meaning.{shape}
+
+pub other_word : (I : List ℕ) (x v a : ℕ) → a ≢ x → word (set I x v) a ≡ word I a
+unfolding word
+other_word I x v a ne = get_or-set_other I x a v 0 ne
 
 pub words_from-same : (I J : List ℕ) (a n : ℕ) → ((k : ℕ) → k < n → word J (a + k) ≡ word I (a + k)) → words_from J a n ≡ words_from I a n
 unfolding words_from

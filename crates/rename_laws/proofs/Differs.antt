@@ -1,11 +1,11 @@
 -- The words before a rename don't read as those after it.
-use Rattle.std.proofs.Common.{◌≡◌, ◌≢◌, inl, inr, ℕ, Bool, true, false, ◌&&◌, List, [], ◌∷◌, ◌++◌, reverse, Option, Some, None, is_some, unwrap_or, refl, sym, ap, subst, ◌∙◌, append_assoc, append-nil}
+use Rattle.std.proofs.Common.{◌≡◌, ◌≢◌, inl, inr, ℕ, Bool, true, false, ◌&&◌, List, [], ◌∷◌, ◌++◌, reverse, Some, None, is_some, unwrap_or, refl, sym, ap, subst, ◌∙◌, append_assoc, append-nil}
 use Rattle.std.proofs.lemmas.List.{reverse-append}
 use Rattle.layout.specs.Fields.{slot_inode, slot_name}
 use Rattle.layout.specs.Name.{name_in_words}
 use Rattle.tree_model.specs.PathText.{Route}
 use Rattle.tree_model.specs.Step.{is_same_node, with_moved, without_path}
-use Rattle.tree_model.specs.Tree.{Tree, IsTree, root_id, is_root, parent, last_name, rest_after, id_at, is_directory, is_number}
+use Rattle.tree_model.specs.Tree.{Tree, IsTree, root_id, is_root, parent, rest_after, id_at, is_directory, is_number}
 use Rattle.tree_model.proofs.Lookups.{rest_after-append, rest_after-some}
 use Rattle.tree_model.proofs.TreeKept.{none_some, some_is, same_some, is_some_at}
 use Rattle.tree_model.proofs.TreeLaws.{above, parent-below, not_root-below, there-front}
@@ -15,23 +15,12 @@ use Rattle.image_reading.specs.Reading.{IsDirectory, slot_owner, Leads, Names, R
 use Rattle.image_reading.specs.Soundness.{IsCoherent}
 use Rattle.image_counts.proofs.Paths.{one_inode, slot_leads, reached_slot}
 use Rattle.image_laws.specs.Create.{CanName}
-use Rattle.image_laws.proofs.CreateSteps.{parent_is}
+use Rattle.image_laws.proofs.CreateSteps.{parent_is, none_if}
+use Rattle.image_laws.proofs.MoveTree.{below_root, reverse_below}
 use Rattle.image_laws.proofs.RoomAfter.{not_same}
-use Rattle.image_laws.proofs.Trees.{form_law, directory_is, is_directory-reached, reverse_path}
+use Rattle.image_laws.proofs.Trees.{form_law, directory_is, is_directory-reached}
 use Rattle.rename_laws.specs.Target.{Target, Vacant, Opened, Taken, CanReplace, CanTake, CanRename, name_of}
 use Rattle.rename_laws.specs.End.{ArePaths, renamed, DifferenceLaw}
-
-below_root : (path p : Route) (n : List ℕ) → reverse path ≡ n ∷ p → is_root path ≡ false
-below_root [] p n e = cc
-below_root (name ∷ names) p n e = refl
-
-reverse_below : (p : Route) → is_root p ≡ false → reverse p ≡ last_name p ∷ reverse (parent p)
-reverse_below [] e = cc
-reverse_below (name ∷ names) e = reverse_path name names
-
-absent_if : (o : Option ℕ) → ((y : ℕ) → o ≡ Some y → ⊥) → o ≡ None
-absent_if None f = refl
-absent_if (Some y) f = absurd (f y refl)
 
 -- what the two paths name before
 pub data TargetAt (T : Tree) (to : Route) (i : ℕ) : Type 0 where
@@ -66,7 +55,7 @@ module _ (P : ℕ) (W : List ℕ) (pa pb from to : Route) (s x d : ℕ) (target 
 
   -- a new name names nothing before
   pub new_at : (name : List ℕ) → CanName P W pb x name → name_of P W d target ≡ name_in_words name → id_at T to ≡ None
-  new_at name place is = absent_if (id_at T to) (λ y there.
+  new_at name place is = none_if (id_at T to) (λ y there.
       let (t, b, leads) = to_names y there in
       place.new t (reached_slot P W (name_of P W d target ∷ pb) y t (b, leads))
       (one_inode P W coherent pb (slot_owner P W t) x b can.target_path) (leads.name ∙ is))

@@ -1,7 +1,6 @@
 -- From the commit of a rename on each mix of old and new words means what the commit leaves.
-use Rattle.std.proofs.Common.{◌≡◌, ◌≢◌, ◌↔◌, ◌⊎◌, inl, inr, ℕ, ◌+◌, ◌<◌, ◌≤◌, List, Option, Some, None, refl, sym, ap, subst, ◌∙◌, arith}
-use Rattle.std.proofs.lemmas.Bool.{cases_eq}
-use Rattle.layout.specs.Fields.{word, inode_links, page_owner, slot_inode, slot_pointer}
+use Rattle.std.proofs.Common.{◌≡◌, ◌≢◌, ◌↔◌, ◌⊎◌, inl, inr, ℕ, ◌+◌, ◌<◌, ◌≤◌, List, Option, Some, None, refl, sym, subst, ◌∙◌, arith}
+use Rattle.layout.specs.Fields.{word, inode_links, slot_inode, slot_pointer}
 use Rattle.layout.specs.Geometry.{inodes_of, data_pages_of, inode_word_of, descriptor_word_of, slot_word_of}
 use Rattle.tree_model.specs.PathText.{Route}
 use Rattle.image_reading.specs.Reading.{slot_owner, Reached, IsRoomOf}
@@ -25,7 +24,6 @@ use Rattle.rename_laws.proofs.MoveNear as before
 use Rattle.rename_laws.proofs.MoveSpare as spares
 use Rattle.rename_laws.proofs.MoveSpare.{IsOut, IsSpare, HasCleared}
 use Rattle.rename_laws.proofs.MoveTidy.{HasEnded}
-use Rattle.rename_laws.proofs.Pointing.{pointing_law}
 
 -- ---- what goes, by the target
 
@@ -80,10 +78,10 @@ module _ (P : ℕ) (W I : List ℕ) (pa pb : Route) (s x d : ℕ) (target : Targ
     }
 
     pub clearing : (M : List ℕ) → IsMix (left P I s d) J M → SameMeaning P (moved P I s d) M
-    clearing = words.clears_mix P I pa pb s d c J near clears pointing_law
+    clearing = words.clears_mix P I pa pb s d c J near clears
 
     pub has_cleared : HasCleared P I J s d
-    has_cleared = words.is_cleared P I pa pb s d c J near clears pointing_law
+    has_cleared = words.is_cleared P I pa pb s d c J near clears
 
   -- ---- what goes
 
@@ -197,31 +195,17 @@ module _ (P : ℕ) (W I : List ℕ) (pa pb : Route) (s x d : ℕ) (target : Targ
       end_descriptor : (j f : ℕ) → j < data_pages_of P → f < 8 → (IsGivenUp P (moved P I s d) s target j → ⊥)
           → word K (descriptor_word_of P j f) ≡ word I (descriptor_word_of P j f)
       end_descriptor j f lt l8 none =
-          stages.rest_descriptor P G K (IsGivenUp P (moved P I s d) s target) (IsGone P (moved P I s d) target) freed.inode may_free freed.rest j f lt l8 (inr none)
-          ∙ stages.give_descriptor P J G (IsGivenUp P (moved P I s d) s target) may_give given.gives j f l8 (inr none)
+          stages.left_descriptor P J G K (IsGivenUp P (moved P I s d) s target) (IsGone P (moved P I s d) target) freed.inode may_give given.gives may_free freed.rest j f lt l8 none
           ∙ cleared.descriptors j f lt l8
-
-      end_given : (j f : ℕ) → IsGivenUp P (moved P I s d) s target j → f < 3 → word K (descriptor_word_of P j f) ≡ 0
-      unfolding page_owner
-      end_given j f is lt = elim (cases_eq f 0) [
-        | inl e ↦ ap (λ g. word K (descriptor_word_of P j g)) e
-            ∙ stages.rest_descriptor P G K (IsGivenUp P (moved P I s d) s target) (IsGone P (moved P I s d) target) freed.inode may_free freed.rest j 0
-            is.in_range (omega arith) (inl refl)
-            ∙ given.gives.owners j is
-        | inr ne ↦ frees.rests j f is (omega (arith, ne)) lt
-      ]
 
       end_inode : (y f : ℕ) → 1 ≤ y → y ≤ inodes_of P → f < 16 → (IsGone P (moved P I s d) target → y ≢ old_number target)
           → word K (inode_word_of y f) ≡ word J (inode_word_of y f)
       end_inode y f some most lt other =
-          stages.rest_inode P G K (IsGivenUp P (moved P I s d) s target) (IsGone P (moved P I s d) target) freed.inode may_free freed.rest y f some most lt
+          stages.left_inode P J G K (IsGivenUp P (moved P I s d) s target) (IsGone P (moved P I s d) target) freed.inode may_give given.gives may_free freed.rest y f some most lt
           (λ gone e. other gone (e ∙ freed.is gone))
-          ∙ stages.give_inode P J G (IsGivenUp P (moved P I s d) s target) may_give given.gives y f some most lt
 
       end_slot : (t f : ℕ) → word K (slot_word_of P t f) ≡ word J (slot_word_of P t f)
-      end_slot t f =
-          stages.rest_slot P G K (IsGivenUp P (moved P I s d) s target) (IsGone P (moved P I s d) target) freed.inode may_free freed.rest t f
-          ∙ stages.give_slot P J G (IsGivenUp P (moved P I s d) s target) may_give given.gives t f
+      end_slot = stages.left_slot P J G K (IsGivenUp P (moved P I s d) s target) (IsGone P (moved P I s d) target) freed.inode may_give given.gives may_free freed.rest
 
       other_gone : (y : ℕ) → (IsOut P I (moved P I s d) d → y ≢ slot_inode P I d) → IsGone P (moved P I s d) target → y ≢ old_number target
       other_gone y other gone e = other (out_gone.0 gone) (e ∙ sym ready.number)
@@ -236,7 +220,7 @@ module _ (P : ℕ) (W I : List ℕ) (pa pb : Route) (s x d : ℕ) (target : Targ
       has_ended = record {
         means = means_end;
         descriptors = λ j f lt l3 none. end_descriptor j f lt (omega (arith, l3)) (λ is. none ((given_spare j).0 is));
-        spare = λ j f is lt. end_given j f ((given_spare j).1 is) lt;
+        spare = λ j f is lt. stages.given_zero P J G K (IsGivenUp P (moved P I s d) s target) (IsGone P (moved P I s d) target) freed.inode may_give given.gives may_free freed.rest j f ((given_spare j).1 is) lt;
         inodes = λ y f some most lt ne other. end_inode y f some most (omega (arith, lt)) (other_gone y other) ∙ cleared.inodes y f some most (omega (arith, lt)) ne;
         links = λ y some most other. subst (IsFallen P I s d y) (sym (end_links y some most (other_gone y other))) (cleared.links y some most);
         out = λ out f lt. subst (λ y. word K (inode_word_of y f) ≡ 0) (sym ready.number) (frees.inode (out_gone.1 out) f lt);

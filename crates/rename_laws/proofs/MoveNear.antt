@@ -4,7 +4,6 @@ use Rattle.std.proofs.lemmas.Bool.{cases_eq}
 use Rattle.layout.specs.Fields.{word, inode_kind, inode_links, inode_size, page_owner, page_offset, slot_inode, slot_name, slot_pointer}
 use Rattle.layout.specs.Name.{name_in_words}
 use Rattle.layout.specs.Geometry.{inodes_of, data_pages_of, page_of_slot, inode_word_of, descriptor_word_of, slot_word_of}
-use Rattle.layout.proofs.GeometryLaws.{page_of_slot_below}
 use Rattle.tree_model.specs.PathText.{Route}
 use Rattle.image_reading.specs.Counts.{Count}
 use Rattle.image_reading.specs.Litter.{IsZeroSlot}
@@ -13,16 +12,17 @@ use Rattle.image_reading.specs.Repairs.{IsLitterPage, IsLitterInode}
 use Rattle.image_reading.specs.Soundness.{Rule}
 use Rattle.image_reading.proofs.Credits.{count_same}
 use Rattle.image_counts.proofs.Counting.{none_counted}
-use Rattle.image_counts.proofs.Decided.{room_or_not, room_owner}
+use Rattle.image_counts.proofs.Decided.{room_owner}
 use Rattle.image_counts.proofs.Links.{links_counted, link_word_law}
+use Rattle.image_counts.proofs.Paths.{in_range}
 use Rattle.image_laws.specs.Move.{CanMove}
 use Rattle.image_laws.proofs.Addresses.{descriptor-ne_inode, descriptor-ne_page, descriptor-ne_slot, inode-ne_slot, page-ne_inode, page-ne_slot, slot-ne_slot, descriptor_word-one, inode_word-one}
 use Rattle.image_laws.proofs.KeptPages as pages
 use Rattle.image_laws.proofs.KeptPages.{KeepsPages, by_words, held_owner_same, held_forth, held_back}
 use Rattle.image_laws.proofs.KeptSlots as slot_laws
 use Rattle.image_laws.proofs.KeptSlots.{KeepsSlots}
-use Rattle.image_laws.proofs.Paths.{reached_pos, reached-le, reach}
-use Rattle.image_laws.proofs.Ready.{tidy_but, no_pointer}
+use Rattle.image_laws.proofs.Paths.{reach}
+use Rattle.image_laws.proofs.Ready.{tidy_but, no_pointer, held_room, dead_zero}
 use Rattle.image_laws.proofs.Rooms.{room_law}
 use Rattle.image_laws.proofs.Trees.{tree_law}
 use Rattle.image_laws.proofs.Words.{slot_words-same}
@@ -82,12 +82,6 @@ module _ (P : ℕ) (W : List ℕ) (pb : Route) (s x d : ℕ) where
   opened_here (Vacant name) j can new = absurd new
   opened_here (Opened page name) j can new = new ∙ sym can.2
   opened_here (Taken r) j can new = absurd new
-
-  here_opened : (target : Target) (j : ℕ) → CanTake P W pb s x d target → IsOpenedPage target j → (t : ℕ) → page_of_slot t ≡ page_of_slot d
-      → IsOpenedPage target (page_of_slot t)
-  here_opened (Vacant name) j can new t at = absurd new
-  here_opened (Opened page name) j can new t at = at ∙ can.2
-  here_opened (Taken r) j can new t at = absurd new
 
   opened_zeros : (I : List ℕ) (target : Target) (t : ℕ) → HasNewPage P I x d target → IsOpenedPage target (page_of_slot t) → t ≢ d
       → IsZeroSlot P I t
@@ -178,11 +172,8 @@ module _ (P : ℕ) (W I : List ℕ) (pa pb : Route) (s x d : ℕ) (target : Targ
   pub back : (y : ℕ) → Reached P I y → Reached P W y
   back y (q, b) = (q, (ready.means.names q y).1 b)
 
-  pos : (y : ℕ) → Reached P W y → 1 ≤ y
-  pos y r = let some = reached_pos P W y r in omega (arith, some)
-
-  range : (y : ℕ) → Reached P W y → y ≤ inodes_of P
-  range y r = reached-le P W ready.can.tidy.coherent y r
+  range : (y : ℕ) → Reached P W y → (1 ≤ y) × (y ≤ inodes_of P)
+  range y r = in_range P W ready.can.tidy.coherent y r
 
   -- ---- words
 
@@ -201,19 +192,19 @@ module _ (P : ℕ) (W I : List ℕ) (pa pb : Route) (s x d : ℕ) (target : Targ
       → word I (slot_word_of P t f) ≡ word W (slot_word_of P t f)
   slot_word_same t f lt ne old =
       ready.others (slot_word_of P t f) (slot-ne_slot P t f d 1 lt (omega arith) ne) (other_slot P W pb s x d target t f take lt ne old)
-      (other_link (slot_word_of P t f) (λ e. inode-ne_slot P x 1 t f (pos x x_reached) (range x x_reached) (omega arith) (sym e)))
+      (other_link (slot_word_of P t f) (λ e. inode-ne_slot P x 1 t f (range x x_reached).0 (range x x_reached).1 (omega arith) (sym e)))
 
   pub descriptor_same : (j f : ℕ) → j < data_pages_of P → f < 8 → (IsOpenedPage target j → ⊥)
       → word I (descriptor_word_of P j f) ≡ word W (descriptor_word_of P j f)
   descriptor_same j f lt l8 old =
       ready.others (descriptor_word_of P j f) (descriptor-ne_slot P j f d 1 lt l8) (other_descriptor P W pb s x d target j f take lt l8 old)
-      (other_link (descriptor_word_of P j f) (descriptor-ne_inode P j f x 1 (pos x x_reached) (range x x_reached) (omega arith)))
+      (other_link (descriptor_word_of P j f) (descriptor-ne_inode P j f x 1 (range x x_reached).0 (range x x_reached).1 (omega arith)))
 
   pub inode_same : (y f : ℕ) → 1 ≤ y → y ≤ inodes_of P → f < 16 → (y ≢ x) ⊎ (f ≢ 1) → word I (inode_word_of y f) ≡ word W (inode_word_of y f)
   inode_same y f some most lt other =
       ready.others (inode_word_of y f) (inode-ne_slot P y f d 1 some most lt) (other_inode P W pb s x d target y f take some most lt)
       (other_link (inode_word_of y f) (λ e.
-      let (same, field) = inode_word-one y f x 1 some (pos x x_reached) lt (omega arith) e in
+      let (same, field) = inode_word-one y f x 1 some (range x x_reached).0 lt (omega arith) e in
       elim other [ inl ne ↦ ne same | inr ne ↦ ne field ]))
 
   pub paged : KeepsPages P W I (IsOpenedPage target)
@@ -224,11 +215,11 @@ module _ (P : ℕ) (W I : List ℕ) (pa pb : Route) (s x d : ℕ) (target : Targ
 
   pub kind_same : (y : ℕ) → Reached P W y → inode_kind I y ≡ inode_kind W y
   unfolding inode_kind
-  kind_same y r = inode_same y 0 (pos y r) (range y r) (omega arith) (inr (λ e. omega (arith, e)))
+  kind_same y r = inode_same y 0 (range y r).0 (range y r).1 (omega arith) (inr (λ e. omega (arith, e)))
 
   pub size_same : (y : ℕ) → Reached P W y → inode_size I y ≡ inode_size W y
   unfolding inode_size
-  size_same y r = inode_same y 2 (pos y r) (range y r) (omega arith) (inr (λ e. omega (arith, e)))
+  size_same y r = inode_same y 2 (range y r).0 (range y r).1 (omega arith) (inr (λ e. omega (arith, e)))
 
   -- ---- held and live slots
 
@@ -354,13 +345,13 @@ module _ (P : ℕ) (W I : List ℕ) (pa pb : Route) (s x d : ℕ) (target : Targ
   still None holds y some never is = is
   still (Some z) holds y some never is =
       let at = risen_is P W pb s x d target z holds in
-      let least : 1 ≤ z = subst (λ u. 1 ≤ u) (sym at.3) (pos x x_reached) in
+      let least : 1 ≤ z = subst (λ u. 1 ≤ u) (sym at.3) (range x x_reached).0 in
       never (subst (IsRising P W s x target) (sym (inode_word-one y 1 z 1 some least (omega arith) (omega arith) is).0) holds)
 
   same_links : (y : ℕ) → Reached P W y → (IsRising P W s x target y → ⊥) → inode_links I y ≡ inode_links W y
   unfolding inode_links
-  same_links y r never = ready.others (inode_word_of y 1) (inode-ne_slot P y 1 d 1 (pos y r) (range y r) (omega arith))
-      (other_inode P W pb s x d target y 1 take (pos y r) (range y r) (omega arith)) (still rising ready.rises y (pos y r) never)
+  same_links y r never = ready.others (inode_word_of y 1) (inode-ne_slot P y 1 d 1 (range y r).0 (range y r).1 (omega arith))
+      (other_inode P W pb s x d target y 1 take (range y r).0 (range y r).1 (omega arith)) (still rising ready.rises y (range y r).0 never)
 
   -- all slots stay
   kept : KeepsSlots P W I (λ t. ⊥)
@@ -382,47 +373,26 @@ module _ (P : ℕ) (W I : List ℕ) (pa pb : Route) (s x d : ℕ) (target : Targ
   room_back : (y j : ℕ) → IsRoomOf P I y j → IsRoomOf P W y j
   room_back y j = (slot_laws.rooms kept (λ t none. none) y j).1
 
-  room_old : (y j : ℕ) → IsRoomOf P I y j → IsOpenedPage target j → ⊥
-  room_old y j room new = let (t, at, o, live) = room.slot in live_old t live (subst (IsOpenedPage target) (sym at) new)
-
   -- slot d stands in a page with a name, where its page is an old one
   target_room : (IsOpenedPage target (page_of_slot d) → ⊥) → IsRoomOf P W (page_owner P W (page_of_slot d)) (page_of_slot d)
   unfolding slot_owner page_owner
   target_room old =
       let (held, owner) = held_owner P W pb s x d target take old in
-      elim (room_or_not P W x (page_of_slot d) x_reached ready.can.target_directory) [
-        | inl room ↦ subst (λ y. IsRoomOf P W y (page_of_slot d)) (sym owner) room
-        | inr none ↦ absurd (none_counted (IsLitterPage P W) ready.can.tidy.repaired.of_pages (page_of_slot d) (record {
-          in_range = page_of_slot_below P d held.in_range;
-          free = λ kept. elim kept [
-            | inl file ↦ (let one = sym (ap (inode_kind W) owner) ∙ file.file in let two = ready.can.target_directory in omega (arith, one, two))
-            | inr room ↦ none (subst (λ y. IsRoomOf P W y (page_of_slot d)) owner room)
-          ];
-          nonzero = (0, omega arith, held.owned);
-        }))
-      ]
+      subst (λ y. IsRoomOf P W y (page_of_slot d)) (sym owner) (held_room P W x d ready.can.tidy x_reached ready.can.target_directory held owner)
 
   -- ---- nothing else is to be repaired
-
-  clean_old : (t f : ℕ) → t ≢ d → (IsOpenedPage target (page_of_slot t) → ⊥) → IsRoomOf P W (page_owner P W (page_of_slot t)) (page_of_slot t)
-      → (IsLive P I t → ⊥) → f < 16
-      → word I (slot_word_of P t f) ≡ 0
-  clean_old t f ne old room dead lt = slot_word_same t f lt ne old ∙ elim (cases_eq (word W (slot_word_of P t f)) 0) [
-    | inl zero ↦ zero
-    | inr nonzero ↦ absurd ((tidy_but P W 0 ready.can.tidy).slots t (record { page = room; dead = λ live. dead (live_forth t live); nonzero = (f, lt, nonzero) }))
-  ]
 
   clean : (t f : ℕ) → t ≢ d → IsRoomOf P I (page_owner P I (page_of_slot t)) (page_of_slot t) ⊎ (page_of_slot t ≡ page_of_slot d)
       → (IsLive P I t → ⊥) → f < 16
       → word I (slot_word_of P t f) ≡ 0
   clean t f ne where_is dead lt = elim (opened_or_not target (page_of_slot t)) [
     | inl new ↦ opened_zeros P W pb s x d I target t ready.page new ne f lt
-    | inr old ↦ clean_old t f ne old (elim where_is [
+    | inr old ↦ slot_word_same t f lt ne old ∙ dead_zero P W t f ready.can.tidy (elim where_is [
       | inl room ↦
           let was = room_back (page_owner P I (page_of_slot t)) (page_of_slot t) room in
           subst (λ y. IsRoomOf P W y (page_of_slot t)) (sym (room_owner P W (page_owner P I (page_of_slot t)) (page_of_slot t) was)) was
       | inr at ↦ subst (λ j. IsRoomOf P W (page_owner P W j) j) (sym at) (target_room (subst (λ j. IsOpenedPage target j → ⊥) at old))
-    ]) dead lt
+    ]) (λ live. dead (live_forth t live)) lt
   ]
 
   litter_page : (j : ℕ) → IsLitterPage P I j → j ≡ page_of_slot d

@@ -3,16 +3,17 @@ use Rattle.std.proofs.Common.{◌≡◌, ◌≢◌, ◌⊎◌, inl, inr, ℕ, �
 use Rattle.std.proofs.lemmas.Bool.{cases_eq, cases_lt}
 use Rattle.layout.specs.Fields.{word, inode_kind, inode_links, page_owner, page_kind, slot_inode, slot_pointer}
 use Rattle.layout.specs.Geometry.{inodes_of, data_pages_of, page_of_slot, inode_word_of, descriptor_word_of, slot_word_of}
-use Rattle.layout.proofs.GeometryLaws.{page_of_slot_below, slot_below}
 use Rattle.tree_model.specs.PathText.{Route}
 use Rattle.image_reading.specs.Reading.{IsDirectory, slot_owner, IsHeld, IsLive, Reached, IsReachedSlot, IsRoomOf}
 use Rattle.image_reading.specs.Soundness.{Rule, IsCoherent}
 use Rattle.image_counts.proofs.Decided.{room_or_not, live_or_not}
+use Rattle.image_counts.proofs.Paths.{in_range}
 use Rattle.image_laws.specs.Frame.{SameMeaning}
 use Rattle.image_laws.specs.Move.{CanMove, moved}
 use Rattle.image_laws.specs.Stages.{IsNeedless, MayGive}
 use Rattle.image_laws.proofs.Contents.{dec_reached}
-use Rattle.image_laws.proofs.Paths.{reached_pos, reached-le}
+use Rattle.image_laws.proofs.Decide.{decided, none_or_not, both_or_not, either_or_not}
+use Rattle.image_laws.proofs.KeptPages.{KeepsPages, by_words, held_back, owner_with, held_with}
 use Rattle.rename_laws.proofs.MovedCounts.{IsFallen, IsAlmostTidy}
 use Rattle.rename_laws.proofs.MovedNames as here
 
@@ -47,34 +48,17 @@ module _ (P : ℕ) (I : List ℕ) (pa pb : Route) (s d : ℕ) (c : CanMove P I p
   -- ---- which pages these are
 
   pub out_or_not : IsOut P I (moved P I s d) d ⊎ (IsOut P I (moved P I s d) d → ⊥)
-  out_or_not = elim (cases_eq (slot_inode P I d) 0) [
-    | inl none ↦ inr (λ out. out.0 none)
-    | inr some ↦ elim (dec_reached P (moved P I s d) coherent (slot_inode P I d)) [ yes r ↦ inr (λ out. out.1 r) | no n ↦ inl (some, n) ]
-  ]
+  out_or_not = both_or_not _ _ (none_or_not _ (cases_eq (slot_inode P I d) 0)) (none_or_not _ (decided (dec_reached P (moved P I s d) coherent (slot_inode P I d))))
 
   pub room_left : (j : ℕ) → IsRoomOf P (moved P I s d) (slot_owner P I s) j ⊎ (IsRoomOf P (moved P I s d) (slot_owner P I s) j → ⊥)
   room_left j = room_or_not P (moved P I s d) (slot_owner P I s) j (here.source_owner_reached P I pa pb s d c) source_directory
 
-  of_replaced : (j : ℕ)
-      → (IsOut P I (moved P I s d) d × (page_owner P I j ≡ slot_inode P I d)) ⊎ (IsOut P I (moved P I s d) d × (page_owner P I j ≡ slot_inode P I d) → ⊥)
-  of_replaced j = elim out_or_not [
-    | inr stays ↦ inr (λ both. stays both.0)
-    | inl out ↦ elim (cases_eq (page_owner P I j) (slot_inode P I d)) [ inl e ↦ inl (out, e) | inr ne ↦ inr (λ both. ne both.1) ]
-  ]
-
-  of_source : (j : ℕ) → ((j ≡ page_of_slot s) × (IsRoomOf P (moved P I s d) (slot_owner P I s) j → ⊥))
-      ⊎ ((j ≡ page_of_slot s) × (IsRoomOf P (moved P I s d) (slot_owner P I s) j → ⊥) → ⊥)
-  of_source j = elim (cases_eq j (page_of_slot s)) [
-    | inr ne ↦ inr (λ both. ne both.0)
-    | inl e ↦ elim (room_left j) [ inl room ↦ inr (λ both. both.1 room) | inr none ↦ inl (e, none) ]
-  ]
-
   pub spare_or_not : (j : ℕ) → IsSpare P I (moved P I s d) s d j ⊎ (IsSpare P I (moved P I s d) s d j → ⊥)
   spare_or_not j = elim (cases_lt j (data_pages_of P)) [
     | inr ge ↦ inr (λ spare. let lt = spare.in_range in omega (arith, lt))
-    | inl lt ↦ elim (of_replaced j) [
-      | inl a ↦ inl (record { in_range = lt; why = inl a })
-      | inr m ↦ elim (of_source j) [ inl b ↦ inl (record { in_range = lt; why = inr b }) | inr n ↦ inr (λ spare. elim spare.why [ inl a ↦ m a | inr b ↦ n b ]) ]
+    | inl lt ↦ elim (either_or_not _ _ (both_or_not _ _ out_or_not (cases_eq (page_owner P I j) (slot_inode P I d))) (both_or_not _ _ (cases_eq j (page_of_slot s)) (none_or_not _ (room_left j)))) [
+      | inl why ↦ inl (record { in_range = lt; why = why })
+      | inr never ↦ inr (λ spare. never spare.why)
     ]
   ]
 
@@ -111,39 +95,16 @@ module _ (P : ℕ) (I : List ℕ) (pa pb : Route) (s d : ℕ) (c : CanMove P I p
         | inr two ↦ absurd (no_page j near lt out.0 (sym (ap (inode_kind I) owner) ∙ two) owner)
       ]
 
-  held_with : (t : ℕ) → page_of_slot t ≡ page_of_slot s → IsHeld P I t
-  unfolding slot_owner
-  held_with t at = record {
-    in_range = slot_below P t (subst (λ z. z < data_pages_of P) (sym at) (page_of_slot_below P s c.source.held.in_range));
-    kind = ap (page_kind P I) at ∙ c.source.held.kind;
-    owned = λ z. c.source.held.owned (ap (page_owner P I) (sym at) ∙ z);
-  }
-
-  same_page_owner : (t : ℕ) → page_of_slot t ≡ page_of_slot s → slot_owner P I t ≡ slot_owner P I s
-  unfolding slot_owner
-  same_page_owner t at = ap (page_owner P I) at
-
   module _ (J : List ℕ) (near : IsAlmostTidy P I s d) (cleared : HasCleared P I J s d) where
-    owner_same : (j : ℕ) → j < data_pages_of P → page_owner P J j ≡ page_owner P I j
-    unfolding page_owner
-    owner_same j lt = cleared.descriptors j 0 lt (omega arith)
+    paged : KeepsPages P I J (λ j. ⊥)
+    paged = by_words P I J (λ j. ⊥) (λ j f lt l3 none. cleared.descriptors j f lt (omega (arith, l3)))
 
-    kind_same : (j : ℕ) → j < data_pages_of P → page_kind P J j ≡ page_kind P I j
-    unfolding page_kind
-    kind_same j lt = cleared.descriptors j 1 lt (omega arith)
+    owner_same : (j : ℕ) → j < data_pages_of P → page_owner P J j ≡ page_owner P I j
+    owner_same j lt = paged.owner j lt (λ none. none)
 
     inode_kind_same : (x : ℕ) → Reached P I x → inode_kind J x ≡ inode_kind I x
     unfolding inode_kind
-    inode_kind_same x r =
-        let some = reached_pos P I x r in cleared.inodes x 0 (omega (arith, some)) (reached-le P I c.coherent x r) (omega arith) (λ e. omega (arith, e))
-
-    held_before : (t : ℕ) → IsHeld P J t → IsHeld P I t
-    unfolding slot_owner
-    held_before t held = let lt = page_of_slot_below P t held.in_range in record {
-      in_range = held.in_range;
-      kind = sym (kind_same (page_of_slot t) lt) ∙ held.kind;
-      owned = λ z. held.owned (owner_same (page_of_slot t) lt ∙ z);
-    }
+    inode_kind_same x r = let (some, most) = in_range P I c.coherent x r in cleared.inodes x 0 some most (omega arith) (λ e. omega (arith, e))
 
     pointer_zero : (t : ℕ) → IsHeld P I t → slot_pointer P J t ≡ 0
     unfolding slot_pointer
@@ -167,13 +128,13 @@ module _ (P : ℕ) (I : List ℕ) (pa pb : Route) (s d : ℕ) (c : CanMove P I p
       | inr ns ↦ elim (cases_eq t d) [
         | inl e ↦ absurd (none (here.room_from P I pa pb s d c (moved P I s d) (slot_owner P I s) (page_of_slot s) d
             (here.slot_new P I pa pb s d c) (sym (ap page_of_slot e) ∙ at)
-            (here.owner_same P I pa pb s d c d c.held.in_range ∙ sym (ap (slot_owner P I) e) ∙ same_page_owner t at)))
+            (here.owner_same P I pa pb s d c d c.held.in_range ∙ sym (ap (slot_owner P I) e) ∙ owner_with P I s t at)))
         | inr nd ↦ cleared.slots t 0 ns nd (omega arith) ∙ elim (live_or_not P I t) [
           | inl live ↦
               let room = here.room_old P I pa pb s d c in
-              let slot = reached_slot t (slot_owner P I s) (page_of_slot s) room at (same_page_owner t at) live in
+              let slot = reached_slot t (slot_owner P I s) (page_of_slot s) room at (owner_with P I s t at) live in
               absurd (none (here.room_from P I pa pb s d c (moved P I s d) (slot_owner P I s) (page_of_slot s) t (here.slot_forward P I pa pb s d c t ns nd slot) at
-              (here.owner_same P I pa pb s d c t live.held.in_range ∙ same_page_owner t at)))
+              (here.owner_same P I pa pb s d c t live.held.in_range ∙ owner_with P I s t at)))
           | inr dead ↦ near.slots t 0 nd (inl (subst (λ j. IsRoomOf P I (page_owner P I j) j) (sym at) (here.room_old P I pa pb s d c))) dead (omega arith)
         ]
       ]
@@ -185,7 +146,7 @@ module _ (P : ℕ) (I : List ℕ) (pa pb : Route) (s d : ℕ) (c : CanMove P I p
       in_range = spare.in_range;
       why = elim spare.why [
         | inl (out, owner) ↦ inl (
-          kind_same j spare.in_range ∙ file_page j near spare.in_range out owner,
+          paged.kind j spare.in_range (λ none. none) ∙ file_page j near spare.in_range out owner,
           (λ r. out.1 (subst (Reached P (moved P I s d)) (owner_same j spare.in_range ∙ owner) (back (page_owner P J j) r))),
         )
         | inr (at, none) ↦
@@ -193,10 +154,10 @@ module _ (P : ℕ) (I : List ℕ) (pa pb : Route) (s d : ℕ) (c : CanMove P I p
             let empty : IsRoomOf P (moved P I s d) (slot_owner P I s) (page_of_slot s) → ⊥ = λ room.
             none (subst (IsRoomOf P (moved P I s d) (slot_owner P I s)) (sym at) room) in
             inr (record {
-              kind = kind_same j spare.in_range ∙ ap (page_kind P I) at ∙ c.source.held.kind;
+              kind = paged.kind j spare.in_range (λ none. none) ∙ ap (page_kind P I) at ∙ c.source.held.kind;
               directory = λ r. ap (inode_kind J) owner ∙ inode_kind_same (slot_owner P I s) (pa, c.source_path) ∙ c.source_directory;
               numbers = λ t here_at. empty_page empty t (here_at ∙ at);
-              pointers = λ t here_at. pointer_zero t (held_with t (here_at ∙ at));
+              pointers = λ t here_at. pointer_zero t (held_with P I s t (here_at ∙ at) c.source.held);
             })
       ];
     }
@@ -204,7 +165,7 @@ module _ (P : ℕ) (I : List ℕ) (pa pb : Route) (s d : ℕ) (c : CanMove P I p
     pub may_give : MayGive P J (IsSpare P I (moved P I s d) s d)
     may_give = record {
       coherent = cleared.means.coherent;
-      no_pointer = λ t held. pointer_zero t (held_before t held);
+      no_pointer = λ t held. pointer_zero t (held_back paged t (λ none. none) held);
       decided = spare_or_not;
       needless = needless;
     }

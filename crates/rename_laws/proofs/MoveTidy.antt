@@ -1,7 +1,7 @@
 -- What the last words of a rename mean is what the commit left, and nothing is to be repaired then.
 use Rattle.std.proofs.Common.{◌≡◌, ◌≢◌, ◌↔◌, ◌⊎◌, inl, inr, ℕ, ◌<◌, ◌≤◌, List, sym, ap, subst, ◌∙◌, arith}
 use Rattle.std.proofs.lemmas.Bool.{cases_eq}
-use Rattle.layout.specs.Fields.{word, inode_kind, inode_links, inode_size, page_owner, page_offset, slot_inode, slot_pointer}
+use Rattle.layout.specs.Fields.{word, inode_kind, inode_links, page_owner, page_offset, slot_inode, slot_pointer}
 use Rattle.layout.specs.Geometry.{inodes_of, data_pages_of, page_of_slot, inode_word_of, descriptor_word_of, slot_word_of}
 use Rattle.layout.proofs.GeometryLaws.{page_of_slot_below}
 use Rattle.tree_model.specs.PathText.{Route}
@@ -11,13 +11,15 @@ use Rattle.image_reading.specs.Soundness.{IsCoherent}
 use Rattle.image_reading.specs.Tidy.{IsTidied}
 use Rattle.image_reading.proofs.Credits.{count_same}
 use Rattle.image_counts.proofs.Decided.{room_below, room_owner}
+use Rattle.image_counts.proofs.Paths.{in_range}
 use Rattle.image_laws.specs.Frame.{SameMeaning}
 use Rattle.image_laws.specs.Move.{CanMove, moved}
 use Rattle.image_laws.proofs.Contents.{dec_reached}
+use Rattle.image_laws.proofs.KeptInodes.{KeepsInodes, by_inodes}
 use Rattle.image_laws.proofs.KeptPages.{KeepsPages, by_words, held_forth, held_back, litter_page}
 use Rattle.image_laws.proofs.KeptSlots as slot_laws
 use Rattle.image_laws.proofs.KeptSlots.{KeepsSlots}
-use Rattle.image_laws.proofs.Paths.{reached_pos, reached-le}
+use Rattle.image_laws.proofs.Paths.{reached_pos}
 use Rattle.image_laws.proofs.Ready.{tidy_from}
 use Rattle.rename_laws.proofs.MovedCounts as counts
 use Rattle.rename_laws.proofs.MovedCounts.{IsLowered, IsFallen, IsAlmostTidy}
@@ -57,28 +59,21 @@ module _ (P : ℕ) (I K : List ℕ) (pa pb : Route) (s d : ℕ) (c : CanMove P I
 
   -- ---- fields
 
-  pos : (x : ℕ) → Reached P I x → 1 ≤ x
-  pos x r = let some = reached_pos P I x r in omega (arith, some)
-
-  range : (x : ℕ) → Reached P I x → x ≤ inodes_of P
-  range x r = reached-le P I c.coherent x r
+  range : (x : ℕ) → Reached P I x → (1 ≤ x) × (x ≤ inodes_of P)
+  range x r = in_range P I c.coherent x r
 
   not_out : (x : ℕ) → Reached P (moved P I s d) x → IsOut P I (moved P I s d) d → x ≢ slot_inode P I d
   not_out x r out e = out.1 (subst (Reached P (moved P I s d)) e r)
 
-  inode_kind_same : (x : ℕ) → Reached P (moved P I s d) x → inode_kind K x ≡ inode_kind I x
-  unfolding inode_kind
-  inode_kind_same x r =
-      let was = here.reached_back P I pa pb s d c x r in ended.inodes x 0 (pos x was) (range x was) (omega arith) (λ e. omega (arith, e)) (not_out x r)
+  nodes : KeepsInodes I K (Reached P (moved P I s d)) (λ x. Unit {0})
+  nodes = by_inodes P I K (Reached P (moved P I s d)) (λ x. Unit) (λ x r. range x (here.reached_back P I pa pb s d c x r)) (λ x f r some most lt links. elim links [
+    | inl other ↦ ended.inodes x f some most (omega (arith, lt)) other (not_out x r)
+    | inr none ↦ absurd (none tt)
+  ])
 
   -- as the commit leaves it
   pub kind_after : (x : ℕ) → Reached P (moved P I s d) x → inode_kind K x ≡ inode_kind (moved P I s d) x
-  kind_after x r = inode_kind_same x r ∙ sym (here.kind_same P I pa pb s d c x (here.reached_back P I pa pb s d c x r))
-
-  inode_size_same : (x : ℕ) → Reached P (moved P I s d) x → inode_size K x ≡ inode_size I x
-  unfolding inode_size
-  inode_size_same x r =
-      let was = here.reached_back P I pa pb s d c x r in ended.inodes x 2 (pos x was) (range x was) (omega arith) (λ e. omega (arith, e)) (not_out x r)
+  kind_after x r = nodes.kind x r ∙ sym (here.kind_same P I pa pb s d c x (here.reached_back P I pa pb s d c x r))
 
   pub paged : KeepsPages P I K (IsSpare P I (moved P I s d) s d)
   paged = by_words P I K (IsSpare P I (moved P I s d) s d) ended.descriptors
@@ -167,7 +162,7 @@ module _ (P : ℕ) (I K : List ℕ) (pa pb : Route) (s d : ℕ) (c : CanMove P I
       }
 
   -- all slots of the commit stay
-  kept : KeepsSlots P (moved P I s d) K (λ t. ⊥)
+  pub kept : KeepsSlots P (moved P I s d) K (λ t. ⊥)
   kept = record {
     before = coherent;
     after = ended.means.coherent;
@@ -201,7 +196,7 @@ module _ (P : ℕ) (I K : List ℕ) (pa pb : Route) (s d : ℕ) (c : CanMove P I
               let was = (rooms (page_owner P K (page_of_slot t)) (page_of_slot t)).1 l.page in
               let dead : IsLive P I t → ⊥ = λ lives. l.dead (slot_forth t (here.slot_forward P I pa pb s d c t ns nd (record {
                 owner = subst (Reached P I) same (before (page_owner P K (page_of_slot t)) l.page.reached);
-                directory = ap (inode_kind I) (sym same) ∙ sym (inode_kind_same (page_owner P K (page_of_slot t)) was.reached) ∙ l.page.directory;
+                directory = ap (inode_kind I) (sym same) ∙ sym (nodes.kind (page_owner P K (page_of_slot t)) was.reached) ∙ l.page.directory;
                 live = lives;
               }))).live in
               let page : IsRoomOf P I (page_owner P I (page_of_slot t)) (page_of_slot t) ⊎ (page_of_slot t ≡ page_of_slot d) =
@@ -242,8 +237,8 @@ module _ (P : ℕ) (I K : List ℕ) (pa pb : Route) (s d : ℕ) (c : CanMove P I
   no_page : (j : ℕ) → IsLitterPage P K j → ⊥
   no_page j l = elim (spares.spare_or_not P I pa pb s d c j) [
     | inl spare ↦ (let (f, lt, nonzero) = l.nonzero in nonzero (ended.spare j f spare lt))
-    | inr none ↦ l.free (target_kept j (near.pages j (litter_page P I K (IsSpare P I (moved P I s d) s d) ended.descriptors (λ x was is. inode_kind_same x (back x is)) (λ k lt other r. forth (page_owner P I k) (reached_kept k lt other r))
-        (λ k other file. subst (λ z. page_offset P I k < pages_of_size z) (sym (inode_size_same (page_owner P I k) (reached_kept k file.in_range other file.owner))) file.below) kept_room j none l)))
+    | inr none ↦ l.free (target_kept j (near.pages j (litter_page P I K (IsSpare P I (moved P I s d) s d) ended.descriptors (λ x was is. nodes.kind x (back x is)) (λ k lt other r. forth (page_owner P I k) (reached_kept k lt other r))
+        (λ k other file. subst (λ z. page_offset P I k < pages_of_size z) (sym (nodes.size (page_owner P I k) (reached_kept k file.in_range other file.owner))) file.below) kept_room j none l)))
   ]
 
   no_inode : (x : ℕ) → IsLitterInode P K x → ⊥
@@ -276,7 +271,7 @@ module _ (P : ℕ) (I K : List ℕ) (pa pb : Route) (s d : ℕ) (c : CanMove P I
   no_count x l =
       let r = back x l.reached in
       let was = here.reached_back P I pa pb s d c x r in
-      let count = counts.counted P I pa pb s d c near x (inode_links K x) was (ended.links x (pos x was) (range x was) (not_out x r)) in
+      let count = counts.counted P I pa pb s d c near x (inode_links K x) was (ended.links x (range x was).0 (range x was).1 (not_out x r)) in
       l.other (record {
         file = λ one. count_same (IsNameOf P (moved P I s d) x) (IsNameOf P K x) (inode_links K x) (λ t. slot_laws.names kept x t (λ none. none)) (count.file (sym (kind_after x r) ∙ one));
         directory = λ two.

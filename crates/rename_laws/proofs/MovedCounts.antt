@@ -1,5 +1,5 @@
 -- The links of each inode once a slot took the inode number of another.
-use Rattle.std.proofs.Common.{◌≡◌, ◌≢◌, ◌↔◌, ◌⊎◌, inl, inr, ℕ, ◌+◌, ◌-◌, ◌<◌, List, [], refl, sym, ap, subst, ◌∙◌, arith}
+use Rattle.std.proofs.Common.{◌≡◌, ◌≢◌, ◌↔◌, ◌⊎◌, inl, inr, ℕ, ◌+◌, ◌-◌, ◌<◌, List, refl, sym, ap, subst, ◌∙◌, arith}
 use Rattle.std.proofs.lemmas.Bool.{cases_eq}
 use Rattle.layout.specs.Fields.{word, inode_kind, inode_links, page_owner, slot_inode}
 use Rattle.layout.specs.Geometry.{page_of_slot, slot_word_of}
@@ -10,19 +10,55 @@ use Rattle.image_reading.specs.Repairs.{IsLitterPage, IsLitterInode}
 use Rattle.image_reading.specs.Soundness.{Rule, HasLinks}
 use Rattle.image_reading.proofs.Credits.{count_same, count_more, at_most-count}
 use Rattle.image_laws.specs.Move.{CanMove, moved}
+use Rattle.image_laws.proofs.Decide.{none_or_not, both_or_not}
 use Rattle.image_laws.proofs.KeptSlots.{count_some}
 use Rattle.image_laws.proofs.OnlySlot.{OnlySlot}
 use Rattle.image_laws.proofs.Paths.{reached_pos, reach}
 use Rattle.image_laws.proofs.RemoveRoom.{count_less}
 use Rattle.rename_laws.proofs.MovedNames as here
 
--- d in place of s
-count_swap : (Q R : ℕ → Type 0) (n s d : ℕ) → Q s → (Q d → ⊥) → ((t : ℕ) → R t ↔ ((t ≡ d) ⊎ (Q t × (t ≢ s)))) → Count Q n → Count R n
-count_swap Q R n s d there none same count =
-    let some = count_some Q n s there count in
-    let fewer : Count (λ t. Q t × (t ≢ s)) (n - 1) = count_less Q (λ t. Q t × (t ≢ s)) n s there (λ t. ((λ q. q), (λ q. q))) count in
-    let back : n - 1 + 1 ≡ n = omega (arith, some) in
-    subst (Count R) back (count_more (λ t. Q t × (t ≢ s)) R (n - 1) d (λ q. none q.0) same fewer)
+-- ---- what is decided, as 1 or 0
+
+abbrev holds : {X : Type 0} → X ⊎ ¬ X → ℕ
+holds (inl x) = 1
+holds (inr none) = 0
+
+holds_none : (X : Type 0) (x : X ⊎ ¬ X) → ¬ X → holds x ≡ 0
+holds_none X (inl x) none = absurd (none x)
+holds_none X (inr never) none = refl
+
+holds_some : (X : Type 0) (x : X ⊎ ¬ X) → X → holds x ≡ 1
+holds_some X (inl x) some = refl
+holds_some X (inr never) some = absurd (never some)
+
+holds_same : (X Y : Type 0) (x : X ⊎ ¬ X) (y : Y ⊎ ¬ Y) → X ↔ Y → holds x ≡ holds y
+holds_same X Y (inl x) y same = sym (holds_some Y y (same.0 x))
+holds_same X Y (inr never) y same = sym (holds_none Y y (λ h. never (same.1 h)))
+
+-- ---- s and d lose what Q says, and d gets it where A stands
+
+count_fewer : (Q : ℕ → Type 0) (S : Type 0) (n s : ℕ) → Q s ↔ S → (here : S ⊎ ¬ S) → Count Q n → (m : ℕ) × Count (λ t. Q t × (t ≢ s)) m × (m + holds here ≡ n)
+count_fewer Q S n s is (inl there) count =
+    let some = count_some Q n s (is.1 there) count in
+    (n - 1, count_less Q (λ t. Q t × (t ≢ s)) n s (is.1 there) (λ t. ((λ h. h), (λ h. h))) count, omega (arith, some))
+count_fewer Q S n s is (inr none) count =
+    (n, count_same Q (λ t. Q t × (t ≢ s)) n (λ t. ((λ q. (q, λ e. none (is.0 (subst Q e q)))), (λ h. h.0))) count, omega arith)
+
+count_with : (Q R : ℕ → Type 0) (A : Type 0) (n d : ℕ) → ¬ Q d → ((t : ℕ) → R t ↔ (((t ≡ d) × A) ⊎ Q t)) → (new : A ⊎ ¬ A) → Count Q n → Count R (n + holds new)
+count_with Q R A n d none after (inl a) count = count_more Q R n d none (λ t. (
+  (λ r. elim ((after t).0 r) [ inl new ↦ inl new.0 | inr old ↦ inr old ]),
+  (λ h. (after t).1 (elim h [ inl e ↦ inl (e, a) | inr old ↦ inr old ])),
+)) count
+count_with Q R A n d none after (inr never) count =
+    let same : n ≡ n + 0 = omega arith in
+    subst (Count R) same (count_same Q R n (λ t. ((λ q. (after t).1 (inr q)), (λ r. elim ((after t).0 r) [ inl new ↦ absurd (never new.1) | inr old ↦ old ]))) count)
+
+count_moved : (Q R : ℕ → Type 0) (S D A : Type 0) (n s d : ℕ) → s ≢ d → Q s ↔ S → Q d ↔ D → ((t : ℕ) → R t ↔ (((t ≡ d) × A) ⊎ ((Q t × (t ≢ s)) × (t ≢ d))))
+    → (source : S ⊎ ¬ S) (target : D ⊎ ¬ D) (new : A ⊎ ¬ A) → Count Q n → (m : ℕ) × Count R m × (m + holds source + holds target ≡ n + holds new)
+count_moved Q R S D A n s d apart s_is d_is after source target new count =
+    let (k, first, k_is) = count_fewer Q S n s s_is source count in
+    let (m, second, m_is) = count_fewer (λ t. Q t × (t ≢ s)) D k d ((λ q. d_is.0 q.0), (λ h. (d_is.1 h, λ e. apart (sym e)))) target first in
+    (m + holds new, count_with (λ t. (Q t × (t ≢ s)) × (t ≢ d)) R A m d (λ q. q.1 refl) after new second, omega (arith, k_is, m_is))
 
 -- The count of the new parent has risen already: x is the new parent of a directory that replaces none.
 pub record IsRaised (P : ℕ) (I : List ℕ) (s d x : ℕ) : Type 0 where
@@ -70,38 +106,38 @@ module _ (P : ℕ) (I : List ℕ) (pa pb : Route) (s d : ℕ) (c : CanMove P I p
       ∙ here.kind_same P I pa pb s d c (slot_inode P I s) (here.source_reached P I pa pb s d c)
 
   -- the names of x are the old ones but those of both slots, and the new one
-  name_after : (x t : ℕ) → IsNameOf P (moved P I s d) x t ↔ (((t ≡ d) × (x ≡ slot_inode P I s)) ⊎ (IsNameOf P I x t × (t ≢ s) × (t ≢ d)))
+  name_after : (x t : ℕ) → IsNameOf P (moved P I s d) x t ↔ (((t ≡ d) × (x ≡ slot_inode P I s)) ⊎ ((IsNameOf P I x t × (t ≢ s)) × (t ≢ d)))
   name_after x t = (
     (λ n. elim (cases_eq t d) [
       | inl e ↦ inl (e, sym n.inode ∙ ap (slot_inode P (moved P I s d)) e ∙ here.number_new P I pa pb s d c)
-      | inr nd ↦ inr (record { slot = here.slot_back P I pa pb s d c t nd n.slot; inode = sym (only.inode t nd) ∙ n.inode }, here.not_source P I pa pb s d c t n.slot, nd)
+      | inr nd ↦ inr ((record { slot = here.slot_back P I pa pb s d c t nd n.slot; inode = sym (only.inode t nd) ∙ n.inode }, here.not_source P I pa pb s d c t n.slot), nd)
     ]),
     (λ h. elim h [
       | inl new ↦ subst (IsNameOf P (moved P I s d) x) (sym new.0) (record { slot = here.slot_new P I pa pb s d c; inode = here.number_new P I pa pb s d c ∙ sym new.1 })
-      | inr old ↦ record { slot = here.slot_forward P I pa pb s d c t old.1 old.2 old.0.slot; inode = only.inode t old.2 ∙ old.0.inode }
+      | inr ((n, ns), nd) ↦ record { slot = here.slot_forward P I pa pb s d c t ns nd n.slot; inode = only.inode t nd ∙ n.inode }
     ]),
   )
 
   child_after : (x t : ℕ) → IsChildOf P (moved P I s d) x t
-      ↔ (((t ≡ d) × (x ≡ slot_owner P I d) × IsDirectory I (slot_inode P I s)) ⊎ (IsChildOf P I x t × (t ≢ s) × (t ≢ d)))
+      ↔ (((t ≡ d) × ((x ≡ slot_owner P I d) × IsDirectory I (slot_inode P I s))) ⊎ ((IsChildOf P I x t × (t ≢ s)) × (t ≢ d)))
   child_after x t = (
     (λ n.
         let o = here.owner_same P I pa pb s d c t n.slot.live.held.in_range in
         elim (cases_eq t d) [
           | inl e ↦
               let kind = ap (λ u. inode_kind (moved P I s d) (slot_inode P (moved P I s d) u)) (sym e) in
-              inl (e, sym n.owner ∙ o ∙ ap (slot_owner P I) e, sym kind_new ∙ kind ∙ n.directory)
+              inl (e, (sym n.owner ∙ o ∙ ap (slot_owner P I) e, sym kind_new ∙ kind ∙ n.directory))
           | inr nd ↦
               let old = here.slot_back P I pa pb s d c t nd n.slot in
-              inr (record { slot = old; owner = sym o ∙ n.owner; directory = sym (kind_named t nd old) ∙ n.directory }, here.not_source P I pa pb s d c t n.slot, nd)
+              inr ((record { slot = old; owner = sym o ∙ n.owner; directory = sym (kind_named t nd old) ∙ n.directory }, here.not_source P I pa pb s d c t n.slot), nd)
         ]),
     (λ h. elim h [
-      | inl new ↦ subst (IsChildOf P (moved P I s d) x) (sym new.0)
-          (record { slot = here.slot_new P I pa pb s d c; owner = here.owner_same P I pa pb s d c d c.held.in_range ∙ sym new.1; directory = kind_new ∙ new.2 })
-      | inr old ↦ record {
-        slot = here.slot_forward P I pa pb s d c t old.1 old.2 old.0.slot;
-        owner = here.owner_same P I pa pb s d c t old.0.slot.live.held.in_range ∙ old.0.owner;
-        directory = kind_named t old.2 old.0.slot ∙ old.0.directory;
+      | inl (e, (owner, dir)) ↦ subst (IsChildOf P (moved P I s d) x) (sym e)
+          (record { slot = here.slot_new P I pa pb s d c; owner = here.owner_same P I pa pb s d c d c.held.in_range ∙ sym owner; directory = kind_new ∙ dir })
+      | inr ((n, ns), nd) ↦ record {
+        slot = here.slot_forward P I pa pb s d c t ns nd n.slot;
+        owner = here.owner_same P I pa pb s d c t n.slot.live.held.in_range ∙ n.owner;
+        directory = kind_named t nd n.slot ∙ n.directory;
       }
     ]),
   )
@@ -109,210 +145,121 @@ module _ (P : ℕ) (I : List ℕ) (pa pb : Route) (s d : ℕ) (c : CanMove P I p
   pub source_kind : HasBytes I (slot_inode P I s) ⊎ IsDirectory I (slot_inode P I s)
   source_kind = (c.coherent Rule.kinds (slot_inode P I s)).kind (here.source_reached P I pa pb s d c)
 
+  -- a directory moves out of x, or into x
+  abbrev IsFrom : ℕ → Type 0
+  IsFrom x = (x ≡ slot_owner P I s) × IsDirectory I (slot_inode P I s)
+
+  abbrev IsInto : ℕ → Type 0
+  IsInto x = (x ≡ slot_owner P I d) × IsDirectory I (slot_inode P I s)
+
   module _ (near : IsAlmostTidy P I s d) where
     -- ---- a file
 
-    replaced_some : (x : ℕ) → Reached P I x → x ≡ slot_inode P I d → slot_inode P I d ≢ 0
-    replaced_some x r e z = reached_pos P I x r (e ∙ z)
-
-    not_parent : (x : ℕ) → HasBytes I x → x ≢ slot_owner P I s
-    not_parent x one e = let two = ap (inode_kind I) e ∙ c.source_directory in omega (arith, one, two)
-
-    file_moved : (x n : ℕ) → Reached P I x → HasBytes I x → x ≡ slot_inode P I s → IsFallen P I s d x n → Count (IsNameOf P (moved P I s d) x) n
-    file_moved x n r one e fallen =
-        let stays : n ≡ inode_links I x = fallen.stays (λ falls. elim falls [
-          | inl replaced ↦ here.other_node P I pa pb s d c (sym replaced.2 ∙ e)
-          | inr parent ↦ not_parent x one parent.2
-        ]) in
-        subst (Count (IsNameOf P (moved P I s d) x)) (sym stays) (count_swap (IsNameOf P I x) (IsNameOf P (moved P I s d) x) (inode_links I x) s d
-        (record { slot = here.source_slot P I pa pb s d c; inode = sym e })
-        (λ name. here.other_node P I pa pb s d c (name.inode ∙ e))
-        (λ t. (
-          (λ now. elim ((name_after x t).0 now) [ inl new ↦ inl new.0 | inr old ↦ inr (old.0, old.1) ]),
-          (λ h. (name_after x t).1 (elim h [ inl new ↦ inl (new, e) | inr old ↦ inr (old.0, old.1, λ is. here.other_node P I pa pb s d c (sym (ap (slot_inode P I) is) ∙ old.0.inode ∙ e)) ])),
-        ))
-        (near.names x r one))
-
-    file_replaced : (x n : ℕ) → Reached P I x → HasBytes I x → x ≡ slot_inode P I d → IsFallen P I s d x n
-        → Count (IsNameOf P (moved P I s d) x) n
-    file_replaced x n r one e fallen =
-        let some = replaced_some x r e in
-        let file : HasBytes I (slot_inode P I s) = sym (near.kinds some) ∙ sym (ap (inode_kind I) e) ∙ one in
-        let less = fallen.falls (inl (file, some, e)) in
-        let is : inode_links I x - 1 ≡ n = omega (arith, less) in
-        let other : x ≢ slot_inode P I s = λ z. here.other_node P I pa pb s d c (sym e ∙ z) in
-        subst (Count (IsNameOf P (moved P I s d) x)) is (count_less (IsNameOf P I x) (IsNameOf P (moved P I s d) x) (inode_links I x) d
-        (record { slot = here.replaced_slot P I pa pb s d c some; inode = sym e })
-        (λ t. (
-          (λ now. elim ((name_after x t).0 now) [ inl new ↦ absurd (other new.1) | inr old ↦ (old.0, old.2) ]),
-          (λ (name, nd). (name_after x t).1 (inr (name, (λ is. other (sym name.inode ∙ ap (slot_inode P I) is)), nd))),
-        ))
-        (near.names x r one))
-
-    file_other : (x n : ℕ) → Reached P I x → HasBytes I x → x ≢ slot_inode P I s → x ≢ slot_inode P I d → IsFallen P I s d x n
-        → Count (IsNameOf P (moved P I s d) x) n
-    file_other x n r one ns nd fallen =
-        let stays : n ≡ inode_links I x = fallen.stays (λ falls. elim falls [ inl replaced ↦ nd replaced.2 | inr parent ↦ not_parent x one parent.2 ]) in
-        subst (Count (IsNameOf P (moved P I s d) x)) (sym stays) (count_same (IsNameOf P I x) (IsNameOf P (moved P I s d) x) (inode_links I x)
-        (λ t. (
-          (λ name. (name_after x t).1 (inr (name, (λ is. ns (sym name.inode ∙ ap (slot_inode P I) is)), (λ is. nd (sym name.inode ∙ ap (slot_inode P I) is))))),
-          (λ now. elim ((name_after x t).0 now) [ inl new ↦ absurd (ns new.1) | inr old ↦ old.0 ]),
-        ))
-        (near.names x r one))
-
     file_count : (x n : ℕ) → Reached P I x → HasBytes I x → IsFallen P I s d x n → Count (IsNameOf P (moved P I s d) x) n
-    file_count x n r one fallen = elim (cases_eq x (slot_inode P I s)) [
-      | inl e ↦ file_moved x n r one e fallen
-      | inr ns ↦ elim (cases_eq x (slot_inode P I d)) [
-        | inl e ↦ file_replaced x n r one e fallen
-        | inr nd ↦ file_other x n r one ns nd fallen
-      ]
-    ]
+    file_count x n r one fallen =
+        let some : x ≡ slot_inode P I d → slot_inode P I d ≢ 0 = λ e z. reached_pos P I x r (e ∙ z) in
+        let source = cases_eq x (slot_inode P I s) in
+        let after = λ (target : (x ≡ slot_inode P I d) ⊎ (x ≢ slot_inode P I d)).
+        count_moved (IsNameOf P I x) (IsNameOf P (moved P I s d) x) (x ≡ slot_inode P I s) (x ≡ slot_inode P I d) (x ≡ slot_inode P I s) (inode_links I x) s d (here.apart P I pa pb s d c)
+        ((λ name. sym name.inode), (λ e. record { slot = here.source_slot P I pa pb s d c; inode = sym e }))
+        ((λ name. sym name.inode), (λ e. record { slot = here.replaced_slot P I pa pb s d c (some e); inode = sym e }))
+        (name_after x) source target source (near.names x r one) in
+        elim (cases_eq x (slot_inode P I d)) [
+          | inl e ↦
+              let (m, count, total) = after (inl e) in
+              let less = fallen.falls (inl (sym (near.kinds (some e)) ∙ sym (ap (inode_kind I) e) ∙ one, some e, e)) in
+              let left : m ≡ n = omega (arith, total, less) in
+              subst (Count (IsNameOf P (moved P I s d) x)) left count
+          | inr ne ↦
+              let (m, count, total) = after (inr ne) in
+              let stays = fallen.stays (λ falls. elim falls [
+                | inl replaced ↦ ne replaced.2
+                | inr parent ↦ (let two = ap (inode_kind I) parent.2 ∙ c.source_directory in omega (arith, one, two))
+              ]) in
+              let left : m ≡ n = omega (arith, total, stays) in
+              subst (Count (IsNameOf P (moved P I s d) x)) left count
+        ]
 
     -- ---- a directory
 
-    IsCounted : ℕ → ℕ → Type 0
-    IsCounted x n = (m : ℕ) × Count (IsChildOf P (moved P I s d) x) m × (n ≡ 2 + m)
+    IsReplaced : ℕ → Type 0
+    IsReplaced x = IsInto x × (slot_inode P I d ≢ 0)
 
-    -- a file is moved
-    file_child : (x n : ℕ) → Reached P I x → IsDirectory I x → HasBytes I (slot_inode P I s) → IsFallen P I s d x n → IsCounted x n
-    unfolding IsCounted
-    file_child x n r two file fallen =
-        let (m, count, links) = near.children x r two in
-        let still : inode_links I x ≡ 2 + m = elim links [ inl risen ↦ (let dir = risen.0.directory in absurd (omega (arith, dir, file))) | inr same ↦ same.1 ] in
-        let stays : n ≡ inode_links I x = fallen.stays (λ falls. elim falls [
-          | inl replaced ↦ (let kind = sym (ap (inode_kind I) (sym replaced.2) ∙ two) ∙ near.kinds replaced.1 ∙ file in omega (arith, kind))
-          | inr parent ↦ (let dir = parent.0 in omega (arith, dir, file))
-        ]) in
-        let not_source : (t : ℕ) → IsChildOf P I x t → t ≢ s = λ t child is.
-        let dir = ap (λ u. inode_kind I (slot_inode P I u)) (sym is) ∙ child.directory in omega (arith, dir, file) in
-        let not_target : (t : ℕ) → IsChildOf P I x t → t ≢ d = λ t child is.
-        let dir : IsDirectory I (slot_inode P I d) = ap (λ u. inode_kind I (slot_inode P I u)) (sym is) ∙ child.directory in
-        let some : slot_inode P I d ≢ 0 = λ z. child.slot.live.names (ap (slot_inode P I) is ∙ z) in
-        let kind = sym dir ∙ near.kinds some ∙ file in omega (arith, kind) in (
-          m,
-          count_same (IsChildOf P I x) (IsChildOf P (moved P I s d) x) m
-              (λ t. (
-                (λ child. (child_after x t).1 (inr (child, not_source t child, not_target t child))),
-                (λ now. elim ((child_after x t).0 now) [ inl new ↦ (let dir = new.2 in absurd (omega (arith, dir, file))) | inr old ↦ old.0 ]),
-              )) count,
-          stays ∙ still,
-        )
-
-    source_child : (x : ℕ) → x ≡ slot_owner P I s → IsDirectory I (slot_inode P I s) → IsChildOf P I x s
-    source_child x e two = record { slot = here.source_slot P I pa pb s d c; owner = sym e; directory = two }
-
-    -- a directory replaces one
-    over_child : (x n : ℕ) → Reached P I x → IsDirectory I x → IsDirectory I (slot_inode P I s) → slot_inode P I d ≢ 0 → IsFallen P I s d x n
-        → IsCounted x n
-    unfolding IsCounted
-    over_child x n r two dir some fallen =
-        let (m, count, links) = near.children x r two in
-        let still : inode_links I x ≡ 2 + m = elim links [ inl risen ↦ absurd (some risen.0.none) | inr same ↦ same.1 ] in
-        let replaced : IsDirectory I (slot_inode P I d) = near.kinds some ∙ dir in
-        let same : (t : ℕ) → IsChildOf P (moved P I s d) x t ↔ (IsChildOf P I x t × (t ≢ s)) = λ t. (
-          (λ now. elim ((child_after x t).0 now) [
-            | inl new ↦ (
-              subst (IsChildOf P I x) (sym new.0) (record { slot = here.replaced_slot P I pa pb s d c some; owner = sym new.1; directory = replaced }),
-              (λ is. here.apart P I pa pb s d c (sym is ∙ new.0)),
-            )
-            | inr old ↦ (old.0, old.1)
-          ]),
-          (λ (child, ns). (child_after x t).1 (elim (cases_eq t d) [
-            | inl is ↦ inl (is, sym child.owner ∙ ap (slot_owner P I) is, dir)
-            | inr nd ↦ inr (child, ns, nd)
-          ])),
-        ) in
-        elim (cases_eq x (slot_owner P I s)) [
-          | inl e ↦
-              let child = source_child x e dir in
-              let some_child = count_some (IsChildOf P I x) m s child count in
-              let less = fallen.falls (inr (dir, inr some, e)) in
-              let left : n ≡ 2 + (m - 1) = omega (arith, less, still, some_child) in
-              (m - 1, count_less (IsChildOf P I x) (IsChildOf P (moved P I s d) x) m s child same count, left)
-          | inr ne ↦
-              let stays : n ≡ inode_links I x = fallen.stays (λ falls. elim falls [ inl file ↦ (let one = file.0 in omega (arith, one, dir)) | inr parent ↦ ne parent.2 ]) in (
-                m,
-                count_same (IsChildOf P I x) (IsChildOf P (moved P I s d) x) m
-                    (λ t. ((λ child. (same t).1 (child, λ is. ne (sym child.owner ∙ ap (slot_owner P I) is))), (λ now. ((same t).0 now).0))) count,
-                stays ∙ still,
-              )
-        ]
-
-    -- a directory replaces none
-    new_child : (x n : ℕ) → Reached P I x → IsDirectory I x → IsDirectory I (slot_inode P I s) → slot_inode P I d ≡ 0 → IsFallen P I s d x n
-        → IsCounted x n
-    unfolding IsCounted
-    new_child x n r two dir none fallen =
-        let (m, count, links) = near.children x r two in
-        let not_target : (t : ℕ) → IsChildOf P I x t → t ≢ d = λ t child is. child.slot.live.names (ap (slot_inode P I) is ∙ none) in
-        let stays : x ≢ slot_owner P I s ⊎ (slot_owner P I d ≡ slot_owner P I s) → n ≡ inode_links I x = λ why. fallen.stays (λ falls. elim falls [
-          | inl file ↦ (let one = file.0 in omega (arith, one, dir))
-          | inr parent ↦ elim why [ inl ne ↦ ne parent.2 | inr same ↦ elim parent.1 [ inl other ↦ other same | inr some ↦ some none ] ]
-        ]) in
-        let still : (IsRaised P I s d x → ⊥) → inode_links I x ≡ 2 + m = λ never. elim links [ inl risen ↦ absurd (never risen.0) | inr same ↦ same.1 ] in
-        elim (cases_eq x (slot_owner P I d)) [
-          | inl e ↦ elim (cases_eq (slot_owner P I d) (slot_owner P I s)) [
-            | inl parents ↦ (
-              m,
-              count_swap (IsChildOf P I x) (IsChildOf P (moved P I s d) x) m s d (source_child x (e ∙ parents) dir) (λ child. not_target d child refl)
-                  (λ t. (
-                    (λ now. elim ((child_after x t).0 now) [ inl new ↦ inl new.0 | inr old ↦ inr (old.0, old.1) ]),
-                    (λ h. (child_after x t).1 (elim h [ inl new ↦ inl (new, e, dir) | inr old ↦ inr (old.0, old.1, not_target t old.0) ])),
-                  )) count,
-              stays (inr parents) ∙ still (λ risen. risen.parents parents),
-            )
-            | inr parents ↦
-                let rises : inode_links I x ≡ 3 + m = elim links [
-                  | inl risen ↦ risen.1
-                  | inr same ↦ absurd (same.0 (record { directory = dir; parents = parents; none = none; here = e }))
-                ] in
-                let unmoved = stays (inl (λ is. parents (sym e ∙ is))) in
-                let left : n ≡ 2 + (m + 1) = omega (arith, unmoved, rises) in (
-                  m + 1,
-                  count_more (IsChildOf P I x) (IsChildOf P (moved P I s d) x) m d (λ child. not_target d child refl)
-                      (λ t. (
-                        (λ now. elim ((child_after x t).0 now) [ inl new ↦ inl new.0 | inr old ↦ inr old.0 ]),
-                        (λ h. (child_after x t).1 (elim h [
-                          | inl new ↦ inl (new, e, dir)
-                          | inr old ↦ inr (old, (λ is. parents (sym e ∙ sym old.owner ∙ ap (slot_owner P I) is)), not_target t old)
-                        ])),
-                      )) count,
-                  left,
-                )
-          ]
-          | inr ne ↦
-              let same : (t : ℕ) → IsChildOf P (moved P I s d) x t ↔ (IsChildOf P I x t × (t ≢ s)) = λ t. (
-                (λ now. elim ((child_after x t).0 now) [ inl new ↦ absurd (ne new.1) | inr old ↦ (old.0, old.1) ]),
-                (λ (child, ns). (child_after x t).1 (inr (child, ns, not_target t child))),
-              ) in
-              let unrisen = still (λ risen. ne risen.here) in
-              elim (cases_eq x (slot_owner P I s)) [
-                | inl e ↦
-                    let child = source_child x e dir in
-                    let some_child = count_some (IsChildOf P I x) m s child count in
-                    let less = fallen.falls (inr (dir, inl (λ parents. ne (e ∙ sym parents)), e)) in
-                    let left : n ≡ 2 + (m - 1) = omega (arith, less, unrisen, some_child) in
-                    (m - 1, count_less (IsChildOf P I x) (IsChildOf P (moved P I s d) x) m s child same count, left)
-                | inr other ↦ (
-                  m,
-                  count_same (IsChildOf P I x) (IsChildOf P (moved P I s d) x) m
-                      (λ t. ((λ child. (same t).1 (child, λ is. other (sym child.owner ∙ ap (slot_owner P I) is))), (λ now. ((same t).0 now).0))) count,
-                  stays (inl other) ∙ unrisen,
-                )
+    links_left : (x n k m : ℕ) → IsDirectory I x → IsFallen P I s d x n → (IsRaised P I s d x × (inode_links I x ≡ 3 + k)) ⊎ ((IsRaised P I s d x → ⊥) × (inode_links I x ≡ 2 + k))
+        → (source : IsFrom x ⊎ ¬ IsFrom x) (target : IsReplaced x ⊎ ¬ IsReplaced x) (new : IsInto x ⊎ ¬ IsInto x) → m + holds source + holds target ≡ k + holds new → n ≡ 2 + m
+    unfolding IsReplaced
+    links_left x n k m two fallen links source target new total =
+        let still : (IsRaised P I s d x → ⊥) → inode_links I x ≡ 2 + k = λ never. elim links [ inl risen ↦ absurd (never risen.0) | inr same ↦ same.1 ] in
+        elim source_kind [
+          | inl file ↦
+              let no_source = holds_none _ source (λ h. (let dir = h.1 in omega (arith, dir, file))) in
+              let no_target = holds_none _ target (λ h. (let dir = h.0.1 in omega (arith, dir, file))) in
+              let no_new = holds_none _ new (λ h. (let dir = h.1 in omega (arith, dir, file))) in
+              let same = still (λ risen. (let dir = risen.directory in omega (arith, dir, file))) in
+              let stays = fallen.stays (λ falls. elim falls [
+                | inl replaced ↦ (let kind = sym (ap (inode_kind I) (sym replaced.2) ∙ two) ∙ near.kinds replaced.1 ∙ file in omega (arith, kind))
+                | inr parent ↦ (let dir = parent.0 in omega (arith, dir, file))
+              ]) in
+              omega (arith, total, no_source, no_target, no_new, same, stays)
+          | inr dir ↦
+              let falls : (slot_owner P I d ≢ slot_owner P I s) ⊎ (slot_inode P I d ≢ 0) → n + holds source ≡ inode_links I x = λ why. elim (cases_eq x (slot_owner P I s)) [
+                | inl e ↦ (let one = holds_some _ source (e, dir) in let less = fallen.falls (inr (dir, why, e)) in omega (arith, one, less))
+                | inr ne ↦
+                    let none = holds_none _ source (λ h. ne h.0) in
+                    let stays = fallen.stays (λ falls. elim falls [ inl file ↦ (let one = file.0 in omega (arith, one, dir)) | inr parent ↦ ne parent.2 ]) in
+                    omega (arith, none, stays)
+              ] in
+              elim (cases_eq (slot_inode P I d) 0) [
+                | inr some ↦
+                    let same = holds_same _ _ target new ((λ h. h.0), (λ h. (h, some))) in
+                    let unrisen = still (λ risen. some risen.none) in
+                    let fell = falls (inr some) in
+                    omega (arith, total, same, unrisen, fell)
+                | inl none ↦
+                    let no_target = holds_none _ target (λ h. h.1 none) in
+                    elim (cases_eq (slot_owner P I d) (slot_owner P I s)) [
+                      | inl parents ↦
+                          let same = holds_same _ _ source new ((λ h. (h.0 ∙ sym parents, dir)), (λ h. (h.0 ∙ parents, dir))) in
+                          let unrisen = still (λ risen. risen.parents parents) in
+                          let stays = fallen.stays (λ falls. elim falls [
+                            | inl file ↦ (let one = file.0 in omega (arith, one, dir))
+                            | inr parent ↦ elim parent.1 [ inl other ↦ other parents | inr some ↦ some none ]
+                          ]) in
+                          omega (arith, total, no_target, same, unrisen, stays)
+                      | inr parents ↦
+                          let risen : inode_links I x ≡ 2 + k + holds new = elim links [
+                            | inl rises ↦ (let one = holds_some _ new (rises.0.here, dir) in let more = rises.1 in omega (arith, one, more))
+                            | inr same ↦
+                                let no_new = holds_none _ new (λ h. same.0 (record { directory = dir; parents = parents; none = none; here = h.0 })) in
+                                let links = same.1 in
+                                omega (arith, no_new, links)
+                          ] in
+                          let fell = falls (inl parents) in
+                          omega (arith, total, no_target, risen, fell)
+                    ]
               ]
         ]
 
-    directory_count : (x n : ℕ) → Reached P I x → IsDirectory I x → IsFallen P I s d x n → IsCounted x n
-    directory_count x n r two fallen = elim source_kind [
-      | inl file ↦ file_child x n r two file fallen
-      | inr dir ↦ elim (cases_eq (slot_inode P I d) 0) [ inl none ↦ new_child x n r two dir none fallen | inr some ↦ over_child x n r two dir some fallen ]
-    ]
+    directory_count : (x n : ℕ) → Reached P I x → IsDirectory I x → IsFallen P I s d x n → (m : ℕ) × Count (IsChildOf P (moved P I s d) x) m × (n ≡ 2 + m)
+    unfolding IsReplaced
+    directory_count x n r two fallen =
+        let (k, children, links) = near.children x r two in
+        let dir = cases_eq (inode_kind I (slot_inode P I s)) 2 in
+        let some : (slot_inode P I d ≢ 0) ⊎ ¬ (slot_inode P I d ≢ 0) = none_or_not (slot_inode P I d ≡ 0) (cases_eq (slot_inode P I d) 0) in
+        let source = both_or_not (x ≡ slot_owner P I s) (IsDirectory I (slot_inode P I s)) (cases_eq x (slot_owner P I s)) dir in
+        let new = both_or_not (x ≡ slot_owner P I d) (IsDirectory I (slot_inode P I s)) (cases_eq x (slot_owner P I d)) dir in
+        let target = both_or_not (IsInto x) (slot_inode P I d ≢ 0) new some in
+        let (m, count, total) = count_moved (IsChildOf P I x) (IsChildOf P (moved P I s d) x) (IsFrom x) (IsReplaced x) (IsInto x) k s d (here.apart P I pa pb s d c)
+        ((λ child. (sym child.owner, child.directory)), (λ h. record { slot = here.source_slot P I pa pb s d c; owner = sym h.0; directory = h.1 })) (
+          (λ child. let named = child.slot.live.names in ((sym child.owner, sym (near.kinds named) ∙ child.directory), named)),
+          (λ (into, some). record { slot = here.replaced_slot P I pa pb s d c some; owner = sym into.0; directory = near.kinds some ∙ into.1 }),
+        )
+        (child_after x) source target new children in
+        (m, count, links_left x n k m two fallen links source target new total)
 
     -- ---- both
 
     pub counted : (x n : ℕ) → Reached P I x → IsFallen P I s d x n → IsLinkCount P (moved P I s d) x n
-    unfolding IsCounted
     counted x n r fallen = record {
       file = λ one. file_count x n r (sym (here.kind_same P I pa pb s d c x r) ∙ one) fallen;
       directory = λ two. directory_count x n r (sym (here.kind_same P I pa pb s d c x r) ∙ two) fallen;

@@ -5,9 +5,9 @@ use Rattle.layout.specs.Geometry.{inodes_of, data_pages_of, page_of_slot}
 use Rattle.layout.specs.Name.{name_in_words}
 use Rattle.tree_model.specs.PathText.{Route}
 use Rattle.image_reading.specs.Reading.{Reached, IsReachedSlot, IsPageOf}
-use Rattle.image_counts.specs.Entries.{IsSlotOf}
 use Rattle.image_laws.specs.Move.{CanMove, moved}
 use Rattle.image_laws.proofs.KeptPages.{page_same}
+use Rattle.image_laws.proofs.KeptSlots as slot_laws
 use Rattle.image_laws.proofs.Paths.{reached_pos}
 use Rattle.image_laws.proofs.Words.{slot_words-same}
 use Rattle.rename_laws.specs.Target.{Target, Vacant, Opened, Taken, old_number}
@@ -45,20 +45,6 @@ module _ (P : ℕ) (W I J G K : List ℕ) (pa pb : Route) (s x d : ℕ) (target 
   entry : HasEntryMoved P W (moved P I s d) s x d target
   entry = entries.entry_moved P W I pa pb s x d target rising ready
 
-  slot_forth : (t : ℕ) → IsReachedSlot P (moved P I s d) t → IsReachedSlot P K t
-  slot_forth = ends.slot_forth P I K pa pb s d c almost ended
-
-  slot_back : (t : ℕ) → IsReachedSlot P K t → IsReachedSlot P (moved P I s d) t
-  slot_back = ends.slot_back P I K pa pb s d c almost ended
-
-  -- ---- entries
-
-  entries_same : (y t : ℕ) → IsSlotOf P K y t ↔ IsSlotOf P (moved P I s d) y t
-  entries_same y t = (
-    (λ (r, owner). (slot_back t r, sym (ends.owner_after P I K pa pb s d c almost ended t r.live.held) ∙ owner)),
-    (λ (r, owner). let there = slot_forth t r in (there, ends.owner_after P I K pa pb s d c almost ended t there.live.held ∙ owner)),
-  )
-
   new_name : slot_name P K d ≡ slot_name P I d
   unfolding slot_name
   new_name = ap name_in_words (slot_words-same P I K d (λ f lt. ended.name (2 + f) (omega arith) (omega (arith, lt))))
@@ -73,7 +59,9 @@ module _ (P : ℕ) (W I J G K : List ℕ) (pa pb : Route) (s x d : ℕ) (target 
 
   entry_end : HasEntryMoved P W K s x d target
   entry_end = record {
-    entries = λ y t. ((λ e. (entry.entries y t).0 ((entries_same y t).0 e)), (λ h. (entries_same y t).1 ((entry.entries y t).1 h)));
+    entries = λ y t.
+        let same = slot_laws.entries (ends.kept P I K pa pb s d c almost ended) y t (λ none. none) in
+        ((λ e. (entry.entries y t).0 (same.1 e)), (λ h. same.0 ((entry.entries y t).1 h)));
     new_name = new_name ∙ ready.name_is;
     new_inode = ended.number ∙ near.source_number P W I pa pb s x d target rising ready;
     names = λ t r ns nd. name_same t ns nd ∙ sym (commit_name t) ∙ entry.names t r ns nd;
@@ -139,7 +127,7 @@ module _ (P : ℕ) (W I J G K : List ℕ) (pa pb : Route) (s x d : ℕ) (target 
   -- ---- the index
 
   new_slot : IsReachedSlot P K d
-  new_slot = slot_forth d (here.slot_new P I pa pb s d c)
+  new_slot = ends.slot_forth P I K pa pb s d c almost ended d (here.slot_new P I pa pb s d c)
 
   pub index_moved : HasIndexMoved P W (moved P I s d) K s x d target
   index_moved = record {

@@ -1,5 +1,5 @@
 -- The room after a rename.
-use Rattle.std.proofs.Common.{◌≡◌, ◌≢◌, inl, inr, ℕ, ◌+◌, ◌-◌, Bool, true, false, cond, ◌&&◌, List, Option, Some, None, unwrap_or, refl, sym, ap, subst, ◌∙◌, add-zero}
+use Rattle.std.proofs.Common.{◌≡◌, inl, inr, ℕ, ◌+◌, ◌-◌, Bool, true, false, cond, ◌&&◌, List, Option, Some, None, refl, sym, ap, subst, ◌∙◌, add-zero}
 use Rattle.std.proofs.lemmas.Bool.{cases_eq}
 use Rattle.tree_model.specs.PathText.{Route}
 use Rattle.tree_model.specs.Step.{gaining, losing, is_full, page_for_name, pages_after}
@@ -14,7 +14,8 @@ use Rattle.image_laws.specs.Move.{CanMove, HasRoomMoved}
 use Rattle.image_laws.specs.Remove.{without_page}
 use Rattle.image_laws.proofs.AddRoom.{get-here, get-other}
 use Rattle.image_laws.proofs.MoveRoom.{move_room_law}
-use Rattle.image_laws.proofs.RoomAfter.{room_at, gained, gained_other, gained_here, is_same, not_same}
+use Rattle.image_laws.proofs.RoomAfter.{room_at, gained, gained_other, gained_here}
+use Rattle.image_laws.proofs.RoomLeft.{HasPages, lost, lost_none, pages_left}
 use Rattle.rename_laws.specs.End.{MovedRoomLaw}
 use Rattle.rename_laws.proofs.MovedCounts.{IsAlmostTidy}
 use Rattle.rename_laws.proofs.MoveNear as before
@@ -31,7 +32,7 @@ pages_then T room (Some x) y = gained T room x y
 
 -- a room has those pages
 abbrev pub HasPagesThen : Tree → Room → Option ℕ → Room → Type 0
-HasPagesThen T room gains after = (y : ℕ) → is_directory T y ≡ true → get after y ≡ Some (pages_then T room gains y)
+HasPagesThen T room gains after = HasPages T (pages_then T room gains) after
 
 -- a room's entries are its directories' pages
 entry : (T : Tree) (room : Room) → IsRoom T room → (y : ℕ) → is_directory T y ≡ true → get room y ≡ Some (pages_in room y)
@@ -68,38 +69,17 @@ module _ (T : Tree) (room : Room) (from to : Route) (o : ℕ) (gains : Option �
   gained_is None y = add-zero (pages_in room y)
   gained_is (Some x) y = refl
 
-  pages_are : (gives : Bool) (y : ℕ) → pages_after T room (Rename from to) gives y
-      ≡ cond (is_number (Some o) y && gives) (pages_then T room gains y - 1) (pages_then T room gains y)
-  unfolding pages_by
+  pages_are : (gives : Bool) (y : ℕ) → pages_after T room (Rename from to) gives y ≡ lost o gives (pages_then T room gains y) y
+  unfolding pages_by lost
   pages_are gives y =
-      ap (λ g. pages_by g (losing T (Rename from to)) gives y) gains_is ∙ ap (λ l. pages_by gains l gives y) loses_is
-      ∙ ap (λ n. cond (is_number (Some o) y && gives) (n - 1) n) (gained_is gains y)
-
-  pages_kept : (y : ℕ) → pages_after T room (Rename from to) false y ≡ pages_then T room gains y
-  pages_kept y = pages_are false y ∙ never (is_number (Some o) y)
-    where
-      never : (b : Bool) → cond (b && false) (pages_then T room gains y - 1) (pages_then T room gains y) ≡ pages_then T room gains y
-      never true = refl
-      never false = refl
-
-  pages_given : pages_after T room (Rename from to) true o ≡ pages_then T room gains o - 1
-  pages_given = pages_are true o ∙ ap (λ b. cond (b && true) (pages_then T room gains o - 1) (pages_then T room gains o)) (is_same o)
-
-  pages_other : (y : ℕ) → o ≢ y → pages_after T room (Rename from to) true y ≡ pages_then T room gains y
-  pages_other y ne = pages_are true y ∙ ap (λ b. cond (b && true) (pages_then T room gains y - 1) (pages_then T room gains y)) (not_same o y ne)
+      ap (λ g. pages_by g (losing T (Rename from to)) gives y) gains_is ∙ ap (λ l. pages_by gains l gives y) loses_is ∙ ap (λ n. lost o gives n y) (gained_is gains y)
 
   -- the old directory keeps its page, or gives it back
-  pub kept_entry : (after : Room) → HasPagesThen T room gains after → (y : ℕ) → is_directory T y ≡ true
-      → get after y ≡ Some (pages_after T room (Rename from to) false y)
-  kept_entry after has y dir = has y dir ∙ ap Some (sym (pages_kept y))
+  pub kept_entry : (after : Room) → HasPagesThen T room gains after → HasPages T (pages_after T room (Rename from to) false) after
+  kept_entry after has y dir = has y dir ∙ ap Some (sym (pages_are false y ∙ lost_none o (pages_then T room gains y) y))
 
-  pub given_entry : (after : Room) → HasPagesThen T room gains after → is_directory T o ≡ true → (y : ℕ) → is_directory T y ≡ true
-      → get (without_page after o) y ≡ Some (pages_after T room (Rename from to) true y)
-  given_entry after has holds y dir = elim (cases_eq o y) [
-    | inl e ↦ subst (λ z. get (without_page after o) z ≡ Some (pages_after T room (Rename from to) true z)) e
-        (get-here after o (pages_in after o - 1) ∙ ap (λ n. Some (n - 1)) (ap (λ p. unwrap_or p 0) (has o holds)) ∙ ap Some (sym pages_given))
-    | inr ne ↦ get-other after o (pages_in after o - 1) y (λ z. ne (sym z)) ∙ has y dir ∙ ap Some (sym (pages_other y ne))
-  ]
+  pub given_entry : (after : Room) → HasPagesThen T room gains after → is_directory T o ≡ true → HasPages T (pages_after T room (Rename from to) true) (without_page after o)
+  given_entry after has holds y dir = pages_left T (pages_then T room gains) after o has holds y dir ∙ ap Some (sym (pages_are true y))
 
 -- ---- the room of the last words
 

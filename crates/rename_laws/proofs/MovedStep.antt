@@ -1,9 +1,8 @@
 -- What a rename leaves is a state that the step allows.
-use Rattle.std.proofs.Common.{◌≡◌, ◌≢◌, ◌⊎◌, inl, inr, ℕ, Bool, true, false, cond, List, Option, Some, None, is_some, unwrap_or, refl, sym, ap, subst, ◌∙◌, arith}
-use Rattle.layout.specs.Fields.{inode_kind, page_owner, slot_inode}
+use Rattle.std.proofs.Common.{◌≡◌, ◌⊎◌, inl, inr, ℕ, Bool, true, false, cond, List, Option, Some, None, is_some, unwrap_or, refl, sym, ap, subst, ◌∙◌}
+use Rattle.layout.specs.Fields.{slot_inode}
 use Rattle.layout.specs.Geometry.{page_of_slot}
 use Rattle.layout.specs.Name.{name_in_words}
-use Rattle.layout.proofs.GeometryLaws.{page_of_slot_below}
 use Rattle.tree_model.specs.PathText.{Route}
 use Rattle.tree_model.specs.Run.{State}
 use Rattle.tree_model.specs.Step.{gaining, losing, id_of, is_same_node, pages_after, room_after, tree_after}
@@ -11,13 +10,8 @@ use Rattle.tree_model.specs.Table.{get, remove}
 use Rattle.tree_model.specs.Tree.{Room, IsRoom, root_id, parent, id_at, is_directory}
 use Rattle.tree_model.specs.declared.command.Command.TheVariants.{Rename}
 use Rattle.tree_model.proofs.RoomLaws.{get-room_after}
-use Rattle.tree_model.proofs.TreeKept.{none_some}
-use Rattle.tree_model.proofs.TreeLaws.{same_room}
-use Rattle.image_reading.specs.Reading.{IsDirectory, slot_owner, IsHeld, Reached, IsRoomOf, Reads, HasRoom, ReadsAs}
-use Rattle.image_reading.specs.Repairs.{IsLitterPage}
+use Rattle.image_reading.specs.Reading.{IsDirectory, slot_owner, Reached, IsRoomOf, Reads, HasRoom, ReadsAs}
 use Rattle.image_reading.specs.Soundness.{IsCoherent}
-use Rattle.image_counts.proofs.Counting.{none_counted}
-use Rattle.image_counts.proofs.Decided.{room_counted}
 use Rattle.image_counts.proofs.States.{is_room}
 use Rattle.image_laws.specs.Add.{with_page}
 use Rattle.image_laws.specs.Create.{CanName}
@@ -25,8 +19,8 @@ use Rattle.image_laws.specs.CreateStep.{IsStepped}
 use Rattle.image_laws.specs.Move.{HasRoomMoved}
 use Rattle.image_laws.specs.Remove.{without_page}
 use Rattle.image_laws.proofs.CreateSteps.{not_full}
-use Rattle.image_laws.proofs.RemoveRoom.{get-gone, get-left}
-use Rattle.image_laws.proofs.RoomAfter.{clash}
+use Rattle.image_laws.proofs.Ready.{held_room}
+use Rattle.image_laws.proofs.RoomLeft.{HasPages, room_left}
 use Rattle.image_laws.proofs.Rooms.{dec_room}
 use Rattle.image_laws.proofs.Trees.{directory_is, is_directory-reached}
 use Rattle.rename_laws.specs.Target.{Target, Vacant, Opened, Taken, CanTake, name_of}
@@ -116,23 +110,8 @@ module _ (P : ℕ) (W I J G K : List ℕ) (old : State) (pa pb from to : Route) 
   pages_then_is (Opened page name) take full = rooms.then_more old.tree old.room x fits full
   pages_then_is (Taken r) take full = rooms.then_none old.tree old.room fits
 
-  -- a page that x owns has a name
-  owned_room : IsHeld P W d → slot_owner P W d ≡ x → IsRoomOf P W x (page_of_slot d)
-  unfolding slot_owner page_owner
-  owned_room held owner = elim (dec_room P W x x_reached ready.can.target_directory (page_of_slot d)) [
-    | yes there ↦ there
-    | no none ↦ absurd (none_counted (IsLitterPage P W) ready.can.tidy.repaired.of_pages (page_of_slot d) (record {
-      in_range = page_of_slot_below P d held.in_range;
-      free = λ kept. elim kept [
-        | inl file ↦ (let one = file.file in let two = ap (inode_kind W) owner ∙ ready.can.target_directory in omega (arith, one, two))
-        | inr room ↦ none (subst (λ y. IsRoomOf P W y (page_of_slot d)) owner room)
-      ];
-      nonzero = (0, omega arith, held.owned);
-    }))
-  ]
-
   page_there : (now : Target) → CanTake P W pb s x d now → IsRoomOf P W x (page_of_slot d) ⊎ IsOpenedPage now (page_of_slot d)
-  page_there (Vacant name) take = inl (owned_room take.1.held take.1.owner)
+  page_there (Vacant name) take = inl (held_room P W x d ready.can.tidy x_reached ready.can.target_directory take.1.held take.1.owner)
   page_there (Opened page name) take = inr take.2
   page_there (Taken r) take =
       inl (record { reached = x_reached; directory = ready.can.target_directory; slot = (d, refl, take.entry.1, take.entry.0.live) })
@@ -201,43 +180,23 @@ module _ (P : ℕ) (W I J G K : List ℕ) (old : State) (pa pb from to : Route) 
       get-room_after n old.tree old.room (Rename from to) gives y
       ∙ ap (λ U. cond (is_directory U y) (Some (pages_after old.tree old.room (Rename from to) gives y)) None) tree_is
 
-  -- a room of the last words whose entries, but for the replaced, are these
-  same_after : (gives : Bool) (R : Room) → HasRoom P K (remove R (slot_inode P I d))
-      → ((y : ℕ) → is_directory old.tree y ≡ true → get R y ≡ Some (pages_after old.tree old.room (Rename from to) gives y))
-      → remove R (slot_inode P I d) ≡ room_after n old.tree old.room (Rename from to) gives
-  same_after gives R has each = same_room (remove R (slot_inode P I d)) (room_after n old.tree old.room (Rename from to) gives) (λ y.
-      at y (is_directory (renamed old.tree from to) y) refl ∙ sym (after_at gives y))
-    where
-      other : (y : ℕ) → is_directory (renamed old.tree from to) y ≡ true → y ≢ slot_inode P I d
-      other y dir e =
-          let (r, two) = directory_is P K (renamed old.tree from to) coherent read y dir in
-          let (k, pages) = room_counted P K y r two in
-          none_some k (sym (ap (get (remove R (slot_inode P I d))) e ∙ get-gone R (slot_inode P I d)) ∙ (has y k).1 (r, two, pages))
+  -- a directory after was one before
+  was_directory : (y : ℕ) → is_directory (renamed old.tree from to) y ≡ true → is_directory old.tree y ≡ true
+  was_directory y dir =
+      let (r, two) = directory_is P K (renamed old.tree from to) coherent read y dir in
+      let there = ends.back P I K pa pb s d ready.can_move (before.near P W I pa pb s x d target rising ready) end y r in
+      let then = here.reached_back P I pa pb s d ready.can_move y there in
+      let first = before.back P W I pa pb s x d target rising ready y then in
+      is_directory-reached P W old.tree w_coherent reads.tree y first (
+      sym (before.kind_same P W I pa pb s x d target rising ready y first) ∙ sym (here.kind_same P I pa pb s d ready.can_move y then)
+      ∙ sym (ends.kind_after P I K pa pb s d ready.can_move (before.near P W I pa pb s x d target rising ready) end y there) ∙ two)
 
-      was_directory : (y : ℕ) → is_directory (renamed old.tree from to) y ≡ true → is_directory old.tree y ≡ true
-      was_directory y dir =
-          let (r, two) = directory_is P K (renamed old.tree from to) coherent read y dir in
-          let there = ends.back P I K pa pb s d ready.can_move (before.near P W I pa pb s x d target rising ready) end y r in
-          let then = here.reached_back P I pa pb s d ready.can_move y there in
-          let first = before.back P W I pa pb s x d target rising ready y then in
-          is_directory-reached P W old.tree w_coherent reads.tree y first (
-          sym (before.kind_same P W I pa pb s x d target rising ready y first) ∙ sym (here.kind_same P I pa pb s d ready.can_move y then)
-          ∙ sym (ends.kind_after P I K pa pb s d ready.can_move (before.near P W I pa pb s x d target rising ready) end y there) ∙ two)
-
-      none : (y : ℕ) (o : Option ℕ) → get (remove R (slot_inode P I d)) y ≡ o → is_directory (renamed old.tree from to) y ≡ false → o ≡ None
-      none y None e dir = refl
-      none y (Some k) e dir =
-          let (r, two, pages) = (has y k).0 e in
-          absurd (clash (sym (is_directory-reached P K (renamed old.tree from to) coherent read y r two) ∙ dir))
-
-      at : (y : ℕ) (b : Bool) → is_directory (renamed old.tree from to) y ≡ b → get (remove R (slot_inode P I d)) y
-          ≡ cond (is_directory (renamed old.tree from to) y) (Some (pages_after old.tree old.room (Rename from to) gives y)) None
-      at y true dir =
-          get-left R (slot_inode P I d) y (other y dir) ∙ each y (was_directory y dir)
-          ∙ sym (ap (λ c. cond c (Some (pages_after old.tree old.room (Rename from to) gives y)) None) dir)
-      at y false dir =
-          none y (get (remove R (slot_inode P I d)) y) refl dir
-          ∙ sym (ap (λ c. cond c (Some (pages_after old.tree old.room (Rename from to) gives y)) None) dir)
+  -- a room that has the pages after
+  same_after : (gives : Bool) (room : Room) → HasRoom P K (remove room (slot_inode P I d)) → HasPages old.tree (pages_after old.tree old.room (Rename from to) gives) room
+      → remove room (slot_inode P I d) ≡ room_after n old.tree old.room (Rename from to) gives
+  same_after gives room has each =
+      room_left P K (renamed old.tree from to) room (room_after n old.tree old.room (Rename from to) gives) (pages_after old.tree old.room (Rename from to) gives)
+      (slot_inode P I d) coherent read has (after_at gives) (λ y dir. each y (was_directory y dir))
 
   source_directory : is_directory old.tree (slot_owner P I s) ≡ true
   source_directory = is_directory-reached P W old.tree w_coherent reads.tree (slot_owner P I s)

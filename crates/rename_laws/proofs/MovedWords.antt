@@ -1,13 +1,13 @@
 -- The source's number, and then its words, the pointer and the count that falls: each mix means what the commit left.
-use Rattle.std.proofs.Common.{◌≡◌, ◌≢◌, ◌⊎◌, inl, inr, ℕ, ◌+◌, ◌-◌, ◌<◌, ◌≤◌, List, length, set, refl, sym, ap, subst, ◌∙◌, arith, length-set}
+use Rattle.std.proofs.Common.{◌≡◌, ◌≢◌, ◌⊎◌, inl, inr, ℕ, ◌+◌, ◌-◌, ◌<◌, ◌≤◌, List, length, refl, sym, ap, subst, ◌∙◌, arith}
 use Rattle.std.proofs.lemmas.Bool.{cases_eq}
-use Rattle.std.proofs.lemmas.List.{get_or-set_same, get_or-set_other}
+use Rattle.std.proofs.lemmas.List.{get_or-set_other}
 use Rattle.layout.specs.Fields.{word, inode_kind, inode_links, page_owner, slot_inode, slot_pointer}
 use Rattle.layout.specs.Geometry.{inodes_of, data_pages_of, inode_word_of, descriptor_word_of, slot_word_of}
-use Rattle.layout.proofs.GeometryLaws.{slot_word_within}
 use Rattle.tree_model.specs.PathText.{Route}
 use Rattle.image_reading.specs.Reading.{slot_owner, IsHeld, Reached, IsReachedSlot, IsNameOf, IsChildOf}
 use Rattle.image_reading.specs.Soundness.{Rule, IsCoherent, HasLinks}
+use Rattle.image_counts.proofs.Paths.{in_range}
 use Rattle.image_laws.specs.Free.{IsFree}
 use Rattle.image_laws.specs.Frame.{SameMeaning}
 use Rattle.image_laws.specs.Move.{CanMove, moved}
@@ -20,16 +20,17 @@ use Rattle.image_laws.proofs.Free.{mix_one}
 use Rattle.image_laws.proofs.Meaning.{same_itself, same_chained}
 use Rattle.image_laws.proofs.OnlySlot as only_slot
 use Rattle.image_laws.proofs.OnlySlot.{OnlySlot}
-use Rattle.image_laws.proofs.Adds.{only, stored}
-use Rattle.image_laws.proofs.Paths.{reached_pos, reached-le}
+use Rattle.image_laws.proofs.Adds.{inside, only, stored}
+use Rattle.image_laws.proofs.Paths.{reached-le}
 use Rattle.image_laws.proofs.Pointers.{leave_law}
 use Rattle.image_laws.proofs.Ready.{dec_among}
 use Rattle.rename_laws.specs.Intervals.{left}
-use Rattle.rename_laws.specs.Pointing.{StoresPointing, PointingLaw}
+use Rattle.rename_laws.specs.Pointing.{StoresPointing}
 use Rattle.rename_laws.proofs.MovedCounts as counts
 use Rattle.rename_laws.proofs.MovedCounts.{IsLowered, IsFallen, IsAlmostTidy}
 use Rattle.rename_laws.proofs.MovedNames as here
 use Rattle.rename_laws.proofs.MoveSpare.{HasCleared}
+use Rattle.rename_laws.proofs.Pointing.{pointing_law, stores_pointing}
 
 -- From D to J, with the count that falls told of the words before the commit.
 pub record ClearsSlots (P : ℕ) (I D J : List ℕ) (s d : ℕ) : Type 0 where
@@ -52,18 +53,10 @@ module _ (P : ℕ) (I : List ℕ) (pa pb : Route) (s d : ℕ) (c : CanMove P I p
 
   -- ---- the commit
 
-  target_inside : slot_word_of P d 0 < length I
-  target_inside =
-      let below = slot_word_within P d 0 c.held.in_range (omega arith) in let size = (c.coherent Rule.head 0).whole refl in omega (arith, below, size)
-
   pub commits : (M : List ℕ) → IsMix I (moved P I s d) M → (M ≡ I) ⊎ (M ≡ moved P I s d)
-  commits M mix = mix_one I M (slot_word_of P d 0) (slot_inode P I s) target_inside mix
+  commits M mix = mix_one I M (slot_word_of P d 0) (slot_inode P I s) (inside P I d 0 c.coherent c.held.in_range (omega arith)) mix
 
   -- ---- the source's number
-
-  source_inside : slot_word_of P s 0 < length (moved P I s d)
-  source_inside =
-      let below = slot_word_within P s 0 c.source.held.in_range (omega arith) in let size = (coherent Rule.head 0).whole refl in omega (arith, below, size)
 
   is_left : IsLeft P (moved P I s d) s d
   is_left = record {
@@ -78,7 +71,7 @@ module _ (P : ℕ) (I : List ℕ) (pa pb : Route) (s d : ℕ) (c : CanMove P I p
   same_left = leave_law P (moved P I s d) s d is_left
 
   pub leaves : (M : List ℕ) → IsMix (moved P I s d) (left P I s d) M → SameMeaning P (moved P I s d) M
-  leaves M mix = elim (mix_one (moved P I s d) M (slot_word_of P s 0) 0 source_inside mix) [
+  leaves M mix = elim (mix_one (moved P I s d) M (slot_word_of P s 0) 0 (inside P (moved P I s d) s 0 coherent c.source.held.in_range (omega arith)) mix) [
     | inl e ↦ subst (SameMeaning P (moved P I s d)) (sym e) (same_itself P (moved P I s d) coherent)
     | inr e ↦ subst (SameMeaning P (moved P I s d)) (sym e) same_left
   ]
@@ -97,10 +90,10 @@ module _ (P : ℕ) (I : List ℕ) (pa pb : Route) (s d : ℕ) (c : CanMove P I p
   left_pointer t = by.pointer t ∙ (here.only P I pa pb s d c).pointer t
 
   left_held : (t : ℕ) → IsHeld P (left P I s d) t → IsHeld P I t
-  left_held t held = here.held_back P I pa pb s d c t (only_slot.held_back P (moved P I s d) (left P I s d) s by t held)
+  left_held t held = here.held_back P I pa pb s d c t (only_slot.held_back by t held)
 
   held_left : (t : ℕ) → IsHeld P I t → IsHeld P (left P I s d) t
-  held_left t held = only_slot.held_forward P (moved P I s d) (left P I s d) s by t (here.held_forward P I pa pb s d c t held)
+  held_left t held = only_slot.held_forward by t (here.held_forward P I pa pb s d c t held)
 
   left_target : slot_inode P (left P I s d) d ≡ slot_inode P I s
   left_target = by.inode d (λ e. here.apart P I pa pb s d c (sym e)) ∙ here.number_new P I pa pb s d c
@@ -109,7 +102,7 @@ module _ (P : ℕ) (I : List ℕ) (pa pb : Route) (s d : ℕ) (c : CanMove P I p
   slot_before : (t : ℕ) → IsReachedSlot P (left P I s d) t → IsReachedSlot P (moved P I s d) t
   slot_before t r =
       let ns : t ≢ s = λ e. r.live.names (ap (slot_inode P (left P I s d)) e ∙ left_number) in
-      let owner = only_slot.same_owner P (moved P I s d) (left P I s d) s by t r.live.held.in_range in
+      let owner = only_slot.same_owner by t r.live.held.in_range in
       let reached : Reached P (moved P I s d) (slot_owner P (moved P I s d) t) =
       subst (Reached P (moved P I s d)) owner (r.owner.0, (same_left.names r.owner.0 (slot_owner P (left P I s d) t)).1 r.owner.1) in
       record {
@@ -117,7 +110,7 @@ module _ (P : ℕ) (I : List ℕ) (pa pb : Route) (s d : ℕ) (c : CanMove P I p
         directory = sym (by.node_kind (slot_owner P (moved P I s d) t) (reached-le P (moved P I s d) coherent (slot_owner P (moved P I s d) t) reached))
             ∙ ap (inode_kind (left P I s d)) (sym owner) ∙ r.directory;
         live = record {
-          held = only_slot.held_back P (moved P I s d) (left P I s d) s by t r.live.held;
+          held = only_slot.held_back by t r.live.held;
           names = λ z. r.live.names (by.inode t ns ∙ z);
           stays = λ q held points. absurd (elim (cases_eq q d) [
             | inl e ↦ (let mine = sym (ap (slot_pointer P (moved P I s d)) e ∙ is_left.pointer) ∙ points in ns (omega (arith, mine)))
@@ -139,7 +132,7 @@ module _ (P : ℕ) (I : List ℕ) (pa pb : Route) (s d : ℕ) (c : CanMove P I p
             let slot = slot_before t child.slot in
             record {
               slot = slot;
-              owner = sym (only_slot.same_owner P (moved P I s d) (left P I s d) s by t child.slot.live.held.in_range) ∙ child.owner;
+              owner = sym (only_slot.same_owner by t child.slot.live.held.in_range) ∙ child.owner;
               directory = sym (by.node_kind (slot_inode P (moved P I s d) t) ((coherent Rule.inodes t).most slot))
                   ∙ ap (inode_kind (left P I s d)) (sym (by.inode t ns)) ∙ child.directory;
             }) (links.directory (sym kind ∙ two));
@@ -154,7 +147,7 @@ module _ (P : ℕ) (I : List ℕ) (pa pb : Route) (s d : ℕ) (c : CanMove P I p
   ]
 
   pub falls_range : (y : ℕ) → IsLowered P I s d y → (1 ≤ y) × (y ≤ inodes_of P)
-  falls_range y falls = let r = falls_reached y falls in let some = reached_pos P I y r in (omega (arith, some), reached-le P I c.coherent y r)
+  falls_range y falls = in_range P I c.coherent y (falls_reached y falls)
 
   pub one_falls : (y z : ℕ) → IsLowered P I s d y → IsLowered P I s d z → y ≡ z
   one_falls y z a b = elim a [
@@ -230,34 +223,8 @@ module _ (P : ℕ) (I : List ℕ) (pa pb : Route) (s d : ℕ) (c : CanMove P I p
       stays = λ never. clear_inode x 1 some most (omega arith) (inr never) ∙ left_inode x 1 some most (omega arith);
     }
 
-    -- with the pointer put back
-    back : List ℕ
-    back = set J (slot_word_of P d 1) (slot_pointer P (left P I s d) d)
-
-    pointer_inside : slot_word_of P d 1 < length J
-    pointer_inside =
-        let below = slot_word_within P d 1 c.held.in_range (omega arith) in
-        let size = (same_left.coherent Rule.head 0).whole refl in
-        let same = clears.size in
-        omega (arith, below, size, same)
-
-    back_pointer : word back (slot_word_of P d 1) ≡ word (left P I s d) (slot_word_of P d 1)
-    unfolding back slot_pointer word
-    back_pointer = get_or-set_same J (slot_word_of P d 1) (slot_pointer P (left P I s d) d) 0 pointer_inside
-
-    back_other : (a : ℕ) → a ≢ slot_word_of P d 1 → word back a ≡ word J a
-    unfolding back word
-    back_other a ne = get_or-set_other J (slot_word_of P d 1) a (slot_pointer P (left P I s d) d) 0 ne
-
-    back_word : (a : ℕ) → ((f : ℕ) → 1 ≤ f → f < 16 → a ≢ slot_word_of P s f) → ((y : ℕ) → IsLowered P I s d y → a ≢ inode_word_of y 1)
-        → word back a ≡ word (left P I s d) a
-    back_word a ns nl = elim (dec_eq a (slot_word_of P d 1)) [
-      | yes e ↦ ap (word back) e ∙ back_pointer ∙ ap (word (left P I s d)) (sym e)
-      | no ne ↦ back_other a ne ∙ clears.others a ne ns nl
-    ]
-
     FreeOrSame : ℕ → Type 0
-    FreeOrSame a = (word back a ≡ word (left P I s d) a) ⊎ IsFree P (left P I s d) a
+    FreeOrSame a = (word J a ≡ word (left P I s d) a) ⊎ IsFree P (left P I s d) a
 
     source_case : (k a : ℕ) → k < 15 → a ≡ slot_word_of P s (1 + k) → FreeOrSame a
     unfolding FreeOrSame slot_pointer
@@ -265,74 +232,59 @@ module _ (P : ℕ) (I : List ℕ) (pa pb : Route) (s d : ℕ) (c : CanMove P I p
       | inl z ↦
           let one : 1 + k ≡ 1 = omega (arith, z) in
           let there : a ≡ slot_word_of P s 1 = e ∙ ap (slot_word_of P s) one in
-          let other : slot_word_of P s 1 ≢ slot_word_of P d 1 = slot-ne_slot P s 1 d 1 (omega arith) (omega arith) (here.apart P I pa pb s d c) in
           let zero : word (left P I s d) (slot_word_of P s 1) ≡ 0 = left_pointer s ∙ c.alone s c.source.held (here.apart P I pa pb s d c) in
-          inl (ap (word back) there ∙ back_other (slot_word_of P s 1) other ∙ clears.zeros 1 (omega arith) (omega arith)
+          inl (ap (word J) there ∙ clears.zeros 1 (omega arith) (omega arith)
           ∙ sym zero ∙ ap (word (left P I s d)) (sym there))
       | inr some ↦ inr (subst (IsFree P (left P I s d)) (sym e) (IsFree.name s (1 + k) (omega (arith, some)) (omega (arith, lt))
           (held_left s c.source.held) (λ r. r.live.names left_number)))
     ]
 
-    free_or_same : (a : ℕ) → FreeOrSame a
+    free_or_same : (a : ℕ) → a ≢ slot_word_of P d 1 → FreeOrSame a
     unfolding FreeOrSame
-    free_or_same a = elim (dec_among (λ k. slot_word_of P s (1 + k)) 15 a) [
+    free_or_same a nd = elim (dec_among (λ k. slot_word_of P s (1 + k)) 15 a) [
       | yes (k, lt, e) ↦ source_case k a lt e
       | no other ↦
           let ns : (f : ℕ) → 1 ≤ f → f < 16 → a ≢ slot_word_of P s f = λ f low high e.
           other (f - 1, omega (arith, low, high), e ∙ ap (slot_word_of P s) (let is : f ≡ 1 + (f - 1) = omega (arith, low) in is)) in
           elim falls_or_not [
-            | inr never ↦ inl (back_word a ns (λ y falls. absurd (never y falls)))
+            | inr never ↦ inl (clears.others a nd ns (λ y falls. absurd (never y falls)))
             | inl (y, falls) ↦ elim (dec_eq a (inode_word_of y 1)) [
               | yes e ↦ (let (some, most) = falls_range y falls in inr (subst (IsFree P (left P I s d)) (sym e) (IsFree.link y some most)))
-              | no ne ↦ inl (back_word a ns (λ z also e. ne (e ∙ ap (λ x. inode_word_of x 1) (one_falls z y also falls))))
+              | no ne ↦ inl (clears.others a nd ns (λ z also e. ne (e ∙ ap (λ x. inode_word_of x 1) (one_falls z y also falls))))
             ]
           ]
     ]
 
-    back_links : (x : ℕ) → Reached P (left P I s d) x → HasLinks P (left P I s d) x (inode_links back x)
-    unfolding inode_links
-    back_links x r =
+    enough : (x : ℕ) → Reached P (left P I s d) x → HasLinks P (left P I s d) x (inode_links J x)
+    enough x r =
         let was : Reached P (moved P I s d) x = (r.0, (same_left.names r.0 x).1 r.1) in
         let old = here.reached_back P I pa pb s d c x was in
-        let some = reached_pos P I x old in
-        let least : 1 ≤ x = omega (arith, some) in
-        let most = reached-le P I c.coherent x old in
-        links_left x (inode_links back x) r (subst (HasLinks P (moved P I s d) x) (sym (back_other (inode_word_of x 1) (inode-ne_slot P x 1 d 1 least most (omega arith))))
-        (counts.enough P I pa pb s d c near x (inode_links J x) old (links_clear x least most)))
+        let (some, most) = in_range P I c.coherent x old in
+        links_left x (inode_links J x) r (counts.enough P I pa pb s d c near x (inode_links J x) old (links_clear x some most))
 
     pointing : StoresPointing P (left P I s d) J d 0
-    unfolding FreeOrSame back page_owner
-    pointing = record {
+    unfolding FreeOrSame page_owner
+    pointing = stores_pointing P (left P I s d) J d 0 can_point clears.size free_or_same (λ j lt. clear_descriptor j 0 lt (omega arith)) enough clears.pointer
+
+    pub clears_mix : (M : List ℕ) → IsMix (left P I s d) J M → SameMeaning P (moved P I s d) M
+    clears_mix M mix = same_chained P (moved P I s d) (left P I s d) M same_left (pointing_law P (left P I s d) J M d 0 can_point pointing mix)
+
+    pub is_cleared : HasCleared P I J s d
+    unfolding slot_inode
+    is_cleared = record {
+      means = clears_mix J (record { size = clears.size; words = λ a. inr refl });
+      descriptors = λ j f lt l8. clear_descriptor j f lt l8 ∙ left_descriptor j f lt l8;
+      inodes = λ x f some most lt ne. clear_inode x f some most lt (inl ne) ∙ left_inode x f some most lt;
+      links = links_clear;
+      slots = λ t f ns nd lt. clear_slot t f lt (inr ns) (inr nd)
+          ∙ left_word (slot_word_of P t f) (slot-ne_slot P t f s 0 lt (omega arith) ns) (slot-ne_slot P t f d 0 lt (omega arith) nd);
+      source = λ f lt. elim (cases_eq f 0) [
+        | inl z ↦ ap (λ g. word J (slot_word_of P s g)) z ∙ clear_slot s 0 (omega arith) (inl refl) (inr (here.apart P I pa pb s d c)) ∙ left_number
+        | inr some ↦ clears.zeros f (omega (arith, some)) lt
+      ];
+      number = clear_slot d 0 (omega arith) (inl refl) (inl (λ e. omega (arith, e))) ∙ left_target;
+      name = λ f low lt. clear_slot d f lt (inr (λ e. here.apart P I pa pb s d c (sym e))) (inl (λ e. omega (arith, e, low)))
+          ∙ left_word (slot_word_of P d f) (slot-ne_slot P d f s 0 lt (omega arith) (λ e. here.apart P I pa pb s d c (sym e)))
+          (slot-ne_field P d f d 0 lt (omega arith) (λ e. omega (arith, e, low)));
       pointer = clears.pointer;
-      rest = record {
-        size = length-set J (slot_word_of P d 1) (slot_pointer P (left P I s d) d) ∙ clears.size;
-        words = free_or_same;
-        owners = λ j lt. inl (back_other (descriptor_word_of P j 0) (descriptor-ne_slot P j 0 d 1 lt (omega arith)) ∙ clear_descriptor j 0 lt (omega arith));
-        links = back_links;
-      };
-      owners = λ j lt. clear_descriptor j 0 lt (omega arith);
     }
-
-    module _ (law : PointingLaw) where
-      pub clears_mix : (M : List ℕ) → IsMix (left P I s d) J M → SameMeaning P (moved P I s d) M
-      clears_mix M mix = same_chained P (moved P I s d) (left P I s d) M same_left (law P (left P I s d) J M d 0 can_point pointing mix)
-
-      pub is_cleared : HasCleared P I J s d
-      unfolding slot_inode
-      is_cleared = record {
-        means = clears_mix J (record { size = clears.size; words = λ a. inr refl });
-        descriptors = λ j f lt l8. clear_descriptor j f lt l8 ∙ left_descriptor j f lt l8;
-        inodes = λ x f some most lt ne. clear_inode x f some most lt (inl ne) ∙ left_inode x f some most lt;
-        links = links_clear;
-        slots = λ t f ns nd lt. clear_slot t f lt (inr ns) (inr nd)
-            ∙ left_word (slot_word_of P t f) (slot-ne_slot P t f s 0 lt (omega arith) ns) (slot-ne_slot P t f d 0 lt (omega arith) nd);
-        source = λ f lt. elim (cases_eq f 0) [
-          | inl z ↦ ap (λ g. word J (slot_word_of P s g)) z ∙ clear_slot s 0 (omega arith) (inl refl) (inr (here.apart P I pa pb s d c)) ∙ left_number
-          | inr some ↦ clears.zeros f (omega (arith, some)) lt
-        ];
-        number = clear_slot d 0 (omega arith) (inl refl) (inl (λ e. omega (arith, e))) ∙ left_target;
-        name = λ f low lt. clear_slot d f lt (inr (λ e. here.apart P I pa pb s d c (sym e))) (inl (λ e. omega (arith, e, low)))
-            ∙ left_word (slot_word_of P d f) (slot-ne_slot P d f s 0 lt (omega arith) (λ e. here.apart P I pa pb s d c (sym e)))
-            (slot-ne_field P d f d 0 lt (omega arith) (λ e. omega (arith, e, low)));
-        pointer = clears.pointer;
-      }

@@ -1,6 +1,5 @@
 -- What stands before a rename's pointer is stored, wherever its slot d stands: B are the words W, or those with a new page of directory x.
-use Rattle.std.proofs.Common.{◌≡◌, ◌≢◌, inl, inr, ℕ, ◌+◌, ◌<◌, ◌≤◌, List, length, length-set, refl, sym, subst, ◌∙◌, arith}
-use Rattle.std.proofs.lemmas.List.{get_or-set_other}
+use Rattle.std.proofs.Common.{◌≡◌, inl, inr, ℕ, ◌+◌, ◌<◌, ◌≤◌, List, length, length-set, refl, sym, subst, ◌∙◌, arith}
 use Rattle.layout.specs.Fields.{word, page_offset, slot_inode, slot_pointer, slot_name, slot_words}
 use Rattle.layout.specs.Geometry.{inodes_of, page_of_slot, inode_word_of, descriptor_word_of, slot_word_of}
 use Rattle.tree_model.specs.PathText.{Route}
@@ -14,7 +13,7 @@ use Rattle.image_laws.proofs.Meaning.{same_itself}
 use Rattle.image_laws.proofs.PageCreates.{taken}
 use Rattle.image_laws.proofs.PageReady.{HasTaken, page_ready, entry_same, slot_same, no_pointers}
 use Rattle.image_laws.proofs.Ready.{no_pointer, tidy_but}
-use Rattle.image_laws.proofs.Words.{slot_words-same}
+use Rattle.image_laws.proofs.Words.{slot_words-same, other_word}
 use Rattle.rename_laws.specs.Target.{Target, Vacant, Opened, Taken, CanRename, old_number}
 use Rattle.rename_laws.specs.Ready.{IsTargetOpened, HasNewPage, IsNewPage, IsTargetWord}
 
@@ -51,13 +50,14 @@ pub record IsOpen (P : ℕ) (W B : List ℕ) (x d : ℕ) (target : Target) : Typ
 -- ---- in a page that was there
 
 module _ (P : ℕ) (W : List ℕ) (pa pb : Route) (s x d : ℕ) where
-  vacant_open : (name : List ℕ) → CanRename P W pa pb s x d (Vacant name) → IsOpen P W W x d (Vacant name)
-  vacant_open name can = let place = can.target_slot.1 in record {
+  same_open : (target : Target) → CanRename P W pa pb s x d target → IsHeld P W d → slot_owner P W d ≡ x → slot_inode P W d ≡ old_number target → HasWords P W W d target → HasNewPage P W x d target
+      → IsOpen P W W x d target
+  same_open target can held owner number words page = record {
     means = same_itself P W can.tidy.coherent;
-    held = place.held;
-    owner = place.owner;
-    number = place.free;
-    name_words = tt;
+    held = held;
+    owner = owner;
+    number = number;
+    name_words = words;
     no_pointer = no_pointer P W 0 (tidy_but P W 0 can.tidy);
     kept = λ t r. r;
     known = λ t r. r;
@@ -65,26 +65,7 @@ module _ (P : ℕ) (W : List ℕ) (pa pb : Route) (s x d : ℕ) where
     names = λ t r. refl;
     numbers = λ t r. refl;
     inodes = λ y f some most lt. refl;
-    page = tt;
-    size = refl;
-    others = λ a other. refl;
-  }
-
-  taken_open : (r : ℕ) → CanRename P W pa pb s x d (Taken r) → IsOpen P W W x d (Taken r)
-  taken_open r can = let place = can.target_slot in record {
-    means = same_itself P W can.tidy.coherent;
-    held = place.entry.0.live.held;
-    owner = place.entry.1;
-    number = place.number;
-    name_words = refl;
-    no_pointer = no_pointer P W 0 (tidy_but P W 0 can.tidy);
-    kept = λ t h. h;
-    known = λ t h. h;
-    owners = λ t h. refl;
-    names = λ t h. refl;
-    numbers = λ t h. refl;
-    inodes = λ y f some most lt. refl;
-    page = tt;
+    page = page;
     size = refl;
     others = λ a other. refl;
   }
@@ -102,25 +83,23 @@ module _ (P : ℕ) (W A : List ℕ) (pb : Route) (x d j : ℕ) (name : List ℕ)
   slot_ready : IsReadySlot P after pb x d name
   slot_ready = page_ready P W after pb x j d name can page at took
 
-  owned_word : (a : ℕ) → a ≢ descriptor_word_of P j 0 → word after a ≡ word A a
-  unfolding after word
-  owned_word a ne = get_or-set_other A (descriptor_word_of P j 0) a x 0 ne
-
   owned_slot : (t f : ℕ) → word after (slot_word_of P t f) ≡ word A (slot_word_of P t f)
-  owned_slot t f = owned_word (slot_word_of P t f) (λ e. descriptor-ne_slot P j 0 t f page.0 (omega arith) (sym e))
+  unfolding after
+  owned_slot t f = other_word A (descriptor_word_of P j 0) x (slot_word_of P t f) (λ e. descriptor-ne_slot P j 0 t f page.0 (omega arith) (sym e))
 
   not_target : (a : ℕ) → (IsTargetWord P d (Opened j name) a → ⊥) → word after a ≡ word W a
-  not_target a other = owned_word a (λ e. other (inr (0, omega arith, e))) ∙ makes.empty.others a (λ made. elim made [
+  unfolding after
+  not_target a other = other_word A (descriptor_word_of P j 0) x a (λ e. other (inr (0, omega arith, e))) ∙ makes.empty.others a (λ made. elim made [
     | inl w ↦ other (inl w)
     | inr rest ↦ elim rest [ inl e ↦ other (inr (1, omega arith, e)) | inr e ↦ other (inr (2, omega arith, e)) ]
   ])
 
   new_page : IsNewPage P after x d j
-  unfolding page_offset
+  unfolding after page_offset
   new_page = record {
     owner = took.owner;
     kind = took.kind;
-    offset = owned_word (descriptor_word_of P j 2) (λ e. let field = (descriptor_word-one P j 2 j 0 (omega arith) (omega arith) e).1 in omega (arith, field)) ∙ makes.empty.offset;
+    offset = other_word A (descriptor_word_of P j 0) x (descriptor_word_of P j 2) (λ e. let field = (descriptor_word-one P j 2 j 0 (omega arith) (omega arith) e).1 in omega (arith, field)) ∙ makes.empty.offset;
     zeros = λ t here ne f lt. owned_slot t f ∙ makes.zeros t here ne f lt;
   }
 
@@ -147,7 +126,7 @@ module _ (P : ℕ) (W A : List ℕ) (pb : Route) (x d j : ℕ) (name : List ℕ)
 -- ---- in all three cases
 
 pub opened : (P : ℕ) (W B : List ℕ) (pa pb : Route) (s x d : ℕ) (target : Target) → CanRename P W pa pb s x d target → IsTargetOpened P W B x d target → IsOpen P W B x d target
-opened P W B pa pb s x d (Vacant name) can same = subst (λ I. IsOpen P W I x d (Vacant name)) (sym same) (vacant_open P W pa pb s x d name can)
+opened P W B pa pb s x d (Vacant name) can same = subst (λ I. IsOpen P W I x d (Vacant name)) (sym same) (let place = can.target_slot.1 in same_open P W pa pb s x d (Vacant name) can place.held place.owner place.free tt tt)
 opened P W B pa pb s x d (Opened j name) can (A, makes, same) =
     subst (λ I. IsOpen P W I x d (Opened j name)) (sym same) (opened_open P W A pb x d j name can.target_slot.0 can.target_slot.1 can.target_slot.2 makes)
-opened P W B pa pb s x d (Taken r) can same = subst (λ I. IsOpen P W I x d (Taken r)) (sym same) (taken_open P W pa pb s x d r can)
+opened P W B pa pb s x d (Taken r) can same = subst (λ I. IsOpen P W I x d (Taken r)) (sym same) (let place = can.target_slot in same_open P W pa pb s x d (Taken r) can place.entry.0.live.held place.entry.1 place.number refl tt)

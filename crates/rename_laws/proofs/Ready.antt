@@ -1,16 +1,15 @@
 -- Until a rename commits, nothing changes its meaning, and then slot d may take its number.
-use Rattle.std.proofs.Common.{◌≡◌, ◌≢◌, ◌⊎◌, inl, inr, ℕ, ◌+◌, ◌-◌, ◌<◌, ◌≤◌, List, [], ◌∷◌, ◌++◌, length-set, set, Option, Some, None, refl, sym, ap, subst, ◌∙◌, arith}
+use Rattle.std.proofs.Common.{◌≡◌, ◌≢◌, ◌⊎◌, inl, inr, ℕ, ◌+◌, ◌-◌, ◌<◌, ◌≤◌, List, [], ◌∷◌, ◌++◌, Option, Some, None, refl, sym, ap, subst, ◌∙◌, arith}
 use Rattle.std.proofs.lemmas.Bool.{cases_eq}
-use Rattle.std.proofs.lemmas.List.{get_or-set_same, get_or-set_other}
 use Rattle.layout.specs.Fields.{word, inode_kind, inode_links, page_owner, slot_inode, slot_pointer, slot_name, slot_words}
 use Rattle.layout.specs.Geometry.{inodes_of, data_pages_of, slots_of, page_of_slot, inode_word_of, descriptor_word_of, slot_word_of}
 use Rattle.layout.specs.Name.{IsNameWords, name_in_words}
-use Rattle.layout.proofs.GeometryLaws.{page_of_slot_below, slot_word_within}
+use Rattle.layout.proofs.GeometryLaws.{page_of_slot_below}
 use Rattle.tree_model.specs.PathText.{Route}
 use Rattle.image_reading.specs.Counts.{AtMost}
 use Rattle.image_reading.specs.Reading.{HasBytes, IsDirectory, slot_owner, IsHeld, IsLive, Names, Reached, IsReachedSlot, IsChildOf}
 use Rattle.image_reading.specs.Soundness.{Rule, IsCoherent, HasLinks}
-use Rattle.image_counts.proofs.Paths.{one_inode, same_slot, slot_leads}
+use Rattle.image_counts.proofs.Paths.{in_range, one_inode, same_slot, slot_leads}
 use Rattle.image_laws.specs.Create.{IsAmong}
 use Rattle.image_laws.specs.Frame.{SameMeaning}
 use Rattle.image_laws.specs.Free.{IsFree}
@@ -20,12 +19,12 @@ use Rattle.image_laws.specs.Quiet.{IsMix}
 use Rattle.image_laws.proofs.Addresses.{descriptor-ne_inode, descriptor-ne_slot, inode-ne_inode, inode-ne_field, inode-ne_slot, slot-ne_slot, slot-ne_field}
 use Rattle.image_laws.proofs.Counts.{at_most, at_most_more}
 use Rattle.image_laws.proofs.Decide.{dec_eq}
-use Rattle.image_laws.proofs.KeptPages as pages
-use Rattle.image_laws.proofs.KeptPages.{KeepsPages, by_words}
-use Rattle.image_laws.proofs.Making.{mix_itself, links_more}
+use Rattle.image_laws.proofs.KeptPages.{KeepsPages, by_words, held_forth, held_back}
+use Rattle.image_laws.proofs.Free.{mix_itself}
+use Rattle.image_laws.proofs.Making.{links_more}
 use Rattle.image_laws.proofs.Meaning.{same_chained}
 use Rattle.image_laws.proofs.PageQuiet.{page_quiet_law}
-use Rattle.image_laws.proofs.Paths.{reach, reached_pos, reached-le}
+use Rattle.image_laws.proofs.Paths.{reach}
 use Rattle.image_laws.proofs.Ready.{dec_among}
 use Rattle.image_laws.proofs.Words.{slot_words-same}
 use Rattle.rename_laws.specs.Pointing.{StoresPointing}
@@ -33,7 +32,7 @@ use Rattle.rename_laws.specs.Target.{Target, Vacant, Opened, Taken, CanTake, Can
 use Rattle.rename_laws.specs.Ready.{IsNewNameWord, HasNewName, PointsAt, HasNewPage, IsNewPage, IsTargetWord, IsMoveReady, OpeningLaw, ReadyLaw}
 use Rattle.image_laws.specs.Links.{IsLinkWord, Rises}
 use Rattle.rename_laws.proofs.Opened.{words_for, HasWords, IsOpen, opened}
-use Rattle.rename_laws.proofs.Pointing.{pointing_law}
+use Rattle.rename_laws.proofs.Pointing.{pointing_law, stores_pointing}
 
 pub opening_law : OpeningLaw
 opening_law P W A pa pb s x d j name can makes = let (named, page, at) = can.target_slot in page_quiet_law P W A pb x j can.tidy.coherent can.target_path can.target_directory page makes.empty
@@ -75,11 +74,8 @@ module _ (P : ℕ) (W B I : List ℕ) (pa pb : Route) (s x d : ℕ) (target : Ta
   x_reached : Reached P W x
   x_reached = (pb, can.target_path)
 
-  pos : (y : ℕ) → Reached P W y → 1 ≤ y
-  pos y r = let h = reached_pos P W y r in omega (arith, h)
-
-  range : (y : ℕ) → Reached P W y → y ≤ inodes_of P
-  range y r = reached-le P W can.tidy.coherent y r
+  range : (y : ℕ) → Reached P W y → (1 ≤ y) × (y ≤ inodes_of P)
+  range y r = in_range P W can.tidy.coherent y r
 
   coherent : IsCoherent P B
   coherent = stands.means.coherent
@@ -93,16 +89,16 @@ module _ (P : ℕ) (W B I : List ℕ) (pa pb : Route) (s x d : ℕ) (target : Ta
 
   descriptor_same : (j f : ℕ) → j < data_pages_of P → f < 8 → word I (descriptor_word_of P j f) ≡ word B (descriptor_word_of P j f)
   descriptor_same j f lt l8 = same_word (descriptor_word_of P j f) (descriptor-ne_slot P j f d 1 lt l8) (λ k l. descriptor-ne_slot P j f d (2 + k) lt l8)
-      (descriptor-ne_inode P j f x 1 (pos x x_reached) (range x x_reached) (omega arith))
+      (descriptor-ne_inode P j f x 1 (range x x_reached).0 (range x x_reached).1 (omega arith))
 
   inode_same : (y f : ℕ) → 1 ≤ y → y ≤ inodes_of P → f < 16 → (f ≢ 1) ⊎ (y ≢ x) → word I (inode_word_of y f) ≡ word B (inode_word_of y f)
   inode_same y f some most lt other = same_word (inode_word_of y f) (inode-ne_slot P y f d 1 some most lt) (λ k l. inode-ne_slot P y f d (2 + k) some most lt)
-      (elim other [ inl field ↦ inode-ne_field y f x 1 lt (omega arith) field | inr ne ↦ inode-ne_inode y f x 1 some (pos x x_reached) ne lt (omega arith) ])
+      (elim other [ inl field ↦ inode-ne_field y f x 1 lt (omega arith) field | inr ne ↦ inode-ne_inode y f x 1 some (range x x_reached).0 ne lt (omega arith) ])
 
   -- a slot's words, but the pointer and the name of slot d
   slot_same : (t f : ℕ) → f < 16 → (f ≡ 0) ⊎ (t ≢ d) → word I (slot_word_of P t f) ≡ word B (slot_word_of P t f)
   slot_same t f lt other = same_word (slot_word_of P t f) (apart 1 (omega arith) (omega arith)) (λ k l. apart (2 + k) (omega arith) (omega arith))
-      (λ e. inode-ne_slot P x 1 t f (pos x x_reached) (range x x_reached) (omega arith) (sym e))
+      (λ e. inode-ne_slot P x 1 t f (range x x_reached).0 (range x x_reached).1 (omega arith) (sym e))
     where
       apart : (g : ℕ) → 1 ≤ g → g < 16 → slot_word_of P t f ≢ slot_word_of P d g
       apart g low high = elim other [
@@ -138,19 +134,19 @@ module _ (P : ℕ) (W B I : List ℕ) (pa pb : Route) (s x d : ℕ) (target : Ta
   -- kinds and links of reached inodes
   node_kind_same : (y : ℕ) → Reached P W y → inode_kind I y ≡ inode_kind W y
   unfolding inode_kind
-  node_kind_same y r = inode_same y 0 (pos y r) (range y r) (omega arith) (inl (λ e. omega (arith, e))) ∙ stands.inodes y 0 (pos y r) (range y r) (omega arith)
+  node_kind_same y r = inode_same y 0 (range y r).0 (range y r).1 (omega arith) (inl (λ e. omega (arith, e))) ∙ stands.inodes y 0 (range y r).0 (range y r).1 (omega arith)
 
   kind_opened : (y : ℕ) → Reached P W y → inode_kind B y ≡ inode_kind W y
   unfolding inode_kind
-  kind_opened y r = stands.inodes y 0 (pos y r) (range y r) (omega arith)
+  kind_opened y r = stands.inodes y 0 (range y r).0 (range y r).1 (omega arith)
 
   links_before : (y : ℕ) → Reached P W y → inode_links B y ≡ inode_links W y
   unfolding inode_links
-  links_before y r = stands.inodes y 1 (pos y r) (range y r) (omega arith)
+  links_before y r = stands.inodes y 1 (range y r).0 (range y r).1 (omega arith)
 
   links_same : (y : ℕ) → Reached P W y → y ≢ x → inode_links I y ≡ inode_links B y
   unfolding inode_links
-  links_same y r ne = inode_same y 1 (pos y r) (range y r) (omega arith) (inr ne)
+  links_same y r ne = inode_same y 1 (range y r).0 (range y r).1 (omega arith) (inr ne)
 
   -- ---- slot s, and the numbers of both slots
 
@@ -192,27 +188,12 @@ module _ (P : ℕ) (W B I : List ℕ) (pa pb : Route) (s x d : ℕ) (target : Ta
       zero (Opened j name) h = refl
       zero (Taken r) h = absurd h
 
-  back : List ℕ
-  back = set I (slot_word_of P d 1) (slot_pointer P B d)
-
-  other_back : (a : ℕ) → a ≢ slot_word_of P d 1 → word back a ≡ word I a
-  unfolding back word
-  other_back a ne = get_or-set_other I (slot_word_of P d 1) a (slot_pointer P B d) 0 ne
-
-  pointer_back : word back (slot_word_of P d 1) ≡ word B (slot_word_of P d 1)
-  unfolding back slot_pointer word
-  pointer_back = get_or-set_same I (slot_word_of P d 1) (slot_pointer P B d) 0
-      (let below = slot_word_within P d 1 stands.held.in_range (omega arith) in let whole = (coherent Rule.head 0).whole refl in let same = points.size in omega (arith, below, whole, same))
-
-  back_words : (a : ℕ) → (word back a ≡ word B a) ⊎ IsFree P B a
-  back_words a = elim (dec_eq a (slot_word_of P d 1)) [
-    | yes e ↦ inl (subst (λ b. word back b ≡ word B b) (sym e) pointer_back)
-    | no ne ↦ elim (dec_new_name P d target a) [
-      | yes h ↦ inr (let (k, lt, e) = name_word_among P d target a h in subst (IsFree P B) (sym e) (IsFree.name d (2 + k) (omega arith) (omega (arith, lt)) stands.held (unnamed a h)))
-      | no unnamed_word ↦ elim (dec_link rising a) [
-        | yes h ↦ inr (subst (IsFree P B) (sym (link_word_is P W s x target rising rises a h)) (IsFree.link x (pos x x_reached) (range x x_reached)))
-        | no unlinked ↦ inl (other_back a ne ∙ points.others a ne unnamed_word unlinked)
-      ]
+  pointed : (a : ℕ) → a ≢ slot_word_of P d 1 → (word I a ≡ word B a) ⊎ IsFree P B a
+  pointed a ne = elim (dec_new_name P d target a) [
+    | yes h ↦ inr (let (k, lt, e) = name_word_among P d target a h in subst (IsFree P B) (sym e) (IsFree.name d (2 + k) (omega arith) (omega (arith, lt)) stands.held (unnamed a h)))
+    | no unnamed_word ↦ elim (dec_link rising a) [
+      | yes h ↦ inr (subst (IsFree P B) (sym (link_word_is P W s x target rising rises a h)) (IsFree.link x (range x x_reached).0 (range x x_reached).1))
+      | no unlinked ↦ inl (points.others a ne unnamed_word unlinked)
     ]
   ]
 
@@ -230,8 +211,8 @@ module _ (P : ℕ) (W B I : List ℕ) (pa pb : Route) (s x d : ℕ) (target : Ta
 
   x_links : (inode_links I x ≡ inode_links B x) ⊎ (inode_links I x ≡ inode_links B x + 1)
   x_links = links_of_x rising rises points.links (λ a other e. points.others a
-      (λ at. inode-ne_slot P x 1 d 1 (pos x x_reached) (range x x_reached) (omega arith) (sym e ∙ at))
-      (λ h. let (k, lt, at) = name_word_among P d target a h in inode-ne_slot P x 1 d (2 + k) (pos x x_reached) (range x x_reached) (omega arith) (sym e ∙ at))
+      (λ at. inode-ne_slot P x 1 d 1 (range x x_reached).0 (range x x_reached).1 (omega arith) (sym e ∙ at))
+      (λ h. let (k, lt, at) = name_word_among P d target a h in inode-ne_slot P x 1 d (2 + k) (range x x_reached).0 (range x x_reached).1 (omega arith) (sym e ∙ at))
       other)
 
   enough : (y : ℕ) → Reached P B y → HasLinks P B y (inode_links I y)
@@ -243,26 +224,8 @@ module _ (P : ℕ) (W B I : List ℕ) (pa pb : Route) (s x d : ℕ) (target : Ta
     | inr ne ↦ subst (HasLinks P B y) (sym (links_same y (known y r) ne)) (coherent Rule.links y r)
   ]
 
-  back_links : (y : ℕ) → Reached P B y → inode_links back y ≡ inode_links I y
-  unfolding inode_links
-  back_links y r = other_back (inode_word_of y 1) (inode-ne_slot P y 1 d 1 (pos y (known y r)) (range y (known y r)) (omega arith))
-
-  back_owner : (j : ℕ) → j < data_pages_of P → page_owner P back j ≡ page_owner P B j
-  unfolding page_owner
-  back_owner j lt = other_back (descriptor_word_of P j 0) (descriptor-ne_slot P j 0 d 1 lt (omega arith)) ∙ descriptor_same j 0 lt (omega arith)
-
   stores : StoresPointing P B I d (s + 1)
-  unfolding back
-  stores = record {
-    pointer = points.pointer;
-    rest = record {
-      size = length-set I (slot_word_of P d 1) (slot_pointer P B d) ∙ points.size;
-      words = back_words;
-      owners = λ j lt. inl (back_owner j lt);
-      links = λ y r. subst (HasLinks P B y) (sym (back_links y r)) (enough y r);
-    };
-    owners = owner_same;
-  }
+  stores = stores_pointing P B I d (s + 1) can_point points.size pointed owner_same enough points.pointer
 
   mixes : (M : List ℕ) → IsMix B I M → SameMeaning P W M
   mixes M mix = same_chained P W B M stands.means (pointing_law P B I M d (s + 1) can_point stores mix)
@@ -272,14 +235,8 @@ module _ (P : ℕ) (W B I : List ℕ) (pa pb : Route) (s x d : ℕ) (target : Ta
 
   -- ---- what is held, live and reached then
 
-  held_forth : (t : ℕ) → IsHeld P B t → IsHeld P I t
-  held_forth t = pages.held_forth paged t (λ none. none)
-
-  held_back : (t : ℕ) → IsHeld P I t → IsHeld P B t
-  held_back t = pages.held_back paged t (λ none. none)
-
   alone : (t : ℕ) → IsHeld P I t → t ≢ d → slot_pointer P I t ≡ 0
-  alone t held ne = pointer_same t ne ∙ stands.no_pointer t (held_back t held)
+  alone t held ne = pointer_same t ne ∙ stands.no_pointer t (held_back paged t (λ none. none) held)
 
   forth : (y : ℕ) → Reached P W y → Reached P I y
   forth y (q, b) = (q, (means.names q y).0 b)
@@ -289,7 +246,7 @@ module _ (P : ℕ) (W B I : List ℕ) (pa pb : Route) (s x d : ℕ) (target : Ta
 
   live_before : (t : ℕ) → IsLive P I t → IsLive P B t
   live_before t l = record {
-    held = held_back t l.held;
+    held = held_back paged t (λ none. none) l.held;
     names = λ z. l.names (number_same t ∙ z);
     stays = λ q held at same. (let none = stands.no_pointer q held in omega (arith, none, at));
   }
@@ -323,7 +280,7 @@ module _ (P : ℕ) (W B I : List ℕ) (pa pb : Route) (s x d : ℕ) (target : Ta
   d_words_same none = slot_words-same P B I d (λ f lt. points.others (slot_word_of P d (2 + f))
       (slot-ne_field P d (2 + f) d 1 (omega arith) (omega arith) (λ e. omega (arith, e)))
       (none (slot_word_of P d (2 + f)))
-      (λ h. inode-ne_slot P x 1 d (2 + f) (pos x x_reached) (range x x_reached) (omega arith) (sym (link_word_is P W s x target rising rises (slot_word_of P d (2 + f)) h))))
+      (λ h. inode-ne_slot P x 1 d (2 + f) (range x x_reached).0 (range x x_reached).1 (omega arith) (sym (link_word_is P W s x target rising rises (slot_word_of P d (2 + f)) h))))
 
   d_words : slot_words P I d ≡ words_for P W d target
   d_words = by target points.name_is stands.name_words d_words_same
@@ -437,7 +394,7 @@ module _ (P : ℕ) (W B I : List ℕ) (pa pb : Route) (s x d : ℕ) (target : Ta
     source_path = subst (Names P I pa) (sym source_owner) ((means.names pa (slot_owner P W s)).0 can.source_path);
     source_directory = ap (inode_kind I) source_owner ∙ node_kind_same (slot_owner P W s) can.source.owner ∙ can.source.directory;
     source = record {
-      held = held_forth s source_before.live.held;
+      held = held_forth paged s (λ none. none) source_before.live.held;
       names = λ z. can.source.live.names (sym source_kept ∙ z);
       stays = λ q held at same. elim (cases_eq q d) [
         | inl e ↦ numbers_differ (sym (number_same d) ∙ ap (slot_inode P I) (sym e) ∙ same ∙ number_same s)
@@ -446,7 +403,7 @@ module _ (P : ℕ) (W B I : List ℕ) (pa pb : Route) (s x d : ℕ) (target : Ta
     };
     target_path = subst (Names P I pb) (sym d_owner) ((means.names pb x).0 can.target_path);
     target_directory = ap (inode_kind I) d_owner ∙ node_kind_same x x_reached ∙ can.target_directory;
-    held = held_forth d stands.held;
+    held = held_forth paged d (λ none. none) stands.held;
     pointer = points.pointer;
     alone = alone;
     name = d_name_words;
