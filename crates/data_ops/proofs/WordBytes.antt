@@ -1,12 +1,14 @@
 -- Bytes of a file, word by word.
-use Rattle.std.proofs.Common.{◌≡◌, inl, inr, ℕ, ◌+◌, ◌-◌, ◌/◌, ◌%◌, ◌^◌, ◌<◌, ◌≤◌, List, ◌++◌, length, take, drop, slice_index, ap, ◌∙◌, arith, length-append, length-drop, length-take}
+use Rattle.std.proofs.Common.{◌≡◌, inl, inr, ℕ, ◌+◌, ◌-◌, ◌*◌, ◌/◌, ◌%◌, ◌^◌, ◌<◌, ◌≤◌, List, ◌++◌, length, take, drop, slice_index, ap, ◌∙◌, arith, length-append, length-drop, length-take}
 use Rattle.std.proofs.lemmas.Bool.{cases_lt}
 use Rattle.std.proofs.lemmas.List.{get_or-take, get_or-drop, get_or_append_left, get_or-append_right}
 use borrow.Rule.Slice.PartMut.{put_mid, post_of}
-use Rattle.layout.specs.Geometry.{page_word_of}
-use Rattle.layout.specs.Fields.{word, page_byte}
-use Rattle.layout.specs.Name.{bytes_of_word}
+use Rattle.layout.specs.Geometry.{data_pages_of, page_word_of}
+use Rattle.layout.specs.Fields.{word, byte_of, page_byte}
+use Rattle.layout.specs.Name.{bytes_of_word, bytes_of_words}
 use Rattle.layout.proofs.ByteLaws.{slice_index-bytes_of_word}
+use Rattle.layout.proofs.FieldLaws.{get_or-bytes_of_words}
+use Rattle.layout.proofs.GeometryLaws.{page_word_within}
 use Rattle.data_ops.specs.Reading.{file_byte}
 
 -- the bytes of the word that holds byte `at`, from that byte on
@@ -36,19 +38,47 @@ length-put_word before parts start count eight inside =
     let outer = length-append (take start before) (parts ++ post_of start count before) in
     omega (arith, front, rest, behind, inner, outer, eight, inside)
 
--- one more word of a buffer
-pub one_more_word : (P : ℕ) (I pages before parts : List ℕ) (offset start count : ℕ) → length parts ≡ 8 → start ≤ length before
+-- words of a page from one on, up to its end, are the device's
+pub words_within : (P page place count start : ℕ) → page < data_pages_of P → place + count ≤ 512 → start ≡ page_word_of P page place → start + count ≤ 512 * P
+unfolding page_word_of
+words_within P page place count start low few at =
+    let last = page_word_within P page 511 low (omega arith) in
+    omega (arith, last, few, at)
+
+-- the bytes of words of a page are those of the page
+pub bytes_of_page : (P : ℕ) (I words : List ℕ) (page place start count k : ℕ) → start ≡ page_word_of P page place → words ≡ take count (drop start I) → k / 8 < count
+    → slice_index (bytes_of_words words) k ≡ page_byte P I page (8 * place + k)
+unfolding page_byte byte_of word page_word_of
+bytes_of_page P I words page place start count k at is below =
+    let word_at : start + k / 8 ≡ page_word_of P page ((8 * place + k) / 8) = omega (arith, at) in
+    let byte_at : k % 8 ≡ (8 * place + k) % 8 = omega arith in
+    get_or-bytes_of_words words k
+    ∙ ap (λ (l : List ℕ). slice_index l (k / 8) / 256 ^ (k % 8) % 256) is
+    ∙ ap (λ (w : ℕ). w / 256 ^ (k % 8) % 256) (get_or-take count (drop start I) (k / 8) 0 below ∙ get_or-drop start I (k / 8) 0)
+    ∙ ap (λ (w : ℕ). slice_index I w / 256 ^ (k % 8) % 256) word_at
+    ∙ ap (λ (b : ℕ). slice_index I (page_word_of P page ((8 * place + k) / 8)) / 256 ^ b % 256) byte_at
+
+-- and of the file, up to the page's end
+pub byte_in_page : (P : ℕ) (I pages : List ℕ) (at j : ℕ) → at % 8 ≡ 0 → at % 4096 + j < 4096
+    → page_byte P I (slice_index pages (at / 4096)) (8 * (at % 4096 / 8) + j) ≡ file_byte P I pages (at + j)
+byte_in_page P I pages at j begins inside =
+    let page : at / 4096 ≡ (at + j) / 4096 = omega (arith, inside) in
+    let byte : 8 * (at % 4096 / 8) + j ≡ (at + j) % 4096 = omega (arith, begins, inside) in
+    ap (λ (p : ℕ). page_byte P I (slice_index pages p) (8 * (at % 4096 / 8) + j)) page ∙ ap (λ (b : ℕ). page_byte P I (slice_index pages ((at + j) / 4096)) b) byte
+
+-- so many more bytes of a buffer
+pub more_bytes : (P : ℕ) (I pages before parts : List ℕ) (offset start count : ℕ) → length parts ≡ count → start ≤ length before
     → ((k : ℕ) → k < start → slice_index before k ≡ file_byte P I pages (offset + k))
-    → ((k : ℕ) → k < 8 → slice_index parts k ≡ file_byte P I pages (offset + start + k))
-    → (k : ℕ) → k < start + 8 → slice_index (put_mid start count before parts) k ≡ file_byte P I pages (offset + k)
-one_more_word P I pages before parts offset start count eight inside so_far here k below =
+    → ((k : ℕ) → k < count → slice_index parts k ≡ file_byte P I pages (offset + start + k))
+    → (k : ℕ) → k < start + count → slice_index (put_mid start count before parts) k ≡ file_byte P I pages (offset + k)
+more_bytes P I pages before parts offset start count long inside so_far here k below =
     let front = length-take start before in
     elim (cases_lt k start) [
       | inl low ↦ get_or_append_left (take start before) (parts ++ post_of start count before) 0 k (omega (arith, front, inside, low)) ∙ get_or-take start before k 0 low ∙ so_far k low
       | inr high ↦
           let at : offset + start + (k - start) ≡ offset + k = omega (arith, high) in
           get_or-append_right (take start before) (parts ++ post_of start count before) start k 0 (omega (arith, front, inside)) high
-          ∙ get_or_append_left parts (post_of start count before) 0 (k - start) (omega (arith, eight, below, high))
+          ∙ get_or_append_left parts (post_of start count before) 0 (k - start) (omega (arith, long, below, high))
           ∙ here (k - start) (omega (arith, below, high))
           ∙ ap (λ (o : ℕ). file_byte P I pages o) at
     ]

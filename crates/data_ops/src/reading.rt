@@ -8,6 +8,7 @@ ghost use Rattle.volume.specs.Stands.{StandsFor};
 ghost use Rattle.page_state.specs.Page.{EachPage};
 ghost use Rattle.data_ops.specs.Reading.{HasFile, IsRead, file_byte, AreFileBytes};
 
+use byteorder::{ByteOrder, LittleEndian};
 use layout::{Geometry, PAGE_BYTES, WORD_BYTES};
 use pm_trait::Pm;
 use volume::Volume;
@@ -43,6 +44,21 @@ fn read_part<P: Pm>(pm: &P, geometry: &Geometry, pages: &[u64], at: u64, buf: &m
     buf.copy_from_slice(&parts[from..from + buf.len()]);
 }
 
+// Fills a buffer with words of a page, from this one on.
+fn read_page<P: Pm>(pm: &P, geometry: &Geometry, page: u64, place: u64, buf: &mut [u8])
+    requires whole { length (P.view pm.now).words ≡ 512 * geometry.now.pages }
+    requires in_range { page < geometry.now.data_pages }
+    requires place { place < 512 }
+    requires in_page { 8 * place + length buf.old ≤ 4096 }
+    requires whole_words { length buf.old % 8 ≡ 0 }
+    ensures { (k : ℕ) → k < length buf.new → slice_index buf.new k ≡ page_byte geometry.now.pages
+        (P.view pm.now).words page (8 * place + k) }
+{
+    let start = geometry.page_word(page, place) as usize;
+    let words = &pm.image()[start..start + buf.len() / BYTES_OF_A_WORD];
+    LittleEndian::write_u64_into(words, buf);
+}
+
 // Fills a buffer of whole words with a file's bytes from `offset` on, where a word begins.
 fn read_words<P: Pm>(pm: &P, geometry: &Geometry, pages: &[u64], offset: u64, buf: &mut [u8])
     requires whole { length (P.view pm.now).words ≡ 512 * geometry.now.pages }
@@ -53,12 +69,15 @@ fn read_words<P: Pm>(pm: &P, geometry: &Geometry, pages: &[u64], offset: u64, bu
     requires whole_words { length buf.old % 8 ≡ 0 }
     ensures { AreFileBytes geometry.now.pages (P.view pm.now).words pages.now offset buf.new }
 {
-    let mut at = offset;
-    for place in 0..buf.len() / BYTES_OF_A_WORD {
-        let parts = word_of_file(pm, geometry, pages, at).to_le_bytes();
-        let start = BYTES_OF_A_WORD * place;
-        buf[start..start + BYTES_OF_A_WORD].copy_from_slice(&parts);
-        at += WORD_BYTES;
+    let mut done = 0;
+    'pages: while done < buf.len() {
+        let at = offset + done as u64;
+        let page = pages[(at / PAGE_BYTES) as usize];
+        let left = PAGE_BYTES - at % PAGE_BYTES;
+        let end = buf.len().min(done + left as usize);
+        let place = at % PAGE_BYTES / WORD_BYTES;
+        read_page(pm, geometry, page, place, &mut buf[done..end]);
+        done = end;
     }
 }
 

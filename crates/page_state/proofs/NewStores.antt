@@ -8,7 +8,7 @@ use Rattle.pm_trait.specs.declared.event.Event.TheVariants.{Store}
 use Rattle.pm_trait.specs.Trail.{Trail}
 use Rattle.pm_trait.specs.Device.{IsInterval}
 use Rattle.pm_trait.specs.DeviceView.{DeviceView}
-use Rattle.pm_trait.proofs.DeviceLaws.{interval_keeps}
+use Rattle.pm_trait.proofs.DeviceLaws.{interval_keeps, interval_length}
 use Rattle.layout.specs.Geometry.{data_pages_of, page_word_of, descriptor_word_of}
 use Rattle.layout.specs.Fields.{word, page_kind, page_offset}
 use Rattle.layout.proofs.GeometryLaws.{same_page_word, descriptor_word_not_page_word, same_descriptor_word}
@@ -18,12 +18,12 @@ use Rattle.page_state.specs.declared.span.FileSpan.{FileSpan}
 use Rattle.page_state.specs.Spans.{has_new, new_pieces, word_after, word_now}
 use Rattle.page_state.specs.Page.{AreDataPages, OfSomeBelow, IsContentWord, IsOwnWord, IsNewPlace, IsNewWord, IsBytesPage}
 use Rattle.page_state.specs.Events.{store_of_word, new_stores, page_stores, HasWords}
-use Rattle.page_state.proofs.Contents.{kept, put, same_length}
+use Rattle.page_state.proofs.Contents.{kept, put, same_length, content_word_is}
 use Rattle.page_state.proofs.NewBytes.{word_after_any}
 use Rattle.page_state.proofs.Pages.{earlier_apart}
 use Rattle.page_state.proofs.Pieces.{one_if, pieces_more, pieces_most}
 use Rattle.page_state.proofs.SpanLaws.{has_new-zeros}
-use Rattle.page_state.proofs.Steps.{stores_more, flat_map-range_same, flat_map-range_ones}
+use Rattle.page_state.proofs.Steps.{no_stores, stores_more, stores_done, flat_map-range_same, flat_map-range_ones}
 
 -- ---- one page
 
@@ -82,6 +82,42 @@ words_more {a} {b} {c} span bytes volume_pages offset page place w inside at bef
       (λ stored. other ((same_page_word volume_pages page page earlier place (omega (arith, below, inside)) inside (only (page_word_of volume_pages page earlier) stored ∙ at)).1))
       ∙ so_far earlier (omega (arith, other, below))
 ]
+
+-- the words of the first places are stored, and as they become
+pub record AreStored (span : FileSpan) (bytes : List ℕ) (volume_pages offset page place : ℕ) (a b : DeviceView) : Type 0 where
+  pub device : StoresExactly (OfSomeBelow place (IsNewPlace span volume_pages offset page)) a b (flat_map (store_of_word span bytes a.words volume_pages offset page) (range_with_len 0 place)) (new_pieces span (4096 * offset) 8 place)
+  pub words : (earlier : ℕ) → earlier < place → slice_index b.words (page_word_of volume_pages page earlier) ≡ word_now span bytes (4096 * offset + 8 * earlier) (slice_index a.words (page_word_of volume_pages page earlier))
+
+pub none_stored : (span : FileSpan) (bytes : List ℕ) (volume_pages offset page : ℕ) (device : DeviceView) → AreStored span bytes volume_pages offset page 0 device device
+none_stored span bytes volume_pages offset page device = record {
+  device = no_stores (IsNewPlace span volume_pages offset page) (store_of_word span bytes device.words volume_pages offset page) (new_pieces span (4096 * offset) 8 0) device;
+  words = λ earlier below. absurd (omega (arith, below));
+}
+
+module _ {a b : DeviceView} (span : FileSpan) (bytes : List ℕ) (volume_pages offset page place : ℕ) (so_far : AreStored span bytes volume_pages offset page place a b) where
+  pub all_stored : place ≡ 512 → StoresExactly (IsNewWord span volume_pages offset page) a b (new_stores span bytes a.words volume_pages offset page) (new_pieces span (4096 * offset) 8 512)
+  unfolding new_stores
+  all_stored all =
+      stores_done (IsNewPlace span volume_pages offset page) (store_of_word span bytes a.words volume_pages offset page) place 512 (new_pieces span (4096 * offset) 8 512) all
+      (pieces_most span (4096 * offset) 8 place 512 (omega (arith, all))) so_far.device
+
+  module _ (w : ℕ) (inside : place < 512) (at : w ≡ page_word_of volume_pages page place) where
+    pub stored_in_range : ((word : ℕ) → IsContentWord volume_pages page word → word < length a.words) → w < length b.words
+    stored_in_range within =
+        let before = within w (content_word_is volume_pages page place w inside at) in
+        let long = interval_length so_far.device.interval in
+        omega (arith, before, long)
+
+    pub stored_room : new_pieces span (4096 * offset) 8 512 ≤ a.spare → has_new span (4096 * offset + 8 * place) 8 ≡ true → 1 ≤ b.spare
+    stored_room room has = word_room span offset place a.spare b.spare inside room so_far.device.room has
+
+    pub one_stored : {c : DeviceView} → slice_index c.words w ≡ word_now span bytes (4096 * offset + 8 * place) (slice_index b.words w)
+        → StoresExactly (λ other. (other ≡ w) × (has_new span (4096 * offset + 8 * place) 8 ≡ true)) b c (cond (has_new span (4096 * offset + 8 * place) 8) (Store w (word_after span bytes (4096 * offset + 8 * place) (slice_index b.words w)) ∷ []) []) (one_if (has_new span (4096 * offset + 8 * place) 8))
+        → AreStored span bytes volume_pages offset page (place + 1) a c
+    one_stored word step = record {
+      device = one_more_word span bytes volume_pages offset page place w inside at so_far.device step;
+      words = words_more span bytes volume_pages offset page place w inside at so_far.device.interval step.interval (λ other is. is.0) word so_far.words;
+    }
 
 -- ---- page by page
 

@@ -36,7 +36,25 @@ fn store_word<P: Pm>(pm: &mut P, word: u64, at: u64, span: &FileSpan, bytes: &[u
     }
 }
 
-// Stores the words of a page that have a new byte. The page's offset is in pages.
+// Stores the word whose bytes are those from byte `at` of the file on, all of the range.
+fn store_of_range<P: Pm>(pm: &mut P, word: u64, at: u64, span: &FileSpan, bytes: &[u8])
+    requires in_range { word < length (P.view pm.old).words }
+    requires range { span.now.offset + span.now.length ≤ 2 ^ 40 }
+    requires long { length bytes.now ≡ span.now.length }
+    requires from { span.now.offset ≤ at }
+    requires to { at + 8 ≤ span.now.offset + span.now.length }
+    requires room { 1 ≤ (P.view pm.old).spare }
+    ensures word { slice_index (P.view pm.new).words word ≡ word_now span.now bytes.now at (slice_index (P.view pm.old).words word) }
+    ensures device { StoresExactly (λ other. (other ≡ word) × (has_new_byte span.now at 8 ≡ true)) (P.view pm.old) (P.view pm.new)
+        (if has_new_byte span.now at 8
+        then Store word (word_that_becomes span.now bytes.now at (slice_index (P.view pm.old).words word)) ∷ []
+        else []) (if has_new_byte span.now at 8 then 1 else 0) }
+{
+    pm.store(word, span.word_of_range(bytes, at));
+}
+
+// Stores the words of a page that have a new byte: those that the range has whole by nothing but their stores. The page's offset is
+// in pages.
 fn store_page<P: Pm>(
     pm: &mut P,
     geometry: &Geometry,
@@ -56,15 +74,19 @@ fn store_page<P: Pm>(
         (new_stores span.now bytes.now (P.view pm.old).words geometry.now.pages offset page)
         (new_pieces span.now (4096 * offset) 8 512) }
 {
-    for place in 0..PAGE_WORDS {
+    let start = PAGE_BYTES * offset;
+    let (from, to) = span.whole_words(start);
+    'head: for place in 0..from {
         let word = geometry.page_word(page, place);
-        store_word(
-            pm,
-            word,
-            PAGE_BYTES * offset + WORD_BYTES * place,
-            span,
-            bytes,
-        );
+        store_word(pm, word, start + WORD_BYTES * place, span, bytes);
+    }
+    'whole: for place in from..to {
+        let word = geometry.page_word(page, place);
+        store_of_range(pm, word, start + WORD_BYTES * place, span, bytes);
+    }
+    'tail: for place in to..PAGE_WORDS {
+        let word = geometry.page_word(page, place);
+        store_word(pm, word, start + WORD_BYTES * place, span, bytes);
     }
 }
 

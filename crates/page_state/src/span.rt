@@ -1,9 +1,9 @@
 // Which bytes of a file get new values, and what its words become.
-ghost use Rattle.std.specs.Prelude.{◌≡◌, ◌⊎◌, ◌↔◌, ℕ, ◌+◌, ◌^◌, ◌<◌, ◌≤◌, IsTrue, IsSome, IfSome, length, take, drop};
+ghost use Rattle.std.specs.Prelude.{◌≡◌, ◌⊎◌, ◌↔◌, ℕ, ◌+◌, ◌*◌, ◌^◌, ◌<◌, ◌≤◌, IsTrue, IsSome, IfSome, true, length, take, drop};
 ghost use Rattle.layout.specs.Name.{word_of};
 ghost use Rattle.page_state.specs.Spans.{has_new as has_new_byte, byte_after as byte_that_becomes, word_after as word_that_becomes};
 
-use layout::WORD_BYTES;
+use layout::{PAGE_WORDS, WORD_BYTES};
 
 // The word of the eight bytes from this place on.
 fn word_from(bytes: &[u8], place: usize) -> u64
@@ -82,7 +82,35 @@ impl FileSpan {
         if at < self.offset || self.offset + self.length < at + WORD_BYTES {
             return None;
         }
-        Some(word_from(bytes, (at - self.offset) as usize))
+        Some(self.word_of_range(bytes, at))
+    }
+
+    // What the word becomes whose bytes are those from byte `at` on, all of the range.
+    pub(crate) fn word_of_range(&self, bytes: &[u8], at: u64) -> u64
+        requires range { self.now.offset + self.now.length ≤ 2 ^ 40 }
+        requires long { length bytes.now ≡ self.now.length }
+        requires from { self.now.offset ≤ at }
+        requires to { at + 8 ≤ self.now.offset + self.now.length }
+        ensures word { (old : ℕ) → result ≡ word_that_becomes self.now bytes.now at old }
+        ensures new { has_new_byte self.now at 8 ≡ true }
+    {
+        word_from(bytes, (at - self.offset) as usize)
+    }
+
+    // Which words of a page have all their bytes of the range: those from one on, and before another. The page begins at byte `start`
+    // of the file.
+    pub(crate) fn whole_words(&self, start: u64) -> (u64, u64)
+        requires range { self.now.offset + self.now.length ≤ 2 ^ 40 }
+        ensures order { result.0 ≤ result.1 }
+        ensures within { result.1 ≤ 512 }
+        ensures of_range { (word : ℕ) → result.0 ≤ word → word < result.1 → (self.now.offset ≤ start + 8 * word)
+            × (start + 8 * word + 8 ≤ self.now.offset + self.now.length) }
+    {
+        let before = self.offset.saturating_sub(start).div_ceil(WORD_BYTES);
+        let from = before.min(PAGE_WORDS);
+        let end = self.offset + self.length;
+        let to = end.saturating_sub(start) / WORD_BYTES;
+        (from, to.min(PAGE_WORDS).max(from))
     }
 
     // What the word becomes whose bytes are those from byte `at` on.

@@ -1,36 +1,37 @@
-use Rattle.std.proofs.Common.{◌≡◌, ℕ, ◌%◌, ◌+◌, ◌-◌, ◌*◌, ◌≤◌, List, length, slice_index, sym, ap, ◌∙◌, arith}
-use Rattle.layout.specs.Name.{bytes_of_word}
-use Rattle.data_ops.specs.Reading.{file_byte}
-use Rattle.data_ops.proofs.WordBytes.{one_more_word, length-put_word}
+use Rattle.std.proofs.Common.{◌≡◌, ◌%◌, ◌+◌, ◌-◌, ◌≤◌, length, drop, ◌∙◌, arith, length-drop, length-take}
+use borrow.Rule.Slice.PartMut.{put_mid}
+use Rattle.data_ops.proofs.WordBytes.{byte_in_page, more_bytes, length-put_word}
 use Rattle.data_ops.proofs.reading.read_words.Goals as goal
 
-pub loop-place-preserved : goal.loop-place-preserved
-unfolding bytes_of_word
-loop-place-preserved g c =
-    let so_far = c.loop-place.invariant in
+pub pages-preserved : goal.pages-preserved
+pages-preserved g c =
+    let so_far = c.pages.invariant in
     let volume_pages = c.args.geometry.now.pages in
     let words = (g.P.Pm.view c.args.pm.now).words in
     let pages = c.args.pages.now in
-    let start = 8 * c.loop-place.place in
-    let count = start + 8 - start in
-    let part = c.copy_from_slice.new.self in
-    let eight : count ≡ 8 = omega arith in
+    let done = c.pages.done in
+    let end = c.min-end.result in
+    let part = c.read_page.new.buf in
+    let at = c.args.offset + done in
+    let more = c.pages-test.true in
     let long = so_far.long in
-    let at = so_far.at_is in
-    let copied = c.copy_from_slice.ensures.len in
-    let inside : start + 8 ≤ length c.loop-place.buf = omega (arith, long) in
-    let begins : c.args.offset % 8 ≡ 0 = c.requires.at_a_word (omega (arith, long, inside)) in
+    let within = so_far.within in
+    let whole = so_far.whole in
+    let all = c.requires.whole_words in
+    let end_is = c.min-end.ensures in
+    let begins : c.args.offset % 8 ≡ 0 = c.requires.at_a_word (omega (arith, long, more)) in
+    let inside : end ≤ length c.pages.buf = omega (arith, end_is) in
+    let rest = length-drop done c.pages.buf in
+    let cut = length-take (end - done) (drop done c.pages.buf) in
+    let size : length part ≡ end - done = c.read_page.auto.buf ∙ omega (arith, cut, rest, inside) in
+    let same : length (put_mid done (end - done) c.pages.buf part) ≡ length c.pages.buf = length-put_word c.pages.buf part done (end - done) size (omega (arith, inside, within, end_is, more)) in
+    let last : end ≤ done + (4096 - at % 4096) = omega (arith, end_is) in
     record {
-      long = length-put_word c.loop-place.buf part start count (omega (arith, copied, eight, inside)) (omega (arith, inside, eight)) ∙ long;
-      at_is = omega (arith, at);
+      long = same ∙ long;
+      within = omega (arith, same, inside);
+      whole = omega (arith, end_is, whole, begins, all, long);
       made = λ k below.
-          one_more_word volume_pages words pages c.loop-place.buf part c.args.offset start count (omega (arith, copied, eight, inside)) (omega (arith, inside)) so_far.made
-          (λ j few.
-          let from : c.loop-place.at % 8 + j ≡ j = omega (arith, at, begins) in
-          let byte : c.loop-place.at + j ≡ c.args.offset + start + j = omega (arith, at) in
-          ap (λ (l : List ℕ). slice_index l j) (c.copy_from_slice.ensures.after ∙ c.to_le_bytes-parts.ensures)
-          ∙ ap (λ (i : ℕ). slice_index (bytes_of_word c.word_of_file.result) i) (sym from)
-          ∙ c.word_of_file.ensures j (omega (arith, from, few))
-          ∙ ap (λ (o : ℕ). file_byte volume_pages words pages o) byte)
+          more_bytes volume_pages words pages c.pages.buf part c.args.offset done (end - done) size within so_far.made
+          (λ j few. c.read_page.ensures j (omega (arith, size, few)) ∙ byte_in_page volume_pages words pages at j (omega (arith, begins, whole)) (omega (arith, few, last)))
           k (omega (arith, below));
     }

@@ -1,5 +1,5 @@
-use Rattle.std.proofs.Common.{◌≡◌, true, ◌∙◌, arith}
-use Rattle.page_state.proofs.NewBytes.{word_of_range, word_of_zeros}
+use Rattle.std.proofs.Common.{◌≡◌, true, arith}
+use Rattle.page_state.proofs.NewBytes.{word_of_zeros}
 use Rattle.page_state.proofs.span.FileSpan.whole_word.Goals as goal
 
 pub returns-then-self-at-clause-word : goal.returns-then-self-at-clause-word
@@ -7,6 +7,3 @@ returns-then-self-at-clause-word c = λ old.
     word_of_zeros c.args.self.now c.args.bytes.now c.args.at old
     (λ meets. let is : c.meets_range.result ≡ true = c.meets_range.ensures.1 meets in absurd (cc (is, c.if-not-meets_range.true)))
     (omega (arith, c.if-self-at.true))
-
-pub returns-clause-word : goal.returns-clause-word
-returns-clause-word c = λ old. c.word_from.ensures ∙ word_of_range c.args.self.now c.args.bytes.now c.args.at old c.requires.long (omega arith) (omega arith)
