@@ -11,8 +11,3 @@ length_percent b = refl
 pub regroup : (a b c d e f g h i j k : List ℕ)
     → (((((((((a ++ b) ++ c) ++ d) ++ e) ++ f) ++ g) ++ h) ++ i) ++ j) ++ k ≡ (a ++ (b ++ (c ++ (d ++ (e ++ (f ++ (g ++ (h ++ (i ++ j))))))))) ++ k
 regroup a b c d e f g h i j k = simp append_assoc
-
--- five pieces with a number each, and an end
-pub regroup_counts : (t a v b w c x d y e z n : List ℕ)
-    → ((((((((((t ++ a) ++ v) ++ b) ++ w) ++ c) ++ x) ++ d) ++ y) ++ e) ++ z) ++ n ≡ t ++ ((a ++ (v ++ (b ++ (w ++ (c ++ (x ++ (d ++ (y ++ (e ++ z))))))))) ++ n)
-regroup_counts t a v b w c x d y e z n = simp append_assoc

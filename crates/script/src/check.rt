@@ -1,8 +1,9 @@
 // The text of a check of a sound volume.
-ghost use Rattle.std.specs.Prelude.{◌≡◌, ◌≤◌, ◌+◌, ◌++◌, length, decimal};
+ghost use Rattle.std.specs.Prelude.{◌≡◌, ◌≤◌};
 ghost use Rattle.arrayvec.specs.ArrayVec.{array_vec_len};
 ghost use Rattle.io_edge.specs.Bytes.{Writes};
-ghost use Rattle.script.specs.Check.{check_text, tree_line, repairs_line};
+ghost use Rattle.script.specs.Tables.{table_text, table_room};
+ghost use Rattle.script.specs.Check.{check_text};
 
 use crate::texts::push_text;
 use arrayvec::ArrayVec;
@@ -45,46 +46,35 @@ pub fn write_check<K: Sink>(counts: &CheckCounts, sink: &mut K) -> Result<(), Wr
 fn text_of(counts: &CheckCounts) -> CountsText
     ensures { result.items ≡ check_text counts.now }
 {
-    let mut text = ArrayVec::new();
-    push_text(&mut text, b"sound\n");
-    push_tree(&mut text, counts);
-    push_repairs(&mut text, counts);
+    let mut text = text_of_table(&[
+        (b"sound\ntree directories ", counts.directories),
+        (b" files ", counts.files),
+        (b" names ", counts.names),
+    ]);
+    let repairs = text_of_table(&[
+        (b"repairs pointers ", counts.pointers),
+        (b" slots ", counts.slots),
+        (b" pages ", counts.pages),
+        (b" inodes ", counts.inodes),
+        (b" counts ", counts.counts),
+    ]);
+    push_text(&mut text, repairs.as_slice());
     text
 }
 
-// Adds the line of the tree.
-fn push_tree(text: &mut CountsText, counts: &CheckCounts)
-    requires room { array_vec_len text.old + 92 ≤ 256 }
-    ensures items { text.new.items ≡ text.old.items ++ tree_line counts.now }
-    ensures len { array_vec_len text.new ≤ array_vec_len text.old + 92 }
+// The text of a table: the words and the number of each row, and a newline behind them.
+pub fn text_of_table(table: &[(&[u8], u64)]) -> CountsText
+    requires room { table_room table.now ≤ 256 }
+    ensures items { result.items ≡ table_text table.now }
+    ensures short { array_vec_len result ≤ table_room table.now }
 {
-    push_count(text, b"tree directories ", counts.directories);
-    push_count(text, b" files ", counts.files);
-    push_count(text, b" names ", counts.names);
-    push_text(text, b"\n");
-}
-
-// Adds the line of the repairs.
-fn push_repairs(text: &mut CountsText, counts: &CheckCounts)
-    requires room { array_vec_len text.old + 148 ≤ 256 }
-    ensures { text.new.items ≡ text.old.items ++ repairs_line counts.now }
-{
-    push_count(text, b"repairs pointers ", counts.pointers);
-    push_count(text, b" slots ", counts.slots);
-    push_count(text, b" pages ", counts.pages);
-    push_count(text, b" inodes ", counts.inodes);
-    push_count(text, b" counts ", counts.counts);
-    push_text(text, b"\n");
-}
-
-// Adds words and a number in decimal.
-pub fn push_count(text: &mut CountsText, words: &[u8], count: u64)
-    requires room { array_vec_len text.old + length words.now + 20 ≤ 256 }
-    ensures items { text.new.items ≡ text.old.items ++ words.now ++ decimal count }
-    ensures len { array_vec_len text.new ≤ array_vec_len text.old + length words.now + 20 }
-{
-    push_text(text, words);
-    push_text(text, Buffer::new().format(count).as_bytes());
+    let mut text = ArrayVec::new();
+    for (words, number) in table {
+        push_text(&mut text, words);
+        push_text(&mut text, Buffer::new().format(*number).as_bytes());
+    }
+    push_text(&mut text, b"\n");
+    text
 }
 
 #[cfg(test)]

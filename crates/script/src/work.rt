@@ -1,12 +1,10 @@
 // The text of a workload's summary.
-ghost use Rattle.std.specs.Prelude.{◌≡◌, ◌≤◌, ◌+◌, ◌++◌};
-ghost use Rattle.arrayvec.specs.ArrayVec.{array_vec_len};
+ghost use Rattle.std.specs.Prelude.{◌≡◌};
 ghost use Rattle.io_edge.specs.Bytes.{Writes};
-ghost use Rattle.script.specs.Work.{work_text, answers_line, totals_line};
+ghost use Rattle.script.specs.Work.{work_text};
 
-use crate::check::{CountsText, push_count};
+use crate::check::{CountsText, text_of_table};
 use crate::texts::{push_text, space_line};
-use arrayvec::ArrayVec;
 use io_edge::{Sink, WriteFault, write_all};
 use tree_model::Free;
 
@@ -39,33 +37,15 @@ pub fn write_work<K: Sink>(summary: &WorkSummary, sink: &mut K) -> Result<(), Wr
 fn text_of(summary: &WorkSummary) -> CountsText
     ensures { result.items ≡ work_text summary.now }
 {
-    let mut text = ArrayVec::new();
-    push_answers(&mut text, summary);
+    let mut text = text_of_table(&[
+        (b"work lines ", summary.lines),
+        (b" ok ", summary.accepted),
+        (b" refused ", summary.refused),
+    ]);
+    let totals = text_of_table(&[(b"names ", summary.names), (b" bytes ", summary.bytes)]);
     push_text(&mut text, space_line(&summary.space).as_slice());
-    push_totals(&mut text, summary);
+    push_text(&mut text, totals.as_slice());
     text
-}
-
-// Adds the line of the answers.
-fn push_answers(text: &mut CountsText, summary: &WorkSummary)
-    requires room { array_vec_len text.old + 85 ≤ 256 }
-    ensures items { text.new.items ≡ text.old.items ++ answers_line summary.now }
-    ensures len { array_vec_len text.new ≤ array_vec_len text.old + 85 }
-{
-    push_count(text, b"work lines ", summary.lines);
-    push_count(text, b" ok ", summary.accepted);
-    push_count(text, b" refused ", summary.refused);
-    push_text(text, b"\n");
-}
-
-// Adds the line of the tree.
-fn push_totals(text: &mut CountsText, summary: &WorkSummary)
-    requires room { array_vec_len text.old + 54 ≤ 256 }
-    ensures { text.new.items ≡ text.old.items ++ totals_line summary.now }
-{
-    push_count(text, b"names ", summary.names);
-    push_count(text, b" bytes ", summary.bytes);
-    push_text(text, b"\n");
 }
 
 #[cfg(test)]
