@@ -4,7 +4,7 @@ use Rattle.pm_trait.specs.Device.{LeavesOnly, IsHonest}
 use Rattle.pm_trait.specs.DeviceView.{DeviceView}
 use Rattle.pm_trait.proofs.ContinuesLaws.{no_acks_told}
 use Rattle.format_ops.specs.Crashes.{IsOldHiddenOrFormatted}
-use Rattle.squirrel_cli.specs.Formats.{FormatsOnly}
+use Rattle.squirrel_cli.specs.Formats.{KeepsOldOrFormatted}
 use Rattle.squirrel_cli.proofs.Unacknowledged.{leaves_unacknowledged}
 
 -- the pages are those of the length
@@ -13,7 +13,7 @@ pages_of now seen pages is long = let same = ap length is in omega (arith, same,
 
 -- what a crash in a format leaves, and that it acknowledges nothing
 pub formats_only : {before after : DeviceView} (pages : ℕ) → IsHonest before.words before.trail before.fences before.acks → IsHonest after.words after.trail after.fences after.acks → after.acks ≡ before.acks
-    → LeavesOnly before.trail after.trail (λ k. IsOldHiddenOrFormatted (length before.words / 512) before.words) → length before.words / 512 ≡ pages → FormatsOnly pages before after
+    → LeavesOnly before.trail after.trail (λ k. IsOldHiddenOrFormatted (length before.words / 512) before.words) → length before.words / 512 ≡ pages → KeepsOldOrFormatted pages before after
 formats_only {before} {after} pages honest behind stays leaves made = record {
   any_moment =
       leaves_unacknowledged (subst (λ (p : ℕ). LeavesOnly before.trail after.trail (λ k. IsOldHiddenOrFormatted p before.words)) made leaves)

@@ -26,7 +26,7 @@ use Rattle.crash_replay.specs.Place.{place_in}
 use Rattle.crash_replay.specs.declared.moment.Moment.{Moment}
 use Rattle.squirrel_cli.specs.declared.status.Status.{Status}
 use Rattle.squirrel_cli.specs.declared.status.Status.TheVariants as status
-use Rattle.squirrel_cli.specs.Told.{IsShortOrTold, IsToldOrCut}
+use Rattle.squirrel_cli.specs.Told.{IsToldUnlessShort, IsToldOrCut}
 use Rattle.engine.specs.Run.{IsBetween}
 use Rattle.engine.specs.Script.{RunsScript, WritesAnswers}
 use Rattle.mount_scan.specs.Mounts.{HasMounted, IsOnlyMounted}
@@ -142,7 +142,7 @@ left_again {second = second} {image = image} {words = words} some same chosen cr
 -- what is listed of them is the tree of the image
 pub lists_left : {moment : Moment} {keep : List ℕ} {again : Option SecondCrash} {mark place acked : ℕ} {trail : Trail} {lent words : List ℕ} {result : Status} {took now : List ℕ → Type 0} → lent ≡ words → place ≡ place_in trail.events mark moment
     → acked ≡ count_acks (take place trail.events) → HasLeft keep again (trail_at trail place) words
-    → ((tree : Tree) → Reads (pages_in_image lent) lent tree → IsShortOrTold (acked_text acked ++ listing_text tree) result took now)
+    → ((tree : Tree) → Reads (pages_in_image lent) lent tree → IsToldUnlessShort (acked_text acked ++ listing_text tree) result took now)
     → (result ≡ status.NoMemory) ⊎ ListsLeft moment keep mark trail result took now
 lists_left {moment} {keep} {mark} {place} {acked} {trail} {lent} {words} {result} {took} {now} same placed counted left lists =
     let (tree, reads, form) = tree_law (pages_in_image left.image) left.image left.whole in

@@ -32,12 +32,12 @@ use Rattle.engine.proofs.After.{acked_then}
 use Rattle.script.specs.Texts.{acked_text, listing_text}
 use Rattle.squirrel_cli.specs.Causes.{TellsFaults}
 use Rattle.squirrel_cli.specs.Ends.{IsStart, end_of, GaveAll}
-use Rattle.squirrel_cli.specs.GoingOn.{GoesOn, IsShortOr, LeavesGoing, RunsOn}
+use Rattle.squirrel_cli.specs.GoingOn.{GoesOn, UnlessShort, LeavesGoing, RunsOn}
 use Rattle.squirrel_cli.specs.Mounts.{ActsAfterMount, HasRun, MountsAndRuns}
 use Rattle.squirrel_cli.specs.Rows.{LeavesTidy, MountsAnd}
 use Rattle.squirrel_cli.specs.Seen.{Seen}
 use Rattle.squirrel_cli.specs.Tells.{HasListed}
-use Rattle.squirrel_cli.specs.Told.{IsShortOrTold, IsToldOrCut}
+use Rattle.squirrel_cli.specs.Told.{IsToldUnlessShort, IsToldOrCut}
 use Rattle.squirrel_cli.specs.declared.status.Status.{Status}
 use Rattle.squirrel_cli.specs.declared.status.Status.TheVariants as status
 
@@ -172,7 +172,7 @@ module _ {S K : Type 0} (old new : Seen S K) {mounted : DeviceView} {volume : Vo
   }
 
   -- what a task does from the mount on, or that memory was short for it, is what the job does
-  pub mounted_row : (F G : Seen S K → Seen S K → Status → Type 0) (is : Status) → LeavesGoing volume.size mounted new.device → IsShortOr F (record old { device = mounted }) new is
+  pub mounted_row : (F G : Seen S K → Seen S K → Status → Type 0) (is : Status) → LeavesGoing volume.size mounted new.device → UnlessShort F (record old { device = mounted }) new is
       → (F (record old { device = mounted }) new is → G old new is) → MountsAnd G old new is
   mounted_row F G is leaves (inl (memory, untouched)) more = inl (record {
     is = memory;
@@ -192,7 +192,7 @@ module _ {S K : Type 0} (old new : Seen S K) {mounted : DeviceView} {volume : Vo
 
 -- a listing leaves the mounted device alone
 pub list_row : {S K : Type 0} (old new : Seen S K) {is : Status} {volume : VolumeView} → (mount : HasMounted volume old.device new.device) → new.script ≡ old.script → (is ≡ status.NoMemory → new.output ≡ old.output)
-    → IsShortOrTold (listing_text mount.only.start.tree) is old.took new.took → MountsAnd HasListed old new is
+    → IsToldUnlessShort (listing_text mount.only.start.tree) is old.took new.took → MountsAnd HasListed old new is
 list_row old new mount script silent (inl memory) = inl (record {
   is = memory;
   silent = record { script = script; output = silent memory };

@@ -21,7 +21,7 @@ use Rattle.squirrel_cli.specs.declared.status.Status.TheVariants as status
 use Rattle.squirrel_cli.specs.Causes.{TellsFaults}
 use Rattle.squirrel_cli.specs.Rows.{MountsAnd}
 use Rattle.squirrel_cli.specs.Seen.{Seen}
-use Rattle.squirrel_cli.specs.Told.{IsShortOrTold, IsToldOrCut, IsToldOf, TellsWrites, refusal_of, status_of_write}
+use Rattle.squirrel_cli.specs.Told.{IsToldUnlessShort, IsToldOrCut, IsToldOf, TellsWrites, refusal_of, status_of_write}
 
 -- ---- what was told
 
@@ -91,7 +91,7 @@ module _ {S K : Type 0} (old new : Seen S K) {is : Status} where
   }
 
   -- what a job ends with that lists and writes alone has no other cause than a write that failed
-  pub listed_cause : {text : List ℕ} → IsShortOrTold text is old.took new.took → TellsWrites is old.write_faults new.write_faults → new.read_faults ≡ old.read_faults → new.device.faults ≡ old.device.faults → TellsFaults old new is
+  pub listed_cause : {text : List ℕ} → IsToldUnlessShort text is old.took new.took → TellsWrites is old.write_faults new.write_faults → new.read_faults ≡ old.read_faults → new.device.faults ≡ old.device.faults → TellsFaults old new is
   listed_cause told writes unread unfailed = record {
     device = λ same. absurd (never told same (λ e. cc e) (λ e. cc e) (λ e. cc e));
     done = λ same. unfailed;
@@ -102,7 +102,7 @@ module _ {S K : Type 0} (old new : Seen S K) {is : Status} where
     no_write_fault = writes.no_write_fault;
   }
     where
-      never : {other : Status} {text : List ℕ} → IsShortOrTold text is old.took new.took → is ≡ other → other ≢ status.NoMemory → other ≢ status.Done → other ≢ status.WriteFault → ⊥
+      never : {other : Status} {text : List ℕ} → IsToldUnlessShort text is old.took new.took → is ≡ other → other ≢ status.NoMemory → other ≢ status.Done → other ≢ status.WriteFault → ⊥
       never (inl memory) same short done cut = short (sym same ∙ memory)
       never (inr (inl told)) same short done cut = done (sym same ∙ told.0)
       never (inr (inr told)) same short done cut = cut (sym same ∙ told.0)

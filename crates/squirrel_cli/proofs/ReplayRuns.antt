@@ -16,12 +16,12 @@ use Rattle.squirrel_cli.specs.declared.status.Status.{Status}
 use Rattle.squirrel_cli.specs.declared.status.Status.TheVariants as status
 use Rattle.squirrel_cli.specs.Causes.{TellsFaults}
 use Rattle.squirrel_cli.specs.Ends.{end_of}
-use Rattle.squirrel_cli.specs.GoingOn.{IsShortOr, RunsOn}
-use Rattle.squirrel_cli.specs.Replays.{HasReplayed, ListsLeft, Replays, StopsBefore, unlisted_end}
+use Rattle.squirrel_cli.specs.GoingOn.{UnlessShort, RunsOn}
+use Rattle.squirrel_cli.specs.Replays.{HasReplayed, ListsLeft, Replays, EndsUnlisted, unlisted_end}
 use Rattle.squirrel_cli.specs.ReplaySteps.{ReplaysMounted}
-use Rattle.squirrel_cli.specs.Rows.{Crashes, ReplaysOn}
+use Rattle.squirrel_cli.specs.Rows.{Crashes, ReplaysCrash}
 use Rattle.squirrel_cli.specs.Seen.{Seen}
-use Rattle.squirrel_cli.specs.Told.{IsShortOrTold, TellsWrites}
+use Rattle.squirrel_cli.specs.Told.{IsToldUnlessShort, TellsWrites}
 use Rattle.volume.specs.Volume.{VolumeView}
 use Rattle.squirrel_cli.proofs.Refusals.{listed_cause}
 use Rattle.squirrel_cli.proofs.Leaving.{any_run}
@@ -70,7 +70,7 @@ replays_entry {moment} {keep} {mounted = mounted} {after = after} {result} {scri
 -- ---- a run into a tally, which never fails
 
 -- the run that was done
-pub run_done : {S K : Type 0} {P : ℕ} (old new : Seen S K) {is : Status} → IsShortOr (RunsOn P) old new is → is ≡ status.Done → RunsScript P old.device new.device run_end.Done old.left new.left old.took new.took
+pub run_done : {S K : Type 0} {P : ℕ} (old new : Seen S K) {is : Status} → UnlessShort (RunsOn P) old new is → is ≡ status.Done → RunsScript P old.device new.device run_end.Done old.left new.left old.took new.took
 run_done old new (inl (memory, untouched)) done = absurd (cc (memory, done))
 run_done {P = P} old new (inr runs) done =
     let ended : runs.end ≡ run_end.Done = let e = sym runs.ended ∙ ap end_of done in cc e in
@@ -92,13 +92,13 @@ unlisted status.ScriptLimit not cut ended = ended
 abbrev beside : {S K T : Type 0} → Seen S K → DeviceView → T → (List ℕ → Type 0) → Seen S T
 beside at device tally took = record { device = device; script = at.script; left = at.left; read_faults = at.read_faults; output = tally; took = took; write_faults = 0 }
 
-pub run_of_tally : {S K T : Type 0} {size : ℕ} (old new : Seen S K) (mounted : DeviceView) (before after : T) (took tallied : List ℕ → Type 0) {is : Status} → IsShortOr (RunsOn size) (beside old mounted before took) (beside new new.device after tallied) is → is ≡ status.Done
+pub run_of_tally : {S K T : Type 0} {size : ℕ} (old new : Seen S K) (mounted : DeviceView) (before after : T) (took tallied : List ℕ → Type 0) {is : Status} → UnlessShort (RunsOn size) (beside old mounted before took) (beside new new.device after tallied) is → is ≡ status.Done
     → RunsScript size mounted new.device run_end.Done old.left new.left took tallied
 run_of_tally old new mounted before after took tallied runs done = run_done (beside old mounted before took) (beside new new.device after tallied) runs done
 
 module _ {S K T : Type 0} (old new : Seen S K) {mounted : DeviceView} {volume : VolumeView} (before after : T) (took tallied : List ℕ → Type 0) (mount : HasMounted volume old.device mounted) where
   -- The run was done, and memory was short for what follows.
-  pub stops_done : {is told : Status} → IsShortOr (RunsOn volume.size) (beside old mounted before took) (beside new new.device after tallied) is → is ≡ status.Done → told ≡ status.NoMemory → new.output ≡ old.output → StopsBefore old new told
+  pub stops_done : {is told : Status} → UnlessShort (RunsOn volume.size) (beside old mounted before took) (beside new new.device after tallied) is → is ≡ status.Done → told ≡ status.NoMemory → new.output ≡ old.output → EndsUnlisted old new told
   stops_done runs done memory output = record {
     end = run_end.Done;
     ended = ap unlisted_end memory;
@@ -108,8 +108,8 @@ module _ {S K T : Type 0} (old new : Seen S K) {mounted : DeviceView} {volume : 
   }
 
   -- It had another end, and nothing was written.
-  pub stops_otherwise : (moment : Moment) (keep : List ℕ) {is : Status} → IsShortOr (RunsOn volume.size) (beside old mounted before took) (beside new new.device after tallied) is → is ≢ status.Done → is ≢ status.WriteFault → new.output ≡ old.output
-      → IsShortOr (λ _ at status. HasReplayed moment keep old at status) (record old { device = mounted }) new is
+  pub stops_otherwise : (moment : Moment) (keep : List ℕ) {is : Status} → UnlessShort (RunsOn volume.size) (beside old mounted before took) (beside new new.device after tallied) is → is ≢ status.Done → is ≢ status.WriteFault → new.output ≡ old.output
+      → UnlessShort (λ _ at status. HasReplayed moment keep old at status) (record old { device = mounted }) new is
   stops_otherwise moment keep (inl (memory, untouched)) not cut output = inl (memory, record { device = untouched.device; silent = record { script = untouched.script; output = output } })
   stops_otherwise moment keep {is} (inr runs) not cut output = inr (inl (record {
     end = runs.end;
@@ -132,7 +132,7 @@ module _ {S K T : Type 0} (old new : Seen S K) {mounted : DeviceView} {volume : 
   }
 
   -- and of one that was done nothing failed so far
-  pub cause_done : {is told : Status} {text : List ℕ} → TellsFaults (beside old mounted before took) (beside new new.device after tallied) is → is ≡ status.Done → IsShortOrTold text told old.took new.took
+  pub cause_done : {is told : Status} {text : List ℕ} → TellsFaults (beside old mounted before took) (beside new new.device after tallied) is → is ≡ status.Done → IsToldUnlessShort text told old.took new.took
       → TellsWrites told old.write_faults new.write_faults → TellsFaults (record old { device = mounted }) new told
   cause_done cause done lists writes = listed_cause (record old { device = mounted }) new lists writes (cause.no_read_fault (λ read. cc (done, read))) (cause.done done)
 
@@ -145,24 +145,25 @@ module _ {S K T : Type 0} (old new : Seen S K) {mounted : DeviceView} {volume : 
 -- what a listing ends with: memory was short for it, or it is told
 pub listed : {S K : Type 0} (moment : Moment) (keep : List ℕ) (old new : Seen S K) {mounted : DeviceView} {volume : VolumeView} {is : Status} {mark : ℕ} {trail : Trail} {tally tallied : List ℕ → Type 0}
     → (mount : HasMounted volume old.device mounted) → (run : RunsScript volume.size mounted new.device run_end.Done old.left new.left tally tallied) → ((k : ℕ) → slice_get run.answers k ≢ Some (Refused OutOfMemory))
-    → new.device.trail ≡ Some trail → mark ≡ moment_of mounted.trail → (is ≡ status.NoMemory → StopsBefore old new is)
+    → new.device.trail ≡ Some trail → mark ≡ moment_of mounted.trail → (is ≡ status.NoMemory → EndsUnlisted old new is)
     → (is ≡ status.NoMemory) ⊎ ListsLeft moment keep mark trail is old.took new.took → HasReplayed moment keep old new is
 listed moment keep old new mount run ample recorded marked short (inl memory) = inl (short memory)
 listed moment keep old new mount run ample recorded marked short (inr lists) = inr (replays_entry mount.size mount.only (replays_mounted run ample recorded marked lists))
 
-pub told_of_left : {moment : Moment} {keep : List ℕ} {is : Status} {mark : ℕ} {trail : Trail} {took now : List ℕ → Type 0} → (is ≡ status.NoMemory) ⊎ ListsLeft moment keep mark trail is took now → (text : List ℕ) × IsShortOrTold text is took now
+pub told_of_left : {moment : Moment} {keep : List ℕ} {is : Status} {mark : ℕ} {trail : Trail} {took now : List ℕ → Type 0} → (is ≡ status.NoMemory) ⊎ ListsLeft moment keep mark trail is took now → (text : List ℕ) × IsToldUnlessShort text is took now
 told_of_left (inl memory) = ([], inl memory)
 told_of_left {mark = mark} {trail = trail} (inr lists) = (_, inr lists.told)
 
 -- ---- on a copy
 
 pub crashes_copy : {S K : Type 0} (moment : Moment) (keep : List ℕ) (old new : Seen S K) {is : Status} (before after : DeviceView) → new.device ≡ old.device → IsNew before old.device.words
-    → TellsFaults (record old { device = before }) (record new { device = after }) is → after.faults ≡ 0 → ReplaysOn moment keep (record old { device = before }) (record new { device = after }) is → Crashes moment keep old new is
+    → TellsFaults (record old { device = before }) (record new { device = after }) is → after.faults ≡ 0 → ReplaysCrash moment keep (record old { device = before }) (record new { device = after }) is → Crashes moment keep old new is
 crashes_copy moment keep old new before after alone fresh cause steady replays = inr (record {
   alone = alone;
   unfailing = λ same. absurd (never_risen (subst (λ (faults : ℕ). HasRisen 0 faults) steady (subst (λ (faults : ℕ). HasRisen faults after.faults) fresh.faults (cause.device same))));
   before = before;
   fresh = fresh;
   after = after;
+  steady = steady ∙ sym fresh.faults;
   replays = replays;
 })

@@ -1,18 +1,17 @@
 -- When a job is done.
-use Rattle.std.specs.Prelude.{◌≡◌, ◌≢◌, ◌⊎◌, Some}
+use Rattle.std.specs.Prelude.{◌≡◌, ◌≢◌, ◌⊎◌, ℕ, List, Some}
 use Rattle.pm_trait.specs.Device.{HasRisen}
 use Rattle.pm_trait.specs.DeviceView.{DeviceView}
 use Rattle.io_edge.specs.declared.source.Source.{Ghosts as Sources}
 use Rattle.io_edge.specs.declared.sink.Sink.{Ghosts as Sinks}
 use Rattle.crash_replay.specs.declared.moment.Moment.{Moment}
 use Rattle.command_line.specs.declared.job.Job.{Job}
-use Rattle.std.specs.Prelude.{ℕ, List}
 use Rattle.squirrel_cli.specs.declared.status.Status.{Status}
 use Rattle.squirrel_cli.specs.declared.status.Status.TheVariants.{Done, NoMemory, ScriptLimit}
 use Rattle.squirrel_cli.specs.Asked.{ReadsScript}
 use Rattle.squirrel_cli.specs.Causes.{TellsFaults}
 use Rattle.squirrel_cli.specs.Ends.{IsMountable, IsReadyFor, IsShortScript}
-use Rattle.squirrel_cli.specs.Rows.{DoesJob, ReplaysOn}
+use Rattle.squirrel_cli.specs.Rows.{DoesJob, ReplaysCrash}
 use Rattle.squirrel_cli.specs.Seen.{Seen, seen}
 
 -- no fence and no write failed
@@ -35,7 +34,7 @@ CompleteLaw {S} {K} source sink = (job : Job) (before after : DeviceView) (scrip
 -- Of a replay of a short script, where nothing fails, memory alone may be short.
 abbrev pub ReplayCompleteLaw : {S K : Type 0} → Sources S → Sinks K → Type 0
 ReplayCompleteLaw {S} {K} source sink = (moment : Moment) (keep : List ℕ) (before after : DeviceView) (script rest : S) (output written : K) (status : Status)
-    → ReplaysOn moment keep (seen source sink before script output) (seen source sink after rest written) status
+    → ReplaysCrash moment keep (seen source sink before script output) (seen source sink after rest written) status
     → TellsFaults (seen source sink before script output) (seen source sink after rest written) status
     → IsMountable before.words → IsShortScript (source.left script) → HasNoFault (seen source sink before script output) (seen source sink after rest written)
     → ¬ HasRisen (source.faults script) (source.faults rest) → (status ≡ Done) ⊎ (status ≡ NoMemory)

@@ -12,24 +12,24 @@ use Rattle.squirrel_cli.specs.Seen.{Seen, IsSilent}
 use Rattle.squirrel_cli.specs.Told.{IsToldOrCut}
 
 -- A crash leaves the old words, no volume, or the fresh one, and nothing is acknowledged.
-pub record FormatsOnly (pages : ℕ) (before after : DeviceView) : Type 0 where
+pub record KeepsOldOrFormatted (pages : ℕ) (before after : DeviceView) : Type 0 where
   pub any_moment : LeavesOnly before.trail after.trail (λ acks image. (acks ≡ 0) × IsOldHiddenOrFormatted pages before.words image)
   pub acks : after.acks ≡ before.acks
 
--- A fence failed, before the third.
+-- A fence failed: fewer than three were made.
 pub record FailsToFormat {S K : Type 0} (pages : ℕ) (old new : Seen S K) (status : Status) : Type 0 where
   pub is : status ≡ DeviceFault
   pub silent : IsSilent old new
-  pub only : FormatsOnly pages old.device new.device
+  pub only : KeepsOldOrFormatted pages old.device new.device
   pub fewer : new.device.fences < old.device.fences + 3
 
 -- The device is a fresh volume of so many pages, made by three fences, and its numbers were written, or a prefix of them where a write
--- failed. The root is left alone, and every word of the data pages is as it was.
+-- failed. Its tree is the root alone, and every word of the data pages is as it was.
 pub record HasFormatted {S K : Type 0} (pages : ℕ) (old new : Seen S K) (status : Status) : Type 0 where
   pub script : new.script ≡ old.script
   pub formatted : IsFormattedFrom pages old.device.words new.device.words
   pub fresh : IsFresh pages new.device.words
-  pub only : FormatsOnly pages old.device new.device
+  pub only : KeepsOldOrFormatted pages old.device new.device
   pub fences : new.device.fences ≡ old.device.fences + 3
   pub faults : new.device.faults ≡ old.device.faults
   pub told : IsToldOrCut Done (formatted_text pages) status old.took new.took

@@ -32,5 +32,5 @@ pub record RunsOn {S K : Type 0} (P : ℕ) (old new : Seen S K) (status : Status
   pub run : RunsScript P old.device new.device end old.left new.left old.took new.took
 
 -- memory was short before anything was done, or what F says was done
-abbrev pub IsShortOr : {S K : Type 0} → (Seen S K → Seen S K → Status → Type 0) → Seen S K → Seen S K → Status → Type 0
-IsShortOr F old new status = (status ≡ NoMemory) × IsUntouched old new ⊎ F old new status
+abbrev pub UnlessShort : {S K : Type 0} → (Seen S K → Seen S K → Status → Type 0) → Seen S K → Seen S K → Status → Type 0
+UnlessShort F old new status = (status ≡ NoMemory) × IsUntouched old new ⊎ F old new status

@@ -81,7 +81,7 @@ pub record Replays (moment : Moment) (keep : List ℕ) (P : ℕ) (before after :
   pub told : IsToldOrCut Done (acked_text (acked_before trail (moment_of ran.mounted.trail) moment) ++ listing_text tree) result took now
 
 -- The script was run through to the end that the status tells, and nothing was written.
-pub record StopsBefore {S K : Type 0} (old new : Seen S K) (status : Status) : Type 0 where
+pub record EndsUnlisted {S K : Type 0} (old new : Seen S K) (status : Status) : Type 0 where
   pub end : RunEnd
   pub ended : unlisted_end status ≡ Some end
   pub output : new.output ≡ old.output
@@ -91,5 +91,5 @@ pub record StopsBefore {S K : Type 0} (old new : Seen S K) (status : Status) : T
 -- What a replay does on a sound volume.
 abbrev pub HasReplayed : {S K : Type 0} → Moment → List ℕ → Seen S K → Seen S K → Status → Type 0
 HasReplayed moment keep old new status =
-    StopsBefore old new status
+    EndsUnlisted old new status
     ⊎ Replays moment keep (pages_in_image old.device.words) old.device new.device status old.left new.left old.took new.took

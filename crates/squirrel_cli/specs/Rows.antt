@@ -26,14 +26,14 @@ use Rattle.squirrel_cli.specs.Replays.{HasReplayed}
 
 -- Memory was short, and nothing was read or written. The device was left alone, or mounted; where it holds no sound volume it is as it
 -- was.
-pub record IsShort {S K : Type 0} (old new : Seen S K) (status : Status) : Type 0 where
+pub record IsShortOfMemory {S K : Type 0} (old new : Seen S K) (status : Status) : Type 0 where
   pub is : status ≡ NoMemory
   pub silent : IsSilent old new
   pub device : IsLeftAlone old.device new.device
       ⊎ IsMountable old.device.words × IsOnlyMounted (pages_in_image old.device.words) old.device new.device
   pub unsound : ¬ IsMountable old.device.words → new.device ≡ old.device
 
--- it is told that the words are no volume, or which rule they break first and where
+-- it is told, whole or cut by a write that failed, that the words are no volume, or which rule they break first and where
 abbrev pub IsToldWhy : List ℕ → Status → (List ℕ → Type 0) → (List ℕ → Type 0) → Type 0
 IsToldWhy words status took now =
     ¬ HoldsVolume words × IsToldOrCut NotVolume not_a_volume_text status took now
@@ -56,11 +56,11 @@ pub record FailsInMount {S K : Type 0} (old new : Seen S K) (status : Status) : 
 abbrev pub LeavesTidy : {S K : Type 0} → Seen S K → Seen S K → Type 0
 LeavesTidy old new = HasRisen old.device.faults new.device.faults ⊎ IsTidy new.device.words
 
--- A job that mounts the device: memory is short; or the words are no sound volume, which is told; or they are one, and a fence fails in
--- the mount, or it goes on as F says.
+-- A job that mounts the device: memory is short; or the words are no sound volume, which is told; or they are one, nothing is left to
+-- repair in it unless a fence failed, and a fence fails in the mount, or the job goes on as F says.
 abbrev pub MountsAnd : {S K : Type 0} → (Seen S K → Seen S K → Status → Type 0) → Seen S K → Seen S K → Status → Type 0
 MountsAnd F old new status =
-    IsShort old new status
+    IsShortOfMemory old new status
     ⊎ ¬ IsMountable old.device.words × IsRefused old new status
     ⊎ IsMountable old.device.words × LeavesTidy old new × (FailsInMount old new status ⊎ F old new status)
 
@@ -93,23 +93,24 @@ Checks old new status =
     ⊎ IsMountable old.device.words × HasChecked old new status
 
 -- A replay of a crash mounts the volume, runs the script on it, and lists what the crash leaves.
-abbrev pub ReplaysOn : {S K : Type 0} → Moment → List ℕ → Seen S K → Seen S K → Status → Type 0
-ReplaysOn moment keep old new status = MountsAnd (HasReplayed moment keep) old new status
+abbrev pub ReplaysCrash : {S K : Type 0} → Moment → List ℕ → Seen S K → Seen S K → Status → Type 0
+ReplaysCrash moment keep old new status = MountsAnd (HasReplayed moment keep) old new status
 
--- It is made on a new device of the same words, which never fails; the device itself is as it was.
-pub record ReplaysCopy {S K : Type 0} (moment : Moment) (keep : List ℕ) (old new : Seen S K) (status : Status) : Type 0 where
+-- It is made on a new device of the same words, of which no fence fails; the device itself is as it was.
+pub record CrashesOnCopy {S K : Type 0} (moment : Moment) (keep : List ℕ) (old new : Seen S K) (status : Status) : Type 0 where
   pub alone : new.device ≡ old.device
   pub unfailing : status ≢ DeviceFault
   pub before : DeviceView
   pub fresh : IsNew before old.device.words
   pub after : DeviceView
-  pub replays : ReplaysOn moment keep (record old { device = before }) (record new { device = after }) status
+  pub steady : after.faults ≡ before.faults
+  pub replays : ReplaysCrash moment keep (record old { device = before }) (record new { device = after }) status
 
 -- `crash`: there is no memory for a copy, or the crash is replayed on one.
 abbrev pub Crashes : {S K : Type 0} → Moment → List ℕ → Seen S K → Seen S K → Status → Type 0
-Crashes moment keep old new status = (status ≡ NoMemory) × IsUntouched old new ⊎ ReplaysCopy moment keep old new status
+Crashes moment keep old new status = (status ≡ NoMemory) × IsUntouched old new ⊎ CrashesOnCopy moment keep old new status
 
--- What is done where the words ask for this job; where they ask for none that is told, unless memory is short, and nothing is done.
+-- What is done where the words ask for this job. Where they ask for none the status says so, unless memory is short, and nothing is done.
 abbrev pub DoesJob : {S K : Type 0} → Option Job → Seen S K → Seen S K → Status → Type 0
 DoesJob None old new status = ((status ≡ Usage) ⊎ (status ≡ NoMemory)) × IsUntouched old new
 DoesJob (Some (Mkfs pages)) old new status = Formats pages old new status

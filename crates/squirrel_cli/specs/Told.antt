@@ -20,8 +20,8 @@ abbrev pub IsToldOrCut : Status → List ℕ → Status → (List ℕ → Type 0
 IsToldOrCut status text result took now = (result ≡ status) × Takes took text now ⊎ (result ≡ WriteFault) × TakesPrefix took text now
 
 -- or memory was short
-abbrev pub IsShortOrTold : List ℕ → Status → (List ℕ → Type 0) → (List ℕ → Type 0) → Type 0
-IsShortOrTold text result took now = (result ≡ NoMemory) ⊎ IsToldOrCut Done text result took now
+abbrev pub IsToldUnlessShort : List ℕ → Status → (List ℕ → Type 0) → (List ℕ → Type 0) → Type 0
+IsToldUnlessShort text result took now = (result ≡ NoMemory) ⊎ IsToldOrCut Done text result took now
 
 -- that a write failed is told just where one has
 pub record TellsWrites (result : Status) (before after : ℕ) : Type 0 where

@@ -9,7 +9,7 @@ ghost use Rattle.squirrel_cli.specs.Causes.{TellsFaults};
 ghost use Rattle.squirrel_cli.specs.Ends.{IsStart};
 ghost use Rattle.squirrel_cli.specs.Rows.{Lists};
 ghost use Rattle.squirrel_cli.specs.Seen.{seen_alone};
-ghost use Rattle.squirrel_cli.specs.Told.{IsShortOrTold, TellsWrites};
+ghost use Rattle.squirrel_cli.specs.Told.{IsToldUnlessShort, TellsWrites};
 
 use crate::refused::refuse;
 use crate::status::{Status, status_of_write};
@@ -39,7 +39,7 @@ fn list_tree<P: Pm, K: Sink>(alloc: Global, volume: Volume, out: &mut K, pm: &P)
     requires stands { IsStanding volume (P.view pm.now) }
     ensures no_memory { result ≡ Status.NoMemory → out.new ≡ out.old }
     ensures lists { (state : State) → StandsFor volume (P.view pm.now) state →
-        IsShortOrTold (listing_text state.tree) result (K.took out.old) (K.took out.new) }
+        IsToldUnlessShort (listing_text state.tree) result (K.took out.old) (K.took out.new) }
     ensures cause { TellsWrites result (K.faults out.old) (K.faults out.new) }
 {
     let Ok(mut session) = Session::start(alloc, volume) else {

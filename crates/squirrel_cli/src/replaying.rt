@@ -13,9 +13,9 @@ ghost use Rattle.squirrel_cli.specs.Causes.{TellsFaults};
 ghost use Rattle.squirrel_cli.specs.Ends.{IsStart};
 ghost use Rattle.squirrel_cli.specs.Replays.{IsUnbegun, ListsLeft};
 ghost use Rattle.squirrel_cli.specs.ReplaySteps.{HasLeft, LeavesSound};
-ghost use Rattle.squirrel_cli.specs.Rows.{Crashes, ReplaysOn};
+ghost use Rattle.squirrel_cli.specs.Rows.{Crashes, ReplaysCrash};
 ghost use Rattle.squirrel_cli.specs.Seen.{seen};
-ghost use Rattle.squirrel_cli.specs.Told.{IsShortOrTold, TellsWrites};
+ghost use Rattle.squirrel_cli.specs.Told.{IsToldUnlessShort, TellsWrites};
 
 use crate::chosen::{ChosenCrash, SecondCrash};
 use crate::refused::refuse;
@@ -52,7 +52,7 @@ pub fn replay<S: Source, K: Sink>(
     requires some_again { IfSome again (λ crash. 0 < length crash.1.now) }
 
     // What `crash` does on a copy is done on this device.
-    ensures replays { ReplaysOn moment keep.now (seen S.Source K.Sink (⟦<RamPm as Pm>⟧.view pm.old) source.old sink.old)
+    ensures replays { ReplaysCrash moment keep.now (seen S.Source K.Sink (⟦<RamPm as Pm>⟧.view pm.old) source.old sink.old)
         (seen S.Source K.Sink (⟦<RamPm as Pm>⟧.view pm.new) source.new sink.new) result }
     ensures cause { TellsFaults (seen S.Source K.Sink (⟦<RamPm as Pm>⟧.view pm.old) source.old sink.old)
         (seen S.Source K.Sink (⟦<RamPm as Pm>⟧.view pm.new) source.new sink.new) result }
@@ -98,7 +98,7 @@ fn replay_on<P: Recorded, S: Source, K: Sink>(
 ) -> Status
     requires start { IsStart (P.view pm.old) }
     requires unbegun { IsUnbegun (P.view pm.old) }
-    ensures replays { ReplaysOn crash.now.moment crash.now.keep.now (seen S.Source K.Sink (P.view pm.old) source.old sink.old)
+    ensures replays { ReplaysCrash crash.now.moment crash.now.keep.now (seen S.Source K.Sink (P.view pm.old) source.old sink.old)
         (seen S.Source K.Sink (P.view pm.new) source.new sink.new) result }
     ensures cause { TellsFaults (seen S.Source K.Sink (P.view pm.old) source.old sink.old)
         (seen S.Source K.Sink (P.view pm.new) source.new sink.new) result }
@@ -181,7 +181,7 @@ fn list_words<K: Sink>(alloc: Global, words: &[u64], acked: u64, sink: &mut K) -
     requires sound { IsSound words.now }
     ensures no_memory { result ≡ Status.NoMemory → sink.new ≡ sink.old }
     ensures lists { (tree : Tree) → Reads (pages_in_image words.now) words.now tree →
-        IsShortOrTold (acked_text acked ++ listing_text tree) result (K.took sink.old) (K.took sink.new) }
+        IsToldUnlessShort (acked_text acked ++ listing_text tree) result (K.took sink.old) (K.took sink.new) }
     ensures cause { TellsWrites result (K.faults sink.old) (K.faults sink.new) }
 {
     let Ok(mut pm) = SteadyPm::new(alloc, words) else {

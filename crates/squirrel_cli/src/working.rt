@@ -12,7 +12,7 @@ ghost use Rattle.engine.specs.Session.{on};
 ghost use Rattle.crash_replay.specs.Tally.{accepted_count, refused_count};
 ghost use Rattle.squirrel_cli.specs.Causes.{TellsFaults};
 ghost use Rattle.squirrel_cli.specs.Ends.{IsStart};
-ghost use Rattle.squirrel_cli.specs.GoingOn.{GoesOn, IsShortOr, LeavesGoing};
+ghost use Rattle.squirrel_cli.specs.GoingOn.{GoesOn, UnlessShort, LeavesGoing};
 ghost use Rattle.squirrel_cli.specs.Rows.{Works as WorksRow};
 ghost use Rattle.squirrel_cli.specs.Seen.{seen_alone};
 ghost use Rattle.squirrel_cli.specs.Works.{summary_of};
@@ -58,7 +58,7 @@ fn work_lines<P: Pm, K: Sink>(
     pm: &mut P,
 ) -> Status
     requires goes_on { GoesOn volume (P.view pm.old) }
-    ensures works { IsShortOr (WorksOn volume.size generated.seed generated.count) (seen_alone K.Sink (P.view pm.old) out.old)
+    ensures works { UnlessShort (WorksOn volume.size generated.seed generated.count) (seen_alone K.Sink (P.view pm.old) out.old)
         (seen_alone K.Sink (P.view pm.new) out.new) result }
     ensures cause { TellsFaults (seen_alone K.Sink (P.view pm.old) out.old) (seen_alone K.Sink (P.view pm.new) out.new) result }
     ensures leaves { LeavesGoing volume.size (P.view pm.old) (P.view pm.new) }
