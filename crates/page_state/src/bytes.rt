@@ -74,19 +74,22 @@ fn store_page<P: Pm>(
         (new_stores span.now bytes.now (P.view pm.old).words geometry.now.pages offset page)
         (new_pieces span.now (4096 * offset) 8 512) }
 {
+    // Copies, which no store can change: the compiler reads them once.
+    let geometry = *geometry;
+    let span = *span;
     let start = PAGE_BYTES * offset;
     let (from, to) = span.whole_words(start);
     'head: for place in 0..from {
         let word = geometry.page_word(page, place);
-        store_word(pm, word, start + WORD_BYTES * place, span, bytes);
+        store_word(pm, word, start + WORD_BYTES * place, &span, bytes);
     }
     'whole: for place in from..to {
         let word = geometry.page_word(page, place);
-        store_of_range(pm, word, start + WORD_BYTES * place, span, bytes);
+        store_of_range(pm, word, start + WORD_BYTES * place, &span, bytes);
     }
     'tail: for place in to..PAGE_WORDS {
         let word = geometry.page_word(page, place);
-        store_word(pm, word, start + WORD_BYTES * place, span, bytes);
+        store_word(pm, word, start + WORD_BYTES * place, &span, bytes);
     }
 }
 

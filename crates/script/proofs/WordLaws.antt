@@ -26,7 +26,7 @@ pub words_none : (text : List ℕ) → Lacks space text → 0 < length text → 
 words_none text none some =
     ap (filter is_filled) (slice_split_none is_space text none) ∙ filter_filled text [] some
 
-place_above : (text : List ℕ) (place : ℕ) → BreaksAt space text place → (0 < length text → is_space (slice_index text 0) ≡ false) → 0 < place
+pub place_above : (text : List ℕ) (place : ℕ) → BreaksAt space text place → (0 < length text → is_space (slice_index text 0) ≡ false) → 0 < place
 place_above text zero found first =
     let within = found.within in
     absurd (true≢false (sym (ap (λ t. is_space (slice_index t 0)) found.split) ∙ first (omega (arith, within))))

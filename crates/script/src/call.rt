@@ -1,4 +1,4 @@
-ghost use Rattle.std.specs.Prelude.{◌≡◌, ◌≤◌, ◌*◌, length};
+ghost use Rattle.std.specs.Prelude.{◌≡◌, ◌≤◌, ◌*◌, ◌∷◌, length};
 ghost use Rattle.script.specs.Lines.{words_of, number_of as number_of_word, bytes_of_hex, of_words, of_one, of_two, of_three, of_four, write_of, read_of, or_bad_line, on_path, both_paths as both_paths_of, first_fault as first_fault_of, call_of};
 ghost use Rattle.tree_model.specs.declared.command.Command.TheVariants.{Truncate};
 ghost use Rattle.tree_model.specs.PathText.{path_of};
@@ -7,7 +7,7 @@ ghost use Rattle.script.specs.Calls.{line_of_call};
 use crate::digits::decode;
 use crate::lines::LONGEST_LINE;
 use crate::number::number_of;
-use crate::words::next_word;
+use crate::words::{ends_in_word, next_word, without_spaces};
 use tree_model::{Command, FileBytes, LineFault, Path};
 
 /// What a line asks for, or why it is no command.
@@ -57,7 +57,26 @@ fn command_of_words<'a>(line: &'a [u8], scratch: &'a mut [u8]) -> Result<Command
     let Some((second, rest)) = next_word(rest) else {
         return command_on_path(verb, first);
     };
-    let Some((third, rest)) = next_word(rest) else {
+    command_of_rest(verb, first, second, rest, scratch)
+}
+
+// What a line asks for of which three words and the text behind them are these. The bytes of a `write` are decoded where they stand,
+// up to the line's end: a space among them is no digit.
+fn command_of_rest<'a>(
+    verb: &[u8],
+    first: &'a [u8],
+    second: &'a [u8],
+    rest: &'a [u8],
+    scratch: &'a mut [u8],
+) -> Result<Command<'a>, LineFault>
+    requires room { length rest.now ≤ 2 * length scratch.old }
+    ensures { result ≡ of_words (verb.now ∷ first.now ∷ second.now ∷ words_of rest.now) }
+{
+    let text = without_spaces(rest);
+    if verb == b"write".as_slice() && ends_in_word(text) {
+        return write_of_words(first, second, text, scratch);
+    }
+    let Some((third, rest)) = next_word(text) else {
         return command_on_two(verb, first, second);
     };
     match next_word(rest) {

@@ -1,4 +1,4 @@
-ghost use Rattle.std.specs.Prelude.{◌≡◌, ◌<◌, ◌≤◌, ◌∷◌, [], ◌==◌, false, length, slice_index, IfSome, MatchOption};
+ghost use Rattle.std.specs.Prelude.{◌≡◌, ◌+◌, ◌<◌, ◌≤◌, ◌∷◌, [], ◌==◌, ℕ, false, length, slice_index, IfSome, IsTrue, MatchOption};
 ghost use Rattle.script.specs.Lines.{words_of, is_space};
 
 use crate::places::first_place;
@@ -20,8 +20,16 @@ pub fn next_word(text: &[u8]) -> Option<(&[u8], &[u8])>
     }
 }
 
+// Whether the last byte of a text is one of a word.
+pub fn ends_in_word(text: &[u8]) -> bool
+    ensures some { IsTrue result → 0 < length text.now }
+    ensures last { IsTrue result → (k : ℕ) → k + 1 ≡ length text.now → is_space (slice_index text.now k) ≡ false }
+{
+    !text.is_empty() && text[text.len() - 1] != b' '
+}
+
 // The text from its first byte that is no space.
-fn without_spaces(text: &[u8]) -> &[u8]
+pub fn without_spaces(text: &[u8]) -> &[u8]
     ensures words { words_of result.now ≡ words_of text.now }
     ensures within { length result.now ≤ length text.now }
     ensures first { 0 < length result.now → is_space (slice_index result.now 0) ≡ false }
