@@ -15,7 +15,7 @@ pub fn replay_complete_law<S: Source, K: Sink>()
 {}
 
 /// What the number and the tree that a replay tells say of the lines of its script: the tree is one that a crash in the line
-/// behind the acknowledged ones may leave; which of them it is where the moment is no fence inside a line.
+/// behind the acknowledged ones may leave; which of them it is where the moment is at a line's border, or at either end.
 pub fn replay_law()
     ensures { ReplayLaw }
 {}
