@@ -205,17 +205,17 @@ fn a_file_that_fails_within_the_second_run(rt: HostRuntime) -> Result<(), Fail> 
         takes_in_all: 128,
     };
     let mut device = FilePm::make(&brief, rt.alloc(), path.as_str(), 16)?;
-    device.store(40, 3);
     device.store(15, 1);
-    device.store(16, 2);
+    device.store(40, 3);
+    device.store(48, 2);
     device.store(8191, 4);
+    device.flush(6);
+    device.flush(1023);
     device.flush(5);
     device.flush(1);
-    device.flush(2);
-    device.flush(1023);
     assert!(rt; device.fence().is_err());
     assert_eq!(rt; device.fences(), 0);
-    device.store(16, 0);
+    device.store(48, 0);
     device.store(8191, 0);
     assert!(rt; has_words(&rt, path.as_str(), device.image())?);
     Ok(fs::remove_file(&rt, path.as_path())?)
