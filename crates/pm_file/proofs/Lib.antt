@@ -2,3 +2,4 @@ pub mod Lines
 pub mod Rounds
 pub mod Sorted
 pub mod Words
+pub mod Zeros
