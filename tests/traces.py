@@ -108,6 +108,17 @@ def traced(program, image, lines):
     return job.stdout.splitlines(), events
 
 
+def writes_of_fences(events):
+    """How many writes each sync of a run makes safe."""
+    counts, writes = [], 0
+    for event in events:
+        writes += isinstance(event, Write)
+        if isinstance(event, Sync):
+            counts.append(writes)
+            writes = 0
+    return counts
+
+
 def put(held, loose, event):
     """Bytes are written into the image, and the words that they change are loose."""
     end = event.place + len(event.content)

@@ -1,10 +1,14 @@
 -- What a medium of words holds once it was given some lines, of eight words each.
 use Rattle.std.specs.Prelude.{◌≡◌, ◌⊎◌, ℕ, ◌+◌, ◌*◌, ◌<◌, ◌≤◌, Bool, true, false, ◌==◌, List, ◌++◌, length, slice_index, Option, Some, None, ⊤}
-use Rattle.std.specs.List.{list_any}
+use Rattle.std.specs.List.{list_any, IsDistinct}
 
 -- whether the line is one of these
 abbrev pub is_listed : List ℕ → ℕ → Bool
 is_listed lines line = list_any (λ listed. listed == line) lines
+
+-- no line is listed twice
+abbrev pub IsEachOnce : List ℕ → Type 0
+IsEachOnce lines = IsDistinct (λ line other. line == other) lines
 
 -- each line that was listed is listed still
 abbrev pub KeepsListed : List ℕ → List ℕ → Type 0

@@ -18,6 +18,21 @@ TakesBytes None after place run = ⊤
 TakesBytes (Some before) None place run = ⊥
 TakesBytes (Some before) (Some after) place run = AddsBytes before after place run
 
+-- between two places zeros stand, and all else is as it was
+pub record AddsZeros (before after : List ℕ) (from to : ℕ) : Type 0 where
+  pub given : (k : ℕ) → from ≤ k → k < to → slice_index after k ≡ 0
+  pub kept : (k : ℕ) → (k < from) ⊎ (to ≤ k) → slice_index after k ≡ slice_index before k
+
+-- the same where the file tells its bytes
+abbrev pub TakesZeros : Option (List ℕ) → Option (List ℕ) → ℕ → ℕ → Type 0
+TakesZeros None after from to = ⊤
+TakesZeros (Some before) None from to = ⊥
+TakesZeros (Some before) (Some after) from to = AddsZeros before after from to
+
+-- these bytes are all zero
+abbrev pub AreZeros : List ℕ → Type 0
+AreZeros bytes = (k : ℕ) → slice_index bytes k ≡ 0
+
 -- each word is what its eight bytes are, from a word on
 abbrev pub AreWords : List ℕ → ℕ → List ℕ → Type 0
 AreWords bytes word words = (k : ℕ) → k < length words → slice_index words k ≡ little_from (8 * (word + k)) 8 bytes

@@ -3,7 +3,7 @@ ghost use Rattle.std.specs.Prelude.{◌≡◌, ◌+◌, ◌*◌, ◌^◌, ◌<�
 ghost use Rattle.std.specs.Vec.{vec_capacity};
 ghost use Rattle.pm_file.specs.Bytes.{place_of_line as line_place, bytes_of_words};
 ghost use Rattle.pm_file.specs.Faults.{CountsFaults};
-ghost use Rattle.pm_file.specs.Placed.{AppendsFrom, TakesBytes};
+ghost use Rattle.pm_file.specs.Placed.{AppendsFrom, AreZeros, TakesBytes};
 
 use crate::bytes::{append_words, place_of_line, place_of_page, put_words};
 use crate::image_file::ImageFile;
@@ -25,11 +25,21 @@ pub struct FileMedium<F> {
     ghost holds_a_read: { length buffer.items ≡ 1048576 },
 }
 
-/// Takes the memory for a buffer.
+/// Takes the memory for a buffer, which is zeros as long as nothing went through it.
 pub fn take_buffer(alloc: Global) -> Result<Vec<u8>, AllocError>
-    ensures { IfOk result (λ buffer. length buffer.items ≡ 1048576) }
+    ensures length { IfOk result (λ buffer. length buffer.items ≡ 1048576) }
+    ensures zeros { IfOk result (λ buffer. AreZeros buffer.items) }
 {
-    vec![in alloc; 0u8; BYTES_OF_A_READ]
+    take_zeros(alloc, BYTES_OF_A_READ)
+}
+
+// Takes the memory for so many zeros.
+fn take_zeros(alloc: Global, count: usize) -> Result<Vec<u8>, AllocError>
+    ensures length { IfOk result (λ bytes. length bytes.items ≡ count) }
+    ensures zeros { IfOk result (λ bytes. AreZeros bytes.items) }
+{
+    let bytes = vec![in alloc; 0u8; count]?;
+    Ok(bytes)
 }
 
 impl<F> FileMedium<F> {

@@ -55,7 +55,8 @@ pub trait ImageFile {
 
     /// Writes all the bytes from a place on.
     fn write_place(&mut self, place: u64, run: &[u8]) -> io::Result<()>
-        ensures { OnOk result (TakesBytes (bytes self.old) (bytes self.new) place run.now) };
+        ensures written { OnOk result (TakesBytes (bytes self.old) (bytes self.new) place run.now) }
+        ensures lock { is_locked self.new ≡ is_locked self.old };
 }
 
 /// No contract says what the system's lock does, so every file counts as locked here, and only tests show that it is. Nor

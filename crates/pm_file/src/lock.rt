@@ -1,6 +1,6 @@
 // A file that nobody else uses meanwhile.
-ghost use Rattle.std.specs.Prelude.{◌≡◌, IsTrue, IfOk, OnOk, OnErr};
-ghost use Rattle.pm_file.specs.Placed.{HasBytes, TakesBytes};
+ghost use Rattle.std.specs.Prelude.{◌≡◌, ◌<◌, ℕ, IsTrue, IfOk, OnOk, OnErr, length};
+ghost use Rattle.pm_file.specs.Placed.{AreZeros, HasBytes, TakesBytes, TakesZeros};
 
 use crate::image_file::ImageFile;
 use std::fs::OpenFile;
@@ -31,9 +31,18 @@ impl<F: ImageFile + OpenFile + Drop> Locked<F> {
         })
     }
 
-    /// Cuts it to so many bytes, or lengthens it with zeros, and waits until that is safe.
-    pub fn resize(&self, bytes: u64) -> io::Result<()> {
-        self.file.set_len(bytes)?;
+    /// Cuts it to so many bytes, or writes zeros behind its end, so that the system has room for all of them, and waits until
+    /// that is safe. What isn't a file of bytes has no length to be set, and is left alone.
+    pub fn resize(&mut self, bytes: u64, zeros: &[u8]) -> io::Result<()>
+        requires some { 0 < length zeros.now }
+        requires zeros { AreZeros zeros.now }
+        ensures zeros { OnOk result ((had : ℕ) × F.is_length self.old.file had ×
+            TakesZeros (F.bytes self.old.file) (F.bytes self.new.file) had bytes) }
+        ensures lock { F.is_locked self.new.file ≡ F.is_locked self.old.file }
+    {
+        let had = self.file.length()?;
+        self.file.set_len(had.min(bytes))?;
+        self.put_zeros(had, bytes, zeros)?;
         self.file.sync_all()
     }
 }
@@ -70,9 +79,26 @@ impl<F: ImageFile> Locked<F> {
         self.file.read_place(place, buffer)
     }
 
+    // Writes zeros from a place to another, as many as there are at a time.
+    fn put_zeros(&mut self, from: u64, to: u64, zeros: &[u8]) -> io::Result<()>
+        requires some { 0 < length zeros.now }
+        requires zeros { AreZeros zeros.now }
+        ensures zeros { OnOk result (TakesZeros (F.bytes self.old.file) (F.bytes self.new.file) from to) }
+        ensures lock { F.is_locked self.new.file ≡ F.is_locked self.old.file }
+    {
+        let mut place = from;
+        while place < to {
+            let count = (to - place).min(zeros.len() as u64);
+            self.file.write_place(place, &zeros[..count as usize])?;
+            place += count;
+        }
+        Ok(())
+    }
+
     /// Writes all the bytes from a place on.
     pub fn write_place(&mut self, place: u64, run: &[u8]) -> io::Result<()>
-        ensures { OnOk result (TakesBytes (F.bytes self.old.file) (F.bytes self.new.file) place run.now) }
+        ensures written { OnOk result (TakesBytes (F.bytes self.old.file) (F.bytes self.new.file) place run.now) }
+        ensures lock { F.is_locked self.new.file ≡ F.is_locked self.old.file }
     {
         self.file.write_place(place, run)
     }

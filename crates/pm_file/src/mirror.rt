@@ -1,8 +1,10 @@
 // The words of a file in memory, and which of their lines the file has still to be given.
-ghost use Rattle.std.specs.Prelude.{◌≡◌, ◌+◌, ◌-◌, ◌*◌, ◌^◌, ◌<◌, ◌≤◌, ℕ, List, [], ◌∷◌, ◌++◌, ◌==◌, length, slice_index, slice_set, vec_len, count_by, take, IfOk, OnOk, OnErr, true};
+ghost use Rattle.std.specs.Prelude.{◌≡◌, ◌+◌, ◌-◌, ◌*◌, ◌^◌, ◌<◌, ◌≤◌, ℕ, List, [], ◌∷◌, ◌++◌, length, slice_index, slice_set, vec_len, take, IfOk, OnOk, OnErr, true};
+ghost use Rattle.std.specs.List.Sorted.{IsPermutation, IsStrictlyIncreasing};
 ghost use Rattle.std.specs.Vec.{vec_capacity};
+ghost use Rattle.std.proofs.lemmas.Map.Keys.{IsDistinct-prop};
 ghost use Rattle.pm_file.specs.Faults.{CountsFaults};
-ghost use Rattle.pm_file.specs.Given.{is_listed, IsRun, KeepsListed, HasLines, ReadsFrom};
+ghost use Rattle.pm_file.specs.Given.{is_listed, IsEachOnce, IsRun, KeepsListed, HasLines, ReadsFrom};
 ghost use Rattle.pm_file.specs.Room.{IsRoomFor};
 
 use crate::FileFault;
@@ -76,8 +78,9 @@ fn next_run(lines: &[u64]) -> usize
     most
 }
 
-/// Gives a medium each of the listed lines, and those that follow one another in one write.
+/// Gives a medium each of the listed lines, in the order of their addresses, and those that follow one another in one write.
 fn write_lines<F: Medium>(medium: &mut F, words: &[u64], lines: &[u64]) -> io::Result<()>
+    requires rising { IsStrictlyIncreasing lines.now }
     requires in_file { 8 * length words.now < 2 ^ 63 }
     requires in_range { (k : ℕ) → k < length lines.now → 8 * slice_index lines.now k + 8 ≤ length words.now }
     ensures lines { OnOk result (HasLines (F.held medium.old) (F.held medium.new) words.now lines.now) }
@@ -110,7 +113,7 @@ pub struct Mirror<F> {
     words: Vec<u64>,
     /// For each line the last round in which it was flushed, or 0.
     rounds: Vec<u64>,
-    /// The lines that were flushed in this round, each once.
+    /// The lines that were flushed in this round, each once, in any order.
     flushed: Vec<u64>,
     round: u64,
     ghost whole_lines: { length words.items ≡ 8 * length rounds.items },
@@ -118,9 +121,10 @@ pub struct Mirror<F> {
     ghost started: { 1 ≤ round },
     ghost past: { (line : ℕ) → slice_index rounds.items line ≤ round },
     ghost in_range: { (k : ℕ) → k < length flushed.items → slice_index flushed.items k < length rounds.items },
-    ghost counted: { count_by (λ r. r == round) rounds.items ≡ length flushed.items },
     ghost room: { length rounds.items ≤ vec_capacity flushed },
     ghost noted: { (line : ℕ) → slice_index rounds.items line ≡ round → is_listed flushed.items line ≡ true },
+    ghost only: { (line : ℕ) → is_listed flushed.items line ≡ true → slice_index rounds.items line ≡ round },
+    ghost once: { IsEachOnce flushed.items } by { IsDistinct-prop _ flushed.items },
 }
 
 impl<F: Medium + Drop> Mirror<F> {
@@ -181,16 +185,29 @@ impl<F: Medium + Drop> Mirror<F> {
         }
     }
 
-    /// Writes the flushed lines to the medium and waits until they are safe there.
+    /// Puts the flushed lines in the order of their addresses, in place.
+    fn sort_flushed(&mut self)
+        ensures words { self.new.words.items ≡ self.old.words.items }
+        ensures medium { self.new.medium ≡ self.old.medium }
+        ensures round { self.new.round ≡ self.old.round }
+        ensures same { IsPermutation self.old.flushed.items self.new.flushed.items }
+        ensures rising { IsStrictlyIncreasing self.new.flushed.items }
+    {
+        self.flushed.sort_unstable();
+    }
+
+    /// Writes the flushed lines to the medium and waits until they are safe there. Where that fails the same lines are
+    /// noted still, in any order.
     pub fn write_back(&mut self) -> io::Result<()>
         ensures words { self.new.words.items ≡ self.old.words.items }
         ensures ok { OnOk result
             (HasLines (F.held self.old.medium) (F.safe self.new.medium) self.old.words.items self.old.flushed.items) }
         ensures forgotten { OnOk result (self.old.round < 2 ^ 64 - 1 → self.new.flushed.items ≡ []) }
-        ensures err { OnErr result (self.new.flushed.items ≡ self.old.flushed.items) }
+        ensures err { OnErr result (IsPermutation self.old.flushed.items self.new.flushed.items) }
         ensures whole { OnOk result (F.is_length self.new.medium (8 * length self.new.words.items)) }
         ensures faults { CountsFaults (F.faults self.old.medium) (F.faults self.new.medium) result }
     {
+        self.sort_flushed();
         write_lines(&mut self.medium, &self.words, &self.flushed)?;
         let bytes = BYTES_OF_A_WORD * self.words.len();
         self.medium.sync(bytes as u64)?;
@@ -198,7 +215,7 @@ impl<F: Medium + Drop> Mirror<F> {
         Ok(())
     }
 
-    #[tactic(auto, using(crate::proofs::Rounds::no_later_round))]
+    #[tactic(auto, using(crate::proofs::Rounds::none_once))]
     /// Forgets the flushed lines. In the last round that there can be they stay, to be written again.
     fn end_round(&mut self)
         ensures words { self.new.words.items ≡ self.old.words.items }

@@ -198,6 +198,8 @@ fn a_file_that_gives_and_takes_few_bytes(rt: HostRuntime) -> Result<(), Fail> {
 #[test]
 fn a_file_that_fails_within_the_second_run(rt: HostRuntime) -> Result<(), Fail> {
     let path = fresh_path(&rt, "within")?;
+    let bytes = vec![in rt.alloc(); 0u8; 65_536]?;
+    fs::write(&rt, path.as_path(), bytes.as_slice())?;
     let brief = Scanty {
         rt,
         gives: 4_096,
@@ -205,19 +207,40 @@ fn a_file_that_fails_within_the_second_run(rt: HostRuntime) -> Result<(), Fail> 
         takes_in_all: 128,
     };
     let mut device = FilePm::make(&brief, rt.alloc(), path.as_str(), 16)?;
-    device.store(40, 3);
     device.store(15, 1);
-    device.store(16, 2);
+    device.store(40, 3);
+    device.store(48, 2);
     device.store(8191, 4);
+    device.flush(6);
+    device.flush(1023);
     device.flush(5);
     device.flush(1);
-    device.flush(2);
-    device.flush(1023);
     assert!(rt; device.fence().is_err());
     assert_eq!(rt; device.fences(), 0);
-    device.store(16, 0);
+    device.store(48, 0);
     device.store(8191, 0);
     assert!(rt; has_words(&rt, path.as_str(), device.image())?);
+    Ok(fs::remove_file(&rt, path.as_path())?)
+}
+
+#[test]
+fn a_file_for_which_there_is_no_room(rt: HostRuntime) -> Result<(), Fail> {
+    let path = fresh_path(&rt, "room")?;
+    fs::write(&rt, path.as_path(), [3u8; 4_097].as_slice())?;
+    let small = Scanty {
+        rt,
+        gives: 4_096,
+        takes: 1_048_576,
+        takes_in_all: 8_191,
+    };
+    let unmade = FilePm::make(&small, rt.alloc(), path.as_str(), 300);
+    assert!(rt; matches!(unmade, Err(FileFault::Failed)));
+    let left = fs::read(&rt, path.as_path())?;
+    assert_eq!(rt; left.len(), 12_288);
+    assert_eq!(rt; left.iter().filter(|byte| **byte == 3).count(), 4_097);
+    let mut made = FilePm::make(&rt, rt.alloc(), path.as_str(), 300)?;
+    assert!(rt; has_words(&rt, path.as_str(), made.image())?);
+    assert!(rt; made.fence().is_ok());
     Ok(fs::remove_file(&rt, path.as_path())?)
 }
 
@@ -230,6 +253,10 @@ fn a_file_that_gives_or_takes_nothing(rt: HostRuntime) -> Result<(), Fail> {
         takes: 0,
         takes_in_all: 0,
     };
+    let unmade = FilePm::make(&full, rt.alloc(), path.as_str(), 16);
+    assert!(rt; matches!(unmade, Err(FileFault::Failed)));
+    let bytes = vec![in rt.alloc(); 0u8; 65_536]?;
+    fs::write(&rt, path.as_path(), bytes.as_slice())?;
     let mut device = FilePm::make(&full, rt.alloc(), path.as_str(), 16)?;
     device.store(0, 1);
     device.flush(0);

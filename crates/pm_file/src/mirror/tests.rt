@@ -4,7 +4,7 @@ ghost use Rattle.std.specs.Prelude.{◌≡◌, ◌+◌, ◌*◌, ◌≤◌, ◌+
 use super::{Mirror, take_room};
 use crate::FileFault;
 use crate::medium::Medium;
-use crate::sizes::{BYTES_OF_A_WORD, WORDS_OF_A_LINE, WORDS_OF_A_PAGE};
+use crate::sizes::{BYTES_OF_A_WORD, LINES_OF_A_PAGE, WORDS_OF_A_LINE, WORDS_OF_A_PAGE};
 use std::alloc::Global;
 use std::io;
 use std::io::{Error, ErrorKind};
@@ -99,6 +99,15 @@ fn flushed(alloc: Global, writes: u64) -> Result<Mirror<Ram>, Fail> {
     Ok(mirror)
 }
 
+/// Flushes the lines of a range, the last one first.
+fn flush_lines(mirror: &mut Mirror<Ram>, first: usize, end: usize) {
+    for line in (first..end).rev() {
+        if line < mirror.words().len() / WORDS_OF_A_LINE {
+            mirror.flush(line as u64);
+        }
+    }
+}
+
 /// How many of these words aren't zero.
 fn set_words(words: &[u64]) -> usize {
     words.iter().filter(|word| **word != 0).count()
@@ -112,6 +121,42 @@ fn a_run_of_lines_is_one_write(rt: HostRuntime) -> Result<(), Fail> {
     let safe = mirror.medium.safe.as_slice();
     assert_eq!(rt; set_words(safe), 3);
     assert!(rt; safe.get(48) == Some(&2) && safe.get(9) == Some(&3) && safe.get(8191) == Some(&4));
+    Ok(())
+}
+
+#[test]
+fn six_new_pages_are_four_writes(rt: HostRuntime) -> Result<(), Fail> {
+    let room = take_room(rt.alloc(), 16)?;
+    let mut mirror = Mirror::read_from(fresh_ram(rt.alloc(), 4, 4)?, room, 16)?;
+    for page in 9..15 {
+        flush_lines(
+            &mut mirror,
+            LINES_OF_A_PAGE * page,
+            LINES_OF_A_PAGE * (page + 1),
+        );
+        flush_lines(&mut mirror, 64 + page, 65 + page);
+    }
+    mirror.write_back()?;
+    assert_eq!(rt; mirror.medium.writes_left, 2);
+    flush_lines(&mut mirror, 73, 79);
+    mirror.write_back()?;
+    assert_eq!(rt; mirror.medium.writes_left, 1);
+    flush_lines(&mut mirror, 3, 4);
+    mirror.write_back()?;
+    assert_eq!(rt; mirror.medium.writes_left, 0);
+    Ok(())
+}
+
+#[test]
+fn a_long_run_is_cut(rt: HostRuntime) -> Result<(), Fail> {
+    let room = take_room(rt.alloc(), 16)?;
+    let mut mirror = Mirror::read_from(fresh_ram(rt.alloc(), 9, 3)?, room, 16)?;
+    flush_lines(&mut mirror, 0, 1_024);
+    mirror.write_back()?;
+    assert_eq!(rt; mirror.medium.writes_left, 7);
+    flush_lines(&mut mirror, 100, 613);
+    mirror.write_back()?;
+    assert_eq!(rt; mirror.medium.writes_left, 5);
     Ok(())
 }
 
