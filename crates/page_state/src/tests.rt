@@ -114,9 +114,9 @@ fn new_bytes_of_a_file(rt: HostRuntime) -> Result<(), Fail> {
     assert_eq!(rt; geometry.data_pages, 13);
     let numbers = [4, 2];
     let free: PageH<Clean, Free> = PageH::at(&pm, &geometry, &numbers);
-    let filled = free
-        .fill_bytes(&mut pm, 0, 4_093, &[1, 2, 3, 4, 5, 6, 7, 8, 9])
-        .flush(&mut pm);
+    // Three bytes in the first page, a line of whole words in the second, and six bytes of a further word.
+    let bytes = b"123The words of one line, each of its own bytes: a to z, 0 to 9, at last.";
+    let filled = free.fill_bytes(&mut pm, 0, 4_093, bytes).flush(&mut pm);
     let token = fence(&mut pm)?;
     let filled = filled.settle(&pm, &token);
     let live = filled.claim(&mut pm, 3).flush(&mut pm);
@@ -135,11 +135,19 @@ fn new_bytes_of_a_file(rt: HostRuntime) -> Result<(), Fail> {
         (1_057, 1),
         (1_058, 0),
         (2_559, 7),
-        (2_560, 0x0000_0908_0706_05bb),
-        (2_561, 0),
+        (2_560, 0x6472_6f77_2065_68bb),
+        (2_561, 0x656e_6f20_666f_2073),
+        (2_562, 0x6520_2c65_6e69_6c20),
+        (2_563, 0x6920_666f_2068_6361),
+        (2_564, 0x6220_6e77_6f20_7374),
+        (2_565, 0x2061_203a_7365_7479),
+        (2_566, 0x2030_202c_7a20_6f74),
+        (2_567, 0x7461_202c_3920_6f74),
+        (2_568, 0x0000_2e74_7361_6c20),
+        (2_569, 0),
         (3_584, 0),
         (4_094, 0),
-        (4_095, 0xaa02_0100_0000_0000),
+        (4_095, 0xaa32_3100_0000_0000),
         (4_096, 7),
     ];
     for (word, value) in table {
