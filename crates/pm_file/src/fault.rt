@@ -1,7 +1,11 @@
 // Why a file gave no device.
 ghost use Rattle.std.specs.Prelude.{◌≡◌};
+ghost use Rattle.std.specs.IoError.{error_kind};
+ghost use Rattle.pm_file.specs.declared.cause.Cause.{Cause as TheCause};
+ghost use Rattle.pm_file.specs.Causes.{IsCauseOf};
 ghost use Rattle.pm_file.specs.declared.fault.FileFault.TheVariants.{NoMemory, Failed};
 
+use crate::cause::{Cause, cause_of};
 use pm_trait::NoMemory as OutOfMemory;
 use std::alloc::AllocError;
 use std::io;
@@ -13,9 +17,9 @@ pub enum FileFault {
     /// There was no memory for the words.
     #[error("out of memory")]
     NoMemory,
-    /// The file could not be opened, read or written.
+    /// The file could not be opened, read or written, for this cause.
     #[error("the file failed")]
-    Failed,
+    Failed(Cause),
 }
 
 impl From<AllocError> for FileFault {
@@ -27,10 +31,10 @@ impl From<AllocError> for FileFault {
 }
 
 impl From<io::Error> for FileFault {
-    ghost from_gives = { λ _ fault. fault ≡ Failed };
+    ghost from_gives = { λ error fault. (cause : TheCause) × (fault ≡ Failed cause) × IsCauseOf (error_kind error) cause };
 
-    fn from(_error: io::Error) -> FileFault {
-        FileFault::Failed
+    fn from(error: io::Error) -> FileFault {
+        FileFault::Failed(cause_of(&error))
     }
 }
 

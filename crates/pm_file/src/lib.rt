@@ -3,6 +3,7 @@
 
 mod access;
 mod bytes;
+mod cause;
 mod device;
 mod fault;
 mod file_medium;
@@ -13,6 +14,7 @@ mod medium;
 mod mirror;
 mod sizes;
 
+pub use cause::Cause;
 pub use device::FilePm;
 pub use fault::FileFault;
 pub use folder::folder_of;

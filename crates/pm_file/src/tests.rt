@@ -57,7 +57,7 @@ fn a_fence_writes_the_flushed_lines(rt: HostRuntime) -> Result<(), Fail> {
 fn a_file_keeps_what_it_held(rt: HostRuntime) -> Result<(), Fail> {
     let path = fresh_path(&rt, "length")?;
     let missing = FilePm::from_path(&rt, rt.alloc(), path.as_str());
-    assert!(rt; matches!(missing, Err(FileFault::Failed)));
+    assert!(rt; matches!(missing, Err(FileFault::Failed(_))));
 
     for length in [0usize, 15 * 4096, 16 * 4096 - 1, 16 * 4096 + 8] {
         let bytes = vec![in rt.alloc(); 3u8; length]?;
@@ -94,9 +94,9 @@ fn a_file_serves_one_device_at_a_time(rt: HostRuntime) -> Result<(), Fail> {
     let path = fresh_path(&rt, "lock")?;
     let device = FilePm::make(&rt, rt.alloc(), path.as_str(), 16)?;
     let made = FilePm::make(&rt, rt.alloc(), path.as_str(), 17);
-    assert!(rt; matches!(made, Err(FileFault::Failed)));
+    assert!(rt; matches!(made, Err(FileFault::Failed(_))));
     let opened = FilePm::from_path(&rt, rt.alloc(), path.as_str());
-    assert!(rt; matches!(opened, Err(FileFault::Failed)));
+    assert!(rt; matches!(opened, Err(FileFault::Failed(_))));
     assert!(rt; has_words(&rt, path.as_str(), device.image())?);
     drop(device);
     let opened = FilePm::from_path(&rt, rt.alloc(), path.as_str())?;
@@ -108,18 +108,18 @@ fn a_file_serves_one_device_at_a_time(rt: HostRuntime) -> Result<(), Fail> {
 fn a_file_is_read_beside_others_who_read_it(rt: HostRuntime) -> Result<(), Fail> {
     let path = fresh_path(&rt, "read")?;
     let missing = FilePm::to_read(&rt, rt.alloc(), path.as_str());
-    assert!(rt; matches!(missing, Err(FileFault::Failed)));
+    assert!(rt; matches!(missing, Err(FileFault::Failed(_))));
     let folder = FilePm::to_read(&rt, rt.alloc(), ".");
-    assert!(rt; matches!(folder, Err(FileFault::Failed)));
+    assert!(rt; matches!(folder, Err(FileFault::Failed(_))));
     let made = FilePm::make(&rt, rt.alloc(), path.as_str(), 16)?;
     let beside = FilePm::to_read(&rt, rt.alloc(), path.as_str());
-    assert!(rt; matches!(beside, Err(FileFault::Failed)));
+    assert!(rt; matches!(beside, Err(FileFault::Failed(_))));
     drop(made);
     let mut device = FilePm::to_read(&rt, rt.alloc(), path.as_str())?;
     let other = FilePm::to_read(&rt, rt.alloc(), path.as_str())?;
     assert!(rt; has_words(&rt, path.as_str(), other.image())?);
     let opened = FilePm::from_path(&rt, rt.alloc(), path.as_str());
-    assert!(rt; matches!(opened, Err(FileFault::Failed)));
+    assert!(rt; matches!(opened, Err(FileFault::Failed(_))));
     assert!(rt; device.fence().is_err());
     assert_eq!(rt; device.image().len(), 8192);
     if device.image().len() != 8192 {
@@ -234,7 +234,7 @@ fn a_file_for_which_there_is_no_room(rt: HostRuntime) -> Result<(), Fail> {
         takes_in_all: 8_191,
     };
     let unmade = FilePm::make(&small, rt.alloc(), path.as_str(), 300);
-    assert!(rt; matches!(unmade, Err(FileFault::Failed)));
+    assert!(rt; matches!(unmade, Err(FileFault::Failed(_))));
     let left = fs::read(&rt, path.as_path())?;
     assert_eq!(rt; left.len(), 12_288);
     assert_eq!(rt; left.iter().filter(|byte| **byte == 3).count(), 4_097);
@@ -254,7 +254,7 @@ fn a_file_that_gives_or_takes_nothing(rt: HostRuntime) -> Result<(), Fail> {
         takes_in_all: 0,
     };
     let unmade = FilePm::make(&full, rt.alloc(), path.as_str(), 16);
-    assert!(rt; matches!(unmade, Err(FileFault::Failed)));
+    assert!(rt; matches!(unmade, Err(FileFault::Failed(_))));
     let bytes = vec![in rt.alloc(); 0u8; 65_536]?;
     fs::write(&rt, path.as_path(), bytes.as_slice())?;
     let mut device = FilePm::make(&full, rt.alloc(), path.as_str(), 16)?;
@@ -273,6 +273,6 @@ fn a_file_that_gives_or_takes_nothing(rt: HostRuntime) -> Result<(), Fail> {
         takes_in_all: 64,
     };
     let unread = FilePm::from_path(&empty, rt.alloc(), path.as_str());
-    assert!(rt; matches!(unread, Err(FileFault::Failed)));
+    assert!(rt; matches!(unread, Err(FileFault::Failed(_))));
     Ok(fs::remove_file(&rt, path.as_path())?)
 }

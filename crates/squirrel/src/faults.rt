@@ -1,10 +1,11 @@
 // What the ends of a job are told as.
-ghost use Rattle.std.specs.Prelude.{◌≡◌, ◌≢◌, [], false};
+ghost use Rattle.std.specs.Prelude.{◌≡◌, ◌≢◌, [], Some, true, false};
 ghost use Rattle.std.specs.Process.{exit_status};
 ghost use Rattle.squirrel_cli.specs.Status.{number_of_status};
-ghost use Rattle.squirrel.specs.Faults.{fault_text};
+ghost use Rattle.pm_file.specs.declared.cause.Cause.{Cause as TheCause};
+ghost use Rattle.squirrel.specs.Faults.{fault_text, cause_text};
 
-use pm_file::FileFault;
+use pm_file::{Cause, FileFault};
 use squirrel_cli::Status;
 use std::process::ExitCode;
 
@@ -52,13 +53,53 @@ pub fn lines_behind(status: Status, is_terminal: bool) -> &'static str
     }
 }
 
+/// The line behind that one which says why a device failed, with its newline: where standard error is a terminal, and the cause
+/// is known.
+pub fn cause_line(status: Status, cause: Option<Cause>, is_terminal: bool) -> &'static str
+    ensures elsewhere { is_terminal ≡ false → result.now ≡ [] }
+    ensures others { status ≢ Status.DeviceFault → result.now ≡ [] }
+    ensures told { (it : TheCause) → is_terminal ≡ true → status ≡ Status.DeviceFault → cause ≡ Some it →
+        result.now ≡ cause_text it }
+{
+    match (status, cause) {
+        (Status::DeviceFault, Some(cause)) if is_terminal => text_of_cause(cause),
+        _ => "",
+    }
+}
+
+// What a cause is told as.
+fn text_of_cause(cause: Cause) -> &'static str
+    ensures { result.now ≡ cause_text cause }
+{
+    match cause {
+        Cause::Missing => "squirrel: there is no such file\n",
+        Cause::Denied => "squirrel: the file may not be read, or not be written\n",
+        Cause::Held => "squirrel: another job has the file\n",
+        Cause::OtherLength => {
+            "squirrel: the file's length is not its volume's (16 to 65536 pages of 4096 bytes)\n"
+        }
+        Cause::Full => "squirrel: the disk is full\n",
+        Cause::Failed => "squirrel: a read, a write or a sync of the file failed\n",
+    }
+}
+
 /// How a job ends whose file gave no device.
 pub fn status_of_file_fault(fault: FileFault) -> Status
     ensures no_memory { fault ≡ FileFault.NoMemory → result ≡ Status.NoMemory }
-    ensures failed { fault ≡ FileFault.Failed → result ≡ Status.DeviceFault }
+    ensures failed { (cause : TheCause) → fault ≡ FileFault.Failed cause → result ≡ Status.DeviceFault }
 {
     match fault {
         FileFault::NoMemory => Status::NoMemory,
-        FileFault::Failed => Status::DeviceFault,
+        FileFault::Failed(_) => Status::DeviceFault,
+    }
+}
+
+/// Why a file gave no device, where it isn't for want of memory.
+pub fn cause_of_file_fault(fault: FileFault) -> Option<Cause>
+    ensures failed { (cause : TheCause) → fault ≡ FileFault.Failed cause → result ≡ Some cause }
+{
+    match fault {
+        FileFault::NoMemory => None,
+        FileFault::Failed(cause) => Some(cause),
     }
 }

@@ -178,6 +178,6 @@ fn a_write_fails_between_runs(rt: HostRuntime) -> Result<(), Fail> {
 fn nothing_is_read_where_the_first_sync_fails(rt: HostRuntime) -> Result<(), Fail> {
     let room = take_room(rt.alloc(), 16)?;
     let refused = Mirror::read_from(fresh_ram(rt.alloc(), 3, 0)?, room, 16);
-    assert!(rt; matches!(refused, Err(FileFault::Failed)));
+    assert!(rt; matches!(refused, Err(FileFault::Failed(_))));
     Ok(())
 }
