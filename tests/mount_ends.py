@@ -8,7 +8,7 @@ import time
 
 from mounts import (
     EACH_CALL_FAILS, KILLED, PAGE, ROOT, Mount, await_so, environment, error_of, expect, expect_equal, expect_error, listed,
-    make_volume, opened, read, replies, start_in_background, start_words, tell, unmount, write,
+    opened, read, replies, start_in_background, start_words, tell, unmount, write,
 )
 
 def device_fault(image, cause):
@@ -150,7 +150,10 @@ def full_disk(trial):
         return
     try:
         image = disk / "volume"
-        make_volume(trial.program, image, 1024)
+        image.touch()
+        # `mkfs` leaves the holes of a file that is as long already
+        os.truncate(image, 1024 * PAGE)
+        subprocess.run([trial.program, "mkfs", image, "1024"], check=True, capture_output=True)
         with Mount(trial.program, image, trial.folder) as mount:
             with opened(trial.at("a"), os.O_CREAT | os.O_WRONLY) as file:
                 errors = {error_of(os.write, file, b"a" * 10**5) for _ in range(20)}
