@@ -1,2 +1,4 @@
 pub mod ObjectLaws
 pub mod StoredLaws
+pub mod Flushing
+pub mod OneLine
