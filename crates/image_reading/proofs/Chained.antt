@@ -1,10 +1,10 @@
 -- The rules hold one after another, up to the first that is broken.
-use Rattle.std.proofs.Common.{◌≡◌, ◌↔◌, inl, inr, ℕ, ◌+◌, ◌*◌, ◌<◌, List, length, Option, Some, None, IfSome, refl, sym, subst, arith}
+use Rattle.std.proofs.Common.{◌≡◌, ◌↔◌, inl, inr, ℕ, ◌+◌, ◌*◌, ◌<◌, List, length, Option, Some, None, IfSome, MatchOption, refl, sym, subst, arith}
 use Rattle.std.proofs.lemmas.Bool.{cases_lt}
-use Rattle.image_reading.specs.Soundness.{Rule, number, Obeys, Sound, IsFirstFault, IsFirstViolation, pages_in_image}
-use Rattle.image_reading.specs.Scan.{KeepsBelow, IsFault, FindsFault}
+use Rattle.image_reading.specs.Soundness.{Rule, number, Obeys, IsCoherent, Sound, IsFirstFault, BreaksMark, IsFirstViolation, pages_in_image}
+use Rattle.image_reading.specs.Scan.{KeepsBelow, IsFault}
 use Rattle.image_reading.specs.declared.Violation.{Violation}
-use Rattle.image_reading.proofs.Violations.{same_rule, no_fault}
+use Rattle.image_reading.proofs.Violations.{same_rule, no_violation, sound_unbroken}
 
 module _ (P : ℕ) (I : List ℕ) where
   pub keeps_none : KeepsBelow P I 1
@@ -30,7 +30,7 @@ module _ (P : ℕ) (I : List ℕ) where
     | inr le ↦ subst (λ r. Obeys P I r x) (sym (same_rule other rule (omega (arith, le, lt)))) (here x)
   ]
 
-  pub all_rules : KeepsBelow P I 15 → Sound P I
+  pub all_rules : KeepsBelow P I 15 → IsCoherent P I
   all_rules keeps Rule.head x = keeps Rule.head x (omega arith)
   all_rules keeps Rule.root x = keeps Rule.root x (omega arith)
   all_rules keeps Rule.pointers x = keeps Rule.pointers x (omega arith)
@@ -56,31 +56,31 @@ module _ (P : ℕ) (I : List ℕ) where
   }
 
 -- the same of the image, which has as many pages as its length says
-pub image_fault : (P : ℕ) (I : List ℕ) (violation : Violation) → length I ≡ 512 * P → IsFault P I violation → IsFirstViolation I violation
-image_fault P I violation whole fault =
-    let pages : P ≡ pages_in_image I = omega arith in
-    record { rule = fault.rule; numbered = fault.numbered; first = subst (λ p. IsFirstFault p I fault.rule violation.place) pages fault.first }
-
-pub image_sound : (P : ℕ) (I : List ℕ) → length I ≡ 512 * P → KeepsBelow P I 15 → Sound (pages_in_image I) I
-image_sound P I whole keeps =
-    let pages : P ≡ pages_in_image I = omega arith in
-    subst (λ p. Sound p I) pages (all_rules P I keeps)
-
 pub pages_are : (P : ℕ) (I : List ℕ) → length I ≡ 512 * P → pages_in_image I ≡ P
 pages_are P I whole = omega arith
 
+pub image_fault : (P : ℕ) (I : List ℕ) (violation : Violation) → length I ≡ 512 * P → IsFault P I violation → IsFirstViolation I violation
+image_fault P I violation whole fault = inl (record {
+  rule = fault.rule;
+  numbered = fault.numbered;
+  first = subst (λ p. IsFirstFault p I fault.rule violation.place) (sym (pages_are P I whole)) fault.first;
+})
+
+pub image_coherent : (P : ℕ) (I : List ℕ) → length I ≡ 512 * P → KeepsBelow P I 15 → IsCoherent (pages_in_image I) I
+image_coherent P I whole keeps = subst (λ p. IsCoherent p I) (sym (pages_are P I whole)) (all_rules P I keeps)
+
 pub none_not_at_some : (P : ℕ) (I : List ℕ) (violation : Violation) → length I ≡ 512 * P → IsFault P I violation → (Some violation ≡ None) ↔ Sound (pages_in_image I) I
-none_not_at_some P I violation whole fault =
-    let first = image_fault P I violation whole fault in (
-      (λ e. let no : ⊥ = cc in absurd no),
-      (λ sound. absurd (no_fault (pages_in_image I) I first.rule violation.place sound first.first)),
-    )
+none_not_at_some P I violation whole fault = (
+  (λ e. let no : ⊥ = cc in absurd no),
+  (λ sound. absurd (no_violation I violation sound (image_fault P I violation whole fault))),
+)
 
--- none is found exactly where the image is sound
-pub none_exactly : (P : ℕ) (I : List ℕ) (found : Option Violation) → length I ≡ 512 * P → FindsFault P I 15 found → (found ≡ None) ↔ Sound (pages_in_image I) I
-none_exactly P I None whole keeps = ((λ e. image_sound P I whole keeps), (λ sound. refl))
-none_exactly P I (Some violation) whole fault = none_not_at_some P I violation whole fault
+-- ---- the mark, which is asked for last
 
-pub first_at_some : (P : ℕ) (I : List ℕ) (n : ℕ) (found : Option Violation) → length I ≡ 512 * P → FindsFault P I n found → IfSome found (IsFirstViolation I)
-first_at_some P I n None whole keeps = tt
-first_at_some P I n (Some violation) whole fault = image_fault P I violation whole fault
+pub none_exactly : (I : List ℕ) (found : Option Violation) → MatchOption found (Sound (pages_in_image I) I) (BreaksMark I) → (found ≡ None) ↔ Sound (pages_in_image I) I
+none_exactly I None sound = ((λ e. sound), (λ sound. refl))
+none_exactly I (Some violation) broken = ((λ e. let no : ⊥ = cc in absurd no), (λ sound. absurd (sound_unbroken I violation sound broken)))
+
+pub first_at_some : (I : List ℕ) (found : Option Violation) → MatchOption found (Sound (pages_in_image I) I) (BreaksMark I) → IfSome found (IsFirstViolation I)
+first_at_some I None sound = tt
+first_at_some I (Some violation) broken = inr broken

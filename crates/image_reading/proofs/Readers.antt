@@ -9,7 +9,7 @@ use Rattle.image_reading.specs.Reading.{IsFile, IsDirectory, IsHeld, slot_owner,
 use Rattle.image_reading.specs.Repairs.{IsKept, IsPointer, IsLeft}
 use Rattle.image_reading.specs.Litter.{HasLiveSlot}
 use Rattle.image_reading.specs.Scan.{IsCredit, IsRename}
-use Rattle.image_reading.specs.Soundness.{Rule, Sound}
+use Rattle.image_reading.specs.Soundness.{Rule, IsCoherent}
 use Rattle.image_reading.proofs.Credits.{count_same, name_credit, child_credit, enough_directory}
 
 module _ (P : ℕ) (I : List ℕ) where
@@ -35,10 +35,10 @@ module _ (P : ℕ) (I : List ℕ) where
     unfolding slot_owner
     owner_of_slot s at = ap (page_owner P I) at
 
-    pub live_kept : Sound P I → Reached P I (page_owner P I j) → ¬ IsFile I (page_owner P I j) → HasLiveSlot P I j → IsKept P I j
-    live_kept sound reached other (s, at, live) = inr (record {
+    pub live_kept : IsCoherent P I → Reached P I (page_owner P I j) → ¬ IsFile I (page_owner P I j) → HasLiveSlot P I j → IsKept P I j
+    live_kept coherent reached other (s, at, live) = inr (record {
       reached = reached;
-      directory = elim ((sound Rule.kinds (page_owner P I j)).kind reached) [ inl file ↦ absurd (other file) | inr directory ↦ directory ];
+      directory = elim ((coherent Rule.kinds (page_owner P I j)).kind reached) [ inl file ↦ absurd (other file) | inr directory ↦ directory ];
       slot = (s, at, owner_of_slot s at, live);
     })
 
@@ -57,17 +57,17 @@ module _ (P : ℕ) (I : List ℕ) where
       directory = λ directory. absurd (other directory);
     }
 
-    pub enough_links : Sound P I → Reached P I i → IsDirectory I i → 2 + n ≤ inode_links I i
-    enough_links sound reached directory = (enough_directory P I i (inode_links I i) n refl count directory).1 (sound Rule.links i reached)
+    pub enough_links : IsCoherent P I → Reached P I i → IsDirectory I i → 2 + n ≤ inode_links I i
+    enough_links coherent reached directory = (enough_directory P I i (inode_links I i) n refl count directory).1 (coherent Rule.links i reached)
 
   -- ---- the rename pointer
 
-  pub one_pointer : (r s : ℕ) → Sound P I → IsPointer P I r → IsPointer P I s → r ≡ s
-  one_pointer r s sound p q = elim (cases_eq r s) [
+  pub one_pointer : (r s : ℕ) → IsCoherent P I → IsPointer P I r → IsPointer P I s → r ≡ s
+  one_pointer r s coherent p q = elim (cases_eq r s) [
     | inl same ↦ same
     | inr other ↦ elim (cases_lt r s) [
-      | inl lt ↦ absurd (q.nonzero (sound Rule.one_pointer s r lt p.held q.held p.nonzero))
-      | inr le ↦ absurd (p.nonzero (sound Rule.one_pointer r s (omega (arith, le, other)) q.held p.held q.nonzero))
+      | inl lt ↦ absurd (q.nonzero (coherent Rule.one_pointer s r lt p.held q.held p.nonzero))
+      | inr le ↦ absurd (p.nonzero (coherent Rule.one_pointer r s (omega (arith, le, other)) q.held p.held q.nonzero))
     ]
   ]
 
@@ -94,10 +94,10 @@ module _ (P : ℕ) (I : List ℕ) where
           },
         )
 
-    pub target_held : Sound P I → target ≢ 0 → IsHeld P I (target - 1)
-    target_held sound some =
+    pub target_held : IsCoherent P I → target ≢ 0 → IsHeld P I (target - 1)
+    target_held coherent some =
         let (d, held, to, number) = rename.some some in
-        subst (λ (k : ℕ). IsHeld P I (k - 1)) to ((sound Rule.pointers d).held held (λ zero. some (sym to ∙ zero)))
+        subst (λ (k : ℕ). IsHeld P I (k - 1)) to ((coherent Rule.pointers d).held held (λ zero. some (sym to ∙ zero)))
 
 -- ---- an answer that is the one place with Q
 

@@ -1,4 +1,4 @@
--- When sound words need no recovery.
+-- When nothing is to be repaired in words that fit together.
 use Rattle.std.proofs.Common.{◌≡◌, ◌≢◌, inl, inr, ℕ, zero, suc, ◌+◌, ◌*◌, ◌%◌, ◌<◌, ◌≤◌, List, refl, sym, ap, subst, ◌∙◌, arith}
 use Rattle.std.proofs.lemmas.Bool.{cases_eq, cases_lt}
 use Rattle.layout.proofs.GeometryLaws.{page_of_slot_below}
@@ -7,22 +7,22 @@ use Rattle.layout.specs.Fields.{word, inode_kind, inode_links, inode_size, inode
 use Rattle.image_reading.specs.Reading.{IsFile, Reached, IsNameOf, IsChildOf, IsLinkCount, IsRoomOf}
 use Rattle.image_reading.specs.Repairs.{IsKept, IsPointer, IsLitterSlot, IsLitterPage, IsLitterInode, IsLitterCount}
 use Rattle.image_reading.specs.Scan.{IsRename}
-use Rattle.image_reading.specs.Soundness.{Rule, Sound}
-use Rattle.image_reading.specs.Tidy.{Tidy}
+use Rattle.image_reading.specs.Soundness.{Rule, IsCoherent}
+use Rattle.image_reading.specs.Tidy.{IsTidied}
 use Rattle.image_reading.proofs.Counts.{count_none, none_counted, count_one}
 use Rattle.image_reading.proofs.Places.{one_inode}
 use Rattle.image_reading.proofs.Walked.{reached_range}
 use Rattle.image_reading.specs.Litter.{IsZeroInode, IsZeroDescriptor, HasZeroSlots, IsTidyPage, IsTidyInode}
 
 module _ (P : ℕ) (I : List ℕ) where
-  pub in_range : (i : ℕ) → Sound P I → Reached P I i → (1 ≤ i) × (i ≤ inodes_of P)
-  in_range i sound reached = reached_range P I i (one_inode P ((sound Rule.head 0).size refl)) reached
+  pub in_range : (i : ℕ) → IsCoherent P I → Reached P I i → (1 ≤ i) × (i ≤ inodes_of P)
+  in_range i coherent reached = reached_range P I i (one_inode P ((coherent Rule.head 0).size refl)) reached
 
   -- ---- all parts
 
-  pub tidy_whole : Sound P I → ((s : ℕ) → ¬ IsPointer P I s) → ((i : ℕ) → IsTidyInode P I i) → ((j : ℕ) → IsTidyPage P I j) → Tidy P I
-  tidy_whole sound none inodes pages = record {
-    sound = sound;
+  pub tidy_whole : IsCoherent P I → ((s : ℕ) → ¬ IsPointer P I s) → ((i : ℕ) → IsTidyInode P I i) → ((j : ℕ) → IsTidyPage P I j) → IsTidied P I
+  tidy_whole coherent none inodes pages = record {
+    coherent = coherent;
     repaired = record {
       of_pointers = count_none (IsPointer P I) none;
       of_slots = count_none (IsLitterSlot P I) (λ s. (pages (page_of_slot s)).slots s refl);
@@ -32,16 +32,16 @@ module _ (P : ℕ) (I : List ℕ) where
     };
   }
 
-  pub tidy_pointers : Tidy P I → (s : ℕ) → ¬ IsPointer P I s
+  pub tidy_pointers : IsTidied P I → (s : ℕ) → ¬ IsPointer P I s
   tidy_pointers tidy = none_counted (IsPointer P I) tidy.repaired.of_pointers
 
-  pub tidy_inodes : Tidy P I → (i : ℕ) → IsTidyInode P I i
+  pub tidy_inodes : IsTidied P I → (i : ℕ) → IsTidyInode P I i
   tidy_inodes tidy i = record {
     inode = none_counted (IsLitterInode P I) tidy.repaired.of_inodes i;
     links = none_counted (IsLitterCount P I) tidy.repaired.of_counts i;
   }
 
-  pub tidy_pages : Tidy P I → (j : ℕ) → IsTidyPage P I j
+  pub tidy_pages : IsTidied P I → (j : ℕ) → IsTidyPage P I j
   tidy_pages tidy j = record {
     page = none_counted (IsLitterPage P I) tidy.repaired.of_pages j;
     slots = λ s at. none_counted (IsLitterSlot P I) tidy.repaired.of_slots s;
@@ -52,7 +52,7 @@ module _ (P : ℕ) (I : List ℕ) where
   pub no_pointer : (target inode : ℕ) → IsRename P I target inode → target ≡ 0 → (s : ℕ) → ¬ IsPointer P I s
   no_pointer target inode rename none s pointer = pointer.nonzero ((rename.all s pointer).0 ∙ none)
 
-  pub some_pointer : (target inode : ℕ) → IsRename P I target inode → target ≢ 0 → ¬ Tidy P I
+  pub some_pointer : (target inode : ℕ) → IsRename P I target inode → target ≢ 0 → ¬ IsTidied P I
   some_pointer target inode rename some tidy =
       let (s, held, is, other) = rename.some some in
       tidy_pointers tidy s (record { held = held; nonzero = λ zero. some (sym is ∙ zero) })
@@ -87,12 +87,12 @@ module _ (P : ℕ) (I : List ℕ) where
 
   -- ---- a reached inode's links
 
-  module _ (i n : ℕ) (sound : Sound P I) (reached : Reached P I i) (count : IsLinkCount P I i n) where
+  module _ (i n : ℕ) (coherent : IsCoherent P I) (reached : Reached P I i) (count : IsLinkCount P I i n) where
     pub links_tidy : inode_links I i ≡ n → IsTidyInode P I i
     links_tidy is = record { inode = λ litter. litter.unreached reached; links = λ litter. litter.other (subst (IsLinkCount P I i) (sym is) count) }
 
     one_count : (m : ℕ) → IsLinkCount P I i m → m ≡ n
-    one_count m other = elim ((sound Rule.kinds i).kind reached) [
+    one_count m other = elim ((coherent Rule.kinds i).kind reached) [
       | inl file ↦ count_one (IsNameOf P I i) m n (other.file file) (count.file file)
       | inr directory ↦
           let (a, children, is) = other.directory directory in
@@ -170,10 +170,10 @@ module _ (P : ℕ) (I : List ℕ) where
     slots = λ s at litter. let (t, page, owner, live) = (litter_kept j s at litter).slot in let within = page_of_slot_below P t live.held.in_range in omega (arith, past, within, page);
   }
 
-  pub inode_outside : (i : ℕ) → Sound P I → ((1 ≤ i) → (i ≤ inodes_of P) → ⊥) → IsTidyInode P I i
-  inode_outside i sound outside = record {
+  pub inode_outside : (i : ℕ) → IsCoherent P I → ((1 ≤ i) → (i ≤ inodes_of P) → ⊥) → IsTidyInode P I i
+  inode_outside i coherent outside = record {
     inode = λ litter. outside litter.least litter.most;
-    links = λ litter. let range = in_range i sound litter.reached in outside range.0 range.1;
+    links = λ litter. let range = in_range i coherent litter.reached in outside range.0 range.1;
   }
 
 -- what holds at the 32 slots of a page holds at each slot of it
@@ -193,11 +193,11 @@ module _ (P : ℕ) (I : List ℕ) (n : ℕ) where
     | inr other ↦ before i least (omega (arith, most, other))
   ]
 
-  pub all_inodes : Sound P I → n ≡ inodes_of P → ((i : ℕ) → 1 ≤ i → i ≤ n → IsTidyInode P I i) → (i : ℕ) → IsTidyInode P I i
-  all_inodes sound size before i = elim (cases_lt i 1) [
-    | inl below ↦ inode_outside P I i sound (λ least most. omega (arith, below, least))
+  pub all_inodes : IsCoherent P I → n ≡ inodes_of P → ((i : ℕ) → 1 ≤ i → i ≤ n → IsTidyInode P I i) → (i : ℕ) → IsTidyInode P I i
+  all_inodes coherent size before i = elim (cases_lt i 1) [
+    | inl below ↦ inode_outside P I i coherent (λ least most. omega (arith, below, least))
     | inr least ↦ elim (cases_lt n i) [
-      | inl past ↦ inode_outside P I i sound (λ low most. omega (arith, past, most, size))
+      | inl past ↦ inode_outside P I i coherent (λ low most. omega (arith, past, most, size))
       | inr within ↦ before i (omega (arith, least)) (omega (arith, within))
     ]
   ]

@@ -7,7 +7,8 @@ use Rattle.layout.specs.Format.{IsFormattedFrom}
 use Rattle.tree_model.specs.Tree.{Tree, Room, fresh, fresh_room}
 use Rattle.image_reading.specs.Reading.{IsDirectory, slot_owner, IsLive, Reached, IsReachedSlot, Reads, HasRoom}
 use Rattle.image_reading.specs.Repairs.{RepairCounts, HasRepairs}
-use Rattle.image_reading.specs.Soundness.{Rule, Sound, KeepsRule1, IsFirstFault, pages_in_image}
+use Rattle.image_reading.specs.Soundness.{Sound, KeepsRule1, IsFirstViolation, pages_in_image}
+use Rattle.image_reading.specs.declared.Violation.{Violation}
 use Rattle.image_reading.specs.Tidy.{Tidy}
 
 -- An image reads as one tree at most.
@@ -49,12 +50,12 @@ abbrev pub PagesLaw : Type 0
 PagesLaw = (P : ℕ) (I : List ℕ) → KeepsRule1 P I → pages_in_image I ≡ P
 
 -- An image has one first violation at most,
-abbrev pub OneFault : Type 0
-OneFault = (P : ℕ) (I : List ℕ) (r s : Rule) (x y : ℕ) → IsFirstFault P I r x → IsFirstFault P I s y → (r ≡ s) × (x ≡ y)
+abbrev pub OneViolation : Type 0
+OneViolation = (I : List ℕ) (one other : Violation) → IsFirstViolation I one → IsFirstViolation I other → one ≡ other
 
 -- and a sound one has none.
-abbrev pub NoFault : Type 0
-NoFault = (P : ℕ) (I : List ℕ) (r : Rule) (x : ℕ) → Sound P I → IsFirstFault P I r x → ⊥
+abbrev pub NoViolation : Type 0
+NoViolation = (I : List ℕ) (violation : Violation) → Sound (pages_in_image I) I → IsFirstViolation I violation → ⊥
 
 -- a volume with the root alone
 pub record IsFresh (P : ℕ) (I : List ℕ) : Type 0 where

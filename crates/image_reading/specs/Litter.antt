@@ -1,4 +1,4 @@
--- What is read of a sound image to tell that it needs no recovery. P is the number of pages, I the words.
+-- What is read of an image to tell that it needs no recovery. P is the number of pages, I the words.
 use Rattle.std.specs.Prelude.{◌≡◌, ℕ, ◌<◌, ◌≤◌, List}
 use Rattle.layout.specs.Geometry.{inodes_of, page_of_slot, slot_word_of}
 use Rattle.layout.specs.Fields.{word, inode_kind, inode_links, inode_size, inode_own, page_owner, page_kind, page_offset}

@@ -7,7 +7,7 @@ use Rattle.layout.specs.Name.{name_cmp}
 use Rattle.image_reading.specs.Counts.{IsIn, IsDistinct}
 use Rattle.image_reading.specs.Reading.{slot_owner, IsReachedSlot}
 use Rattle.image_reading.specs.Scan.{AreCounted, IsPointerAt}
-use Rattle.image_reading.specs.Soundness.{Sound}
+use Rattle.image_reading.specs.Soundness.{IsCoherent}
 use Rattle.image_reading.specs.Walk.{IsWalkDone, Knows}
 use Rattle.image_reading.specs.declared.scan.Scan.{Scan}
 use Rattle.image_reading.specs.declared.scanned.Scanned.{Scanned}
@@ -29,9 +29,9 @@ pub record HasScanned (words : List ℕ) (scan : Scan) : Type 0 where
   pub names : AreNames scan.geometry.pages words scan.names.items
   pub counted : AreCounted scan.geometry.pages words scan.tally.items
 
--- The image is sound, it is known what is reached, the names stand in order, and the links are counted.
+-- The words fit together, it is known what is reached, the names stand in order, and the links are counted.
 pub record IsScanned (scanned : Scanned) : Type 0 where
-  pub sound : Sound scanned.image.geometry.pages scanned.image.words.now
+  pub coherent : IsCoherent scanned.image.geometry.pages scanned.image.words.now
   pub known : Knows scanned.image.geometry.pages scanned.image.words.now scanned.reach.now
   pub pointer : IsPointerAt scanned.image.geometry.pages scanned.image.words.now scanned.pointer
   pub names : AreNames scanned.image.geometry.pages scanned.image.words.now scanned.names.now

@@ -49,7 +49,7 @@ impl Scan {
     ghost use Rattle.std.specs.Prelude.{◌≡◌, ◌*◌, ℕ, IfOk, None, length};
     ghost use Rattle.image_reading.specs.Scan.{AreHeld, FindsFault, IsLinked, IsPointerAt, KeepsBelow};
     ghost use Rattle.image_reading.specs.Scanned.{HasScanned, IsScanned};
-    ghost use Rattle.image_reading.specs.Soundness.{IsOnlyPointer, Sound, pages_in_image};
+    ghost use Rattle.image_reading.specs.Soundness.{IsCoherent, IsOnlyPointer, pages_in_image};
     ghost use Rattle.image_reading.specs.Walk.{IsWalkDone};
 
     /// Tables for volumes of this size.
@@ -163,11 +163,11 @@ impl Scan {
         fault_of_links(&walked, self.names.as_slice(), self.tally.as_mut_slice())
     }
 
-    /// The sound image that these words are, with what the scan knows of it.
+    /// The image that these words are, which fit together, with what the scan knows of it.
     pub fn scanned<'a>(&'a self, words: &'a [u64]) -> Scanned<'a>
         requires made_for { length words.now ≡ 512 * self.now.geometry.pages }
         requires known { HasScanned words.now self.now }
-        requires sound { Sound (pages_in_image words.now) words.now }
+        requires coherent { IsCoherent (pages_in_image words.now) words.now }
         ensures known { IsScanned result }
         ensures words { result.image.words.now ≡ words.now }
         ensures geometry { result.image.geometry ≡ self.now.geometry }

@@ -1,10 +1,10 @@
-// A sound image, read by what the scan knows of it.
+// An image whose words fit together, read by what the scan knows of it.
 use crate::held;
 use crate::image::Image;
 use crate::reach::Reach;
 use layout::{DIRECTORY, FILE, PAGE_BYTES};
 
-/// A sound image, with what the scan knows of it.
+/// An image whose words fit together, with what the scan knows of it.
 #[derive(Clone, Copy)]
 pub struct Scanned<'a> {
     /// The words, and the size of their volume.

@@ -243,6 +243,26 @@ fn faults_of_a_formatted_volume(rt: HostRuntime) -> Result<(), Fail> {
 }
 
 #[test]
+fn marks_of_a_formatted_volume(rt: HostRuntime) -> Result<(), Fail> {
+    for (stores, fault) in [
+        // it has the mark, and nothing is to be repaired
+        ([(5, 1)].as_slice(), None),
+        // the root has links too many, with the mark and without
+        ([(5, 1), (513, 4)].as_slice(), Some((15, 5))),
+        ([(513, 4)].as_slice(), None),
+        ([(5, 2), (513, 4)].as_slice(), None),
+        ([(5, 7), (513, 4)].as_slice(), None),
+        ([(5, u64::MAX), (513, 4)].as_slice(), None),
+        // a rule before it is broken too
+        ([(5, 1), (1, 2), (513, 4)].as_slice(), Some((1, 1))),
+        ([(5, 1), (513, 1)].as_slice(), Some((14, 1))),
+    ] {
+        assert_eq!(rt; fault_after(&rt, rt.alloc(), [].as_slice(), stores)?, fault);
+    }
+    Ok(())
+}
+
+#[test]
 fn faults_of_names(rt: HostRuntime) -> Result<(), Fail> {
     for (stores, fault) in [
         // as it is
@@ -272,6 +292,14 @@ fn faults_of_names(rt: HostRuntime) -> Result<(), Fail> {
         ),
         ([(529, 2), (1_552, 2), (1_554, 0x62_0001)].as_slice(), None),
         ([(1_552, 2), (1_554, 0x62_0001)].as_slice(), Some((14, 2))),
+        // it names it by the same name, and the volume has the mark and links too many
+        (
+            [(5, 1), (529, 3), (1_552, 2), (1_554, 0x61_0001)].as_slice(),
+            Some((8, 1)),
+        ),
+        // it has the mark, and slot 0's rename pointer names slot 1
+        ([(5, 1), (1_537, 2)].as_slice(), Some((15, 5))),
+        ([(5, 1)].as_slice(), None),
         // as it does in mid-rename, where slot 1 points at slot 0, which is dead
         (
             [(1_552, 2), (1_553, 1), (1_554, 0x62_0001)].as_slice(),

@@ -2,7 +2,7 @@
 ghost use Rattle.std.specs.Prelude.{◌↔◌, ℕ, IsTrue};
 ghost use Rattle.image_reading.specs.Images.{In};
 ghost use Rattle.image_reading.specs.Scanned.{IsScanned};
-ghost use Rattle.image_reading.specs.Tidy.{Tidy};
+ghost use Rattle.image_reading.specs.Tidy.{IsTidied};
 ghost use Rattle.image_reading.specs.Litter.{IsTidyPage, IsTidyInode};
 
 use crate::litter::{is_tidy_inode, is_tidy_page};
@@ -11,7 +11,7 @@ use crate::scanned::Scanned;
 /// Whether nothing is to be repaired.
 pub fn has_no_repairs(scanned: &Scanned<'_>) -> bool
     requires { IsScanned scanned.now }
-    ensures { IsTrue result ↔ Tidy scanned.now.image.geometry.pages scanned.now.image.words.now }
+    ensures { IsTrue result ↔ IsTidied scanned.now.image.geometry.pages scanned.now.image.words.now }
 {
     if scanned.reach.rename.target != 0 {
         return false;

@@ -6,7 +6,7 @@ use Rattle.layout.specs.Geometry.{page_of_slot, slot_word_of, inode_word_of}
 use Rattle.image_reading.specs.Reading.{IsLive, IsLinkCount}
 use Rattle.image_reading.specs.Repairs.{IsPointer, IsLitterSlot, IsLitterPage, IsLitterInode, IsLitterCount, IsKeptDirectoryPage}
 use Rattle.image_reading.specs.Soundness.{IsCoherent}
-use Rattle.image_reading.specs.Tidy.{Tidy}
+use Rattle.image_reading.specs.Tidy.{IsTidied}
 use Rattle.image_reading.proofs.Counts.{count_none}
 use Rattle.image_counts.proofs.Links.{links_counted}
 use Rattle.image_laws.specs.Frame.{SameMeaning}
@@ -65,9 +65,9 @@ module _ (P : ℕ) (W A B C K : List ℕ) (coherent : IsCoherent P W) (repair : 
       litter.other (subst (IsLinkCount P K i) (sym (ending.counted_links P W A B C K coherent repair i _ reached count))
       (ending.counted_after P W A B C K coherent repair i _ reached count))
 
-  pub tidy : Tidy P K
+  pub tidy : IsTidied P K
   tidy = record {
-    sound = means.coherent;
+    coherent = means.coherent;
     repaired = record {
       of_pointers = count_none (IsPointer P K) no_pointer;
       of_slots = count_none (IsLitterSlot P K) no_slot;
@@ -121,4 +121,4 @@ module _ (P : ℕ) (W A B C K : List ℕ) (coherent : IsCoherent P W) (repair : 
   mended = record { size = repair.fourth.size ∙ repair.third.size ∙ repair.second.size ∙ repair.first.size; new = λ a v h. new h; words = words }
 
 pub end_law : EndLaw
-end_law P W A B C K sound repair = mended P W A B C K sound repair
+end_law P W A B C K coherent repair = mended P W A B C K coherent repair

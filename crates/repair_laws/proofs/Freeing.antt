@@ -56,9 +56,9 @@ module _ (P : ℕ) (W A B C K : List ℕ) (coherent : IsCoherent P W) (repair : 
   fourth_means = fourth_mix K (record { size = repair.fourth.size; words = λ a. inr refl })
 
 pub repair_law : RepairLaw
-repair_law P W A B C K sound repair = record {
-  first = (pointing.first_means P W sound A repair.first).1;
-  second = (pointing.second_means P W sound A repair.first B repair.second).1;
-  third = third_mix P W A B C K sound repair;
-  fourth = fourth_mix P W A B C K sound repair;
+repair_law P W A B C K coherent repair = record {
+  first = (pointing.first_means P W coherent A repair.first).1;
+  second = (pointing.second_means P W coherent A repair.first B repair.second).1;
+  third = third_mix P W A B C K coherent repair;
+  fourth = fourth_mix P W A B C K coherent repair;
 }

@@ -5,7 +5,7 @@ use Rattle.layout.specs.Fields.{word, inode_links, slot_pointer}
 use Rattle.layout.specs.Geometry.{inode_word_of, descriptor_word_of, slot_word_of}
 use Rattle.image_reading.specs.Repairs.{IsPointer, IsLitterSlot, IsLitterPage, IsLitterInode, IsLitterCount}
 use Rattle.image_reading.specs.Soundness.{IsCoherent}
-use Rattle.image_reading.specs.Tidy.{Tidy}
+use Rattle.image_reading.specs.Tidy.{IsTidied}
 use Rattle.image_reading.proofs.Counts.{none_counted}
 use Rattle.image_counts.proofs.Links.{only_links}
 use Rattle.image_laws.specs.Frame.{SameMeaning}
@@ -26,7 +26,7 @@ one_mended P W K L a b = same_list L K (a.size ∙ sym b.size) (λ x. elim (b.wo
 
 -- ---- what is tidy has the words that recovery would store
 
-module _ (P : ℕ) (W : List ℕ) (clean : Tidy P W) where
+module _ (P : ℕ) (W : List ℕ) (clean : IsTidied P W) where
   gives : {a v : ℕ} → GivesUp P W a v → word W a ≡ v
   gives (GivesUp.number s d left) =
       let points = left.points in
@@ -50,13 +50,13 @@ module _ (P : ℕ) (W : List ℕ) (clean : Tidy P W) where
     | inr some ↦ absurd (none_counted (IsLitterSlot P W) clean.repaired.of_slots s (record { page = dead.page; dead = dead.dead; nonzero = (f, small, some) }))
   ]
   clears (Clears.links i n reached count) =
-      let (T, reads, form) = tree_law P W clean.sound in
-      let counted = only_links P W T clean.sound reads i n reached count in
+      let (T, reads, form) = tree_law P W clean.coherent in
+      let counted = only_links P W T clean.coherent reads i n reached count in
       elim (cases_eq (inode_links W i) n) [
         | inl same ↦ same
         | inr other ↦ absurd (none_counted (IsLitterCount P W) clean.repaired.of_counts i (record {
           reached = reached;
-          other = λ links. other (sym (only_links P W T clean.sound reads i (inode_links W i) reached links) ∙ counted);
+          other = λ links. other (sym (only_links P W T clean.coherent reads i (inode_links W i) reached links) ∙ counted);
         }))
       ]
 
@@ -89,9 +89,9 @@ no_step P W after = record {
 }
 
 pub tidy_law : TidyLaw
-tidy_law P W K sound after = (
+tidy_law P W K coherent after = (
   λ clean. unchanged (Mends P W) W K after (λ a v h. as_they_are P W clean h),
-  λ same. tidy P W W W W W sound (no_step P W (subst (IsMended P W) same after)),
+  λ same. tidy P W W W W W coherent (no_step P W (subst (IsMended P W) same after)),
 )
 
 -- ---- what holds of the end of a chain holds of the one list
@@ -102,11 +102,11 @@ of_mended Q P W K coherent holds after =
     subst Q (one_mended P W L K (mended P W A B C L coherent repair) after) (holds A B C L repair)
 
 pub mended_law : MendedLaw
-mended_law P W K sound after =
-    of_mended (λ X. SameMeaning P W X × Tidy P X) P W K sound (λ A B C L repair. (fourth_means P W A B C L sound repair, tidy P W A B C L sound repair)) after
+mended_law P W K coherent after =
+    of_mended (λ X. SameMeaning P W X × IsTidied P X) P W K coherent (λ A B C L repair. (fourth_means P W A B C L coherent repair, tidy P W A B C L coherent repair)) after
 
 pub index_law : IndexLaw
-index_law P W K sound after = of_mended (HasIndexOf P W) P W K sound (λ A B C L repair. has_index P W A B C L sound repair) after
+index_law P W K coherent after = of_mended (HasIndexOf P W) P W K coherent (λ A B C L repair. has_index P W A B C L coherent repair) after
 
 pub some_law : SomeRepair
-some_law P W sound = some_repair P W sound
+some_law P W coherent = some_repair P W coherent

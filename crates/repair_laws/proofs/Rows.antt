@@ -4,13 +4,13 @@ use Rattle.std.proofs.Common.{◌≡◌, inl, inr, ℕ, ◌<◌, List, refl, sym
 use Rattle.layout.specs.Fields.{word, page_owner, page_kind, slot_inode, slot_pointer}
 use Rattle.layout.specs.Geometry.{inode_pages_of, descriptor_pages_of, inodes_of, data_pages_of, slots_of, page_of_slot, inode_word_of, descriptor_word_of, slot_word_of}
 use Rattle.image_reading.specs.Reading.{slot_owner, IsHeld, Reached}
-use Rattle.image_reading.specs.Soundness.{Sound}
+use Rattle.image_reading.specs.Soundness.{IsCoherent}
 use Rattle.image_laws.proofs.Paths.{reached_pos}
 use Rattle.repair_laws.specs.Mended.{IsUnkept, GivesUp, Unpoints, Frees, Mends, IsMended}
 use Rattle.repair_laws.proofs.Apart.{gives_slot, unpoints_slot, clears_slot, frees_slot}
 use Rattle.repair_laws.proofs.Pointing.{one_points, left_points}
 
-module _ (W K : List ℕ) (sound : Sound 16 W) (mended : IsMended 16 W K) where
+module _ (W K : List ℕ) (coherent : IsCoherent 16 W) (mended : IsMended 16 W K) where
   -- the second slot of a page of the root
   second_held : word W 1024 ≡ 1 → word W 1025 ≡ 2 → IsHeld 16 W 1
   unfolding slots_of data_pages_of inode_pages_of descriptor_pages_of page_kind slot_owner page_owner page_of_slot descriptor_word_of
@@ -39,11 +39,11 @@ module _ (W K : List ℕ) (sound : Sound 16 W) (mended : IsMended 16 W K) where
     where
       never : (v : ℕ) → Mends 16 W 1536 v → ⊥
       never v (Mends.unpoints h) = let (one, held) = unpoints_slot 16 W 0 0 (omega arith) h refl in omega (arith, one)
-      never v (Mends.clears h) = let (some, dead, none) = clears_slot 16 W 0 0 sound (omega arith) h refl in omega (arith, some)
+      never v (Mends.clears h) = let (some, dead, none) = clears_slot 16 W 0 0 coherent (omega arith) h refl in omega (arith, some)
       never v (Mends.frees h) = frees_slot 16 W 0 0 (omega arith) h refl
       never v (Mends.gives_up h) =
           let (zero, d, left) = gives_slot 16 W 0 0 (omega arith) h refl in
-          let is : d ≡ 1 = one_points 16 W sound d 1 (left_points 16 W sound 0 d left) (record { held = second_held owner kind; some = λ none. omega (arith, none, pointer) }) in
+          let is : d ≡ 1 = one_points 16 W coherent d 1 (left_points 16 W coherent 0 d left) (record { held = second_held owner kind; some = λ none. omega (arith, none, pointer) }) in
           left.names (sym left.same ∙ ap (slot_inode 16 W) is ∙ new)
 
   -- A slot in a page of inode 3 points at the first slot, and has its inode number: that name goes, whoever reaches inode 3.

@@ -6,7 +6,7 @@ use Rattle.layout.specs.Fields.{word, inode_links, page_owner, slot_inode, slot_
 use Rattle.image_reading.specs.Reading.{Reached, IsLinkCount}
 use Rattle.image_reading.specs.Repairs.{IsPointer, IsLitterSlot, IsLitterPage, IsLitterInode, IsLitterCount, inode_words, descriptor_words}
 use Rattle.image_reading.specs.Soundness.{IsCoherent}
-use Rattle.image_reading.specs.Tidy.{Tidy}
+use Rattle.image_reading.specs.Tidy.{IsTidied}
 use Rattle.image_reading.proofs.Counts.{count_none, none_counted}
 use Rattle.image_counts.proofs.Decided.{IsDecided, any_below}
 use Rattle.image_counts.proofs.Paths.{in_range}
@@ -163,15 +163,15 @@ module _ (P : ℕ) (W : List ℕ) (coherent : IsCoherent P W) where
             (λ a v w g h. frees_zero P W coherent h ∙ sym (frees_zero P W coherent g)) (λ a v. frees_known)
 
 pub stored_law : StoredLaw
-stored_law P W A B C K sound stored =
-    let second = second_step P W sound A stored.first B stored.second in
-    let third = third_step P W sound A stored.first B second C stored.third in
-    record { first = stored.first; second = second; third = third; fourth = fourth_step P W sound A stored.first B second C third K stored.fourth }
+stored_law P W A B C K coherent stored =
+    let second = second_step P W coherent A stored.first B stored.second in
+    let third = third_step P W coherent A stored.first B second C stored.third in
+    record { first = stored.first; second = second; third = third; fourth = fourth_step P W coherent A stored.first B second C third K stored.fourth }
 
 -- ---- nothing is stored exactly where the image is tidy
 
 module _ (P : ℕ) (W : List ℕ) (coherent : IsCoherent P W) where
-  module _ (clean : Tidy P W) where
+  module _ (clean : IsTidied P W) where
     no_pointer : (d : ℕ) → ¬ IsPointer P W d
     no_pointer d = none_counted (IsPointer P W) clean.repaired.of_pointers d
 
@@ -251,9 +251,9 @@ module _ (P : ℕ) (W : List ℕ) (coherent : IsCoherent P W) where
     no_litter_inode : (i : ℕ) → ¬ IsLitterInode P W i
     no_litter_inode i litter = nothing.fourth (inode_word_of i 0) 0 (StoresFreed.inode i 0 litter (omega arith))
 
-    is_tidy : Tidy P W
+    is_tidy : IsTidied P W
     is_tidy = record {
-      sound = coherent;
+      coherent = coherent;
       repaired = record {
         of_pointers = count_none (IsPointer P W) none_points;
         of_slots = count_none (IsLitterSlot P W) no_litter_slot;
@@ -264,4 +264,4 @@ module _ (P : ℕ) (W : List ℕ) (coherent : IsCoherent P W) where
     }
 
 pub nothing_law : NothingLaw
-nothing_law P W sound = (stores_nothing P W sound, is_tidy P W sound)
+nothing_law P W coherent = (stores_nothing P W coherent, is_tidy P W coherent)

@@ -58,4 +58,4 @@ module _ (P : ℕ) (W A B C K : List ℕ) (coherent : IsCoherent P W) (repair : 
       })
 
 pub use_law : UseLaw
-use_law P W A B C K sound repair = record { first = first_use P W A B C K sound repair; second = second_use P W A B C K sound repair }
+use_law P W A B C K coherent repair = record { first = first_use P W A B C K coherent repair; second = second_use P W A B C K coherent repair }

@@ -3,8 +3,8 @@ use Rattle.std.specs.Prelude.{◌≡◌, ◌↔◌, ℕ, ◌≤◌, List}
 use Rattle.layout.specs.Fields.{inode_kind, inode_size, page_owner, page_offset, slot_inode}
 use Rattle.image_reading.specs.Reading.{IsHeld, IsLive, Reached, IsReachedSlot, IsLinkCount}
 use Rattle.image_reading.specs.Repairs.{IsKept}
-use Rattle.image_reading.specs.Soundness.{Sound}
-use Rattle.image_reading.specs.Tidy.{Tidy}
+use Rattle.image_reading.specs.Soundness.{IsCoherent}
+use Rattle.image_reading.specs.Tidy.{IsTidied}
 use Rattle.image_counts.specs.Entries.{IsEntryOf, IsPageIn, IsFreePage, IsFreeInode}
 use Rattle.image_laws.specs.Frame.{SameMeaning}
 use Rattle.image_laws.specs.Quiet.{IsMix}
@@ -25,9 +25,9 @@ pub record KeepsUse (P : ℕ) (W A B : List ℕ) : Type 0 where
   pub second : SameUse P W B
 
 abbrev pub UseLaw : Type 0
-UseLaw = (P : ℕ) (W A B C K : List ℕ) → Sound P W → IsRepair P W A B C K → KeepsUse P W A B
+UseLaw = (P : ℕ) (W A B C K : List ℕ) → IsCoherent P W → IsRepair P W A B C K → KeepsUse P W A B
 
--- Whatever mix of old and new words a crash leaves in a step means what W means: it is sound, with the same paths,
+-- Whatever mix of old and new words a crash leaves in a step means what W means: its words fit together, with the same paths,
 -- nodes, tree and room.
 pub record StepsKeepMeaning (P : ℕ) (W A B C K : List ℕ) : Type 0 where
   pub first : (M : List ℕ) → IsMix W A M → SameMeaning P W M
@@ -36,11 +36,11 @@ pub record StepsKeepMeaning (P : ℕ) (W A B C K : List ℕ) : Type 0 where
   pub fourth : (M : List ℕ) → IsMix C K M → SameMeaning P W M
 
 abbrev pub RepairLaw : Type 0
-RepairLaw = (P : ℕ) (W A B C K : List ℕ) → Sound P W → IsRepair P W A B C K → StepsKeepMeaning P W A B C K
+RepairLaw = (P : ℕ) (W A B C K : List ℕ) → IsCoherent P W → IsRepair P W A B C K → StepsKeepMeaning P W A B C K
 
 -- The stores of each step make the words what the step makes them,
 abbrev pub StoredLaw : Type 0
-StoredLaw = (P : ℕ) (W A B C K : List ℕ) → Sound P W → StoresRepair P W A B C K → IsRepair P W A B C K
+StoredLaw = (P : ℕ) (W A B C K : List ℕ) → IsCoherent P W → StoresRepair P W A B C K → IsRepair P W A B C K
 
 -- a step without a store leaves the list as it was,
 pub record LeavesStill (P : ℕ) (W A B C K : List ℕ) : Type 0 where
@@ -52,30 +52,30 @@ pub record LeavesStill (P : ℕ) (W A B C K : List ℕ) : Type 0 where
 abbrev pub StillLaw : Type 0
 StillLaw = (P : ℕ) (W A B C K : List ℕ) → StoresRepair P W A B C K → LeavesStill P W A B C K
 
--- and none has a store exactly where the image is tidy.
+-- and none has a store exactly where nothing is to be repaired.
 abbrev pub NothingLaw : Type 0
-NothingLaw = (P : ℕ) (W : List ℕ) → Sound P W → Tidy P W ↔ StoresNothing P W
+NothingLaw = (P : ℕ) (W : List ℕ) → IsCoherent P W → IsTidied P W ↔ StoresNothing P W
 
 -- The last words are what recovery makes of the first.
 abbrev pub EndLaw : Type 0
-EndLaw = (P : ℕ) (W A B C K : List ℕ) → Sound P W → IsRepair P W A B C K → IsMended P W K
+EndLaw = (P : ℕ) (W A B C K : List ℕ) → IsCoherent P W → IsRepair P W A B C K → IsMended P W K
 
--- There are such steps from every sound image,
+-- There are such steps from every image whose words fit together,
 abbrev pub SomeRepair : Type 0
-SomeRepair = (P : ℕ) (W : List ℕ) → Sound P W
+SomeRepair = (P : ℕ) (W : List ℕ) → IsCoherent P W
     → (A : List ℕ) × (B : List ℕ) × (C : List ℕ) × (K : List ℕ) × IsRepair P W A B C K
 
 -- and recovery makes one list of words of an image.
 abbrev pub OneMended : Type 0
 OneMended = (P : ℕ) (W K L : List ℕ) → IsMended P W K → IsMended P W L → K ≡ L
 
--- It means what the image means, and is tidy.
+-- It means what the image means, and nothing is to be repaired in it.
 abbrev pub MendedLaw : Type 0
-MendedLaw = (P : ℕ) (W K : List ℕ) → Sound P W → IsMended P W K → SameMeaning P W K × Tidy P K
+MendedLaw = (P : ℕ) (W K : List ℕ) → IsCoherent P W → IsMended P W K → SameMeaning P W K × IsTidied P K
 
--- A sound image is tidy exactly where recovery makes the same words of it.
+-- Nothing is to be repaired in an image exactly where recovery makes the same words of it.
 abbrev pub TidyLaw : Type 0
-TidyLaw = (P : ℕ) (W K : List ℕ) → Sound P W → IsMended P W K → Tidy P W ↔ (K ≡ W)
+TidyLaw = (P : ℕ) (W K : List ℕ) → IsCoherent P W → IsMended P W K → IsTidied P W ↔ (K ≡ W)
 
 -- What an index of K holds, read off W: the entries are the reached slots, with their names and numbers; the pages are
 -- those that are kept, with their owners and offsets; what isn't reached or kept is free.
@@ -90,4 +90,4 @@ pub record HasIndexOf (P : ℕ) (W K : List ℕ) : Type 0 where
   pub free_pages : (j : ℕ) → IsFreePage P K j ↔ IsUnkept P W j
 
 abbrev pub IndexLaw : Type 0
-IndexLaw = (P : ℕ) (W K : List ℕ) → Sound P W → IsMended P W K → HasIndexOf P W K
+IndexLaw = (P : ℕ) (W K : List ℕ) → IsCoherent P W → IsMended P W K → HasIndexOf P W K

@@ -20,15 +20,15 @@ pub fn end_law()
 {}
 
 /// The stores of each step make the words what the step makes them. A step without a store leaves them as they were, and
-/// there is no store exactly where the image is tidy.
+/// there is no store exactly where nothing is to be repaired.
 pub fn stored_law()
     ensures steps { StoredLaw }
     ensures still { StillLaw }
     ensures nothing { NothingLaw }
 {}
 
-/// Recovery makes one list of words of each sound image, which means the same and is tidy, and is the same list exactly
-/// where the image is tidy.
+/// Recovery makes one list of words of each image whose words fit together. It means the same, nothing is to be repaired
+/// in it, and it is the same list exactly where nothing is to be repaired in the image.
 pub fn mended_law()
     ensures some { SomeRepair }
     ensures one { OneMended }

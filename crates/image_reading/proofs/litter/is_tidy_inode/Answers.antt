@@ -14,6 +14,6 @@ pub returns : goal.returns
 returns c =
     let links = c.inode_at-fields.ensures.links in
     let reached = c.is_reached.ensures.0 c.if-not-is_reached.false in (
-      (λ t. links_tidy _ _ c.args.inode _ c.requires.scanned.sound reached c.links.ensures (sym links ∙ eqb-true _ _ t)),
-      (λ tidy. eq-eqb _ _ (links ∙ tidy_links _ _ c.args.inode _ c.requires.scanned.sound reached c.links.ensures tidy)),
+      (λ t. links_tidy _ _ c.args.inode _ c.requires.scanned.coherent reached c.links.ensures (sym links ∙ eqb-true _ _ t)),
+      (λ tidy. eq-eqb _ _ (links ∙ tidy_links _ _ c.args.inode _ c.requires.scanned.coherent reached c.links.ensures tidy)),
     )

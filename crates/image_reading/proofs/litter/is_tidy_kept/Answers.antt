@@ -7,13 +7,13 @@ use Rattle.image_reading.proofs.litter.is_tidy_kept.Goals as goal
 pub inode_at-requires-clause-from_one : goal.inode_at-requires-clause-from_one
 inode_at-requires-clause-from_one c =
     let image = c.args.scanned.now.image in
-    let least = (in_range image.geometry.pages image.words.now _ c.requires.scanned.sound (kept_owner _ _ c.args.page c.requires.kept)).0 in
+    let least = (in_range image.geometry.pages image.words.now _ c.requires.scanned.coherent (kept_owner _ _ c.args.page c.requires.kept)).0 in
     omega (arith, least, c.descriptor_at-owner.ensures.owner)
 
 pub inode_at-requires-clause-inode_in_range : goal.inode_at-requires-clause-inode_in_range
 inode_at-requires-clause-inode_in_range c =
     let image = c.args.scanned.now.image in
-    let most = (in_range image.geometry.pages image.words.now _ c.requires.scanned.sound (kept_owner _ _ c.args.page c.requires.kept)).1 in
+    let most = (in_range image.geometry.pages image.words.now _ c.requires.scanned.coherent (kept_owner _ _ c.args.page c.requires.kept)).1 in
     omega (arith, most, c.descriptor_at-owner.ensures.owner, image.geometry.inodes_exact)
 
 pub returns-then-inode_at-eq-FILE : goal.returns-then-inode_at-eq-FILE

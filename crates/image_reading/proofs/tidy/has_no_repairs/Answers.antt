@@ -16,6 +16,6 @@ returns-then-not-has_tidy_inodes c = (
 
 pub returns : goal.returns
 returns c = (
-  (λ t. tidy_whole _ _ c.requires.sound (no_pointer _ _ _ _ c.requires.known.pointer c.if-scanned-ne0.false) (c.has_tidy_inodes.ensures.0 c.if-not-has_tidy_inodes.false) (c.has_tidy_pages.ensures.0 t)),
+  (λ t. tidy_whole _ _ c.requires.coherent (no_pointer _ _ _ _ c.requires.known.pointer c.if-scanned-ne0.false) (c.has_tidy_inodes.ensures.0 c.if-not-has_tidy_inodes.false) (c.has_tidy_pages.ensures.0 t)),
   (λ tidy. c.has_tidy_pages.ensures.1 (tidy_pages _ _ tidy)),
 )

@@ -13,4 +13,4 @@ pub loop-number-preserved : goal.loop-number-preserved
 loop-number-preserved c = one_inode_more _ _ c.loop-number.number c.loop-number.invariant (c.is_tidy_inode.ensures.0 c.if-not-is_tidy_inode.false)
 
 pub returns : goal.returns
-returns c = ((λ t. all_inodes _ _ c.loop-number.number c.requires.sound (omega arith) c.loop-number.invariant), (λ all. refl))
+returns c = ((λ t. all_inodes _ _ c.loop-number.number c.requires.coherent (omega arith) c.loop-number.invariant), (λ all. refl))

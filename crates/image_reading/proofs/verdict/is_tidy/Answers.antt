@@ -1,15 +1,15 @@
 use Rattle.std.proofs.Common.{◌≡◌, ℕ, List, sym, ap, subst, ◌∙◌}
 use Rattle.layout.specs.declared.geometry.Geometry.{Geometry}
 use Rattle.image_reading.specs.Soundness.{pages_in_image}
-use Rattle.image_reading.specs.Tidy.{Tidy}
+use Rattle.image_reading.specs.Tidy.{IsTidied}
 use Rattle.image_reading.proofs.Chained.{pages_are}
 use Rattle.image_reading.proofs.verdict.is_tidy.Goals as goal
 
 -- what is tidy as the image that is read is tidy as these words
-same_tidy : (I J : List ℕ) (P Q : ℕ) → J ≡ I → P ≡ Q → (Tidy Q J → Tidy P I) × (Tidy P I → Tidy Q J)
+same_tidy : (I J : List ℕ) (P Q : ℕ) → J ≡ I → P ≡ Q → (IsTidied Q J → IsTidied P I) × (IsTidied P I → IsTidied Q J)
 same_tidy I J P Q words pages = (
-  (λ tidy. subst (λ (n : ℕ). Tidy n I) (sym pages) (subst (λ (w : List ℕ). Tidy Q w) words tidy)),
-  (λ tidy. subst (λ (w : List ℕ). Tidy Q w) (sym words) (subst (λ (n : ℕ). Tidy n I) pages tidy)),
+  (λ tidy. subst (λ (n : ℕ). IsTidied n I) (sym pages) (subst (λ (w : List ℕ). IsTidied Q w) words tidy)),
+  (λ tidy. subst (λ (w : List ℕ). IsTidied Q w) (sym words) (subst (λ (n : ℕ). IsTidied n I) pages tidy)),
 )
 
 pub returns : goal.returns

@@ -62,6 +62,6 @@ returns c =
     let is = c.descriptor_at-descriptor.ensures.owner in
     let other : ¬ IsFile I (page_owner P I c.args.page) = λ file. c.if-inode-eq-FILE.false (c.inode_at-inode.ensures.kind ∙ ap (inode_kind I) is ∙ file) in
     let reached : Reached P I (page_owner P I c.args.page) = subst (Reached P I) is ((c.requires.known.reached _).0 (c.has.ensures.0 c.if-not-has.false)) in (
-      (λ t. live_kept P I c.args.page c.requires.sound reached other (c.has_live_slot.ensures.0 t)),
+      (λ t. live_kept P I c.args.page c.requires.coherent reached other (c.has_live_slot.ensures.0 t)),
       (λ kept. c.has_live_slot.ensures.1 (kept_live P I c.args.page other kept)),
     )
