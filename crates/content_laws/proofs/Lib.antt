@@ -17,3 +17,4 @@ pub mod CutQuiet
 pub mod CutTidy
 pub mod CutStates
 pub mod Moments
+pub mod Beside

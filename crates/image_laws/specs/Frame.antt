@@ -4,7 +4,7 @@ use Rattle.layout.specs.Fields.{inode_kind, inode_size, inode_own, page_byte}
 use Rattle.tree_model.specs.PathText.{Route}
 use Rattle.tree_model.specs.Tree.{Node, Tree, Room}
 use Rattle.image_reading.specs.Reading.{HasBytes, Names, Reached, IsPageOf, IsRoomOf, IsNode, pages_of_size, Reads, HasRoom}
-use Rattle.image_reading.specs.Soundness.{IsCoherent}
+use Rattle.image_reading.specs.Soundness.{IsCoherent, Sound}
 
 pub record SameInode (I J : List ℕ) (i : ℕ) : Type 0 where
   pub kind : inode_kind J i ≡ inode_kind I i
@@ -34,6 +34,11 @@ pub record SameMeaning (P : ℕ) (I J : List ℕ) : Type 0 where
   pub nodes : (i : ℕ) (x : Node) → Reached P I i → IsNode P I i x ↔ IsNode P J i x
   pub reads : (T : Tree) → Reads P I T → Reads P J T
   pub room : (room : Room) → HasRoom P I room → HasRoom P J room
+
+-- J is sound, and means what I means.
+pub record IsSoundAs (P : ℕ) (I J : List ℕ) : Type 0 where
+  pub sound : Sound P J
+  pub same : SameMeaning P I J
 
 -- a file whose bytes are the same is the same node
 abbrev pub NodeLaw : Type 0

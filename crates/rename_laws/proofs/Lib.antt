@@ -15,3 +15,4 @@ pub mod MovedStep
 pub mod FullSource
 pub mod MovedIndex
 pub mod Differs
+pub mod Beside
