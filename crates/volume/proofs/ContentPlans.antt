@@ -141,7 +141,7 @@ module _ (volume : VolumeView) (device : DeviceView) (state : State) (stands : S
   -- how many data pages there are
   pub few_pages : length volume.data_pages < 2 ^ 32
   few_pages =
-      let size = (stands.tidy.sound Rule.head 0).size refl in
+      let size = (stands.tidy.sound.coherent Rule.head 0).size refl in
       let below = data_pages_below volume.size size in
       let all = stands.knows.each_page in
       omega (arith, all, below, size)
@@ -150,7 +150,7 @@ module _ (volume : VolumeView) (device : DeviceView) (state : State) (stands : S
   pages_within : (n needed : ℕ) → n ≡ needed → nat_lt (free_pages (untaken volume.size) state.tree state.room) needed ≡ false → n < 2 ^ 16
   pages_within n needed is enough =
       let most = not_less (free_pages (untaken volume.size) state.tree state.room) needed enough in
-      let size = (stands.tidy.sound Rule.head 0).size refl in
+      let size = (stands.tidy.sound.coherent Rule.head 0).size refl in
       let below = data_pages_below volume.size size in
       omega (arith, is, most, below, size)
 

@@ -26,3 +26,5 @@ pub mod PlanRows
 pub mod Staying
 pub mod NameMoves
 pub mod Summed
+pub mod PlanZero
+pub mod Unmarked

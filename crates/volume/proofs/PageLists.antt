@@ -46,7 +46,7 @@ few P I i pages count = count_fewer (IsPageIn P I i) (λ page. (0 ≤ page) × (
 
 pub few_lost : (volume : VolumeView) (device : DeviceView) (state : State) (command : Command) (loss : Loss) → StandsFor volume device state → IsLossOf volume.size device.words state command loss → loss.pages < 2 ^ 16
 few_lost volume device state command loss stands is =
-    let size = (stands.tidy.sound Rule.head 0).size refl in
+    let size = (stands.tidy.sound.coherent Rule.head 0).size refl in
     let below = data_pages_below volume.size size in
     elim loss.goes as (λ goes. loss.goes ≡ goes → loss.pages < 2 ^ 16) [
       | true ↦ λ goes. let most = few volume.size device.words loss.inode loss.pages (is.pages goes) in omega (arith, most, below, size)

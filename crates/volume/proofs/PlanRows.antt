@@ -13,7 +13,7 @@ use Rattle.volume.specs.declared.plan.Action.{Action}
 use Rattle.volume.specs.declared.plan.Action.TheVariants.{Make, Name, Remove, Move, Write as WriteBytes, WriteNothing, Resize, KeepSize, KeepNames, Space}
 use Rattle.volume.specs.declared.plan.Loss.{Loss}
 use Rattle.volume.specs.Planned.{IsAlone, IsGivenBack}
-use Rattle.volume.specs.Costs.{events_of, reserved_events, fences_of_plan}
+use Rattle.volume.specs.Costs.{events_of, kept_events, reserved_events, fences_of_plan, events_with_mark, fences_with_mark}
 
 -- ---- actions
 
@@ -119,8 +119,19 @@ nothing = ((refl, refl), (refl, refl), (refl, refl))
 
 -- ---- what is reserved
 
-reserved : (reserved_events Space ≡ 0) × (reserved_events KeepNames ≡ 0) × (reserved_events (new_node File None) ≡ 25)
-reserved = (refl, refl, refl)
+reserved : (reserved_events true Space ≡ 0) × (reserved_events true KeepNames ≡ 0) × (reserved_events false (new_node File None) ≡ 28) × (reserved_events true (new_node File None) ≡ 31)
+reserved = (refl, refl, refl, refl)
+
+kept : (kept_events false ≡ 3) × (kept_events true ≡ 6)
+kept = (refl, refl)
+
+-- ---- the mark
+
+unmarks : (fences_with_mark true 0 ≡ 0) × (fences_with_mark true 4 ≡ 5) × (fences_with_mark false 4 ≡ 4)
+unmarks = (refl, refl, refl)
+
+unmark_costs : (events_with_mark true 0 0 ≡ 0) × (events_with_mark true 4 30 ≡ 33) × (events_with_mark false 4 30 ≡ 30)
+unmark_costs = (refl, refl, refl)
 
 -- ---- the lowest of 3, 5 and 7
 

@@ -1,9 +1,10 @@
 -- What stays where the index gets places.
-use Rattle.std.proofs.Common.{◌≡◌, ◌↔◌, ℕ, List, Contains, Option, sym, ap, subst, ◌∙◌}
+use Rattle.std.proofs.Common.{◌≡◌, ◌↔◌, ℕ, List, Contains, Option, sym, ap, subst, ◌∙◌, arith}
 use Rattle.std.specs.Prelude.{slice_get}
 use Rattle.pm_trait.specs.Trail.{Trail}
 use Rattle.pm_trait.specs.Device.{IsSettledAt}
 use Rattle.pm_trait.specs.DeviceView.{DeviceView}
+use Rattle.layout.specs.Superblock.{has_mark}
 use Rattle.tree_model.specs.Run.{State}
 use Rattle.tree_model.specs.declared.command.Command.{Command}
 use Rattle.image_reading.specs.Counts.{IsDistinct}
@@ -21,7 +22,7 @@ use Rattle.volume.specs.declared.plan.Action.{Action}
 
 -- a volume with another index that holds the same
 abbrev with_index : VolumeView → List NodeView → VolumeView
-with_index volume index = record { size = volume.size; index = index; inodes = volume.inodes; data_pages = volume.data_pages; stopped = volume.stopped }
+with_index volume index = record { size = volume.size; index = index; inodes = volume.inodes; data_pages = volume.data_pages; stopped = volume.stopped; marked = volume.marked }
 
 nodes_still : (P : ℕ) (I : List ℕ) (old new : List NodeView) → HasSameContents old new → KnowsNodes P old I → KnowsNodes P new I
 nodes_still P I old new same knows = record {
@@ -52,12 +53,15 @@ module _ (old new : VolumeView) (before after : DeviceView) (state : State) (sam
         inodes = sym same.inodes i;
         data_pages = sym same.data_pages i;
         stopped = sym same.same_state i;
+        marked = sym same.same_mark i;
       } in
       subst (λ (volume : VolumeView). StandsFor volume after state) view (record {
         settled = subst (λ (t : Option Trail). IsSettledAt after.words t) (sym room.trail) (subst (λ (now : List ℕ). IsSettledAt now before.trail) (sym room.words) stands.settled);
         tidy = subst (Tidy old.size) (sym room.words) stands.tidy;
         reads = subst (λ (now : List ℕ). ReadsAs old.size now state) (sym room.words) stands.reads;
         knows = subst (Knows (with_index old new.index)) (sym room.words) (knows_still old new.index before.words same.index stands.knows);
+        mark = stands.mark ∙ ap has_mark (sym room.words);
+        room = let more = room.room in let enough = stands.room in omega (arith, more, enough);
       })
 
   -- and a plan is one of it

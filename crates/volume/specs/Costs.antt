@@ -1,5 +1,5 @@
 -- What a plan costs on the device: its events, which are reserved before, and its fences.
-use Rattle.std.specs.Prelude.{ℕ, ◌+◌, ◌-◌, ◌*◌, ◌/◌, Bool, false, ◌||◌, nat_lt, nat_le, if◌then◌else◌, min, List, [], ◌∷◌, length, Option, Some, None, is_some}
+use Rattle.std.specs.Prelude.{ℕ, ◌+◌, ◌-◌, ◌*◌, ◌/◌, Bool, false, not, ◌&&◌, ◌||◌, nat_lt, nat_le, if◌then◌else◌, min, List, [], ◌∷◌, length, Option, Some, None, is_some}
 use Rattle.layout.specs.Geometry.{pieces}
 use Rattle.layout.specs.declared.kinds.NodeKind.{NodeKind}
 use Rattle.layout.specs.declared.kinds.NodeKind.TheVariants.{File, Directory}
@@ -165,13 +165,17 @@ events_of (Status inode) = 0
 events_of (Names inode) = 0
 events_of Space = 0
 
--- the events for which a volume keeps room beside those of its plans
-abbrev pub kept_events : ℕ
-kept_events = 0
+-- the mark, settled by a fence of its own
+abbrev pub mark_events : ℕ
+mark_events = commit_events
 
--- what a plan has reserved: one that stores nothing needs no room
-abbrev pub reserved_events : Action → ℕ
-reserved_events action = where_true (nat_lt 0 (events_of action)) (events_of action + kept_events)
+-- the events for which a volume keeps room beside those of its plans: those of closing, and on a marked one those of taking the mark away
+abbrev pub kept_events : Bool → ℕ
+kept_events marked = mark_events + where_true marked mark_events
+
+-- what a plan has reserved on a volume with the mark or without it: one that stores nothing needs no room
+abbrev pub reserved_events : Bool → Action → ℕ
+reserved_events marked action = where_true (nat_lt 0 (events_of action)) (events_of action + kept_events marked)
 
 -- ---- fences
 
@@ -218,3 +222,17 @@ fences_of_plan (ReadBytes reading) = 0
 fences_of_plan (Status inode) = 0
 fences_of_plan (Names inode) = 0
 fences_of_plan Space = 0
+
+-- ---- the mark
+
+-- so many fences, and before the first of them the one that takes the mark away, where it is there
+abbrev pub fences_with_mark : Bool → ℕ → ℕ
+fences_with_mark marked fences = where_true (marked && nat_lt 0 fences) 1 + fences
+
+-- and the events with it
+abbrev pub events_with_mark : Bool → ℕ → ℕ → ℕ
+events_with_mark marked fences events = where_true (marked && nat_lt 0 fences) mark_events + events
+
+-- whether the mark is still there after so many fences
+abbrev pub mark_after : Bool → ℕ → Bool
+mark_after marked fences = marked && not (nat_lt 0 fences)

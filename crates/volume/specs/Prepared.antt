@@ -189,6 +189,7 @@ pub record HasSameContents (old new : List NodeView) : Type 0 where
 pub record IsSameButPlaces (old new : VolumeView) : Type 0 where
   pub same_size : new.size ≡ old.size
   pub same_state : new.stopped ≡ old.stopped
+  pub same_mark : new.marked ≡ old.marked
   pub index : HasSameContents old.index new.index
   pub inodes : new.inodes ≡ old.inodes
   pub data_pages : new.data_pages ≡ old.data_pages

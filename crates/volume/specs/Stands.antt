@@ -1,6 +1,7 @@
 -- When a volume stands for a tree and a room.
 use Rattle.std.specs.Prelude.{◌≡◌, ◌↔◌, ℕ, ◌-◌, ◌*◌, ◌<◌, ◌≤◌, IsTrue, List, length, Contains, Some, is_some, slice_get}
 use Rattle.pm_trait.specs.DeviceView.{DeviceView, IsSettledView}
+use Rattle.layout.specs.Superblock.{has_mark}
 use Rattle.layout.specs.Geometry.{inodes_of, data_pages_of}
 use Rattle.layout.specs.Fields.{inode_kind, page_owner, page_offset}
 use Rattle.tree_model.specs.Tree.{node_at}
@@ -11,6 +12,7 @@ use Rattle.image_reading.specs.Tidy.{Tidy}
 use Rattle.image_counts.specs.Entries.{IsEntryOf, IsPageIn}
 use Rattle.allocators.specs.Numbers.{IsFree}
 use Rattle.volatile_index.specs.Index.{NodeView, inodes_of_index, entries_of, pages_of}
+use Rattle.volume.specs.Costs.{mark_events}
 use Rattle.volume.specs.Volume.{VolumeView}
 
 -- The index holds the entries of each directory, and the pages of each inode, a file's in the order of their offsets.
@@ -31,12 +33,14 @@ pub record Knows (volume : VolumeView) (I : List ℕ) : Type 0 where
   pub data_pages : (j : ℕ) → j < data_pages_of volume.size → IsFree volume.data_pages j ↔ (page_owner volume.size I j ≡ 0)
 
 -- The volume stands for this tree and this room: the device is settled, its words are tidy and read as the tree and the
--- room, and the volume knows what they say.
+-- room, and the volume knows what they say, the mark among it. There is room for the events of closing.
 pub record StandsFor (volume : VolumeView) (device : DeviceView) (state : State) : Type 0 where
   pub settled : IsSettledView device
   pub tidy : Tidy volume.size device.words
   pub reads : ReadsAs volume.size device.words state
   pub knows : Knows volume device.words
+  pub mark : volume.marked ≡ has_mark device.words
+  pub room : mark_events ≤ device.spare
 
 -- it stands for some tree and room
 abbrev pub IsStanding : VolumeView → DeviceView → Type 0

@@ -27,5 +27,5 @@ pub const COMMIT_EVENTS: u64 = WORD_EVENTS + FENCE_EVENTS;
 /// A page that a move fills and then gives its owner, each settled by a fence.
 pub const NEW_PAGE_EVENTS: u64 = PAGE_EVENTS + FENCE_EVENTS + COMMIT_EVENTS;
 
-/// The events for which a volume keeps room beside those of its plans.
-pub const KEPT_EVENTS: u64 = 0;
+/// The mark, settled by a fence of its own.
+pub const MARK_EVENTS: u64 = COMMIT_EVENTS;

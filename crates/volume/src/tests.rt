@@ -21,7 +21,7 @@ fn takes_in_a_name_and_a_node(rt: HostRuntime) -> Result<(), Fail> {
     let mut inodes = Numbers::new(rt.alloc(), 4)?;
     inodes.take(0);
     let data_pages = Numbers::new(rt.alloc(), geometry.data_pages)?;
-    let mut volume = Volume::from_parts(rt.alloc(), geometry, index, inodes, data_pages);
+    let mut volume = Volume::from_parts(rt.alloc(), geometry, index, inodes, data_pages, false);
     assert_eq!(rt; volume.inodes.free_count(), 3);
     volume.enter_name(1, name, 7, None);
     volume.enter_inode(2);
@@ -40,10 +40,25 @@ fn stops(rt: HostRuntime) -> Result<(), Fail> {
     let index = Index::new(rt.alloc(), &geometry)?;
     let inodes = Numbers::new(rt.alloc(), geometry.inodes)?;
     let data_pages = Numbers::new(rt.alloc(), geometry.data_pages)?;
-    let mut volume = Volume::from_parts(rt.alloc(), geometry, index, inodes, data_pages);
+    let mut volume = Volume::from_parts(rt.alloc(), geometry, index, inodes, data_pages, false);
     assert!(rt; !volume.stopped());
     volume.stop();
     assert!(rt; volume.stopped());
+    Ok(())
+}
+
+#[test]
+fn has_its_mark_until_it_is_cleared(rt: HostRuntime) -> Result<(), Fail> {
+    let geometry = Geometry::of(16).ok_or("no volume")?;
+    let index = Index::new(rt.alloc(), &geometry)?;
+    let inodes = Numbers::new(rt.alloc(), geometry.inodes)?;
+    let data_pages = Numbers::new(rt.alloc(), geometry.data_pages)?;
+    let mut volume = Volume::from_parts(rt.alloc(), geometry, index, inodes, data_pages, true);
+    assert!(rt; volume.marked());
+    assert_eq!(rt; volume.kept_events(), 6);
+    volume.clear_mark();
+    assert!(rt; !volume.marked());
+    assert_eq!(rt; volume.kept_events(), 3);
     Ok(())
 }
 

@@ -1,8 +1,10 @@
 ghost use Rattle.std.specs.Prelude.{◌≡◌, ◌-◌, ◌≤◌, false, true};
 ghost use Rattle.allocators.specs.Numbers.{IsFree};
 ghost use Rattle.volatile_index.specs.Index.{inodes_of_index, pages_of};
+ghost use Rattle.volume.specs.Costs.{kept_events};
 ghost use Rattle.volume.specs.Entered.{pages_of_option, HasPagePlaces, HasNamePlace, IsFreePlace, MayEnterName, EntersPages, EntersName, EntersInode};
 
+use crate::costs::MARK_EVENTS;
 use allocators::Numbers;
 use layout::{Geometry, Name};
 use std::alloc::Global;
@@ -20,6 +22,8 @@ pub struct Volume {
     pub(crate) data_pages: Numbers,
     // Whether a fence has failed.
     stopped: bool,
+    // Whether the device has the mark of a volume that was closed.
+    marked: bool,
 }
 
 impl Model for Volume {
@@ -27,17 +31,19 @@ impl Model for Volume {
 
     ghost Value = { VolumeView };
 
-    ghost view = { λ volume. record { size = volume.geometry.pages; index = volume.index; inodes = volume.inodes; data_pages = volume.data_pages; stopped = volume.stopped } };
+    ghost view = { λ volume. record { size = volume.geometry.pages; index = volume.index; inodes = volume.inodes; data_pages = volume.data_pages; stopped = volume.stopped; marked = volume.marked } };
 }
 
 impl Volume {
-    /// A volume of what was found on a device: which entries and pages each inode has, and which inodes and data pages are free.
+    /// A volume of what was found on a device: which entries and pages each inode has, which inodes and data pages are free, and
+    /// whether it has the mark of a volume that was closed.
     pub fn from_parts(
         alloc: Global,
         geometry: Geometry,
         index: Index,
         inodes: Numbers,
         data_pages: Numbers,
+        marked: bool,
     ) -> Volume
         ensures { result ≡ record {
           size = geometry.pages;
@@ -45,6 +51,7 @@ impl Volume {
           inodes = inodes;
           data_pages = data_pages;
           stopped = false;
+          marked = marked;
         } }
     {
         Volume {
@@ -54,6 +61,7 @@ impl Volume {
             inodes,
             data_pages,
             stopped: false,
+            marked,
         }
     }
 
@@ -69,6 +77,31 @@ impl Volume {
         ensures { self.new ≡ record self.old { stopped = true } }
     {
         self.stopped = true;
+    }
+
+    /// Whether the device has the mark of a volume that was closed. It is taken away before the first change.
+    pub fn marked(&self) -> bool
+        ensures { result ≡ self.now.marked }
+    {
+        self.marked
+    }
+
+    /// Takes in that the device has no mark any more.
+    pub fn clear_mark(&mut self)
+        ensures { self.new ≡ record self.old { marked = false } }
+    {
+        self.marked = false;
+    }
+
+    // The events for which room is kept beside those of a plan.
+    pub(crate) fn kept_events(&self) -> u64
+        ensures { result ≡ kept_events self.now.marked }
+    {
+        if self.marked {
+            2 * MARK_EVENTS
+        } else {
+            MARK_EVENTS
+        }
     }
 
     /// The regions of the volume.
