@@ -1,0 +1,3 @@
+pub mod Remarked
+pub mod Known
+pub mod Changed
