@@ -22,9 +22,9 @@ use Rattle.content_laws.proofs.CutWords.{inside}
 use Rattle.content_laws.proofs.Steps.{resized_tree}
 use Rattle.content_laws.proofs.Trims.{same_trim, trimming, may_release, releasing}
 use Rattle.volume.specs.Costs.{where_true, inode_events, descriptor_rest_events, fence_events, commit_events, loss_events, fences_for_loss}
-use Rattle.volume.specs.Crashes.{MayReadAs}
 use Rattle.volume.specs.declared.plan.Resizing.{Resizing}
 use Rattle.volume.proofs.ContentPlans.{planned_resizing}
+use Rattle.volume.proofs.Unmarked.{ReadsAllowed}
 use Rattle.pm_trait.specs.Unfolds.{MayFence, Along, events_in, fences_in, Takes, Unfolds}
 use Rattle.entry_steps.proofs.Moments.{is_mix}
 use Rattle.entry_steps.proofs.Turning.{IsUnderway, Turns, one_side, turned}
@@ -154,11 +154,11 @@ module _ {P : ℕ} (old : DeviceView) {resizing : Resizing} {pages : List ℕ} (
       not_yet : (image : List ℕ) → image ≡ W → Reads P image later → ⊥
       not_yet image is reads = lowered.not_yet state.tree (subst (Reads P W) (tree_is at) (subst (λ (l : List ℕ). Reads P l later) is reads))
 
-      may_before : (image : List ℕ) → image ≡ W → MayReadAs P state (Some (Truncate path resizing.new_size)) image
-      may_before image is = subst (MayReadAs P state (Some (Truncate path resizing.new_size))) (sym is) (record { sound = may.can.tidy.coherent; tree = state.tree; reads = at.reads.tree; allowed = inl refl })
+      may_before : (image : List ℕ) → image ≡ W → ReadsAllowed P state (Some (Truncate path resizing.new_size)) image
+      may_before image is = subst (ReadsAllowed P state (Some (Truncate path resizing.new_size))) (sym is) (record { coherent = may.can.tidy.coherent; tree = state.tree; reads = at.reads.tree; allowed = inl refl })
 
-      may_later : (image : List ℕ) → SameMeaning P (sized W i z) image → MayReadAs P state (Some (Truncate path resizing.new_size)) image
-      may_later image same = record { sound = same.coherent; tree = later; reads = reads_later image same; allowed = inr (inl refl) }
+      may_later : (image : List ℕ) → SameMeaning P (sized W i z) image → ReadsAllowed P state (Some (Truncate path resizing.new_size)) image
+      may_later image same = record { coherent = same.coherent; tree = later; reads = reads_later image same; allowed = inr (inl refl) }
 
-      pub underway : IsUnderway P (λ word. word ≡ inode_word_of i 2) (MayReadAs P state (Some (Truncate path resizing.new_size))) later old.trail new.trail
+      pub underway : IsUnderway P (λ word. word ≡ inode_word_of i 2) (ReadsAllowed P state (Some (Truncate path resizing.new_size))) later old.trail new.trail
       underway = turned (one_side state.tree may_before reads_before) not_yet (one_side later may_later reads_later) reads_later refl settled refl turns made

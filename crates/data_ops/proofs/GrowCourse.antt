@@ -16,7 +16,7 @@ use Rattle.content_laws.specs.Moments.{IsEarly}
 use Rattle.content_laws.proofs.Growth.{inside}
 use Rattle.content_laws.proofs.Moments.{taking_law, growth_hangs_law}
 use Rattle.volume.specs.Costs.{where_true, commit_events, growth_events, fences_for_growth}
-use Rattle.volume.specs.Crashes.{MayReadAs}
+use Rattle.volume.proofs.Unmarked.{ReadsAllowed}
 use Rattle.pm_trait.specs.Unfolds.{MayFence, events_in, fences_in, Takes, Unfolds}
 use Rattle.entry_steps.proofs.Moments.{is_mix}
 use Rattle.entry_steps.proofs.Turning.{IsUnderway, IsSide, Turns, one_side, turned}
@@ -83,7 +83,7 @@ module _ {P : ℕ} (old : DeviceView) {growth : Growth} {bytes old_pages new_pag
 
     -- before the size is stored, by the words that the first step made
     module _ (A : List ℕ) (fills : FillsFile P W A i growth.offset bytes new_pages) where
-      before : IsSide P (IsRangeWord P W i growth.offset bytes) (MayReadAs P state (Some command)) (IsEarly P W A i)
+      before : IsSide P (IsRangeWord P W i growth.offset bytes) (ReadsAllowed P state (Some command)) (IsEarly P W A i)
       before = record {
         may = Growing.early_allowed may by A fills;
         alike = λ image other tree one more same reads.
@@ -105,10 +105,10 @@ module _ {P : ℕ} (old : DeviceView) {growth : Growth} {bytes old_pages new_pag
             )),
       )
 
-    pub underway : IsUnderway P (IsRangeWord P W i growth.offset bytes) (MayReadAs P state (Some command)) later old.trail new.trail
+    pub underway : IsUnderway P (IsRangeWord P W i growth.offset bytes) (ReadsAllowed P state (Some command)) later old.trail new.trail
     unfolding After
     underway =
         let (A, fills, told) = first_words made in
         turned (before A fills) (λ image early. Growing.early may by A fills image early)
-        (one_side later (λ image both. record { sound = both.0; tree = later; reads = both.1; allowed = inr (inl refl) }) (λ image both. both.1)) (λ image both. both.1)
+        (one_side later (λ image both. record { coherent = both.0; tree = later; reads = both.1; allowed = inr (inl refl) }) (λ image both. both.1)) (λ image both. both.1)
         IsRangeWord.size settled (inl (mix_of_old W A)) (turns A fills) told

@@ -26,7 +26,7 @@ use Rattle.content_laws.proofs.Torn.{content_of, torn_means_law, torn_tree_law}
 use Rattle.content_laws.proofs.Growth.{growth_law}
 use Rattle.content_laws.proofs.Steps.{resized_tree, write_past_step_law, lengthen_step_law}
 use Rattle.content_laws.proofs.Moments.{growth_once_law}
-use Rattle.volume.specs.Crashes.{MayReadAs}
+use Rattle.volume.proofs.Unmarked.{ReadsAllowed}
 use Rattle.entry_steps.proofs.Moments.{mix_of_new}
 use Rattle.data_ops.specs.declared.grow.Growth.{Growth}
 use Rattle.data_ops.specs.Growing.{MayGrow, IsGrowing, IsGrowthBy}
@@ -91,15 +91,15 @@ module _ {P : ℕ} {W : List ℕ} {state : State} {command : Command} {growth : 
   abbrev IsTornOrSame : List ℕ → Type 0
   IsTornOrSame M = ReadsTorn P W M i offset bytes × (length bytes ≡ 0 → SameMeaning P W M)
 
-  allowed_by : (c : Command) → refusal_of P T state.room c ≡ None → IsGrowing growth bytes by.path c → (M : List ℕ) → IsTornOrSame M → MayReadAs P state (Some c) M
+  allowed_by : (c : Command) → refusal_of P T state.room c ≡ None → IsGrowing growth bytes by.path c → (M : List ℕ) → IsTornOrSame M → ReadsAllowed P state (Some c) M
   allowed_by c accepted (IsGrowing.write is some) M left =
       let (torn, reads, allowed) = torn_tree_law P W M state by.path i offset bytes left.0 by.reads.tree by.names accepted in
-      record { sound = left.0.coherent; tree = torn; reads = reads; allowed = inr (inr allowed) }
+      record { coherent = left.0.coherent; tree = torn; reads = reads; allowed = inr (inr allowed) }
   allowed_by c accepted (IsGrowing.truncate none at) M left =
       let same = left.1 (ap length none) in
-      record { sound = same.coherent; tree = T; reads = same.reads T by.reads.tree; allowed = inl refl }
+      record { coherent = same.coherent; tree = T; reads = same.reads T by.reads.tree; allowed = inl refl }
 
-  allowed : (M : List ℕ) → IsTornOrSame M → MayReadAs P state (Some command) M
+  allowed : (M : List ℕ) → IsTornOrSame M → ReadsAllowed P state (Some command) M
   allowed M left = allowed_by command by.accepted by.grows M left
 
   module _ (A : List ℕ) (fills : FillsFile P W A i offset bytes new_pages) where
@@ -115,7 +115,7 @@ module _ {P : ℕ} {W : List ℕ} {state : State} {command : Command} {growth : 
     after_filling : (M : List ℕ) → SameMeaning P A M → IsTornOrSame M
     after_filling M same = (torn_means_law P W A M i offset bytes filled.0 same, (λ none. meanings_chain.chained P W A M (filled.1 none) same))
 
-    pub early_allowed : (M : List ℕ) → IsEarly P W A i M → MayReadAs P state (Some command) M
+    pub early_allowed : (M : List ℕ) → IsEarly P W A i M → ReadsAllowed P state (Some command) M
     early_allowed M left = elim left [ inl mix ↦ allowed M (filling M mix) | inr taken ↦ allowed M (after_filling M taken.means) ]
 
     -- before the size is stored nothing reads as the tree after

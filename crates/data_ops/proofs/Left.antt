@@ -14,7 +14,7 @@ use Rattle.volume.specs.Volume.{VolumeView}
 use Rattle.volume.specs.declared.plan.Resizing.{Resizing}
 use Rattle.volume.proofs.LowestPages.{rising_distinct}
 use Rattle.volume.proofs.Grown.{has_grown, has_cut}
-use Rattle.plan_laws.proofs.Left.{IsCountedBy}
+use Rattle.plan_laws.proofs.Left.{IsCountedBy, KeepsMark}
 use Rattle.data_ops.specs.Cutting.{TakesIn, StoresSize}
 use Rattle.data_ops.proofs.CutLeft
 use Rattle.data_ops.proofs.GrownLeft
@@ -30,12 +30,12 @@ module _ (volume : VolumeView) (device : DeviceView) (state : State) (path : Rou
   ]
 
   pub leaves_state : (after : DeviceView) → StoresSize volume.size device.words after.words resizing → IsSettledView after → IsCountedBy (Resize resizing) device after
-      → LeavesState volume new device after state (Truncate path resizing.new_size) Done
-  leaves_state after resized settled counted = elim (cases_lt resizing.new_size resizing.old_size) [
-    | inl less ↦ CutLeft.leaves_state volume device state path resizing plan less after.words (resized.cut less) new (takes.cut less) after refl settled counted
+      → KeepsMark volume new device.words after.words after → LeavesState volume new device after state (Truncate path resizing.new_size) Done
+  leaves_state after resized settled counted keeps = elim (cases_lt resizing.new_size resizing.old_size) [
+    | inl less ↦ CutLeft.leaves_state volume device state path resizing plan less after.words (resized.cut less) new (takes.cut less) after refl settled counted keeps
     | inr most ↦
         let other = Truncations.other volume device state path resizing plan in
         let more : resizing.old_size < resizing.new_size = omega (arith, most, other) in
         GrownLeft.leaves_state volume device state (Truncate path resizing.new_size) Done (Resize resizing) plan.stands plan.planned refl (λ gives. refl) (Truncations.may_grow volume device state path resizing plan more)
-        (growth_by path resizing (Truncations.cut_at volume device state path resizing plan)) (rising_distinct resizing.new_pages (Truncations.for_resizing volume device state path resizing plan).new_pages.rising) after.words (resized.grown more) new (takes.grown most) after refl settled counted
+        (growth_by path resizing (Truncations.cut_at volume device state path resizing plan)) (rising_distinct resizing.new_pages (Truncations.for_resizing volume device state path resizing plan).new_pages.rising) after.words (resized.grown more) new (takes.grown most) after refl settled counted keeps
   ]

@@ -9,6 +9,7 @@ mod Raising
 mod NewPages
 mod OldPages
 mod InsidePages
+mod Beside
 mod Growing
 mod Told
 mod GrowCourse

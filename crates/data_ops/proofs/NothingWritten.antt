@@ -85,6 +85,7 @@ module _ (volume : VolumeView) (device : DeviceView) (state : State) (path : Rou
 
   made : LeavesState volume volume device device state (Write path offset bytes) (Count (length bytes))
   made = Stepping.leaves_state volume device state (Write path offset bytes) (Count (length bytes)) WriteNothing stands plan.planned refl (λ gives. refl) device.words stands.tidy is_stepped volume device refl stands.knows refl stands.settled (omega arith, omega arith)
+      (record { known = stands.mark; same = refl; beside = λ word k. refl; room = stands.room })
 
   reads_after : Reads volume.size device.words (step volume.size state.tree state.room (Write path offset bytes)).tree
   reads_after =
@@ -94,7 +95,7 @@ module _ (volume : VolumeView) (device : DeviceView) (state : State) (path : Rou
 
   atomic : IsAtomic volume.size device device state (Write path offset bytes)
   atomic = record {
-    any_moment = leaves_here (Quietly (MayReadAs volume.size state (Some (Write path offset bytes)))) stands.settled (refl, record { sound = coherent; tree = state.tree; reads = stands.reads.tree; allowed = inl refl });
+    any_moment = leaves_here (Quietly (MayReadAs volume.size state (Some (Write path offset bytes)))) stands.settled (refl, record { sound = stands.tidy.sound; tree = state.tree; reads = stands.reads.tree; allowed = inl refl });
     stays = stays_all (λ image. Reads volume.size image (step volume.size state.tree state.room (Write path offset bytes)).tree)
         (leaves_here (Quietly (λ image. Reads volume.size image (step volume.size state.tree state.room (Write path offset bytes)).tree)) stands.settled (refl, reads_after)) (λ image has. has);
   }
@@ -108,7 +109,8 @@ carried_nothing {E} volume device bytes none settled going = record {
   meaning = λ state command ours plan.
       let (path, offset, is) = ours in
       follows_as (Write path offset bytes) command is (follows volume device state path offset bytes (subst (λ (c : Command). IsPlanFor volume device state c WriteNothing) is plan) {E = E} (Told 0));
-  answered = record { reply = ap (λ (n : ℕ). let reply : Reply = Told n in reply) (sym none); going = going; knows = refl; stopped = tt; size = refl };
+  answered = record { reply = ap (λ (n : ℕ). let reply : Reply = Told n in reply) (sym none); going = going; knows = refl; stopped = tt; size = refl; marked = refl };
   device = intervals_none device (Told 0) settled;
   idle = λ none. (refl, refl);
+  beside = λ word k. refl;
 }

@@ -1,19 +1,21 @@
 -- A file that gets another size: by its growth, or by a cut.
-use Rattle.std.proofs.Common.{◌≡◌, ◌⊎◌, inl, inr, ℕ, ◌+◌, ◌<◌, ◌≤◌, Bool, true, false, nat_lt, cond, List, [], length, refl, sym, ap, subst, ◌∙◌, arith}
-use Rattle.std.specs.Prelude.{Option, Result, OnOk}
+use Rattle.std.proofs.Common.{◌≡◌, ◌⊎◌, inl, inr, ℕ, zero, suc, ◌+◌, ◌<◌, Bool, true, false, nat_lt, cond, List, [], length, refl, sym, ap, subst, ◌∙◌, arith}
+use Rattle.std.specs.Prelude.{Option, Some, Result, OnOk}
 use Rattle.std.proofs.lemmas.Bool.{cases_lt}
 use Rattle.std.proofs.lemmas.Bool.Decides.{nat_tests}
 use Rattle.pm_trait.specs.Trail.{Trail}
 use Rattle.pm_trait.specs.DeviceView.{DeviceView, MakesIntervals, IsSettledView}
 use Rattle.layout.specs.Fields.{word}
 use Rattle.layout.specs.Geometry.{inode_word_of}
+use Rattle.layout.specs.Superblock.{has_mark}
 use Rattle.tree_model.specs.PathText.{Route}
 use Rattle.tree_model.specs.Run.{State}
 use Rattle.tree_model.specs.declared.command.Command.TheVariants.{Truncate}
 use Rattle.volume.specs.Carried.{IsAtomic}
 use Rattle.volume.specs.Commit.{HangsOn, HangsOnWords}
-use Rattle.volume.specs.Costs.{where_true, growth_events, fences_for_growth, commit_events, loss_events, fences_for_loss, events_of_resize, fences_of_resize}
+use Rattle.volume.specs.Costs.{growth_events, fences_for_growth, commit_events, loss_events, fences_for_loss, events_of_resize, fences_of_resize}
 use Rattle.volume.specs.declared.plan.Resizing.{Resizing}
+use Rattle.volume.proofs.Unmarked.{moments_read}
 use Rattle.pm_trait.specs.Unfolds.{MayFence, events_in, fences_in, Unfolds}
 use Rattle.entry_steps.proofs.Turning.{hangs_on}
 use Rattle.pm_trait.proofs.Unfolding.{intervals, map_ok}
@@ -21,6 +23,7 @@ use Rattle.data_ops.specs.Hanging.{IsRangeWord}
 use Rattle.data_ops.specs.Growing.{IsGrowing, IsGrowthBy}
 use Rattle.data_ops.specs.Steps.{growth_steps, either_steps}
 use Rattle.data_ops.specs.Cutting.{MayResize, growth_to, IsResizingAt, StoresSize, HasStoredSize, cut_steps, resize_steps}
+use Rattle.data_ops.proofs.Beside.{resize_keep}
 use Rattle.data_ops.proofs.CutCourse
 use Rattle.data_ops.proofs.GrowCourse
 
@@ -115,10 +118,11 @@ module _ {T E : Type 0} (P : ℕ) (old new : DeviceView) (resizing : Resizing) (
   ]
 
   module _ {state : State} {path : Route} (at : IsResizingAt P old.words state path resizing) where
-    pub is_atomic : IsAtomic P old new state (Truncate path resizing.new_size)
-    is_atomic = elim ways [
-      | inl less ↦ (let under = CutCourse.underway old (may.cut less) new result (as_cut P resizing pages less made) settled at in record { any_moment = under.any_moment; stays = under.stays })
-      | inr more ↦ (let under = GrowCourse.underway old (may.grow more) new result (as_growth P resizing pages more made) settled (growth_by path resizing at) in record { any_moment = under.any_moment; stays = under.stays })
+    -- without the mark what a crash leaves is sound
+    pub is_atomic : has_mark old.words ≡ false → IsAtomic P old new state (Truncate path resizing.new_size)
+    is_atomic unmarked = elim ways [
+      | inl less ↦ (let under = CutCourse.underway old (may.cut less) new result (as_cut P resizing pages less made) settled at in record { any_moment = moments_read P state (Some (Truncate path resizing.new_size)) settled unmarked (resize_keep P resizing pages) made under.any_moment; stays = under.stays })
+      | inr more ↦ (let under = GrowCourse.underway old (may.grow more) new result (as_growth P resizing pages more made) settled (growth_by path resizing at) in record { any_moment = moments_read P state (Some (Truncate path resizing.new_size)) settled unmarked (resize_keep P resizing pages) made under.any_moment; stays = under.stays })
     ]
 
     hangs : HangsOn P old.trail new.trail (inode_word_of resizing.inode 2)
@@ -130,14 +134,8 @@ module _ {T E : Type 0} (P : ℕ) (old new : DeviceView) (resizing : Resizing) (
     pub has_stored : HasStoredSize P old new resizing pages result
     has_stored = record { in_turn = made; made = stores_size; commit_word = hangs }
 
--- ---- what its plan has reserved
+-- ---- events of a plan that has some
 
-pub room_of : (n spare : ℕ) → where_true (nat_lt 0 n) (n + 0) ≤ spare → n ≤ spare
-room_of n spare room =
-    (elim (nat_lt 0 n) as (λ b. nat_lt 0 n ≡ b → where_true b (n + 0) ≤ spare → n ≤ spare) [
-      | true ↦ λ is few. omega (arith, few)
-      | false ↦ λ is few. (let none : n ≡ 0 = not_some n is in omega (arith, none))
-    ]) refl room
-  where
-    not_some : (m : ℕ) → nat_lt 0 m ≡ false → m ≡ 0
-    not_some m is = grind (arith, nat_tests)
+pub some : (n : ℕ) → (n ≡ 0 → ⊥) → 0 < n
+some zero not_none = absurd (not_none refl)
+some (suc n) not_none = omega arith

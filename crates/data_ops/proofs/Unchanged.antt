@@ -110,6 +110,7 @@ module _ (volume : VolumeView) (device : DeviceView) (state : State) (path : Rou
 
   made : LeavesState volume volume device device state (Truncate path size) Done
   made = Stepping.leaves_state volume device state (Truncate path size) Done KeepSize stands plan.planned refl (λ gives. refl) device.words stands.tidy is_stepped volume device refl stands.knows refl stands.settled (omega arith, omega arith)
+      (record { known = stands.mark; same = refl; beside = λ word k. refl; room = stands.room })
 
   reads_after : Reads volume.size device.words (step volume.size state.tree state.room (Truncate path size)).tree
   reads_after =
@@ -120,7 +121,7 @@ module _ (volume : VolumeView) (device : DeviceView) (state : State) (path : Rou
 
   atomic : IsAtomic volume.size device device state (Truncate path size)
   atomic = record {
-    any_moment = leaves_here (Quietly (MayReadAs volume.size state (Some (Truncate path size)))) stands.settled (refl, record { sound = coherent; tree = state.tree; reads = stands.reads.tree; allowed = inl refl });
+    any_moment = leaves_here (Quietly (MayReadAs volume.size state (Some (Truncate path size)))) stands.settled (refl, record { sound = stands.tidy.sound; tree = state.tree; reads = stands.reads.tree; allowed = inl refl });
     stays = stays_all (λ image. Reads volume.size image (step volume.size state.tree state.room (Truncate path size)).tree)
         (leaves_here (Quietly (λ image. Reads volume.size image (step volume.size state.tree state.room (Truncate path size)).tree)) stands.settled (refl, reads_after)) (λ image has. has);
   }
@@ -134,7 +135,8 @@ carried_nothing {E} volume device settled going = record {
   meaning = λ state command ours plan.
       let (path, size, is) = ours in
       follows_as (Truncate path size) command is (follows volume device state path size (subst (λ (c : Command). IsPlanFor volume device state c KeepSize) is plan) {E = E});
-  answered = record { reply = refl; going = going; knows = refl; stopped = tt; size = refl };
+  answered = record { reply = refl; going = going; knows = refl; stopped = tt; size = refl; marked = refl };
   device = intervals_none device Told settled;
   idle = λ none. (refl, refl);
+  beside = λ word k. refl;
 }

@@ -1,8 +1,10 @@
 -- The plan of a write is carried out, once the bytes are on the device and the new pages in the volume.
-use Rattle.std.proofs.Common.{◌≡◌, ℕ, ◌+◌, ◌*◌, false, true, cond, List, length, sym, ap, subst, ◌∙◌, arith}
+use Rattle.std.proofs.Common.{◌≡◌, ℕ, ◌+◌, ◌*◌, ◌<◌, false, true, cond, List, length, sym, ap, subst, ◌∙◌, arith}
 use Rattle.std.specs.Prelude.{Result, Ok, Err, nat_le}
 use Rattle.pm_trait.specs.DeviceView.{DeviceView, IsSettledView, MakesIntervals}
 use Rattle.pm_trait.proofs.DeviceViewLaws.{intervals_as}
+use Rattle.pm_trait.proofs.Unfolding.{words_kept}
+use Rattle.layout.specs.Superblock.{IsSuperblockWord, has_mark}
 use Rattle.tree_model.specs.PathText.{Route}
 use Rattle.tree_model.specs.Run.{State}
 use Rattle.tree_model.specs.Step.{Count}
@@ -11,7 +13,7 @@ use Rattle.tree_model.specs.declared.command.Command.TheVariants.{Write}
 use Rattle.tree_model.specs.declared.reply.Reply.{Reply}
 use Rattle.tree_model.specs.declared.reply.Reply.TheVariants.{Count as Told}
 use Rattle.volume.specs.Carried.{IsPlanFor, MayCarry, IsAtomic, Follows, Carries}
-use Rattle.volume.specs.Costs.{span_events, fence_events, growth_events, events_of, events_of_write, fences_of_plan}
+use Rattle.volume.specs.Costs.{kept_events, span_events, fence_events, growth_events, events_of, events_of_write, fences_of_plan}
 use Rattle.volume.specs.declared.plan.Action.TheVariants.{Write as WriteBytes}
 use Rattle.volatile_index.specs.Index.{pages_of}
 use Rattle.volume.specs.Entered.{MayEnterPages, EntersPages}
@@ -19,10 +21,13 @@ use Rattle.volume.specs.Volume.{VolumeView}
 use Rattle.volume.specs.declared.plan.Writing.{Writing}
 use Rattle.volume.proofs.ContentPlans.{planned_writing}
 use Rattle.volume.proofs.FilePages.{may_enter_written}
-use Rattle.pm_trait.specs.Unfolds.{MayFence, Unfolds}
+use Rattle.pm_trait.specs.Unfolds.{KeepsWords, MayFence, Unfolds}
+use Rattle.plan_laws.proofs.Left.{KeepsMark, kept_room}
 use Rattle.entry_steps.proofs.Answered.{failed_as, follows_as}
+use Rattle.entry_steps.proofs.Reserved.{enough}
 use Rattle.data_ops.specs.Writing.{IsWriteOf, MayWriteBytes, HasStoredBytes, write_steps}
-use Rattle.data_ops.proofs.Resizes.{room_of}
+use Rattle.data_ops.proofs.Beside.{write_keep}
+use Rattle.data_ops.proofs.Resizes.{some}
 use Rattle.data_ops.proofs.WriteLeft.{leaves_state}
 use Rattle.data_ops.proofs.WriteSteps.{all_intervals, stores_bytes, is_atomic, has_stored}
 use Rattle.data_ops.proofs.Writings
@@ -33,6 +38,9 @@ some_events writing none =
       | true ↦ λ is. omega (arith, is)
       | false ↦ λ is. omega (arith, is)
     ]) none
+
+more_events : (writing : Writing) → 0 < events_of (WriteBytes writing)
+more_events writing = some (events_of (WriteBytes writing)) (some_events writing)
 
 same_write : (path other : Route) (offset at : ℕ) (bytes more : List ℕ) → ◌≡◌ {A = Command} (Write path offset bytes) (Write other at more) → bytes ≡ more
 same_write path other offset at bytes more e = cc
@@ -50,6 +58,10 @@ module _ {volume : VolumeView} {old : DeviceView} {writing : Writing} {bytes : L
 
   pub may_take : MayEnterPages volume writing.inode writing.new_pages
   may_take = may_enter_written volume old planned.0 (Write planned.1 writing.offset bytes) writing planned.2
+
+  -- the device has no mark
+  no_mark : MayCarry volume old (WriteBytes writing) → has_mark old.words ≡ false
+  no_mark ready = sym planned.2.stands.mark ∙ ready.unmarked (more_events writing)
 
   -- the command of its plan, of these bytes
   found : (state : State) (command : Command) → IsWriteOf bytes command → IsPlanFor volume old state command (WriteBytes writing)
@@ -71,7 +83,7 @@ module _ {volume : VolumeView} {old : DeviceView} {writing : Writing} {bytes : L
     may_begin ready = record {
       whole = planned.2.stands.knows.whole ∙ ap (λ (p : ℕ). 512 * p) (sym size);
       settled = settled;
-      room = room_of (events_of_write writing) old.spare ready.reserved.room;
+      room = enough (events_of_write writing) (kept_events volume.marked) old.spare ready.reserved.room;
       countable = let few = ready.countable in omega (arith, few);
     }
 
@@ -85,43 +97,56 @@ module _ {volume : VolumeView} {old : DeviceView} {writing : Writing} {bytes : L
       device : MakesIntervals old new (events_of (WriteBytes writing)) (fences_of_plan (WriteBytes writing)) result
       device = all_intervals volume.size old new writing bytes pages result may settled made
 
-      atomic : (state : State) (path : Route) → IsPlanFor volume old state (Write path writing.offset bytes) (WriteBytes writing) → IsAtomic volume.size old new state (Write path writing.offset bytes)
-      atomic state path plan = is_atomic volume.size old new writing bytes pages result may settled made (record { reads = plan.stands.reads; planned = plan.planned })
+      beside : KeepsWords IsSuperblockWord old.words new.words
+      beside = words_kept IsSuperblockWord (write_keep volume.size writing bytes) made
 
-    pub carried : {E T : Type 0} {done : T} {new : DeviceView} {after : VolumeView} {list : List ℕ} → Unfolds {E = E} (write_steps P writing bytes) old new (Ok done) → list ≡ writing.new_pages → EntersPages volume after writing.inode list → volume.stopped ≡ false
+      atomic : MayCarry volume old (WriteBytes writing) → (state : State) (path : Route) → IsPlanFor volume old state (Write path writing.offset bytes) (WriteBytes writing) → IsAtomic volume.size old new state (Write path writing.offset bytes)
+      atomic ready state path plan = is_atomic volume.size old new writing bytes pages result may settled made (record { reads = plan.stands.reads; planned = plan.planned }) (no_mark ready)
+
+    pub carried : {E T : Type 0} {done : T} {new : DeviceView} {after : VolumeView} {list : List ℕ} → Unfolds {E = E} (write_steps P writing bytes) old new (Ok done) → list ≡ writing.new_pages → EntersPages volume after writing.inode list → MayCarry volume old (WriteBytes writing)
         → Carries {E = E} volume after old new (WriteBytes writing) (Count (length bytes)) (IsWriteOf bytes) (Ok (Told writing.count))
-    carried {E} {done = done} {new} {after} unfolds list_is took going =
+    carried {E} {done = done} {new} {after} unfolds list_is took ready =
         let enters = subst (λ (l : List ℕ). EntersPages volume after writing.inode l) list_is took in
         let all = device unfolds in
         let stores = stores_bytes volume.size old new writing bytes pages (Ok done) may settled (made unfolds) in
+        let same_mark = ap (λ (v : VolumeView). v.marked) enters.rest in
+        let keeps : KeepsMark volume after old.words new.words new = record {
+          known = planned.2.stands.mark;
+          same = same_mark;
+          beside = beside unfolds;
+          room = kept_room volume.marked (WriteBytes writing) old new (more_events writing) ready.reserved.room all.room;
+        } in
         record {
           meaning = λ state command ours plan.
               let (path, same, here) = found state command ours plan in
               let follows : Follows {E = E} volume after old new state (Write path writing.offset bytes) (Count (length bytes)) (Ok (Told writing.count)) = record {
-                made = leaves_state volume old state path bytes writing here new stores after enters all.settled (all.counted, all.grown);
-                atomic = atomic unfolds state path here;
+                made = leaves_state volume old state path bytes writing here new stores after enters all.settled (all.counted, all.grown) keeps;
+                atomic = atomic unfolds ready state path here;
               } in
               follows_as (Write path writing.offset bytes) command same follows;
           answered = record {
             reply = ap (λ (n : ℕ). let reply : Reply = Told n in reply) (Writings.for_writing volume old planned.0 planned.1 bytes writing planned.2).count_is;
-            going = ap (λ (v : VolumeView). v.stopped) enters.rest ∙ going;
+            going = ap (λ (v : VolumeView). v.stopped) enters.rest ∙ ready.going;
             knows = enters;
             stopped = tt;
             size = ap (λ (v : VolumeView). v.size) enters.rest;
+            marked = same_mark;
           };
           device = intervals_as (Told writing.count) all;
           idle = λ none. absurd (some_events writing none);
+          beside = beside unfolds;
         }
 
     -- a fence failed, and the volume is stopped
     pub carried_no_further : {E F T : Type 0} {new : DeviceView} {after : VolumeView} {failed : F} (fault : E) → Unfolds {T = T} (write_steps P writing bytes) old new (Err failed)
-        → after ≡ record volume { stopped = true } → Carries {E = E} volume after old new (WriteBytes writing) (Count (length bytes)) (IsWriteOf bytes) (Err fault)
-    carried_no_further {E} {new = new} {after} fault unfolds stopped = record {
+        → MayCarry volume old (WriteBytes writing) → after ≡ record volume { stopped = true } → Carries {E = E} volume after old new (WriteBytes writing) (Count (length bytes)) (IsWriteOf bytes) (Err fault)
+    carried_no_further {E} {new = new} {after} fault unfolds ready stopped = record {
       meaning = λ state command ours plan.
           let (path, same, here) = found state command ours plan in
-          let follows : Follows {E = E} volume after old new state (Write path writing.offset bytes) (Count (length bytes)) (Err fault) = record { made = tt; atomic = atomic unfolds state path here } in
+          let follows : Follows {E = E} volume after old new state (Write path writing.offset bytes) (Count (length bytes)) (Err fault) = record { made = tt; atomic = atomic unfolds ready state path here } in
           follows_as (Write path writing.offset bytes) command same follows;
-      answered = record { reply = tt; going = tt; knows = tt; stopped = ap (λ (v : VolumeView). v.stopped) stopped; size = ap (λ (v : VolumeView). v.size) stopped };
+      answered = record { reply = tt; going = tt; knows = tt; stopped = ap (λ (v : VolumeView). v.stopped) stopped; size = ap (λ (v : VolumeView). v.size) stopped; marked = ap (λ (v : VolumeView). v.marked) stopped };
       device = failed_as fault (device unfolds);
       idle = λ none. absurd (some_events writing none);
+      beside = beside unfolds;
     }

@@ -4,10 +4,11 @@ use Rattle.std.specs.Prelude.{Result, OnOk, nat_le}
 use Rattle.std.proofs.lemmas.Bool.{cases_lt}
 use Rattle.std.proofs.lemmas.Bool.Decides.{nat_tests}
 use Rattle.pm_trait.specs.Trail.{Trail}
-use Rattle.pm_trait.specs.Device.{LeavesOnly}
+use Rattle.pm_trait.specs.Device.{LeavesOnly, StaysOnce}
 use Rattle.pm_trait.specs.DeviceView.{DeviceView, IsSettledView, MakesIntervals}
 use Rattle.pm_trait.proofs.DeviceLaws.{fenced_stays}
 use Rattle.pm_trait.proofs.DeviceViewLaws.{intervals_one}
+use Rattle.layout.specs.Superblock.{has_mark}
 use Rattle.tree_model.specs.PathText.{Route}
 use Rattle.tree_model.specs.Run.{State}
 use Rattle.tree_model.specs.Step.{outcome_of, step, least_free_id, with_bytes, overwritten}
@@ -23,8 +24,8 @@ use Rattle.content_laws.proofs.Moments.{inside_once_law}
 use Rattle.content_laws.proofs.Torn.{torn_tree_law}
 use Rattle.volume.specs.Carried.{IsAtomic}
 use Rattle.volume.specs.Costs.{span_events, fence_events, growth_events, fences_for_growth, events_of_write, fences_of_write}
-use Rattle.volume.specs.Crashes.{MayReadAs}
 use Rattle.volume.specs.declared.plan.Writing.{Writing}
+use Rattle.volume.proofs.Unmarked.{ReadsAllowed, moments_read}
 use Rattle.pm_trait.specs.Unfolds.{events_in, fences_in, Takes, Unfolds, Quietly}
 use Rattle.pm_trait.proofs.Unfolding.{quiet_fenced, last, intervals, map_ok}
 use Rattle.entry_steps.proofs.Moments.{is_mix, on_ok}
@@ -32,6 +33,7 @@ use Rattle.volume.specs.Commit.{HangsOnWords}
 use Rattle.data_ops.specs.Hanging.{IsRangeWord}
 use Rattle.data_ops.specs.Steps.{growth_steps, either_steps}
 use Rattle.data_ops.specs.Writing.{MayWriteInside, MayWriteBytes, IsWritingAt, StoresBytes, HasStoredBytes, growth_of, overwriting, write_steps}
+use Rattle.data_ops.proofs.Beside.{write_keep}
 use Rattle.data_ops.proofs.GrowCourse
 use Rattle.data_ops.proofs.Growing.{written_tree, same_range}
 use Rattle.data_ops.proofs.Resizes.{made_as}
@@ -61,11 +63,11 @@ module _ {P : ℕ} {W : List ℕ} {state : State} (path : Route) (bytes pages : 
   abbrev new : Tree
   new = (step P state.tree state.room (Write path writing.offset bytes)).tree
 
-  inside_allowed : (M : List ℕ) → IsMix W J M → MayReadAs P state (Some (Write path writing.offset bytes)) M
+  inside_allowed : (M : List ℕ) → IsMix W J M → ReadsAllowed P state (Some (Write path writing.offset bytes)) M
   inside_allowed M mix =
       let torn = (law P W writing.inode writing.offset bytes pages may J writes).torn M mix in
       let (tree, reads, left) = torn_tree_law P W M state path writing.inode writing.offset bytes torn at.reads.tree (writing_at P W state path writing.offset bytes writing at.planned.plan_is).inode_is at.planned.accepted in
-      record { sound = torn.coherent; tree = tree; reads = reads; allowed = inr (inr left) }
+      record { coherent = torn.coherent; tree = tree; reads = reads; allowed = inr (inr left) }
 
   -- where the words before read as the tree after, so does all that is left
   inside_stays : Reads P W new → (M : List ℕ) → IsMix W J M → Reads P M new
@@ -141,19 +143,30 @@ module _ {T E : Type 0} (P : ℕ) (old new : DeviceView) (writing : Writing) (by
   ]
 
   module _ {state : State} {path : Route} (at : IsWritingAt P old.words state path bytes writing) where
-    pub is_atomic : IsAtomic P old new state (Write path writing.offset bytes)
-    is_atomic = elim ways [
-      | inl more ↦ (let under = GrowCourse.underway old (may.past more) new result (as_growth P writing bytes more made) settled (write_grows path bytes writing at) in record { any_moment = under.any_moment; stays = under.stays })
+    reads_allowed : LeavesOnly old.trail new.trail (Quietly (ReadsAllowed P state (Some (Write path writing.offset bytes))))
+    reads_allowed = elim ways [
+      | inl more ↦ (GrowCourse.underway old (may.past more) new result (as_growth P writing bytes more made) settled (write_grows path bytes writing at)).any_moment
       | inr inside ↦
           let takes = as_inside P writing bytes inside made in
-          let can = may.inside inside in
-          record {
-            any_moment = quiet_fenced (MayReadAs P state (Some (Write path writing.offset bytes))) takes.fenced.fenced
-                (λ image mix. inside_allowed path bytes pages writing at can new.words takes.makes.writes image (is_mix old.words new.words image mix));
-            stays = fenced_stays (λ image. Reads P image (step P state.tree state.room (Write path writing.offset bytes)).tree) takes.fenced.fenced
-                (λ has image mix. inside_stays path bytes pages writing at can new.words takes.makes.writes has image (is_mix old.words new.words image mix));
-          }
+          quiet_fenced (ReadsAllowed P state (Some (Write path writing.offset bytes))) takes.fenced.fenced
+          (λ image mix. inside_allowed path bytes pages writing at (may.inside inside) new.words takes.makes.writes image (is_mix old.words new.words image mix))
     ]
+
+    stays_once : StaysOnce old.trail new.trail (λ image. Reads P image (step P state.tree state.room (Write path writing.offset bytes)).tree)
+    stays_once = elim ways [
+      | inl more ↦ (GrowCourse.underway old (may.past more) new result (as_growth P writing bytes more made) settled (write_grows path bytes writing at)).stays
+      | inr inside ↦
+          let takes = as_inside P writing bytes inside made in
+          fenced_stays (λ image. Reads P image (step P state.tree state.room (Write path writing.offset bytes)).tree) takes.fenced.fenced
+          (λ has image mix. inside_stays path bytes pages writing at (may.inside inside) new.words takes.makes.writes has image (is_mix old.words new.words image mix))
+    ]
+
+    -- without the mark what a crash leaves is sound
+    pub is_atomic : has_mark old.words ≡ false → IsAtomic P old new state (Write path writing.offset bytes)
+    is_atomic unmarked = record {
+      any_moment = moments_read P state (Some (Write path writing.offset bytes)) settled unmarked (write_keep P writing bytes) made reads_allowed;
+      stays = stays_once;
+    }
 
     hangs : HangsOnWords P old.trail new.trail (IsRangeWord P old.words writing.inode writing.offset bytes)
     hangs = elim ways [

@@ -27,10 +27,10 @@ use Rattle.rename_laws.proofs.Differs
 use Rattle.rename_laws.proofs.MoveIntervals.{leaving_law, clearing_law, giving_law, freeing_law}
 use Rattle.rename_laws.proofs.Ready.{ready_law}
 use Rattle.volume.specs.Costs.{count_of, goes_of, pages_replaced, word_events, fence_events, page_events, commit_events, clearing_events, pointing_events, new_page_events, loss_events, events_of, fences_for_page, fences_for_loss, fences_of_plan}
-use Rattle.volume.specs.Crashes.{MayReadAs}
 use Rattle.volume.specs.Moves.{rising_of, falling_of}
 use Rattle.volume.specs.declared.plan.Action.TheVariants.{Move}
 use Rattle.volume.specs.declared.plan.Moving.{Moving}
+use Rattle.volume.proofs.Unmarked.{ReadsAllowed}
 use Rattle.entry_steps.specs.Steps.{MayTake}
 use Rattle.entry_steps.proofs.Moments.{is_mix}
 use Rattle.entry_steps.proofs.Turning.{IsUnderway, Turns, one_side, hangs_on, turned}
@@ -160,15 +160,15 @@ module _ {P : ℕ} (old : DeviceView) {state : State} (from to : Route) {moving 
   -- ---- the whole call
 
   module _ {T E : Type 0} (new : DeviceView) (result : Result T E) (settled : IsSettledView old) (made : Unfolds (steps_of P moving pages) old new result) where
-    pub underway : IsUnderway P (λ word. word ≡ slot_word_of P moving.to_slot 0) (MayReadAs P state (Some (Rename from to))) tree old.trail new.trail
+    pub underway : IsUnderway P (λ word. word ≡ slot_word_of P moving.to_slot 0) (ReadsAllowed P state (Some (Rename from to))) tree old.trail new.trail
     underway =
         turned
-        (one_side state.tree (λ image same. record { sound = same.coherent; tree = state.tree; reads = same.reads state.tree at.reads.tree; allowed = inl refl })
+        (one_side state.tree (λ image same. record { coherent = same.coherent; tree = state.tree; reads = same.reads state.tree at.reads.tree; allowed = inl refl })
         (λ image same. same.reads state.tree at.reads.tree))
         (λ image same later.
         let alike : state.tree ≡ tree = one_tree P image state.tree tree (same.reads state.tree at.reads.tree) later in
         differ (subst (λ (T : Tree). Reads P W T) alike at.reads.tree))
-        (one_side tree (λ image later. record { sound = later.coherent; tree = tree; reads = later.reads; allowed = inr (inl refl) }) (λ image later. later.reads))
+        (one_side tree (λ image later. record { coherent = later.coherent; tree = tree; reads = later.reads; allowed = inr (inl refl) }) (λ image later. later.reads))
         (λ image later. later.reads)
         refl settled (same_itself P W (Moves.coherent from to at)) turns made
 

@@ -144,7 +144,7 @@ module _ (volume : VolumeView) (device : DeviceView) (state : State) (from to : 
       let here = leaves_here (Quietly IsAfter) stands.settled (refl, reads_after) in
       record {
         any_moment = leaves_here (Quietly (MayReadAs volume.size state (Some (Rename from to)))) stands.settled
-            (refl, record { sound = coherent; tree = state.tree; reads = stands.reads.tree; allowed = inl refl });
+            (refl, record { sound = stands.tidy.sound; tree = state.tree; reads = stands.reads.tree; allowed = inl refl });
         stays = record { continues = here.continues; each = λ first second begun order upto all image may. (here.each second image (omega (arith, begun, order)) upto may).1 };
       }
 
@@ -158,7 +158,8 @@ carried_nothing {E} volume device settled going = record {
   meaning = λ state command ours plan.
       let (from, to, is, same) = planned_keeping volume.size device.words state command plan.planned.plan_is in
       follows_as (Rename from to) command is (follows volume device state from to (subst (λ (c : Command). IsPlanFor volume device state c KeepNames) is plan) same {E = E});
-  answered = record { reply = refl; going = going; knows = refl; stopped = tt; size = refl };
+  answered = record { reply = refl; going = going; knows = refl; stopped = tt; size = refl; marked = refl };
   device = intervals_none device Told settled;
   idle = λ none. (refl, refl);
+  beside = λ word k. refl;
 }

@@ -26,12 +26,12 @@ take_in-requires-clause-may_lose g c = may_lose c.requires.planned
 
 pub returns-in-Ok : goal.returns-in-Ok
 returns-in-Ok g c = record {
-  carries = carried c.requires.planned c.geometry.ensures c.pages-pages.ensures c.in-Ok.ensures.unfolds c.take_in.ensures c.requires.ready.going;
+  carries = carried c.requires.planned c.geometry.ensures c.pages-pages.ensures c.in-Ok.ensures.unfolds c.take_in.ensures c.requires.ready;
   stored = stored c.requires.planned c.geometry.ensures c.pages-pages.ensures (unfolds_as Told c.in-Ok.ensures.unfolds);
 }
 
 pub returns-in-Err : goal.returns-in-Err
 returns-in-Err g c = record {
-  carries = carried_no_further c.requires.planned c.geometry.ensures c.pages-pages.ensures c.in-Err.fault c.in-Err.ensures.unfolds c.stop.ensures;
+  carries = carried_no_further c.requires.planned c.geometry.ensures c.pages-pages.ensures c.in-Err.fault c.in-Err.ensures.unfolds c.requires.ready c.stop.ensures;
   stored = stored c.requires.planned c.geometry.ensures c.pages-pages.ensures (unfolds_failed_as c.in-Err.fault c.in-Err.ensures.unfolds);
 }

@@ -25,12 +25,12 @@ enter_pages-requires-clause-reserved g c = subst (λ (l : List ℕ). HasPagePlac
 
 pub returns-in-Ok : goal.returns-in-Ok
 returns-in-Ok g c = record {
-  carries = carried c.requires.planned c.geometry.ensures c.in-Ok.ensures.unfolds c.as_slice.ensures c.enter_pages.ensures c.requires.ready.going;
+  carries = carried c.requires.planned c.geometry.ensures c.in-Ok.ensures.unfolds c.as_slice.ensures c.enter_pages.ensures c.requires.ready;
   stored = stored c.requires.planned c.geometry.ensures (unfolds_as (Told c.args.writing.now.count) c.in-Ok.ensures.unfolds);
 }
 
 pub returns-in-Err : goal.returns-in-Err
 returns-in-Err g c = record {
-  carries = carried_no_further c.requires.planned c.geometry.ensures c.in-Err.fault c.in-Err.ensures.unfolds c.stop.ensures;
+  carries = carried_no_further c.requires.planned c.geometry.ensures c.in-Err.fault c.in-Err.ensures.unfolds c.requires.ready c.stop.ensures;
   stored = stored c.requires.planned c.geometry.ensures (unfolds_failed_as c.in-Err.fault c.in-Err.ensures.unfolds);
 }

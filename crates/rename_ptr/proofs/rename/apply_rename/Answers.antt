@@ -47,7 +47,7 @@ returns-in-Ok g c =
     let is = sym c.into_action.ensures ∙ c.in-Move.is in
     let name = c.as_slice-bytes.ensures in
     record {
-      carries = carried c.requires.planned is name.bytes name.name name.of_bytes c.geometry.ensures c.gone_pages-pages.ensures c.in-Ok.ensures.unfolds c.move_entry.ensures c.requires.ready.going;
+      carries = carried c.requires.planned is name.bytes name.name name.of_bytes c.geometry.ensures c.gone_pages-pages.ensures c.in-Ok.ensures.unfolds c.move_entry.ensures c.requires.ready;
       stored = stored c.requires.planned is name.bytes name.name name.of_bytes c.geometry.ensures c.gone_pages-pages.ensures (unfolds_as Told c.in-Ok.ensures.unfolds);
     }
 
@@ -56,6 +56,6 @@ returns-in-Err g c =
     let is = sym c.into_action.ensures ∙ c.in-Move.is in
     let name = c.as_slice-bytes.ensures in
     record {
-      carries = carried_no_further c.requires.planned is name.bytes name.name name.of_bytes c.geometry.ensures c.gone_pages-pages.ensures c.in-Err.fault c.in-Err.ensures.unfolds c.stop.ensures;
+      carries = carried_no_further c.requires.planned is name.bytes name.name name.of_bytes c.geometry.ensures c.gone_pages-pages.ensures c.in-Err.fault c.in-Err.ensures.unfolds c.requires.ready c.stop.ensures;
       stored = stored c.requires.planned is name.bytes name.name name.of_bytes c.geometry.ensures c.gone_pages-pages.ensures (unfolds_failed_as c.in-Err.fault c.in-Err.ensures.unfolds);
     }
