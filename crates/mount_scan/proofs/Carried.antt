@@ -1,4 +1,4 @@
--- What the words of a sound image say of those that recovery makes of them. P is the number of pages, W the words.
+-- What the words of an image say of those that recovery makes of them. P is the number of pages, W the words.
 use Rattle.std.proofs.Common.{◌≡◌, ◌≢◌, ◌↔◌, inl, inr, ℕ, ◌+◌, ◌-◌, ◌*◌, ◌<◌, ◌≤◌, Bool, false, List, [], ◌∷◌, ◌++◌, length, get_or, set, refl, sym, ap, subst, ◌∙◌, arith}
 use Rattle.layout.specs.Geometry.{inodes_of, data_pages_of, page_of_slot}
 use Rattle.layout.specs.Name.{IsNameWords, name_in_words}
@@ -7,9 +7,10 @@ use Rattle.image_reading.specs.Counts.{IsIn}
 use Rattle.image_reading.specs.Reading.{slot_owner, Reached, IsReachedSlot}
 use Rattle.image_reading.specs.Repairs.{IsKept}
 use Rattle.image_reading.specs.Scanned.{AreNames}
-use Rattle.image_reading.specs.Soundness.{Rule, Sound}
+use Rattle.image_reading.specs.Soundness.{Rule, IsCoherent}
 use Rattle.image_reading.specs.Tidy.{Tidy}
 use Rattle.image_reading.proofs.ReachedTable.{in_at}
+use Rattle.image_reading.proofs.Tidied.{as_tidy}
 use Rattle.image_counts.specs.Entries.{IsEntryOf}
 use Rattle.image_counts.proofs.Paths.{in_range}
 use Rattle.repair_laws.specs.Mended.{IsMended}
@@ -23,24 +24,24 @@ use Rattle.mount_scan.specs.Building.{Holds}
 use Rattle.mount_scan.proofs.Facts.{offset_below}
 use Rattle.mount_scan.proofs.Holding.{page_skipped, file_page_set, page_pushed}
 
-module _ (P : ℕ) (W : List ℕ) (sound : Sound P W) where
+module _ (P : ℕ) (W : List ℕ) (coherent : IsCoherent P W) where
   -- ---- pages
 
   owner_reached : (j : ℕ) → IsKept P W j → Reached P W (page_owner P W j)
   owner_reached j kept = elim kept [ inl page ↦ page.owner | inr room ↦ room.reached ]
 
   owner_in_table : (j : ℕ) → IsKept P W j → (1 ≤ page_owner P W j) × (page_owner P W j ≤ inodes_of P)
-  owner_in_table j kept = in_range P W sound (page_owner P W j) (owner_reached j kept)
+  owner_in_table j kept = in_range P W coherent (page_owner P W j) (owner_reached j kept)
 
   file_owner : (j : ℕ) → j < data_pages_of P → IsKept P W j → page_kind P W j ≡ 1 → inode_kind W (page_owner P W j) ≡ 1
-  file_owner j within kept kind = elim ((sound Rule.kinds (page_owner P W j)).kind (owner_reached j kept)) [
+  file_owner j within kept kind = elim ((coherent Rule.kinds (page_owner P W j)).kind (owner_reached j kept)) [
     | inl file ↦ file
-    | inr directory ↦ let two = (sound Rule.page_kinds j).directory within (owner_reached j kept) directory in absurd (omega (arith, kind, two))
+    | inr directory ↦ let two = (coherent Rule.page_kinds j).directory within (owner_reached j kept) directory in absurd (omega (arith, kind, two))
   ]
 
   directory_owner : (j : ℕ) → j < data_pages_of P → IsKept P W j → page_kind P W j ≢ 1 → inode_kind W (page_owner P W j) ≡ 2
-  directory_owner j within kept kind = elim ((sound Rule.kinds (page_owner P W j)).kind (owner_reached j kept)) [
-    | inl file ↦ absurd (kind ((sound Rule.page_kinds j).file within (owner_reached j kept) file))
+  directory_owner j within kept kind = elim ((coherent Rule.kinds (page_owner P W j)).kind (owner_reached j kept)) [
+    | inl file ↦ absurd (kind ((coherent Rule.page_kinds j).file within (owner_reached j kept) file))
     | inr directory ↦ directory
   ]
 
@@ -54,11 +55,11 @@ module _ (P : ℕ) (W : List ℕ) (sound : Sound P W) where
   unfolding slot_owner
   name_owner names k s j d are within is page owner =
       let same : d ≡ slot_owner P W s = owner ∙ ap (page_owner P W) page in
-      let (least, most) = in_range P W sound d (subst (Reached P W) (sym same) (name_reached names k s are within is).owner) in
+      let (least, most) = in_range P W coherent d (subst (Reached P W) (sym same) (name_reached names k s are within is).owner) in
       (same, least, most)
 
   pub slot_named : (s : ℕ) → IsReachedSlot P W s → IsNameWords (slot_words P W s)
-  slot_named s slot = sound Rule.names s slot
+  slot_named s slot = coherent Rule.names s slot
 
   named_entry : (s d : ℕ) (words name : List ℕ) → IsReachedSlot P W s → d ≡ slot_owner P W s → words ≡ slot_words P W s → name ≡ name_in_words words → IsEntryOf P W d name s
   unfolding slot_name
@@ -71,7 +72,7 @@ module _ (P : ℕ) (W : List ℕ) (sound : Sound P W) where
   -- ---- the words that recovery makes
 
   pub some_mended : (K : List ℕ) × IsMended P W K
-  some_mended = let (A, B, C, K, repair) = some_law P W sound in (K, end_law P W A B C K sound repair)
+  some_mended = let (A, B, C, K, repair) = some_law P W coherent in (K, end_law P W A B C K coherent repair)
 
   -- what holds of an index at each of them
   pub each_inode : (p : ℕ) (names : List ℕ) (put : ℕ) (index : List NodeView) → ((K : List ℕ) → IsMended P W K → Holds P K p names put index) → inodes_of_index index ≡ inodes_of P
@@ -82,10 +83,10 @@ module _ (P : ℕ) (W : List ℕ) (sound : Sound P W) where
 
   module _ (K : List ℕ) (mended : IsMended P W K) where
     pub tidy : Tidy P K
-    tidy = (mended_law P W K sound mended).1
+    tidy = as_tidy (mended_law P W K coherent mended).1
 
     index_of : HasIndexOf P W K
-    index_of = index_law P W K sound mended
+    index_of = index_law P W K coherent mended
 
     -- ---- what is free
 
@@ -167,11 +168,11 @@ module _ (P : ℕ) (W : List ℕ) (sound : Sound P W) where
 
     -- ---- all of it
 
-    pub knows : (index : List NodeView) (inodes data_pages : List Bool) → length W ≡ 512 * P → KnowsNodes P index K
+    pub knows : (index : List NodeView) (inodes data_pages : List Bool) (marked : Bool) → length W ≡ 512 * P → KnowsNodes P index K
         → length inodes ≡ inodes_of P → ((number : ℕ) → number < inodes_of P → IsFree inodes number ↔ ¬ Reached P W (number + 1))
         → length data_pages ≡ data_pages_of P → ((page : ℕ) → page < data_pages_of P → IsFree data_pages page ↔ ¬ IsKept P W page)
-        → Knows (record { size = P; index = index; inodes = inodes; data_pages = data_pages; stopped = false }) K
-    knows index inodes data_pages whole nodes each_inode unreached each_page unkept = record {
+        → Knows (record { size = P; index = index; inodes = inodes; data_pages = data_pages; stopped = false; marked = marked }) K
+    knows index inodes data_pages marked whole nodes each_inode unreached each_page unkept = record {
       whole = mended.size ∙ whole;
       nodes = nodes;
       each_inode = each_inode;

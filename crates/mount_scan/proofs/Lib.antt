@@ -8,7 +8,6 @@ mod Heads
 mod Mounts
 pub mod Answered
 mod States
-mod Still
 mod Repairing
 mod Counted
 mod Told

@@ -8,7 +8,7 @@ use Rattle.pm_trait.proofs.DeviceLaws.{leaves_here}
 use Rattle.image_reading.specs.Laws.{IsVolume}
 use Rattle.image_reading.specs.Soundness.{KeepsRule1, Rule, Sound, pages_in_image}
 use Rattle.image_reading.proofs.Violations.{head_law, pages_law}
-use Rattle.image_laws.specs.Frame.{SameMeaning}
+use Rattle.image_laws.specs.Frame.{IsSoundAs}
 use Rattle.image_laws.proofs.Meaning.{same_itself}
 use Rattle.mount_scan.specs.Mounting.{HoldsVolume}
 use Rattle.mount_scan.specs.Mounts.{IsLeftAlone, KeepsMeaning}
@@ -29,13 +29,13 @@ head_pages P W rule = pages_law P W rule
 
 -- a sound volume has a head
 pub sound_holds : {W : List ℕ} → Sound (pages_in_image W) W → HoldsVolume W
-sound_holds {W} sound = head_holds (pages_in_image W) W (sound Rule.head)
+sound_holds {W} sound = head_holds (pages_in_image W) W (sound.coherent Rule.head)
 
 -- ---- a device that is left as it was
 
 pub keeps_itself : (P : ℕ) (device : DeviceView) → IsSettledView device → Sound P device.words → KeepsMeaning P device device
 keeps_itself P device settled sound = record {
-  any_moment = leaves_here (λ k image. (k ≡ 0) × SameMeaning P device.words image) settled (refl, same_itself P device.words sound);
+  any_moment = leaves_here (λ k image. (k ≡ 0) × IsSoundAs P device.words image) settled (refl, record { sound = sound; same = same_itself P device.words sound.coherent });
   no_ack = acks_from-here (continues_here device.trail);
   acks = refl;
 }
@@ -44,7 +44,7 @@ pub keeps_alone : (P : ℕ) {before after : DeviceView} → IsSettledView before
 keeps_alone P {before} {after} settled sound alone =
     let itself = keeps_itself P before settled sound in
     record {
-      any_moment = subst (λ (trail : Option Trail). LeavesOnly before.trail trail (λ acks image. (acks ≡ 0) × SameMeaning P before.words image)) (sym alone.trail) itself.any_moment;
+      any_moment = subst (λ (trail : Option Trail). LeavesOnly before.trail trail (λ acks image. (acks ≡ 0) × IsSoundAs P before.words image)) (sym alone.trail) itself.any_moment;
       no_ack = subst (λ (trail : Option Trail). acks_from before.trail trail (moment_of trail) ≡ 0) (sym alone.trail) itself.no_ack;
       acks = alone.acks;
     }

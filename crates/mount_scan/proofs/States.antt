@@ -4,25 +4,26 @@ use Rattle.pm_trait.specs.DeviceView.{DeviceView}
 use Rattle.pm_trait.proofs.DeviceLaws.{leaves_weaker}
 use Rattle.tree_model.specs.Run.{State}
 use Rattle.image_reading.specs.Reading.{ReadsAs}
-use Rattle.image_reading.specs.Soundness.{Sound}
-use Rattle.image_laws.specs.Frame.{SameMeaning}
+use Rattle.image_reading.specs.Soundness.{IsCoherent}
+use Rattle.image_laws.specs.Frame.{IsSoundAs, SameMeaning}
 use Rattle.image_laws.proofs.Trees.{tree_law}
 use Rattle.image_laws.proofs.Rooms.{room_law}
 use Rattle.volume.specs.Crashes.{MeansState}
 use Rattle.mount_scan.specs.Mounts.{KeepsMeaning, KeepsState}
 
--- what means the same as words that read as this state means the state
-pub means_state : (P : ℕ) (W image : List ℕ) (state : State) → ReadsAs P W state → SameMeaning P W image → MeansState P state image
-means_state P W image state reads same = record {
-  sound = same.coherent;
-  reads = record { tree = same.reads state.tree reads.tree; room = same.room state.room reads.room };
-}
+-- what means the same as words that read as this state reads as it
+pub same_reads : (P : ℕ) (W image : List ℕ) (state : State) → ReadsAs P W state → SameMeaning P W image → ReadsAs P image state
+same_reads P W image state reads same = record { tree = same.reads state.tree reads.tree; room = same.room state.room reads.room }
 
--- a sound image reads as some state
-pub some_state : (P : ℕ) (W : List ℕ) → Sound P W → (state : State) × ReadsAs P W state
-some_state P W sound =
-    let (T, tree, form) = tree_law P W sound in
-    let (room, has) = room_law P W sound in
+-- and means it where it is sound
+means_state : (P : ℕ) (W image : List ℕ) (state : State) → ReadsAs P W state → IsSoundAs P W image → MeansState P state image
+means_state P W image state reads kept = record { sound = kept.sound; reads = same_reads P W image state reads kept.same }
+
+-- an image whose words fit together reads as some state
+pub some_state : (P : ℕ) (W : List ℕ) → IsCoherent P W → (state : State) × ReadsAs P W state
+some_state P W coherent =
+    let (T, tree, form) = tree_law P W coherent in
+    let (room, has) = room_law P W coherent in
     let state : State = record { tree = T; room = room } in
     (state, record { tree = tree; room = has })
 

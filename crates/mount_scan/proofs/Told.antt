@@ -11,7 +11,7 @@ use Rattle.tree_model.specs.Tree.{Tree, Node, node_at, is_directory, is_file, is
 use Rattle.image_reading.specs.Counts.{Count}
 use Rattle.image_reading.specs.Reading.{IsLive, Reached, IsReachedSlot, slot_owner, Reads}
 use Rattle.image_reading.specs.Repairs.{RepairCounts, HasRepairs, IsKept, IsKeptDirectoryPage, IsLitterSlot, IsLitterPage, IsLitterInode, IsLitterCount, IsPointer}
-use Rattle.image_reading.specs.Soundness.{Sound}
+use Rattle.image_reading.specs.Soundness.{IsCoherent}
 use Rattle.image_reading.proofs.Counts.{count_one}
 use Rattle.image_counts.proofs.Counting.{IsMatching, IsMatched, count_matched, count_alike, among_filter, filter_among, filter_apart}
 use Rattle.image_counts.proofs.Entries.{same_entry, entries_apart, among_find}
@@ -75,15 +75,15 @@ file_there (Some x) e = refl
 
 -- ---- directories and files
 
-module _ (P : ℕ) (I : List ℕ) (T : Tree) (sound : Sound P I) (reads : Reads P I T) where
+module _ (P : ℕ) (I : List ℕ) (T : Tree) (coherent : IsCoherent P I) (reads : Reads P I T) where
   count_directories : Count (IsReachedDirectory P I) (directory_count T)
   count_directories = count_alike (λ i. is_directory T i ≡ true) (IsReachedDirectory P I) (directory_count T)
-      (λ i is. ((has_sizes P I T sound reads).directories i).0 is) (λ i is. ((has_sizes P I T sound reads).directories i).1 is)
+      (λ i is. ((has_sizes P I T coherent reads).directories i).0 is) (λ i is. ((has_sizes P I T coherent reads).directories i).1 is)
       (count_nodes T (is_directory T) (λ i is. directory_there (node_at T i) is))
 
   count_files : Count (IsReachedFile P I) (file_count T)
   count_files = count_alike (λ i. is_file T i ≡ true) (IsReachedFile P I) (file_count T)
-      (λ i is. ((has_sizes P I T sound reads).files i).0 is) (λ i is. ((has_sizes P I T sound reads).files i).1 is)
+      (λ i is. ((has_sizes P I T coherent reads).files i).0 is) (λ i is. ((has_sizes P I T coherent reads).files i).1 is)
       (count_nodes T (is_file T) (λ i is. file_there (node_at T i) is))
 
 -- ---- all counts
@@ -98,7 +98,7 @@ pub kept_reached : (P : ℕ) (I : List ℕ) (s : ℕ) → IsKeptDirectoryPage P 
 unfolding slot_owner
 kept_reached P I s page live = record { owner = page.reached; directory = page.directory; live = live }
 
-module _ (P : ℕ) (I : List ℕ) (sound : Sound P I) (inodes : InodeCounts) (pages : PageCounts) (pointers : ℕ)
+module _ (P : ℕ) (I : List ℕ) (coherent : IsCoherent P I) (inodes : InodeCounts) (pages : PageCounts) (pointers : ℕ)
     (of_inodes : CountsInodes P I (inodes_of P + 1) inodes) (of_pages : CountsPages P I (data_pages_of P) (slots_of P) pages)
     (of_pointers : Count (IsPointer P I) pointers) where
   abbrev counts : CheckCounts
@@ -114,7 +114,7 @@ module _ (P : ℕ) (I : List ℕ) (sound : Sound P I) (inodes : InodeCounts) (pa
   }
 
   within : (i : ℕ) → Reached P I i → i < inodes_of P + 1
-  within i reached = let most = (in_range P I sound i reached).1 in omega (arith, most)
+  within i reached = let most = (in_range P I coherent i reached).1 in omega (arith, most)
 
   abbrev repairs : RepairCounts
   repairs = record { pointers = pointers; slots = pages.slots.litter; pages = pages.litter; inodes = inodes.litter; counts = inodes.links }
@@ -122,7 +122,7 @@ module _ (P : ℕ) (I : List ℕ) (sound : Sound P I) (inodes : InodeCounts) (pa
   has_repairs : HasRepairs P I repairs
   has_repairs = record {
     of_pointers = of_pointers;
-    of_slots = count_all (IsLitterSlot P I) (slots_of P) pages.slots.litter (λ s litter. (kept_held P I sound s litter.page).in_range) of_pages.in_slots.litter;
+    of_slots = count_all (IsLitterSlot P I) (slots_of P) pages.slots.litter (λ s litter. (kept_held P I coherent s litter.page).in_range) of_pages.in_slots.litter;
     of_pages = count_all (IsLitterPage P I) (data_pages_of P) pages.litter (λ j litter. litter.in_range) of_pages.litter;
     of_inodes = count_all (IsLitterInode P I) (inodes_of P + 1) inodes.litter (λ i litter. (let most = litter.most in omega (arith, most))) of_inodes.litter;
     of_counts = count_all (IsLitterCount P I) (inodes_of P + 1) inodes.links (λ i litter. within i litter.reached) of_inodes.links;
@@ -130,13 +130,13 @@ module _ (P : ℕ) (I : List ℕ) (sound : Sound P I) (inodes : InodeCounts) (pa
 
   pub counted : AreCountsOf P I counts
   counted =
-      let (T, reads, form) = tree_law P I sound in
+      let (T, reads, form) = tree_law P I coherent in
       let directories = count_one (IsReachedDirectory P I) inodes.directories (directory_count T)
-      (count_all (IsReachedDirectory P I) (inodes_of P + 1) inodes.directories (λ i is. within i is.0) of_inodes.directories) (count_directories P I T sound reads) in
+      (count_all (IsReachedDirectory P I) (inodes_of P + 1) inodes.directories (λ i is. within i is.0) of_inodes.directories) (count_directories P I T coherent reads) in
       let files = count_one (IsReachedFile P I) inodes.files (file_count T)
-      (count_all (IsReachedFile P I) (inodes_of P + 1) inodes.files (λ i is. within i is.0) of_inodes.files) (count_files P I T sound reads) in
+      (count_all (IsReachedFile P I) (inodes_of P + 1) inodes.files (λ i is. within i is.0) of_inodes.files) (count_files P I T coherent reads) in
       let names = count_one (IsReachedSlot P I) pages.slots.names (below_root T)
-      (count_all (IsReachedSlot P I) (slots_of P) pages.slots.names (λ s slot. slot.live.held.in_range) of_pages.in_slots.names) (count_names P I T sound reads) in
+      (count_all (IsReachedSlot P I) (slots_of P) pages.slots.names (λ s slot. slot.live.held.in_range) of_pages.in_slots.names) (count_names P I T coherent reads) in
       record {
         tree = T;
         reads = reads;

@@ -1,5 +1,6 @@
 -- What a look at the words of a device finds. W is the words; their length says how many pages are meant.
 use Rattle.std.specs.Prelude.{◌≡◌, ℕ, false, List, Result, Ok, Err}
+use Rattle.layout.specs.Superblock.{has_mark}
 use Rattle.image_reading.specs.Soundness.{IsFirstViolation, pages_in_image}
 use Rattle.repair_laws.specs.Mended.{IsMended}
 use Rattle.recovery.specs.Plans.{IsPlanOf}
@@ -14,6 +15,7 @@ pub record HasFound (W : List ℕ) (found : Found) : Type 0 where
   pub sound : IsSound W
   pub size : found.volume.size ≡ pages_in_image W
   pub going : found.volume.stopped ≡ false
+  pub marked : found.volume.marked ≡ has_mark W
   pub knows : (K : List ℕ) → IsMended (pages_in_image W) W K → Knows found.volume K
   pub made_for : found.repairs.geometry.pages ≡ pages_in_image W
   pub planned : IsPlanOf W found.repairs

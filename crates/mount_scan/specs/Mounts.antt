@@ -2,12 +2,13 @@
 use Rattle.std.specs.Prelude.{◌≡◌, ℕ, ◌+◌, ◌<◌, ◌≤◌, false, List, Ok, Err}
 use Rattle.pm_trait.specs.Device.{HasRisen, LeavesOnly, EndsInFault, acks_from, moment_of}
 use Rattle.pm_trait.specs.DeviceView.{DeviceView, GrowsBy, IsSettledView}
-use Rattle.pm_trait.specs.Unfolds.{Unfolds}
+use Rattle.pm_trait.specs.Unfolds.{KeepsWords, Unfolds}
+use Rattle.layout.specs.Superblock.{IsSuperblockWord}
 use Rattle.tree_model.specs.Run.{State}
 use Rattle.image_reading.specs.Reading.{ReadsAs}
 use Rattle.image_reading.specs.Soundness.{IsFirstViolation, Sound, pages_in_image}
 use Rattle.image_reading.specs.Tidy.{Tidy}
-use Rattle.image_laws.specs.Frame.{SameMeaning}
+use Rattle.image_laws.specs.Frame.{IsSoundAs}
 use Rattle.repair_laws.specs.Mended.{IsMended}
 use Rattle.recovery.specs.declared.repairs.Repairs.{Repairs}
 use Rattle.recovery.specs.Plans.{IsPlanOf}
@@ -39,9 +40,9 @@ pub record KeepsImages (Q : List ℕ → Type 0) (before after : DeviceView) : T
   pub no_ack : acks_from before.trail after.trail (moment_of after.trail) ≡ 0
   pub acks : after.acks ≡ before.acks
 
--- one that means what the words at entry mean
+-- one that is sound and means what the words at entry mean
 abbrev pub KeepsMeaning : ℕ → DeviceView → DeviceView → Type 0
-KeepsMeaning P before after = KeepsImages (SameMeaning P before.words) before after
+KeepsMeaning P before after = KeepsImages (IsSoundAs P before.words) before after
 
 -- one that means this state
 abbrev pub KeepsState : ℕ → State → DeviceView → DeviceView → Type 0
@@ -68,6 +69,8 @@ pub record Mounts (P : ℕ) (state : State) (before mounted : DeviceView) : Type
   pub reads : ReadsAs P mounted.words state
   pub keeps : KeepsState P state before mounted
   pub open keeps use *
+  -- no word of the superblock is another, the mark among them
+  pub beside : KeepsWords IsSuperblockWord before.words mounted.words
   pub made : MakesRepairs P before mounted
   pub open made use *
   pub faults : mounted.faults ≡ before.faults
@@ -84,6 +87,7 @@ pub record FailsToMount (P : ℕ) (before after : DeviceView) : Type 0 where
   pub reads : ReadsAs P before.words start
   pub keeps : KeepsState P start before after
   pub open keeps use *
+  pub beside : KeepsWords IsSuperblockWord before.words after.words
   pub cause : HasRisen before.faults after.faults
   pub halts : EndsInFault after.trail
   pub refused : after.refused ≡ before.refused

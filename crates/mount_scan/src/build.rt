@@ -1,5 +1,6 @@
 // What is known of a volume from its words.
 ghost use Rattle.std.specs.Prelude.{◌≡◌, ◌↔◌, ℕ, ◌+◌, ◌<◌, false, length, IfOk};
+ghost use Rattle.layout.specs.Superblock.{has_mark};
 ghost use Rattle.layout.specs.Geometry.{inodes_of, data_pages_of};
 ghost use Rattle.image_reading.specs.Images.{In};
 ghost use Rattle.image_reading.specs.Reading.{Reached};
@@ -12,6 +13,7 @@ ghost use Rattle.mount_scan.specs.Building.{OfMended};
 use crate::index::index_of_words;
 use allocators::Numbers;
 use image_reading::Scanned;
+use layout::superblock::has_mark;
 use pm_trait::NoMemory;
 use std::alloc::Global;
 use volume::Volume;
@@ -22,11 +24,20 @@ pub(crate) fn volume_of_words(alloc: Global, scanned: &Scanned<'_>) -> Result<Vo
     ensures knows { IfOk result (λ volume. OfMended scanned.now (λ P K. Knows volume K)) }
     ensures size { IfOk result (λ volume. volume.size ≡ scanned.now.image.geometry.pages) }
     ensures going { IfOk result (λ volume. volume.stopped ≡ false) }
+    ensures marked { IfOk result (λ volume. volume.marked ≡ has_mark scanned.now.image.words.now) }
 {
     let index = index_of_words(alloc, scanned)?;
     let inodes = free_inodes(alloc, scanned)?;
     let data_pages = free_pages(alloc, scanned)?;
-    Ok(Volume::from_parts(alloc, scanned.image.geometry, index, inodes, data_pages))
+    let marked = has_mark(scanned.image.words);
+    Ok(Volume::from_parts(
+        alloc,
+        scanned.image.geometry,
+        index,
+        inodes,
+        data_pages,
+        marked,
+    ))
 }
 
 // Which inodes aren't reached, inode i as number i - 1.

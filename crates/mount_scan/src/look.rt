@@ -5,6 +5,7 @@ use crate::build::volume_of_words;
 use crate::error::MountError;
 use crate::head::geometry_of;
 use image_reading::{Scan, first_fault};
+use layout::superblock::has_mark;
 use recovery::Repairs;
 use std::alloc::Global;
 use volume::Volume;
@@ -16,7 +17,8 @@ pub(crate) struct Found {
     pub repairs: Repairs,
 }
 
-/// Looks for a volume in the words. The length and the first words are tested before memory is taken.
+/// Looks for a volume in the words. The length and the first words are tested before memory is taken. In one that was closed
+/// nothing is to be repaired.
 pub(crate) fn look_at(alloc: Global, words: &[u64]) -> Result<Found, MountError>
     ensures { IsAnswerFor words.now result }
 {
@@ -28,7 +30,11 @@ pub(crate) fn look_at(alloc: Global, words: &[u64]) -> Result<Found, MountError>
         return Err(MountError::Damaged(violation));
     }
     let scanned = scan.scanned(words);
-    let repairs = Repairs::of(alloc, &scanned)?;
+    let repairs = if has_mark(words) {
+        Repairs::none(alloc, &geometry)
+    } else {
+        Repairs::of(alloc, &scanned)?
+    };
     let volume = volume_of_words(alloc, &scanned)?;
     Ok(Found { volume, repairs })
 }

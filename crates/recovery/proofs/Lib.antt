@@ -7,3 +7,5 @@ pub mod Course
 pub mod Objects
 pub mod Listing
 pub mod Needing
+pub mod Still
+pub mod Beside

@@ -1,11 +1,11 @@
--- What tells that an object of a sound image needs a repair.
+-- What tells that an object of an image needs a repair.
 use Rattle.std.proofs.Common.{◌≡◌, ◌≢◌, ◌⊎◌, inl, inr, ℕ, zero, suc, ◌+◌, ◌*◌, ◌<◌, ◌≤◌, List, length, slice_index, ap, subst, ◌∙◌, sym, arith}
 use Rattle.layout.proofs.GeometryLaws.{data_pages_below, inodes_below, slots_in_pages}
 use Rattle.layout.specs.Geometry.{IsVolumeSize, data_pages_of, page_of_slot, inode_word_of, descriptor_word_of}
 use Rattle.layout.specs.Fields.{word, inode_kind, inode_links, inode_size, inode_own, page_kind, page_offset}
 use Rattle.image_reading.specs.Reading.{Reached, IsLinkCount}
 use Rattle.image_reading.specs.Repairs.{IsKept, IsKeptDirectoryPage, IsLitterCount, IsLitterInode}
-use Rattle.image_reading.specs.Soundness.{Rule, Sound}
+use Rattle.image_reading.specs.Soundness.{Rule, IsCoherent}
 use Rattle.image_counts.proofs.Paths.{in_range}
 use Rattle.repair_laws.proofs.Kept.{kept_held}
 use Rattle.repair_laws.proofs.Telling.{one_count}
@@ -39,17 +39,17 @@ module _ (P : ℕ) (W : List ℕ) where
     pub room_kind : IsKeptDirectoryPage P W j → page_kind P W j ≡ 2
     room_kind room = let (s, at, owner, live) = room.slot in sym (ap (page_kind P W) at) ∙ live.held.kind
 
-    pub room_of_kind : Sound P W → IsKept P W j → page_kind P W j ≡ 2 → IsKeptDirectoryPage P W j
-    room_of_kind sound kept slots = elim kept [
-      | inl page ↦ absurd (let bytes = (sound Rule.page_kinds j).file page.in_range page.owner page.file in omega (arith, bytes, slots))
+    pub room_of_kind : IsCoherent P W → IsKept P W j → page_kind P W j ≡ 2 → IsKeptDirectoryPage P W j
+    room_of_kind coherent kept slots = elim kept [
+      | inl page ↦ absurd (let bytes = (coherent Rule.page_kinds j).file page.in_range page.owner page.file in omega (arith, bytes, slots))
       | inr room ↦ room
     ]
 
   -- ---- a reached inode's links
 
-  module _ (i n m : ℕ) (sound : Sound P W) (reached : Reached P W i) (count : IsLinkCount P W i n) where
+  module _ (i n m : ℕ) (coherent : IsCoherent P W) (reached : Reached P W i) (count : IsLinkCount P W i n) where
     pub other_count : m ≢ n → IsLinkCount P W i m → ⊥
-    other_count other linked = other (one_count P W sound i n m reached count linked)
+    other_count other linked = other (one_count P W coherent i n m reached count linked)
 
     pub same_count : (IsLinkCount P W i m → ⊥) → m ≢ n
     same_count other same = other (subst (IsLinkCount P W i) (sym same) count)
@@ -90,15 +90,15 @@ module _ (P : ℕ) (W : List ℕ) where
     pub litter_below : (i : ℕ) → IsLitterInode P W i → i < P
     litter_below i litter = let few = inodes_below P size in let most = litter.most in omega (arith, few, most)
 
-  module _ (sound : Sound P W) where
+  module _ (coherent : IsCoherent P W) where
     pub linked_inode : (i : ℕ) → IsLitterCount P W i → IsInode P i
-    linked_inode i litter = in_range P W sound i litter.reached
+    linked_inode i litter = in_range P W coherent i litter.reached
 
     pub links_below : IsVolumeSize P → (i : ℕ) → IsLitterCount P W i → i < P
     links_below size i litter = let few = inodes_below P size in let most = (linked_inode i litter).1 in omega (arith, few, most)
 
     pub dead_within : (s : ℕ) → HasDeadName P W s → s < 32 * data_pages_of P
-    dead_within s dead = let within = (kept_held P W sound s dead.slot.page).in_range in let slots = slots_in_pages P in omega (arith, within, slots)
+    dead_within s dead = let within = (kept_held P W coherent s dead.slot.page).in_range in let slots = slots_in_pages P in omega (arith, within, slots)
 
     pub dead_below : IsVolumeSize P → (s : ℕ) → HasDeadName P W s → s < 32 * P
     dead_below size s dead = let few = data_pages_below P size in let within = dead_within s dead in omega (arith, few, within)

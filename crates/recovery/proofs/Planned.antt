@@ -5,7 +5,7 @@ use Rattle.std.proofs.lemmas.Bool.{cases_eq}
 use Rattle.layout.specs.Fields.{word, page_owner, inode_links, slot_pointer}
 use Rattle.layout.specs.Geometry.{inodes_of, data_pages_of, inode_word_of, descriptor_word_of, slot_word_of}
 use Rattle.image_reading.specs.Reading.{Reached, IsLinkCount}
-use Rattle.image_reading.specs.Soundness.{Sound}
+use Rattle.image_reading.specs.Soundness.{IsCoherent}
 use Rattle.image_counts.proofs.Paths.{in_range}
 use Rattle.image_counts.proofs.Links.{only_links}
 use Rattle.image_laws.proofs.Addresses.{descriptor-ne_inode, inode-ne_slot, inode_word-one}
@@ -57,7 +57,7 @@ one_to P part (Some s) is = (s, refl, is)
 one_from : {a v : ℕ} (P : ℕ) (part : Part) (slot : Option ℕ) (s : ℕ) → slot ≡ Some s → IsInPart P part s 0 a v → IsOne P part slot a v
 one_from {a} {v} P part slot s is has = subst (λ (o : Option ℕ). IsOne P part o a v) (sym is) has
 
-module _ (r : Repairs) (W : List ℕ) (sound : Sound r.geometry.pages W) (plan : IsPlanOf W r) where
+module _ (r : Repairs) (W : List ℕ) (coherent : IsCoherent r.geometry.pages W) (plan : IsPlanOf W r) where
   abbrev P : ℕ
   P = r.geometry.pages
 
@@ -115,15 +115,15 @@ module _ (r : Repairs) (W : List ℕ) (sound : Sound r.geometry.pages W) (plan :
         ∙ same_pointer s f (omega (arith, low)) small first
 
     one_count : (i m n : ℕ) → Reached P W i → IsLinkCount P W i m → IsLinkCount P W i n → n ≡ m
-    one_count i m n reached one two = let (T, reads, form) = tree_law P W sound in
-        sym (only_links P W T sound reads i n reached two) ∙ only_links P W T sound reads i m reached one
+    one_count i m n reached one two = let (T, reads, form) = tree_law P W coherent in
+        sym (only_links P W T coherent reads i n reached two) ∙ only_links P W T coherent reads i m reached one
 
     one_clears : (a v : ℕ) → Clears P W a v → (w : ℕ) → Clears P W a w → w ≡ v
-    one_clears a v (Clears.owner j unkept) w two = let (zero, other, none) = clears_descriptor P W j 0 sound unkept.in_range (omega arith) two refl in none
-    one_clears a v (Clears.slot s f dead low small) w two = let (some, other, none) = clears_slot P W s f sound small two refl in none
+    one_clears a v (Clears.owner j unkept) w two = let (zero, other, none) = clears_descriptor P W j 0 coherent unkept.in_range (omega arith) two refl in none
+    one_clears a v (Clears.slot s f dead low small) w two = let (some, other, none) = clears_slot P W s f coherent small two refl in none
     one_clears a v (Clears.links i n reached count) w two =
-        let (least, most) = in_range P W sound i reached in
-        let (one, also, other) = clears_inode P W i 1 least most sound (omega arith) two refl in one_count i n w reached count other
+        let (least, most) = in_range P W coherent i reached in
+        let (one, also, other) = clears_inode P W i 1 least most coherent (omega arith) two refl in one_count i n w reached count other
 
     -- a slot's word by its place
     slot_field : (s a : ℕ) → slot_word_of P s 1 ≤ a → a ≤ slot_word_of P s 15 → (f : ℕ) × (1 ≤ f) × (f < 16) × (a ≡ slot_word_of P s f)
@@ -161,14 +161,14 @@ module _ (r : Repairs) (W : List ℕ) (sound : Sound r.geometry.pages W) (plan :
           inl (inl (inl (record { place = place; before = before; is = subst (λ z. IsInPart P Owner z 0 a 0) (sym at) (record { low = omega arith; high = omega arith; is = refl }) })))
     ]
     third_from a v (Clears.slot s f dead low small) = elim (cases_eq f 1) [
-      | inl one ↦ inr (subst (λ z. word B (slot_word_of P s z) ≡ 0) (sym one) (second.new (slot_word_of P s 1) 0 (Unpoints.pointer s (kept_held P W sound s dead.page))))
+      | inl one ↦ inr (subst (λ z. word B (slot_word_of P s z) ≡ 0) (sym one) (second.new (slot_word_of P s 1) 0 (Unpoints.pointer s (kept_held P W coherent s dead.page))))
       | inr more ↦ elim (cases_eq (word W (slot_word_of P s f)) 0) [
         | inl zero ↦ inr (same_name s f (omega (arith, low, more)) small ∙ zero)
         | inr some ↦ inl (inl (inr (pick_slot s f low small (plan.slots.all s (record { slot = dead; nonzero = (f, omega (arith, low, more), small, some) })))))
       ]
     ]
     third_from a v (Clears.links i n reached count) = elim (cases_eq (inode_links W i) n) [
-      | inl same ↦ let (least, most) = in_range P W sound i reached in inr (same_inode i 1 least most (omega arith) ∙ same)
+      | inl same ↦ let (least, most) = in_range P W coherent i reached in inr (same_inode i 1 least most (omega arith) ∙ same)
       | inr other ↦
           let (place, before, at) = plan.links.all i (record { reached = reached; other = λ links. other (one_count i n (inode_links W i) reached count links) }) in
           let counted : slice_index r.counts.items place ≡ n = one_count i n (slice_index r.counts.items place) reached count (subst (λ z. IsLinkCount P W z (slice_index r.counts.items place)) at (plan.counts place before)) in
@@ -183,14 +183,14 @@ module _ (r : Repairs) (W : List ℕ) (sound : Sound r.geometry.pages W) (plan :
     module _ {C : List ℕ} (third : IsAfter (Clears P W) B C) where
       last_descriptor : (j f : ℕ) → j < data_pages_of P → 1 ≤ f → f < 8 → word C (descriptor_word_of P j f) ≡ word W (descriptor_word_of P j f)
       last_descriptor j f lt low small =
-          stays (Clears P W) B C third (descriptor_word_of P j f) (λ v is. let (zero, other, none) = clears_descriptor P W j f sound lt small is refl in omega (arith, zero, low))
+          stays (Clears P W) B C third (descriptor_word_of P j f) (λ v is. let (zero, other, none) = clears_descriptor P W j f coherent lt small is refl in omega (arith, zero, low))
           ∙ same_descriptor j f lt small
 
       unreached_inode : {a v : ℕ} (i f : ℕ) → IsUnreached P W i → f < 16 → Clears P W a v → a ≡ inode_word_of i f → ⊥
       unreached_inode i f unreached small (Clears.owner k unkept) e = descriptor-ne_inode P k 0 i f unreached.least unreached.most small e
       unreached_inode i f unreached small (Clears.slot s g dead low high) e = inode-ne_slot P i f s g unreached.least unreached.most small (sym e)
       unreached_inode i f unreached small (Clears.links k n reached count) e =
-          let (inodes, fields) = inode_word-one k 1 i f (in_range P W sound k reached).0 unreached.least (omega arith) small e in
+          let (inodes, fields) = inode_word-one k 1 i f (in_range P W coherent k reached).0 unreached.least (omega arith) small e in
           unreached.unreached (subst (λ z. Reached P W z) inodes reached)
 
       last_inode : (i f : ℕ) → IsUnreached P W i → f < 16 → word C (inode_word_of i f) ≡ word W (inode_word_of i f)

@@ -1,4 +1,4 @@
-// Which objects of a sound image a repair stores to.
+// Which objects of an image a repair stores to.
 ghost use Rattle.std.specs.Prelude.{◌≢◌, ◌↔◌, ℕ, ◌<◌, ◌≤◌, IsTrue};
 ghost use Rattle.layout.specs.Geometry.{data_pages_of, page_of_slot, slot_word_of, slots_of};
 ghost use Rattle.layout.specs.Fields.{word};

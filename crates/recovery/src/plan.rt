@@ -1,11 +1,13 @@
 // Which repairs an image needs.
-ghost use Rattle.std.specs.Prelude.{◌≡◌, ℕ, ◌+◌, ◌*◌, ◌<◌, IfOk, OnOk, length, slice_index, vec_len};
+ghost use Rattle.std.specs.Prelude.{◌≡◌, ℕ, ◌+◌, ◌*◌, ◌<◌, List, IfOk, OnOk, length, slice_index, vec_len};
 ghost use Rattle.layout.specs.Geometry.{data_pages_of};
 ghost use Rattle.image_reading.specs.Images.{In};
 ghost use Rattle.image_reading.specs.Reading.{IsLinkCount, Reached};
 ghost use Rattle.image_reading.specs.Repairs.{IsKeptDirectoryPage, IsLitterCount, IsLitterInode};
 ghost use Rattle.image_reading.specs.Scanned.{IsScanned};
 ghost use Rattle.image_reading.specs.Soundness.{Sound, pages_in_image};
+ghost use Rattle.image_reading.specs.Tidy.{IsTidied};
+ghost use Rattle.recovery.specs.Repairs.{events_of_repairs};
 ghost use Rattle.repair_laws.specs.Stored.{HasNeedlessOwner, HasNeedlessKind, HasDeadName};
 ghost use Rattle.recovery.specs.Listing.{IsListBelow};
 ghost use Rattle.recovery.specs.Plans.{IsListOf, IsPlanOf};
@@ -21,7 +23,26 @@ use pm_trait::{NoMemory, Pm};
 use std::alloc::Global;
 
 impl Repairs {
-    /// The repairs that a sound image needs. `NoMemory` where there is none for the lists.
+    /// The repairs of an image in which nothing is to be repaired: none. It takes no memory.
+    pub fn none(alloc: Global, geometry: &Geometry) -> Repairs
+        ensures planned { (W : List ℕ) → IsTidied geometry.now.pages W → IsPlanOf W result }
+        ensures made_for { result.geometry ≡ geometry.now }
+        ensures nothing { events_of_repairs result ≡ 0 }
+    {
+        Repairs {
+            geometry: *geometry,
+            left: None,
+            pointer: None,
+            owners: Vec::new(alloc),
+            slots: Vec::new(alloc),
+            links: Vec::new(alloc),
+            counts: Vec::new(alloc),
+            descriptors: Vec::new(alloc),
+            inodes: Vec::new(alloc),
+        }
+    }
+
+    /// The repairs that an image needs whose words fit together. `NoMemory` where there is none for the lists.
     pub fn of(alloc: Global, scanned: &Scanned<'_>) -> Result<Repairs, NoMemory>
         requires { IsScanned scanned.now }
         ensures planned { IfOk result (IsPlanOf scanned.now.image.words.now) }

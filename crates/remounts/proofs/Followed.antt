@@ -1,4 +1,4 @@
--- What may follow sound words means what they mean.
+-- What may follow sound words is sound, and means what they mean.
 use Rattle.std.proofs.Common.{◌≡◌, ℕ, ◌≤◌, List, sym, ap, subst, arith, reverse}
 use Rattle.std.specs.Prelude.{◌↔◌, Some}
 use Rattle.std.proofs.lemmas.List.{reverse-reverse}
@@ -11,7 +11,7 @@ use Rattle.tree_model.specs.Run.{State}
 use Rattle.image_reading.specs.Reading.{Names, Reached, Reads, ReadsAs, HasRoom}
 use Rattle.image_reading.specs.Soundness.{Sound}
 use Rattle.image_reading.proofs.Readings.{one_tree, one_room}
-use Rattle.image_laws.specs.Frame.{SameMeaning}
+use Rattle.image_laws.specs.Frame.{IsSoundAs, SameMeaning}
 use Rattle.image_laws.proofs.Meaning.{same_itself, same_chained}
 use Rattle.volume.specs.Crashes.{MeansState}
 use Rattle.remounts.specs.Follow.{WasMounted, CrashLeaves, FollowLaw}
@@ -26,7 +26,7 @@ named P I tree reads path i =
 -- what reads as the same state means the same
 same_state : (P : ℕ) (W image : List ℕ) (state : State) → ReadsAs P W state → MeansState P state image → SameMeaning P W image
 same_state P W image state reads means = record {
-  coherent = means.sound;
+  coherent = means.sound.coherent;
   names = names;
   nodes = λ i x reached.
       let was = reads.tree.nodes i x in
@@ -43,25 +43,34 @@ same_state P W image state reads means = record {
         let is = named P image state.tree means.reads.tree path i in
         ((λ name. is.0 (was.1 name)), (λ name. was.0 (is.1 name)))
 
--- a crash at a moment of a mount leaves what means what the words at entry mean
+-- and is sound with it
+sound_as : (P : ℕ) (W image : List ℕ) (state : State) → ReadsAs P W state → MeansState P state image → IsSoundAs P W image
+sound_as P W image state reads means = record { sound = means.sound; same = same_state P W image state reads means }
+
+-- sound words are as sound as they are
+as_itself : (P : ℕ) (W : List ℕ) → Sound P W → IsSoundAs P W W
+as_itself P W sound = record { sound = sound; same = same_itself P W sound.coherent }
+
+-- a crash at a moment of a mount leaves sound words that mean what the words at entry mean
 mount_keeps : (P : ℕ) {before after : DeviceView} (moment : ℕ) (image : List ℕ) → Sound P before.words → IsSettledView before → WasMounted P before after
-    → moment_of before.trail ≤ moment → moment ≤ moment_of after.trail → MayLeave after.trail moment image → SameMeaning P before.words image
+    → moment_of before.trail ≤ moment → moment ≤ moment_of after.trail → MayLeave after.trail moment image → IsSoundAs P before.words image
 mount_keeps P {before} moment image sound settled (mounted state reads mount) from upto leaves =
-    same_state P before.words image state reads (mount.any_moment.each moment image from upto leaves).1
+    sound_as P before.words image state reads (mount.any_moment.each moment image from upto leaves).1
 mount_keeps P {before} moment image sound settled (failed fails) from upto leaves =
-    same_state P before.words image fails.start fails.reads (fails.any_moment.each moment image from upto leaves).1
+    sound_as P before.words image fails.start fails.reads (fails.any_moment.each moment image from upto leaves).1
 mount_keeps P {before} {after} moment image sound settled (refused alone) from upto leaves =
     let here : moment ≡ moment_of before.trail = omega (arith, from, upto, ap moment_of alone.trail) in
     let is : image ≡ before.words = settled_leaves before.words before.trail moment image settled here (subst (λ t. MayLeave t moment image) alone.trail leaves) in
-    subst (SameMeaning P before.words) (sym is) (same_itself P before.words sound)
+    subst (IsSoundAs P before.words) (sym is) (as_itself P before.words sound)
 
-pub crash_keeps : (P : ℕ) (words image : List ℕ) → Sound P words → CrashLeaves P words image → SameMeaning P words image
+pub crash_keeps : (P : ℕ) (words image : List ℕ) → Sound P words → CrashLeaves P words image → IsSoundAs P words image
 crash_keeps P words image sound crash =
-    subst (λ (w : List ℕ). SameMeaning P w image) crash.same
+    subst (λ (w : List ℕ). IsSoundAs P w image) crash.same
     (mount_keeps P crash.moment image (subst (Sound P) (sym crash.same) sound) crash.settled crash.mount crash.from crash.upto crash.leaves)
 
 pub follow_law : FollowLaw
-follow_law P W _ sound itself = same_itself P W sound
+follow_law P W _ sound itself = as_itself P W sound
 follow_law P W _ sound (crashed words image follows crash) =
     let before = follow_law P W words sound follows in
-    same_chained P W words image before (crash_keeps P words image before.coherent crash)
+    let here = crash_keeps P words image before.sound crash in
+    record { sound = here.sound; same = same_chained P W words image before.same here.same }

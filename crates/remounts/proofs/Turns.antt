@@ -13,7 +13,7 @@ use Rattle.pm_memory.specs.Fresh.{IsNew}
 use Rattle.image_reading.specs.Reading.{ReadsAs}
 use Rattle.image_reading.specs.Soundness.{IsFirstViolation, Rule, Sound, pages_in_image}
 use Rattle.image_reading.proofs.Violations.{pages_law}
-use Rattle.image_laws.specs.Frame.{SameMeaning}
+use Rattle.image_laws.specs.Frame.{IsSoundAs}
 use Rattle.repair_laws.specs.Mended.{IsMended}
 use Rattle.volume.specs.Volume.{VolumeView}
 use Rattle.mount_scan.specs.Mounting.{HoldsVolume, IsSound}
@@ -151,7 +151,7 @@ crash_leaves {crash} {words} {image} left =
 
 same_pages : {crash : Crash} {words image : List ℕ} → LeavesImage crash words image → pages_in_image image ≡ pages_in_image words
 same_pages {words = words} {image = image} left =
-    pages_law (pages_in_image words) image ((crash_keeps (pages_in_image words) words image left.sound (crash_leaves left)).coherent Rule.head)
+    pages_law (pages_in_image words) image ((crash_keeps (pages_in_image words) words image left.sound (crash_leaves left)).sound.coherent Rule.head)
 
 follow_on : (P : ℕ) (W : List ℕ) (crashes : List Crash) (words last : List ℕ) → P ≡ pages_in_image words → MayFollow P W words → LeaveInTurn crashes words last → MayFollow P W last
 follow_on P W [] words last pages follows same = subst (MayFollow P W) (sym same) follows
@@ -162,13 +162,13 @@ follow_on P W (crash ∷ later) words last pages follows (image, left, in_turn) 
 pub turns_follow : (crashes : List Crash) (words last : List ℕ) → LeaveInTurn crashes words last → MayFollow (pages_in_image words) words last
 turns_follow crashes words last in_turn = follow_on (pages_in_image words) words crashes words last refl itself in_turn
 
-pub turns_mean : (crashes : List Crash) (words last : List ℕ) → LeaveInTurn crashes words last → IsSound words → SameMeaning (pages_in_image words) words last
+pub turns_mean : (crashes : List Crash) (words last : List ℕ) → LeaveInTurn crashes words last → IsSound words → IsSoundAs (pages_in_image words) words last
 turns_mean crashes words last in_turn sound = follow_law (pages_in_image words) words last sound (turns_follow crashes words last in_turn)
 
 pub turns_sound : (crashes : List Crash) (words last : List ℕ) → LeaveInTurn crashes words last → IsSound words → IsSound last
 turns_sound crashes words last in_turn sound =
     let means = turns_mean crashes words last in_turn sound in
-    subst (λ (n : ℕ). Sound n last) (sym (pages_law (pages_in_image words) last (means.coherent Rule.head))) means.coherent
+    subst (λ (n : ℕ). Sound n last) (sym (pages_law (pages_in_image words) last (means.sound.coherent Rule.head))) means.sound
 
 -- a crash behind the last event leaves the mended words
 pub late_crash : LateCrashLaw

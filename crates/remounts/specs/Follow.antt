@@ -5,7 +5,7 @@ use Rattle.pm_trait.specs.DeviceView.{DeviceView, IsSettledView}
 use Rattle.tree_model.specs.Run.{State}
 use Rattle.image_reading.specs.Reading.{ReadsAs}
 use Rattle.image_reading.specs.Soundness.{Sound}
-use Rattle.image_laws.specs.Frame.{SameMeaning}
+use Rattle.image_laws.specs.Frame.{IsSoundAs}
 use Rattle.mount_scan.specs.Mounts.{FailsToMount, IsLeftAlone, Mounts}
 
 -- What a mount of a device of P pages comes to: its end, a fence that failed, or a refusal that left the device alone.
@@ -31,6 +31,6 @@ pub data MayFollow (P : ℕ) (W : List ℕ) : List ℕ → Type 0 where
   itself : MayFollow P W W
   crashed : (words image : List ℕ) → MayFollow P W words → CrashLeaves P words image → MayFollow P W image
 
--- What may follow sound words means what they mean.
+-- What may follow sound words is sound, and means what they mean.
 abbrev pub FollowLaw : Type 0
-FollowLaw = (P : ℕ) (W image : List ℕ) → Sound P W → MayFollow P W image → SameMeaning P W image
+FollowLaw = (P : ℕ) (W image : List ℕ) → Sound P W → MayFollow P W image → IsSoundAs P W image

@@ -3,7 +3,7 @@
 
 ghost use Rattle.std.specs.Prelude.{◌≡◌, ◌⊎◌, ◌<◌, length, Err, IfErr, IfOk};
 ghost use Rattle.image_reading.specs.Soundness.{pages_in_image};
-ghost use Rattle.image_laws.specs.Frame.{SameMeaning};
+ghost use Rattle.image_laws.specs.Frame.{IsSoundAs};
 ghost use Rattle.mount_scan.specs.Mounting.{IsSound};
 ghost use Rattle.mount_scan.specs.declared.error.MountError.{MountError};
 ghost use Rattle.remounts.specs.Follow.{FollowLaw, MayFollow};
@@ -24,7 +24,7 @@ pub struct Crash<'a> {
     pub keep: &'a [u8],
 }
 
-/// What may follow sound words, by mounts and crashes at any moments of them, means what they mean.
+/// What may follow sound words, by mounts and crashes at any moments of them, is sound and means what they mean.
 pub fn follow_law()
     ensures { FollowLaw }
 {}
@@ -50,7 +50,7 @@ pub fn words_after(
         (error : MountError) × (result ≡ Err error) × IsRefusedAs words.now error }
     ensures follows { IfOk result (λ after. MayFollow (pages_in_image words.now) words.now after.items) }
     ensures means { IsSound words.now → IfOk result (λ after.
-        SameMeaning (pages_in_image words.now) words.now after.items) }
+        IsSoundAs (pages_in_image words.now) words.now after.items) }
     ensures fails { IsSound words.now → IfErr result (λ error. error ≡ MountError.NoMemory) }
 {
     let mut left = copy_of(alloc, words)?;

@@ -8,4 +8,4 @@ pub returns-clause-knows : goal.returns-clause-knows
 returns-clause-knows c = λ K mended.
     let image = c.args.scanned.now.image in
     subst (λ (volume : VolumeView). Knows volume K) (sym c.from_parts.ensures)
-    (knows image.geometry.pages image.words.now c.requires.sound K mended _ _ _ image.whole (c.in_ok-index.ensures K mended) c.in_ok-inodes.ensures.size c.in_ok-inodes.ensures.free c.in_ok-data_pages.ensures.size c.in_ok-data_pages.ensures.free)
+    (knows image.geometry.pages image.words.now c.requires.coherent K mended _ _ _ _ image.whole (c.in_ok-index.ensures K mended) c.in_ok-inodes.ensures.size c.in_ok-inodes.ensures.free c.in_ok-data_pages.ensures.size c.in_ok-data_pages.ensures.free)

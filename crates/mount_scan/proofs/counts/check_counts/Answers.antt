@@ -12,5 +12,5 @@ returns c =
     let P = image.geometry.pages in
     let W = image.words.now in
     let told = c.from.ensures ∙ ap bool_byte c.is_some.ensures in
-    counted P W c.requires.sound c.count_inodes-inodes.result c.count_pages-pages.result c.from.result c.count_inodes-inodes.ensures c.count_pages-pages.ensures
+    counted P W c.requires.coherent c.count_inodes-inodes.result c.count_pages-pages.result c.from.result c.count_inodes-inodes.ensures c.count_pages-pages.ensures
     (subst (λ (n : ℕ). Count (IsPointer P W) n) (sym told) (count_option (IsPointer P W) c.pointer.result c.pointer.ensures))

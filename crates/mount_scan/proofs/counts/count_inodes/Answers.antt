@@ -13,7 +13,7 @@ loop-number-init c =
     let image = c.args.scanned.now.image in
     let P = image.geometry.pages in
     let W = image.words.now in
-    let least : (i : ℕ) → Reached P W i → 1 ≤ i = λ i reached. (in_range P W c.requires.sound i reached).0 in
+    let least : (i : ℕ) → Reached P W i → 1 ≤ i = λ i reached. (in_range P W c.requires.coherent i reached).0 in
     record {
       directories = count_begun (IsReachedDirectory P W) 1 (λ i lt is. (let low = least i is.0 in omega (arith, lt, low)));
       files = count_begun (IsReachedFile P W) 1 (λ i lt is. (let low = least i is.0 in omega (arith, lt, low)));

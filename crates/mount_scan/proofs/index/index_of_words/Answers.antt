@@ -7,6 +7,6 @@ returns c = λ K mended.
     let image = c.args.scanned.now.image in
     let P = image.geometry.pages in
     let W = image.words.now in
-    let sound = c.requires.sound in
+    let coherent = c.requires.coherent in
     let names = c.names.result.now in
-    knows_nodes P K (tidy P W sound K mended) c.add_entries.new.index names (c.in_ok-add_entries.ensures K mended) (all_named P W sound K mended names c.names.ensures)
+    knows_nodes P K (tidy P W coherent K mended) c.add_entries.new.index names (c.in_ok-add_entries.ensures K mended) (all_named P W coherent K mended names c.names.ensures)

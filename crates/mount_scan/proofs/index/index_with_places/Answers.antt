@@ -13,7 +13,7 @@ loop-number-init c = λ K mended.
 pub add_places-requires-clause-in_range : goal.add_places-requires-clause-in_range
 add_places-requires-clause-in_range c =
     let image = c.args.scanned.now.image in
-    let (K, mended) = some_mended image.geometry.pages image.words.now c.requires.sound in
+    let (K, mended) = some_mended image.geometry.pages image.words.now c.requires.coherent in
     let size = (c.loop-number.invariant K mended).each_inode in
     omega (arith, size, image.geometry.inodes_exact)
 

@@ -15,7 +15,7 @@ returns c =
     let reached = c.is_reached.ensures.0 c.if-not-is_reached.false in (
       (λ t. record {
         reached = reached;
-        other = other_count _ _ c.args.inode _ _ c.requires.scanned.sound reached c.links.ensures (λ same. eqb-false _ _ (not-true _ t) (links ∙ same));
+        other = other_count _ _ c.args.inode _ _ c.requires.scanned.coherent reached c.links.ensures (λ same. eqb-false _ _ (not-true _ t) (links ∙ same));
       }),
-      (λ litter. not_from_false _ (ne_eqb _ _ (λ same. same_count _ _ c.args.inode _ _ c.requires.scanned.sound reached c.links.ensures litter.other (sym links ∙ same)))),
+      (λ litter. not_from_false _ (ne_eqb _ _ (λ same. same_count _ _ c.args.inode _ _ c.requires.scanned.coherent reached c.links.ensures litter.other (sym links ∙ same)))),
     )

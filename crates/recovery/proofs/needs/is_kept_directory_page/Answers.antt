@@ -12,6 +12,6 @@ returns-then-descriptor_at-ne-SLOTS c = (
 pub returns : goal.returns
 returns c =
     let slots = sym c.descriptor_at.ensures.kind ∙ c.if-descriptor_at-ne-SLOTS.false in (
-      (λ t. room_of_kind _ _ c.args.page c.requires.scanned.sound (c.is_kept.ensures.0 t) slots),
+      (λ t. room_of_kind _ _ c.args.page c.requires.scanned.coherent (c.is_kept.ensures.0 t) slots),
       (λ room. c.is_kept.ensures.1 (inr room)),
     )

@@ -19,4 +19,4 @@ loop-page-preserved c =
     ]
 
 pub returns : goal.returns
-returns c = list_all _ _ _ (λ s dead. let within = dead_within _ _ c.requires.sound s dead in omega (arith, within, c.loop-page-test.false, c.args.scanned.now.image.geometry.data_pages_exact)) c.loop-page.invariant
+returns c = list_all _ _ _ (λ s dead. let within = dead_within _ _ c.requires.coherent s dead in omega (arith, within, c.loop-page-test.false, c.args.scanned.now.image.geometry.data_pages_exact)) c.loop-page.invariant

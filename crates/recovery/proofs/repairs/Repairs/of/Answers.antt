@@ -13,12 +13,12 @@ invariant_of-result-clause-few_owners c =
 
 pub invariant_of-result-clause-few_slots : goal.invariant_of-result-clause-few_slots
 invariant_of-result-clause-few_slots c =
-    let few = list_short _ _ _ (dead_below _ _ c.requires.sound c.args.scanned.now.image.geometry.volume_size) c.in_ok-slots.ensures in
+    let few = list_short _ _ _ (dead_below _ _ c.requires.coherent c.args.scanned.now.image.geometry.volume_size) c.in_ok-slots.ensures in
     omega (arith, few, c.in_ok-slots.slots.ok.0)
 
 pub invariant_of-result-clause-few_links : goal.invariant_of-result-clause-few_links
 invariant_of-result-clause-few_links c =
-    let few = list_short _ _ _ (links_below _ _ c.requires.sound c.args.scanned.now.image.geometry.volume_size) c.in_ok-links.ensures in
+    let few = list_short _ _ _ (links_below _ _ c.requires.coherent c.args.scanned.now.image.geometry.volume_size) c.in_ok-links.ensures in
     omega (arith, few, c.in_ok-links.links.ok.0)
 
 pub invariant_of-result-clause-few_descriptors : goal.invariant_of-result-clause-few_descriptors

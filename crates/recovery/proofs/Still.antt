@@ -1,9 +1,9 @@
--- A plan has at most four fences, and none where the words are tidy.
-use Rattle.std.proofs.Common.{◌≡◌, inl, inr, ℕ, ◌≤◌, List, length, slice_index, Option, Some, None, refl, ap, arith}
+-- A plan has at most four fences, and nothing in it where nothing is to be repaired.
+use Rattle.std.proofs.Common.{◌≡◌, inl, inr, ℕ, ◌≤◌, List, length, slice_index, Option, Some, None, refl, sym, ◌∙◌, ap, arith}
 use Rattle.std.proofs.lemmas.Bool.{cases_eq}
 use Rattle.layout.specs.Fields.{page_owner}
 use Rattle.image_reading.specs.Repairs.{IsPointer, IsLitterSlot, IsLitterPage, IsLitterInode, IsLitterCount, WasLeft}
-use Rattle.image_reading.specs.Tidy.{Tidy}
+use Rattle.image_reading.specs.Tidy.{IsTidied}
 use Rattle.image_reading.proofs.Counts.{none_counted}
 use Rattle.repair_laws.specs.Stored.{HasNeedlessOwner, HasDeadName, HasNeedlessKind}
 use Rattle.recovery.specs.declared.repairs.Repairs.{Repairs}
@@ -15,7 +15,7 @@ use Rattle.recovery.proofs.Stepping.{one_fence}
 pub few_fences : (r : Repairs) → fences_of_repairs r ≤ 4
 few_fences r = omega (arith, one_fence (one_changes r.left), one_fence (one_changes r.pointer), one_fence (clear_changes r), one_fence (free_changes r))
 
--- ---- a plan of tidy words
+-- ---- a plan of words in which nothing is to be repaired
 
 no_option : (o : Option ℕ) → ((s : ℕ) → o ≡ Some s → ⊥) → one_changes o ≡ 0
 no_option None none = refl
@@ -27,7 +27,7 @@ no_list Q numbers none list = elim (cases_eq (length numbers) 0) [
   | inr some ↦ absurd (none (slice_index numbers 0) (list.each 0 (omega (arith, some))))
 ]
 
-module _ (P : ℕ) (W : List ℕ) (tidy : Tidy P W) where
+module _ (P : ℕ) (W : List ℕ) (tidy : IsTidied P W) where
   no_pointer : (d : ℕ) → IsPointer P W d → ⊥
   no_pointer d pointer = none_counted (IsPointer P W) tidy.repaired.of_pointers d pointer
 
@@ -51,7 +51,7 @@ module _ (P : ℕ) (W : List ℕ) (tidy : Tidy P W) where
       let (f, low, small, some) = dead.nonzero in
       none_counted (IsLitterSlot P W) tidy.repaired.of_slots s (record { page = dead.slot.page; dead = dead.slot.dead; nonzero = (f, small, some) })
 
-pub no_fences : (W : List ℕ) (r : Repairs) → Tidy r.geometry.pages W → IsPlanOf W r → fences_of_repairs r ≡ 0
+pub no_fences : (W : List ℕ) (r : Repairs) → IsTidied r.geometry.pages W → IsPlanOf W r → fences_of_repairs r ≡ 0
 no_fences W r tidy plan =
     let P = r.geometry.pages in
     let left = no_option r.left (λ s is. let (d, was) = (plan.left s).0 is in no_left P W tidy s d was) in
@@ -68,3 +68,36 @@ no_fences W r tidy plan =
     let three = ap fences_for clears in
     let four = ap fences_for frees in
     omega (arith, one, two, three, four)
+
+-- ---- the plan of nothing
+
+-- a plan with no object in it
+pub record IsEmpty (r : Repairs) : Type 0 where
+  pub left : r.left ≡ None
+  pub pointer : r.pointer ≡ None
+  pub owners : length r.owners.items ≡ 0
+  pub slots : length r.slots.items ≡ 0
+  pub links : length r.links.items ≡ 0
+  pub descriptors : length r.descriptors.items ≡ 0
+  pub inodes : length r.inodes.items ≡ 0
+
+empty_list : (Q : ℕ → Type 0) (numbers : List ℕ) → length numbers ≡ 0 → ((n : ℕ) → Q n → ⊥) → IsListOf Q numbers
+empty_list Q numbers short none = record {
+  rising = λ i k lower lt. absurd (omega (arith, short, lt));
+  each = λ place lt. absurd (omega (arith, short, lt));
+  all = λ n has. absurd (none n has);
+}
+
+pub empty_plan : (r : Repairs) → IsEmpty r → (W : List ℕ) → IsTidied r.geometry.pages W → IsPlanOf W r
+empty_plan r empty W tidy =
+    let P = r.geometry.pages in
+    record {
+      left = λ s. ((λ is. let none : ⊥ = cc (sym empty.left ∙ is) in absurd none), λ (d, was). absurd (no_left P W tidy s d was));
+      pointer = λ d. ((λ is. let none : ⊥ = cc (sym empty.pointer ∙ is) in absurd none), λ has. absurd (no_pointer P W tidy d has));
+      owners = empty_list (HasNeedlessOwner P W) r.owners.items empty.owners (no_owner P W tidy);
+      slots = empty_list (HasDeadName P W) r.slots.items empty.slots (no_name P W tidy);
+      links = empty_list (IsLitterCount P W) r.links.items empty.links (none_counted (IsLitterCount P W) tidy.repaired.of_counts);
+      counts = λ place lt. absurd (let links = empty.links in omega (arith, links, lt));
+      descriptors = empty_list (HasNeedlessKind P W) r.descriptors.items empty.descriptors (no_kind P W tidy);
+      inodes = empty_list (IsLitterInode P W) r.inodes.items empty.inodes (none_counted (IsLitterInode P W) tidy.repaired.of_inodes);
+    }
