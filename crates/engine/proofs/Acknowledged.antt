@@ -11,6 +11,7 @@ use Rattle.pm_trait.proofs.AckLaws.{leaves_ack, acks_none, acks_next, acks_ack, 
 use Rattle.tree_model.specs.Step.{Answer, Done, Count, Status, Bytes, Listed, Space, Refused, Unread, Fault, Stopped}
 use Rattle.tree_model.specs.Run.{Line, State, LineStep}
 use Rattle.tree_model.specs.declared.reply.Reply.{Reply}
+use Rattle.layout.specs.Superblock.{has_mark}
 use Rattle.volume.specs.Volume.{VolumeView}
 use Rattle.volume.specs.Stands.{StandsFor, Knows}
 use Rattle.image_reading.specs.Reading.{ReadsAs}
@@ -24,6 +25,7 @@ use Rattle.engine.specs.Session.{SessionView}
 use Rattle.tree_model.specs.Fences.{fences_of}
 use Rattle.tree_model.specs.Places.{line_needs_places}
 use Rattle.engine.proofs.After.{Acked, acked_then}
+use Rattle.engine.proofs.Marks.{keeps_after}
 use Rattle.engine.proofs.Quiet.{acts_answered}
 
 -- an acknowledgement is one
@@ -56,7 +58,7 @@ may_be_there P state words is = record { sound = is.tidy.sound; tree = state.tre
 
 -- ---- what an acknowledgement leaves
 
-module _ (session : SessionView) (device acked : DeviceView) (same : acked.words ≡ device.words) (appended : acked.trail ≡ with_event device.trail Ack) where
+module _ (session : SessionView) (device acked : DeviceView) (same : acked.words ≡ device.words) (appended : acked.trail ≡ with_event device.trail Ack) (room : acked.spare ≡ device.spare) where
   -- a volume stands for a state whatever was acknowledged
   pub stands_acked : {state : State} → StandsFor session.volume device state → StandsFor session.volume acked state
   stands_acked {state} stands = record {
@@ -64,6 +66,8 @@ module _ (session : SessionView) (device acked : DeviceView) (same : acked.words
     tidy = subst (λ (w : List ℕ). Tidy session.volume.size w) (sym same) stands.tidy;
     reads = subst (λ (w : List ℕ). ReadsAs session.volume.size w state) (sym same) stands.reads;
     knows = subst (λ (w : List ℕ). Knows session.volume w) (sym same) stands.knows;
+    mark = stands.mark ∙ ap (λ (w : List ℕ). has_mark w) (sym same);
+    room = let least = stands.room in omega (arith, least, room);
   }
 
   -- and the session has what is written of an answer
@@ -95,9 +99,9 @@ module _ {P : ℕ} {old : State} {line : Line} {session : SessionView} {replied 
   acknowledged = record {
     answer = done.answer;
     new = done.new;
-    replied = record { reply_is = done.replied.reply_is; told = told_acked session after acked acks.words acks.trail done.answer done.replied.told };
+    replied = record { reply_is = done.replied.reply_is; told = told_acked session after acked acks.words acks.trail acks.room done.answer done.replied.told };
     step = done.step;
-    stands = stands_acked session after acked acks.words acks.trail done.stands;
+    stands = stands_acked session after acked acks.words acks.trail acks.room done.stands;
     acks = acks_next done.no_ack (acks_none _ done.any_moment.continues done.no_ack) (acks_ack _ done.stands.settled acks.trail (refl, is_there));
     any_moment = leaves_next done.no_ack (leaves_weaker (λ k image may. inl may) done.any_moment)
         (leaves_ack _ done.stands.settled acks.trail
@@ -107,5 +111,6 @@ module _ {P : ℕ} {old : State} {line : Line} {session : SessionView} {replied 
     one_ack = λ told is_told. acked_then 0 1 done.any_moment.continues (leaves_ack (λ k image. Unit {0}) done.stands.settled acks.trail tt tt).continues (λ t i. done.no_ack) (ack_counts after.trail acks.trail) told is_told;
     fences = acks.fences ∙ done.fences;
     events = let before = done.events in let ack = moment_of-grown _ _ (Ack ∷ []) acks.trail in omega (arith, before, ack);
+    mark = keeps_after acks.words done.mark;
     no_memory = λ is. subst (λ (refused : ℕ). IsTrue (line_needs_places old line) ⊎ HasRisen before.refused refused) (sym acks.refused) (done.no_memory is);
   }

@@ -1,6 +1,6 @@
 -- What a line leaves for which nothing was done, and what preparing it adds to what was done.
 use Rattle.std.proofs.Common.{◌≡◌, inl, inr, ℕ, List, false, Option, Some, refl, sym, ap, subst, ◌∙◌, arith}
-use Rattle.std.specs.Prelude.{IsTrue, ◌⊎◌, Result, Ok, Err, OnErr, IfOk}
+use Rattle.std.specs.Prelude.{IsTrue, ◌⊎◌, Result, Ok, Err, OnErr, IfOk, IsErr}
 use Rattle.pm_trait.specs.Trail.{Trail}
 use Rattle.pm_trait.specs.DeviceView.{DeviceView}
 use Rattle.pm_trait.specs.Device.{HasRisen, LeavesOnly, StaysOnce, acks_from, moment_of}
@@ -26,13 +26,16 @@ use Rattle.volume.specs.Carried.{IsPlanFor}
 use Rattle.volume.specs.Crashes.{MayReadAs}
 use Rattle.volume.specs.Prepared.{IsRefusal, IsSameButPlaces, IsSameButRoom, Prepares}
 use Rattle.volume.specs.declared.plan.Action.{Action}
-use Rattle.volume.specs.Costs.{events_of, fences_of_plan}
+use Rattle.layout.specs.Superblock.{has_mark}
+use Rattle.volume.specs.Costs.{events_of, fences_of_plan, events_with_mark, fences_with_mark}
+use Rattle.volume.specs.LineEvents.{events_of_line}
 use Rattle.engine.specs.Exec.{Executed, HasFailed, IsPlannedFor, MightTake, Does, LeavesVolume}
 use Rattle.engine.specs.Replies.{IsReplyOf, IsChangeReply}
 use Rattle.engine.specs.Session.{SessionView, session_of}
 use Rattle.engine.specs.Run.{command_of, tree_after_line, IsAt}
 use Rattle.engine.proofs.Acknowledged.{stands_at, may_be_there, may_more}
 use Rattle.engine.proofs.Causes.{not_refused}
+use Rattle.engine.proofs.Marks.{fences_without, keeps_before, keeps_here}
 use Rattle.engine.proofs.Stays.{stays_here}
 use Rattle.engine.proofs.Told.{told_steps, state_is}
 
@@ -71,8 +74,9 @@ module _ (old new : SessionView) (before after : DeviceView) (size : new.volume.
       any_moment = subst (λ (t : Option Trail). LeavesOnly t after.trail (λ acks image. (acks ≡ 0) × MayReadAs old.volume.size state (command_of (Some line)) image)) told
           (leaves_here _ stands.settled (refl, may_more old.volume.size state line after.words (may_be_there old.volume.size state after.words (subst (λ (p : ℕ). IsAt p state after.words) size (stands_at new.volume after stands)))));
       no_ack = subst (λ (t : Option Trail). acks_from t after.trail (moment_of after.trail) ≡ 0) told (acks_from-here (continues_here after.trail));
-      fences = omega (arith, none, same);
+      fences = let few = ap (λ (n : ℕ). fences_with_mark (has_mark before.words) n) none ∙ fences_without (has_mark before.words) 0 (λ marked. refl) in omega (arith, few, same);
       events = let still = ap moment_of told in omega (arith, still);
+      mark = keeps_here before after (fences_of_line state line answer state) words none;
       quiet = λ few. (words, told);
       no_memory = cause;
     };
@@ -127,8 +131,17 @@ module _ (old mid new : SessionView) (before between after : DeviceView) where
         stands = done.stands;
         any_moment = moments done.any_moment;
         no_ack = none_acked done.no_ack;
-        fences = let more = done.fences in let same = device.fences in omega (arith, more, same);
-        events = let more = done.events in let same = ap moment_of device.trail in omega (arith, more, same);
+        fences =
+            let more = done.fences in
+            let same = device.fences in
+            let marked = ap (λ (words : List ℕ). fences_with_mark (has_mark words) (fences_of_line state line done.answer done.new)) device.words in
+            omega (arith, more, same, marked);
+        events =
+            let more = done.events in
+            let same = ap moment_of device.trail in
+            let marked = ap (λ (words : List ℕ). events_with_mark (has_mark words) (fences_of_line state line done.answer done.new) (events_of_line state line done.answer done.new)) device.words in
+            omega (arith, more, same, marked);
+        mark = keeps_before device.words done.mark;
         quiet = λ none. let still = done.quiet none in (still.0 ∙ device.words, still.1 ∙ device.trail);
         no_memory = λ is. subst (λ (refused : ℕ). IsTrue (line_needs_places state line) ⊎ HasRisen refused after.refused) same_refused (done.no_memory is);
       }
@@ -147,8 +160,17 @@ module _ (old mid new : SessionView) (before between after : DeviceView) where
             (subst (λ (p : ℕ). IsPlannedFor p between.words state line fails.action) view.same_size fails.planned);
         might = subst (λ (p : ℕ). MightTake p state line (fences_of_plan fails.action) (events_of fails.action)) view.same_size fails.might;
         least = let least = fails.least in let same = device.fences in omega (arith, least, same);
-        fewer = let few = fails.fewer in let same = device.fences in omega (arith, few, same);
-        events = let few = fails.events in let same = ap moment_of device.trail in omega (arith, few, same);
+        fewer =
+            let few = fails.fewer in
+            let same = device.fences in
+            let marked = ap (λ (words : List ℕ). fences_with_mark (has_mark words) (fences_of_plan fails.action)) device.words in
+            omega (arith, few, same, marked);
+        events =
+            let few = fails.events in
+            let same = ap moment_of device.trail in
+            let marked = ap (λ (words : List ℕ). events_with_mark (has_mark words) (fences_of_plan fails.action) (events_of fails.action)) device.words in
+            omega (arith, few, same, marked);
+        mark = keeps_before device.words fails.mark;
       }
 
 module _ (old mid new : VolumeView) (before between after : DeviceView) where
@@ -231,10 +253,15 @@ pub reads_by : {X Y : Type 0} (result : Result Reply PmFault) → (X → Y) → 
 reads_by (Ok replied) by reads = λ not. by (reads not)
 reads_by (Err fault) by reads = tt
 
+pub reads_failed : (Y : Type 0) (result : Result Reply PmFault) → IsErr result → IfOk result (λ replied. ¬ IsChangeReply replied → Y)
+reads_failed Y (Ok replied) wrong = absurd (cc wrong)
+reads_failed Y (Err fault) wrong = tt
+
 same_places : (volume : VolumeView) → IsSameButPlaces volume volume
 same_places volume = record {
   same_size = refl;
   same_state = refl;
+  same_mark = refl;
   index = record {
     each_inode = refl;
     entries = λ i. refl;

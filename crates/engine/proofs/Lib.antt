@@ -8,12 +8,14 @@ pub mod Fences
 pub mod Rows
 pub mod Memory
 pub mod Stays
+pub mod Marks
 pub mod Acknowledged
 pub mod Told
 pub mod Causes
 pub mod Commands
 pub mod Might
 pub mod Carried
+pub mod Ready
 pub mod Removals
 pub mod Asked
 pub mod Sessions

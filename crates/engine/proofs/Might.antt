@@ -1,5 +1,5 @@
 -- The fences and events of a line's plan are those that it takes with some answer and state that it might have had.
-use Rattle.std.proofs.Common.{◌≡◌, inl, ℕ, List, refl, sym, subst}
+use Rattle.std.proofs.Common.{inl, ℕ, List, refl, sym, subst}
 use Rattle.std.specs.Prelude.{Option, Ok}
 use Rattle.tree_model.specs.Capacity.{untaken}
 use Rattle.tree_model.specs.Run.{State}

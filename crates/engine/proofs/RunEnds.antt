@@ -48,6 +48,8 @@ run_ends {start = start} {now = now} so_far end left written ends executes write
       (stands_at now.volume now.device (so_far.going (going same)).stands);
   fences = λ same. so_far.fences (going same);
   events = λ same. so_far.events (going same);
+  mark = λ same. so_far.mark (going same);
+  beside = so_far.beside;
   cut = λ fewer. so_far.cut (halted fewer);
   any_moment = so_far.any_moment;
   no_memory = so_far.no_memory;

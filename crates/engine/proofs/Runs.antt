@@ -107,9 +107,9 @@ last_is start [] = refl
 last_is start (s ∷ states) = last_is s states
 
 -- a run goes on by a line
-pub fences_more : (start : State) (lines : List Line) (answers : List Answer) (states : List State) (line : Line) (answer : Answer) (new : State) (first now after : ℕ) → length lines ≡ length states → length states ≡ length answers
-    → now ≡ first + fences_of_run start lines answers states → after ≡ now + fences_of (last_state start states) line answer new → after ≡ first + fences_of_run start (lines ++ line ∷ []) (answers ++ answer ∷ []) (states ++ new ∷ [])
-fences_more start lines answers states line answer new first now after many same so_far one =
+pub fences_more : (start : State) (lines : List Line) (answers : List Answer) (states : List State) (line : Line) (answer : Answer) (new : State) → length lines ≡ length states → length states ≡ length answers
+    → fences_of_run start (lines ++ line ∷ []) (answers ++ answer ∷ []) (states ++ new ∷ []) ≡ fences_of_run start lines answers states + fences_of (last_state start states) line answer new
+fences_more start lines answers states line answer new many same =
     let more = fences_of_run-more start lines answers states line answer new many same in
     let last = ap (λ (old : State). fences_of old line answer new) (last_is start states) in
-    omega (arith, so_far, one, more, last)
+    omega (arith, more, last)

@@ -1,7 +1,8 @@
 -- A run goes on by one line.
-use Rattle.std.proofs.Common.{◌≡◌, ◌⊎◌, inl, inr, ℕ, zero, suc, ◌+◌, ◌≤◌, true, false, List, [], ◌∷◌, ◌++◌, length, refl, sym, ap, subst, ◌∙◌, arith, length-append, append_assoc}
+use Rattle.std.proofs.Common.{◌≡◌, ◌⊎◌, inl, inr, ℕ, zero, suc, ◌+◌, ◌≤◌, Bool, true, false, List, [], ◌∷◌, ◌++◌, length, refl, sym, ap, subst, ◌∙◌, arith, length-append, append_assoc}
 use Rattle.std.proofs.lemmas.List.{append-nil}
 use Rattle.std.specs.Prelude.{Option, Some, None, slice_get}
+use Rattle.pm_trait.specs.Device.{moment_of}
 use Rattle.pm_trait.specs.DeviceView.{DeviceView}
 use Rattle.pm_trait.proofs.ContinuesLaws.{continues_here, acks_from-here}
 use Rattle.pm_trait.proofs.DeviceLaws.{leaves_weaker, leaves_here}
@@ -10,15 +11,16 @@ use Rattle.io_edge.specs.Bytes.{Takes}
 use Rattle.io_edge.proofs.BytesLaws.{takes_none, takes_as, takes_then}
 use Rattle.tree_model.specs.Step.{Answer, Fault, Stopped}
 use Rattle.tree_model.specs.Run.{Line, State}
-use Rattle.tree_model.specs.Fences.{fences_of_run}
-use Rattle.volume.specs.Costs.{events_of, fences_of_plan}
+use Rattle.tree_model.specs.Fences.{fences_of, fences_of_run}
+use Rattle.layout.specs.Superblock.{has_mark}
+use Rattle.volume.specs.Costs.{events_of, fences_of_plan, events_with_mark, fences_with_mark, mark_after}
 use Rattle.volume.specs.LineEvents.{events_of_run}
 use Rattle.tree_model.specs.declared.reply.Reply.{Reply}
 use Rattle.script.specs.Texts.{answer_text}
 use Rattle.volume.specs.Crashes.{MayReadAs}
 use Rattle.engine.specs.Run.{state_after, last_state, command_of, IsAt, IsBetween, IsStateAfter}
 use Rattle.engine.specs.Script.{texts_of, IsCutShort}
-use Rattle.engine.specs.Exec.{HasAnswered, HasFailed}
+use Rattle.engine.specs.Exec.{HasAnswered, HasFailed, LeavesMark}
 use Rattle.engine.specs.Session.{Mounted}
 use Rattle.volume.specs.Stands.{StandsFor}
 use Rattle.engine.specs.Turns.{Input, IsGoing, HasTaken, CountsFaults, MovesOn, RanSoFar}
@@ -28,6 +30,7 @@ use Rattle.engine.proofs.Runs.{events_more, events_still, fences_more, fences_st
 use Rattle.engine.proofs.After.{leaves_after, acks_after, acked_then}
 use Rattle.engine.proofs.Fences.{may_store_more, may_store_still, may_store_now, may_store_failed}
 use Rattle.engine.proofs.Lists.{get_front, get_last}
+use Rattle.engine.proofs.Marks.{beside_here, beside_then, events_go_on, fences_go_on, fences_without, has_mark_after, keeps_here, keeps_then}
 use Rattle.engine.proofs.Memory.{fault_is_none, stopped_is_none, one_answer, other_answer}
 use Rattle.engine.proofs.Quiet.{acts_weaker, acts_here, acts_after, acts_unacknowledged}
 use Rattle.engine.proofs.Runs.{answers_as_lines, run_step, run_fails, run_stopped, state_after_last, last_state-append, state_stays}
@@ -103,6 +106,19 @@ texts_more taken answers answer now later is more =
     texts_end [] = append-nil (answer_text answer)
     texts_end (a ∷ answers) = ap (λ (bytes : List ℕ). answer_text a ++ bytes) (texts_end answers) ∙ sym (append_assoc (answer_text a) (texts_of answers) (answer_text answer))
 
+-- ---- a line that failed
+
+-- as `cut` of a run says, by the fences and events of the lines before it
+abbrev pub Cut : (P : ℕ) (start : State) (lines : List Line) (states : List State) (first now : DeviceView) (fences events : ℕ) → Type 0
+Cut P start lines states first now fences events =
+    IsCutShort P start lines states (mark_after (has_mark first.words) fences) (fences_with_mark (has_mark first.words) fences) (events_with_mark (has_mark first.words) fences events) first now
+
+pub cut_still : (P : ℕ) (start : State) (lines : List Line) (states : List State) (first now : DeviceView) {fences fences_before events events_before : ℕ} → fences ≡ fences_before → events ≡ events_before
+    → Cut P start lines states first now fences_before events_before → Cut P start lines states first now fences events
+cut_still P start lines states first now {fences} {fences_before} {events} {events_before} same_fences same_events cut =
+    subst (λ (n : ℕ). Cut P start lines states first now n events) (sym same_fences)
+    (subst (λ (n : ℕ). Cut P start lines states first now fences_before n) (sym same_events) cut)
+
 -- ---- one line, answered
 
 module _ {P : ℕ} {start : State} {first : DeviceView} {script : Option (List ℕ)} {taken : List ℕ → Type 0} {old : Mounted} {input : Input} {before : List ℕ → Type 0}
@@ -142,6 +158,10 @@ module _ {P : ℕ} {start : State} {first : DeviceView} {script : Option (List �
           state_after_all P start (so_far.states ++ done.new ∷ []) (length so_far.states + k) image
           (one_more so_far.states done.new ∙ omega (arith, one)) (subst (λ (s : State). IsAt P s image) (sym new_is) is_at)
 
+      pub more_fences : fences_of_run start (so_far.lines ++ line ∷ []) (so_far.answers ++ done.answer ∷ []) (so_far.states ++ done.new ∷ [])
+          ≡ fences_of_run start so_far.lines so_far.answers so_far.states + fences_of (last_state start so_far.states) line done.answer done.new
+      more_fences = fences_more start so_far.lines so_far.answers so_far.states line done.answer done.new many going.each
+
       abbrev pub ran_answered : {input_after : Input} {after : List ℕ → Type 0} → HasTaken (so_far.lines ++ line ∷ []) script input_after
           → Takes before (answer_text done.answer) after → new.device.acks ≡ old.device.acks + 1
           → RanSoFar P start first script taken new input_after after
@@ -174,13 +194,13 @@ module _ {P : ℕ} {start : State} {first : DeviceView} {script : Option (List �
         refused = refused_order;
         halts = λ halts. absurd (apart halts is);
         counted = λ told is_told. acked_then (length so_far.states) 1 so_far.any_moment.continues done.any_moment.continues so_far.counted done.one_ack told is_told ∙ sym (one_more so_far.states done.new);
-        fences = λ goes. fences_more start so_far.lines so_far.answers so_far.states line done.answer done.new first.fences old.device.fences _ many going.each (so_far.fences was) done.fences;
+        fences = λ goes. fences_go_on (has_mark first.words) (has_mark old.device.words) _ _ _ first.fences old.device.fences new.device.fences (has_mark_after (so_far.mark was)) (so_far.fences was) done.fences more_fences;
         events = λ goes.
-            let before = so_far.events was in
-            let one = done.events in
-            let more = events_more start so_far.lines so_far.answers so_far.states line done.answer done.new many going.each in
-            omega (arith, before, one, more);
+            events_go_on (has_mark first.words) (has_mark old.device.words) _ _ _ _ _ _ (moment_of first.trail) (moment_of old.device.trail) (moment_of new.device.trail) (has_mark_after (so_far.mark was)) (so_far.events was) done.events
+            more_fences (events_more start so_far.lines so_far.answers so_far.states line done.answer done.new many going.each);
+        mark = λ goes. subst (λ (fences : ℕ). LeavesMark fences first new.device) (sym more_fences) (keeps_then (so_far.mark was) done.mark);
         cut = λ halts. absurd (apart halts is);
+        beside = beside_then first.words old.device.words new.device.words so_far.beside done.mark.beside;
         ack_count = ack_more so_far.states done.new first.acks old.device.acks _ so_far.ack_count acks_are;
       }
 
@@ -189,10 +209,10 @@ module _ {P : ℕ} {start : State} {first : DeviceView} {script : Option (List �
       while_failing k image (none, may) =
           between_now P start so_far.states so_far.lines line (length so_far.states + k) image (omega (arith, many, none)) (omega (arith, none)) may
 
-      pub cut_here : IsCutShort P start (so_far.lines ++ line ∷ []) so_far.states
+      pub cut_here : Cut P start (so_far.lines ++ line ∷ []) so_far.states first new.device
           (fences_of_run start (so_far.lines ++ line ∷ []) (so_far.answers ++ Fault ∷ []) so_far.states)
-          (events_of_run start (so_far.lines ++ line ∷ []) (so_far.answers ++ Fault ∷ []) so_far.states) first new.device
-      cut_here = record {
+          (events_of_run start (so_far.lines ++ line ∷ []) (so_far.answers ++ Fault ∷ []) so_far.states)
+      cut_here = cut_still P start (so_far.lines ++ line ∷ []) so_far.states first new.device (fences_still P start so_far.lines so_far.answers so_far.states line Fault so_far.run) (events_still P start so_far.lines so_far.answers so_far.states line Fault so_far.run) (record {
         line = line;
         next = ap (λ (k : ℕ). slice_get (so_far.lines ++ line ∷ []) k) (sym many) ∙ get_last so_far.lines line;
         its_fences = fences_of_plan failed.action;
@@ -201,19 +221,18 @@ module _ {P : ℕ} {start : State} {first : DeviceView} {script : Option (List �
         least =
             let before = so_far.fences was in
             let least = failed.least in
-            let still = fences_still P start so_far.lines so_far.answers so_far.states line Fault so_far.run in
-            omega (arith, before, least, still);
+            omega (arith, before, least);
         fewer =
             let before = so_far.fences was in
             let few = failed.fewer in
-            let still = fences_still P start so_far.lines so_far.answers so_far.states line Fault so_far.run in
-            omega (arith, before, few, still);
+            let mark_is = ap (λ (b : Bool). fences_with_mark b (fences_of_plan failed.action)) (has_mark_after (so_far.mark was)) in
+            omega (arith, before, few, mark_is);
         grown =
             let before = so_far.events was in
             let few = failed.events in
-            let still = events_still P start so_far.lines so_far.answers so_far.states line Fault so_far.run in
-            omega (arith, before, few, still);
-      }
+            let mark_is = ap (λ (b : Bool). events_with_mark b (fences_of_plan failed.action) (events_of failed.action)) (has_mark_after (so_far.mark was)) in
+            omega (arith, before, few, mark_is);
+      })
 
       abbrev pub ran_failed : {input_after : Input} {after : List ℕ → Type 0} → HasTaken (so_far.lines ++ line ∷ []) script input_after
           → Takes before (answer_text Fault) after → new.device.acks ≡ old.device.acks
@@ -244,7 +263,9 @@ module _ {P : ℕ} {start : State} {first : DeviceView} {script : Option (List �
         counted = λ told is_told. acked_then (length so_far.states) 0 so_far.any_moment.continues failed.any_moment.continues so_far.counted (λ t i. failed.no_ack) told is_told ∙ omega arith;
         fences = λ goes. absurd (apart is goes);
         events = λ goes. absurd (apart is goes);
+        mark = λ goes. absurd (apart is goes);
         cut = λ halts. cut_here;
+        beside = beside_then first.words old.device.words new.device.words so_far.beside failed.mark.beside;
         ack_count = acks_are ∙ so_far.ack_count;
       }
 
@@ -276,18 +297,20 @@ ran_stopped {P = P} {start = start} {first = first} {taken = taken} {old = old} 
   counted = so_far.counted;
   fences = λ goes. absurd (apart is goes);
   events = λ goes. absurd (apart is goes);
+  mark = λ goes. absurd (apart is goes);
   cut = λ halts.
       let cut = so_far.cut halts in
-      record {
+      cut_still P start (so_far.lines ++ line ∷ []) so_far.states first old.device (fences_still P start so_far.lines so_far.answers so_far.states line Stopped so_far.run) (events_still P start so_far.lines so_far.answers so_far.states line Stopped so_far.run) (record {
         line = cut.line;
         next = get_front so_far.lines (line ∷ []) (length so_far.states) cut.line cut.next;
         its_fences = cut.its_fences;
         its_events = cut.its_events;
         might = cut.might;
-        least = let least = cut.least in let still = fences_still P start so_far.lines so_far.answers so_far.states line Stopped so_far.run in omega (arith, least, still);
-        fewer = let few = cut.fewer in let still = fences_still P start so_far.lines so_far.answers so_far.states line Stopped so_far.run in omega (arith, few, still);
-        grown = let few = cut.grown in let still = events_still P start so_far.lines so_far.answers so_far.states line Stopped so_far.run in omega (arith, few, still);
-      };
+        least = cut.least;
+        fewer = cut.fewer;
+        grown = cut.grown;
+      });
+  beside = so_far.beside;
   ack_count = so_far.ack_count;
 }
 
@@ -315,8 +338,10 @@ ran_none {start = start} now script taken goes stands has_taken = record {
   refused = omega arith;
   halts = λ is. absurd (apart is goes);
   counted = λ told is. acks_from-here (continues_here now.device.trail);
-  fences = λ is. omega arith;
+  fences = λ is. let none = fences_without (has_mark now.device.words) 0 (λ marked. refl) in omega (arith, none);
   events = λ is. omega arith;
+  mark = λ is. keeps_here now.device now.device 0 refl refl;
   cut = λ is. absurd (apart is goes);
+  beside = beside_here now.device.words;
   ack_count = omega arith;
 }

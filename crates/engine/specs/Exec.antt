@@ -1,5 +1,5 @@
 -- What one line of a script does to a volume and its device.
-use Rattle.std.specs.Prelude.{◌≡◌, ◌≢◌, ◌⊎◌, ℕ, ◌+◌, ◌<◌, ◌≤◌, true, false, IsTrue, List, Some, None, Result, Ok, Err, IfOk, OnOk, OnErr}
+use Rattle.std.specs.Prelude.{◌≡◌, ◌≢◌, ◌⊎◌, ℕ, ◌+◌, ◌<◌, ◌≤◌, true, false, IsTrue, ◌==◌, ◌&&◌, nat_lt, if◌then◌else◌, List, slice_index, Some, None, Result, Ok, Err, IfOk, OnOk, OnErr}
 use Rattle.pm_trait.specs.declared.event.Event.TheVariants.{Ack}
 use Rattle.pm_trait.specs.declared.event.PmFault.{PmFault}
 use Rattle.pm_trait.specs.Trail.{Trail}
@@ -12,7 +12,8 @@ use Rattle.tree_model.specs.declared.reply.Reply.{Reply}
 use Rattle.tree_model.specs.declared.reply.Reply.TheVariants as replies
 use Rattle.image_reading.specs.Reading.{Reads}
 use Rattle.volume.specs.Volume.{VolumeView}
-use Rattle.volume.specs.Costs.{events_of, fences_of_plan}
+use Rattle.layout.specs.Superblock.{KeepsSuperblock, has_mark, mark_word, closed_mark, open_mark}
+use Rattle.volume.specs.Costs.{events_of, fences_of_plan, events_with_mark, fences_with_mark}
 use Rattle.volume.specs.LineEvents.{events_of_line}
 use Rattle.volume.specs.declared.plan.Action.{Action}
 use Rattle.volume.specs.Planned.{IsPlanned}
@@ -26,6 +27,21 @@ use Rattle.engine.specs.Run.{command_of, tree_after_line, IsAt}
 use Rattle.engine.specs.Session.{SessionView}
 use Rattle.volume.specs.Stands.{StandsFor}
 
+-- ---- the superblock
+
+-- the mark after so many fences: taken away by the first of them where it was there, and else as it was
+abbrev pub mark_left : ℕ → ℕ → ℕ
+mark_left mark fences = if (mark == closed_mark) && nat_lt 0 fences then open_mark else mark
+
+-- The word of the mark is what so many fences leave of it, and no other word of the superblock changes.
+pub record LeavesMark (fences : ℕ) (before after : DeviceView) : Type 0 where
+  pub mark : slice_index after.words mark_word ≡ mark_left (slice_index before.words mark_word) fences
+  pub beside : KeepsSuperblock before.words after.words
+
+-- a line makes at most so many fences, that of the mark among them
+abbrev pub most_fences_with_mark : ℕ
+most_fences_with_mark = 1 + most_fences
+
 -- ---- before the acknowledgement
 
 -- The line was executed and not acknowledged yet: the volume stands for a state that the line may leave, and a crash at any
@@ -38,8 +54,9 @@ pub record Executed (P : ℕ) (old : State) (line : Line) (session : SessionView
   pub stands : StandsFor session.volume after new
   pub any_moment : LeavesOnly before.trail after.trail (λ acks image. (acks ≡ 0) × MayReadAs P old (command_of (Some line)) image)
   pub no_ack : acks_from before.trail after.trail (moment_of after.trail) ≡ 0
-  pub fences : after.fences ≡ before.fences + fences_of old line answer new
-  pub events : GrowsBy (events_of_line old line answer new) before after
+  pub fences : after.fences ≡ before.fences + fences_with_mark (has_mark before.words) (fences_of old line answer new)
+  pub events : GrowsBy (events_with_mark (has_mark before.words) (fences_of old line answer new) (events_of_line old line answer new)) before after
+  pub mark : LeavesMark (fences_of old line answer new) before after
   -- a line that takes no fence does nothing to the device
   pub quiet : fences_of old line answer new ≡ 0 → (after.words ≡ before.words) × (after.trail ≡ before.trail)
   -- one that needs no place of a table is answered NoMemory only where the device refused room
@@ -58,7 +75,8 @@ pub record MightTake (P : ℕ) (old : State) (line : Line) (fences events : ℕ)
   pub fences_are : fences ≡ fences_of old line answer new
   pub events_are : events ≡ events_of_line old line answer new
 
--- A fence failed in it, and nothing was done after that. Fewer fences were made than the line's plan has, and no more events.
+-- A fence failed in it, and nothing was done after that. Fewer fences were made than the line's plan has, with that of the mark, and no
+-- more events. The mark is as after them all: it is stored before the first of them.
 pub record HasFailed (P : ℕ) (old : State) (line : Line) (before after : DeviceView) : Type 0 where
   pub fails : LineFails P old line Fault
   pub any_moment : LeavesOnly before.trail after.trail (λ acks image. (acks ≡ 0) × MayReadAs P old (command_of (Some line)) image)
@@ -68,8 +86,9 @@ pub record HasFailed (P : ℕ) (old : State) (line : Line) (before after : Devic
   pub planned : IsPlannedFor P before.words old line action
   pub might : MightTake P old line (fences_of_plan action) (events_of action)
   pub least : before.fences ≤ after.fences
-  pub fewer : after.fences < before.fences + fences_of_plan action
-  pub events : GrowsBy (events_of action) before after
+  pub fewer : after.fences < before.fences + fences_with_mark (has_mark before.words) (fences_of_plan action)
+  pub events : GrowsBy (events_with_mark (has_mark before.words) (fences_of_plan action) (events_of action)) before after
+  pub mark : LeavesMark (fences_of_plan action) before after
 
 -- Once all that a crash may leave reads as the tree that the line leaves, it stays so.
 abbrev pub StaysAsAfter : ℕ → State → Line → DeviceView → DeviceView → Type 0
@@ -101,7 +120,7 @@ pub record LeavesVolume (old new : VolumeView) (before after : DeviceView) (resu
   pub refused : before.refused ≤ after.refused
   pub not_refused : IfOk result (λ reply. reply ≢ replies.Refused NoMemory → after.refused ≡ before.refused)
   pub fault_not_refused : OnErr result (after.refused ≡ before.refused)
-  pub fences : after.fences ≤ before.fences + most_fences
+  pub fences : after.fences ≤ before.fences + most_fences_with_mark
   pub acks : after.acks ≡ before.acks
 
 -- only a read changes the bytes of the last one
@@ -123,9 +142,10 @@ pub record HasAnswered (P : ℕ) (old : State) (line : Line) (session : SessionV
   -- nothing is done to the device after the acknowledgement, and before it only where the change takes a fence
   pub quiet : ActsOnly before.trail after.trail (λ acks. (acks ≡ 0) × (0 < fences_of old line answer new))
   pub one_ack : (trail : Trail) → after.trail ≡ Some trail → acks_from before.trail after.trail (moment_of after.trail) ≡ 1
-  pub fences : after.fences ≡ before.fences + fences_of old line answer new
-  -- its own events and the acknowledgement
-  pub events : GrowsBy (events_of_line old line answer new + 1) before after
+  pub fences : after.fences ≡ before.fences + fences_with_mark (has_mark before.words) (fences_of old line answer new)
+  -- its own events, those of the mark, and the acknowledgement
+  pub events : GrowsBy (events_with_mark (has_mark before.words) (fences_of old line answer new) (events_of_line old line answer new) + 1) before after
+  pub mark : LeavesMark (fences_of old line answer new) before after
   -- a line that needs no place of a table is answered NoMemory only where the device refused room
   pub no_memory : answer ≡ Refused NoMemory → IsTrue (line_needs_places old line) ⊎ HasRisen before.refused after.refused
 
@@ -167,4 +187,4 @@ pub record LeavesSession (old new : SessionView) (before after : DeviceView) (re
   pub faults : before.faults ≤ after.faults
   pub refused : before.refused ≤ after.refused
   pub not_refused : reply ≢ replies.Refused NoMemory → after.refused ≡ before.refused
-  pub fences : after.fences ≤ before.fences + most_fences
+  pub fences : after.fences ≤ before.fences + most_fences_with_mark

@@ -4,6 +4,7 @@ pub mod Quiet
 pub mod Memory
 pub mod Replies
 pub mod Exec
+pub mod Ready
 pub mod Listing
 pub mod Places
 pub mod Script

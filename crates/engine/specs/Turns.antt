@@ -19,13 +19,14 @@ use Rattle.script.specs.Lines.{call_of, calls_of, complete_lines_of}
 use Rattle.script.specs.Reader.{pending, read_count, has_ended}
 use Rattle.script.specs.Reading.{rest_of, IfTold, ReadPrefix}
 use Rattle.script.specs.Texts.{answer_text}
-use Rattle.engine.specs.Exec.{HasAnswered, HasFailed}
-use Rattle.tree_model.specs.Fences.{fences_of_run, most_fences}
+use Rattle.layout.specs.Superblock.{has_mark, KeepsSuperblock}
+use Rattle.engine.specs.Exec.{HasAnswered, HasFailed, LeavesMark, most_fences_with_mark}
+use Rattle.tree_model.specs.Fences.{fences_of_run}
+use Rattle.volume.specs.Costs.{fences_with_mark, mark_after}
 use Rattle.engine.specs.Memory.{needs_places_at}
 use Rattle.engine.specs.Quiet.{MayStore, ActsOnly}
 use Rattle.engine.specs.Run.{Run, last_state, IsBetween, IsStateAfter}
-use Rattle.engine.specs.Script.{texts_of, IsCutShort}
-use Rattle.volume.specs.LineEvents.{events_of_run}
+use Rattle.engine.specs.Script.{texts_of, events_of_marked_run, IsCutShort}
 use Rattle.engine.specs.Session.{Mounted}
 use Rattle.volume.specs.Stands.{StandsFor, IsStanding}
 
@@ -81,7 +82,7 @@ pub record MovesOn (old new : Mounted) : Type 0 where
   pub no_fault : new.volume.stopped ≡ false → new.device.faults ≡ old.device.faults
   pub faults : old.device.faults ≤ new.device.faults
   pub refused : old.device.refused ≤ new.device.refused
-  pub fences : new.device.fences ≤ old.device.fences + most_fences
+  pub fences : new.device.fences ≤ old.device.fences + most_fences_with_mark
   pub acks : new.device.acks ≤ old.device.acks + 1
 
 -- ---- a run so far
@@ -151,7 +152,10 @@ pub record RanSoFar (P : ℕ) (start : State) (first : DeviceView) (script : Opt
   pub counted : (told : Trail) → now.device.trail ≡ Some told → acks_from first.trail now.device.trail (moment_of now.device.trail) ≡ length states
   pub no_memory : (k : ℕ) → slice_get answers k ≡ Some (Refused NoMemory) → IsTrue (needs_places_at start lines states k) ⊎ HasRisen first.refused now.device.refused
   pub refused : first.refused ≤ now.device.refused
-  pub fences : now.volume.stopped ≡ false → now.device.fences ≡ first.fences + fences_of_run start lines answers states
-  pub events : now.volume.stopped ≡ false → GrowsBy (events_of_run start lines answers states) first now.device
-  pub cut : now.volume.stopped ≡ true → IsCutShort P start lines states (fences_of_run start lines answers states) (events_of_run start lines answers states) first now.device
+  pub fences : now.volume.stopped ≡ false → now.device.fences ≡ first.fences + fences_with_mark (has_mark first.words) (fences_of_run start lines answers states)
+  pub events : now.volume.stopped ≡ false → GrowsBy (events_of_marked_run (has_mark first.words) start lines answers states) first now.device
+  pub mark : now.volume.stopped ≡ false → LeavesMark (fences_of_run start lines answers states) first now.device
+  pub cut : now.volume.stopped ≡ true → IsCutShort P start lines states (mark_after (has_mark first.words) (fences_of_run start lines answers states))
+      (fences_with_mark (has_mark first.words) (fences_of_run start lines answers states)) (events_of_marked_run (has_mark first.words) start lines answers states) first now.device
+  pub beside : KeepsSuperblock first.words now.device.words
   pub ack_count : now.device.acks ≡ first.acks + length states

@@ -1,9 +1,11 @@
-use Rattle.std.proofs.Common.{◌++◌, ◌∷◌, [], ℕ, List, sym, ap, subst, ◌∙◌, arith}
-use Rattle.std.proofs.lemmas.List.{length-append}
+use Rattle.std.proofs.Common.{◌≡◌, ◌++◌, ◌∷◌, [], ℕ, List, sym, ap, subst, ◌∙◌, arith}
+use Rattle.std.proofs.lemmas.List.{append-nil, length-append}
+use Rattle.io_edge.proofs.BytesLaws.{writes_as, writes_broken}
+use Rattle.script.specs.Texts.{entry_words, line_text}
 use Rattle.layout.specs.Geometry.{inodes_of}
 use Rattle.tree_model.specs.declared.reply.Stat.{Stat}
 use Rattle.engine.specs.declared.places.Place.{Place}
-use Rattle.engine.specs.Places.{LeadsTo, StepsInto, place_at}
+use Rattle.engine.specs.Places.{LeadsTo, StepsInto, place_at, route_through}
 use Rattle.engine.proofs.NextPlaces.{is_tree, node_led_to, numbered}
 use Rattle.engine.proofs.PlaceLaws.{few_places, place_there, steps_by, steps_into}
 use Rattle.engine.proofs.tree.list_node.Goals as goal
@@ -22,6 +24,18 @@ write_line-requires-clause-leads g c =
       subst (λ (places : List Place). LeadsTo state.tree places c.stat-stat.result.inode) (sym c.deref.ensures.value)
           (subst (λ (n : ℕ). LeadsTo state.tree c.args.places.now.items n) (sym inode) leads),
     )
+
+pub returns-in_err-write_line-clause-writes : goal.returns-in_err-write_line-clause-writes
+returns-in_err-write_line-clause-writes g c = λ state stands leads.
+    let inode = ap (λ (s : Stat). s.inode) (c.stat-stat.ensures state stands) in
+    let text : List Place → ℕ → List ℕ = λ places n. line_text (entry_words state.tree (route_through state.tree places, n)) in
+    let line = text c.deref.result.now c.stat-stat.result.inode in
+    let there = subst (λ (places : List Place). LeadsTo state.tree places c.stat-stat.result.inode) (sym c.deref.ensures.value)
+    (subst (λ (n : ℕ). LeadsTo state.tree c.args.places.now.items n) (sym inode) leads) in
+    let same : line ++ [] ≡ text c.args.places.now.items c.args.inode =
+    append-nil line ∙ ap (λ (places : List Place). text places c.stat-stat.result.inode) c.deref.ensures.value ∙ ap (λ (n : ℕ). text c.args.places.now.items n) inode in
+    writes_as _ _ _ _ (line ++ []) (text c.args.places.now.items c.args.inode) c.from_residual.result same
+    (writes_broken {T = Unit {0}} line [] c.from_residual.result c.from_residual.ensures.0 (c.in_err-write_line.ensures state stands there))
 
 pub enter-requires : goal.enter-requires
 enter-requires g c =
