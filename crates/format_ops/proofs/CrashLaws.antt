@@ -92,6 +92,7 @@ module _ (pages : ℕ) {old : List ℕ} (some : 0 < length old) where
       | inl here ↦ ap (λ (k : ℕ). slice_index whole k) here ∙ first ∙ ap (λ (k : ℕ). slice_index (head_of pages) k) (sym here)
       | inr other ↦ others a other ∙ (values a other (omega (arith, low, head_inside))).head low
     ];
+    mark = others 5 (omega arith) ∙ (values 5 (omega arith) (omega (arith, head_inside))).mark refl;
     superblock = λ a low high. rest a low (omega (arith, high, head_inside)) (omega (arith, high)) (omega (arith, high)) (omega (arith, high));
     root = λ f low. elim (cases_eq f 0) [
       | inl kind ↦ root_value f 0 kind (field 0 (omega arith)).root_kind
@@ -118,7 +119,7 @@ module _ (pages : ℕ) {old : List ℕ} (some : 0 < length old) where
       values : (a : ℕ) → a ≢ 0 → a < first_data_word_of pages → IsTableValue pages a (slice_index tables a)
       values a other inside = written.each a (omega (arith, other)) inside
 
-      rest : (a : ℕ) → 5 ≤ a → a < first_data_word_of pages → a ≢ inode_word_of 1 0 → a ≢ inode_word_of 1 1 → a ≢ inode_word_of 1 3 → slice_index whole a ≡ 0
+      rest : (a : ℕ) → 5 < a → a < first_data_word_of pages → a ≢ inode_word_of 1 0 → a ≢ inode_word_of 1 1 → a ≢ inode_word_of 1 3 → slice_index whole a ≡ 0
       rest a low inside kind links own = others a (λ here. omega (arith, here, low)) ∙ (values a (λ here. omega (arith, here, low)) inside).rest low kind links own
 
       field : (f : ℕ) → f < 4 → IsTableValue pages (inode_word_of 1 f) (slice_index tables (inode_word_of 1 f))

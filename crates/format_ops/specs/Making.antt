@@ -1,6 +1,7 @@
 -- The steps of a format. pages is the number of pages.
-use Rattle.std.specs.Prelude.{◌≡◌, ℕ, true, List, [], ◌∷◌, length, slice_set}
+use Rattle.std.specs.Prelude.{◌≡◌, ℕ, true, List, [], ◌∷◌, length}
 use Rattle.pm_trait.specs.Unfolds.{Step, events_in}
+use Rattle.fence_token.specs.Setting.{setting}
 use Rattle.layout.specs.Geometry.{first_data_word_of}
 use Rattle.layout.specs.Superblock.{magic}
 use Rattle.format_ops.specs.Tables.{HasTableValues, SameBeside, tables_events}
@@ -11,21 +12,13 @@ pub record HasTables (pages : ℕ) (I J : List ℕ) : Type 0 where
   pub written : HasTableValues pages 1 (first_data_word_of pages) J
   pub beside : SameBeside 1 (first_data_word_of pages) I J
 
--- a store, a flush and a fence
-abbrev pub word_events : ℕ
-word_events = 3
-
--- word 0 becomes this
-abbrev pub setting_first : ℕ → Step
-setting_first value = record { Makes = λ I J. J ≡ slice_set I 0 value; stores = true; events = word_events }
-
--- every other word before the data pages
+-- every word before the data pages but the first
 abbrev pub filling_tables : ℕ → Step
 filling_tables pages = record { Makes = HasTables pages; stores = true; events = tables_events pages }
 
 -- the magic goes, by which an old volume is hidden; the tables; the magic, the commit
 abbrev pub steps_of : ℕ → List Step
-steps_of pages = setting_first 0 ∷ filling_tables pages ∷ setting_first magic ∷ []
+steps_of pages = setting 0 0 ∷ filling_tables pages ∷ setting 0 magic ∷ []
 
 -- the stores, flushes and fences of all of them
 abbrev pub format_events : ℕ → ℕ

@@ -1,7 +1,7 @@
 -- The words before the data pages.
 use Rattle.std.specs.Prelude.{◌≡◌, ◌≢◌, ◌⊎◌, ℕ, ◌+◌, ◌-◌, ◌/◌, ◌<◌, ◌≤◌, List, slice_index}
 use Rattle.layout.specs.Geometry.{first_data_word_of, inode_word_of}
-use Rattle.layout.specs.Superblock.{head_of}
+use Rattle.layout.specs.Superblock.{head_of, mark_word, closed_mark}
 
 -- The value that a formatted volume has in a word before its data pages. The root is inode 1, a directory of two links.
 pub record IsTableValue (pages word value : ℕ) : Type 0 where
@@ -9,7 +9,8 @@ pub record IsTableValue (pages word value : ℕ) : Type 0 where
   pub root_kind : word ≡ inode_word_of 1 0 → value ≡ 2
   pub root_links : word ≡ inode_word_of 1 1 → value ≡ 2
   pub root_own : word ≡ inode_word_of 1 3 → value ≡ 1
-  pub rest : 5 ≤ word → word ≢ inode_word_of 1 0 → word ≢ inode_word_of 1 1 → word ≢ inode_word_of 1 3 → value ≡ 0
+  pub mark : word ≡ mark_word → value ≡ closed_mark
+  pub rest : mark_word < word → word ≢ inode_word_of 1 0 → word ≢ inode_word_of 1 1 → word ≢ inode_word_of 1 3 → value ≡ 0
 
 -- each word from first to before end has the value that a formatted volume has there
 pub record HasTableValues (pages first end : ℕ) (words : List ℕ) : Type 0 where

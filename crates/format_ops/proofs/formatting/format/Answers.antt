@@ -1,7 +1,8 @@
-use Rattle.std.proofs.Common.{rules, ◌≡◌, ℕ, ◌/◌, inl, length, refl, sym, ap, subst, arith}
+use Rattle.std.proofs.Common.{rules, ◌≡◌, ℕ, ◌/◌, inl, List, length, refl, sym, ap, subst, arith}
 use Rattle.std.specs.Prelude.{Option, Err}
 use Rattle.pm_trait.specs.Trail.{Trail}
 use Rattle.pm_trait.specs.Device.{LeavesOnly}
+use Rattle.pm_trait.specs.DeviceView.{DeviceView}
 use Rattle.pm_trait.proofs.DeviceLaws.{leaves_here}
 use Rattle.image_reading.specs.Laws.{IsFresh}
 use Rattle.image_reading.proofs.Format.{format_law}
@@ -54,3 +55,22 @@ returns-clause-in_turn g c =
     let geometry = c.in-Some.geometry in
     let is : geometry.pages ≡ length (g.P.Pm.view c.args.pm.now).words / 512 = omega (arith, c.in-Some.ensures.whole, ap length c.image.ensures) in
     after_reserve is c.in_ok-reserve.ensures (unfolds_as tt c.in_ok-make_volume.ensures.unfolds)
+
+module _ {pages P : ℕ} (old mid new : DeviceView) (is : pages ≡ P) (words : mid.words ≡ old.words) (trail : mid.trail ≡ old.trail) where
+  moments_as : LeavesOnly mid.trail new.trail (λ _. IsOldHiddenOrFormatted pages mid.words) → LeavesOnly old.trail new.trail (λ _. IsOldHiddenOrFormatted P old.words)
+  moments_as leaves =
+      subst (λ (p : ℕ). LeavesOnly old.trail new.trail (λ _. IsOldHiddenOrFormatted p old.words)) is
+      (subst (λ (w : List ℕ). LeavesOnly old.trail new.trail (λ _. IsOldHiddenOrFormatted pages w)) words
+      (subst (λ (t : Option Trail). LeavesOnly t new.trail (λ _. IsOldHiddenOrFormatted pages mid.words)) trail leaves))
+
+pub returns-clause-any_moment : goal.returns-clause-any_moment
+returns-clause-any_moment g c =
+    let geometry = c.in-Some.geometry in
+    let is : geometry.pages ≡ length (g.P.Pm.view c.args.pm.now).words / 512 = omega (arith, c.in-Some.ensures.whole, ap length c.image.ensures) in
+    moments_as (g.P.Pm.view c.args.pm.now) (g.P.Pm.view c.reserve.new.self) (g.P.Pm.view c.make_volume.new.pm) is c.reserve.ensures.words c.reserve.ensures.trail c.in_ok-make_volume.ensures.any_moment
+
+pub returns-in_err-make_volume-clause-any_moment : goal.returns-in_err-make_volume-clause-any_moment
+returns-in_err-make_volume-clause-any_moment g c =
+    let geometry = c.in-Some.geometry in
+    let is : geometry.pages ≡ length (g.P.Pm.view c.args.pm.now).words / 512 = omega (arith, c.in-Some.ensures.whole, ap length c.image.ensures) in
+    moments_as (g.P.Pm.view c.args.pm.now) (g.P.Pm.view c.reserve.new.self) (g.P.Pm.view c.make_volume.new.pm) is c.reserve.ensures.words c.reserve.ensures.trail c.in_err-make_volume.ensures.any_moment

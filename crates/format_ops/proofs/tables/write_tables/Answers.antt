@@ -4,7 +4,8 @@ use Rattle.pm_trait.proofs.DeviceLaws.{interval_keeps, interval_length}
 use Rattle.pm_trait.proofs.DeviceViewLaws.{stores_flushed}
 use Rattle.pm_trait.proofs.Unfolding.{interval_ends}
 use Rattle.format_ops.specs.Tables.{HasTableValues, tables_events}
-use Rattle.format_ops.proofs.Steps.{flushes_stores, fenced_as}
+use Rattle.fence_token.proofs.Flushing.{flushes_stores}
+use Rattle.format_ops.proofs.Steps.{fenced_as}
 use Rattle.format_ops.proofs.tables.write_tables.Goals as goal
 
 pub flush_span-span-requires-clause-in_range : goal.flush_span-span-requires-clause-in_range
