@@ -1,18 +1,25 @@
 -- Where usage is told.
 use Rattle.std.proofs.Common.{◌≡◌, ◌≢◌, ◌⊎◌, inl, inr, ℕ, ◌*◌, List, length, refl, sym, ap, ◌∙◌}
 use Rattle.std.specs.Prelude.{Option, Some, None}
+use Rattle.pm_trait.specs.DeviceView.{DeviceView}
+use Rattle.tree_model.specs.Run.{State}
+use Rattle.image_reading.specs.Soundness.{pages_in_image}
+use Rattle.engine.specs.Run.{last_state}
+use Rattle.script.specs.Texts.{listing_text}
+use Rattle.script.specs.Work.{work_text}
+use Rattle.script.specs.declared.run_end.RunEnd.{RunEnd}
+use Rattle.script.specs.declared.run_end.RunEnd.TheVariants as ends
 use Rattle.command_line.specs.declared.job.Job.{Job}
 use Rattle.command_line.specs.declared.job.Job.TheVariants.{Mkfs, Run, Tree, Check, Crash, Work}
 use Rattle.squirrel_cli.specs.declared.status.Status.{Status}
 use Rattle.squirrel_cli.specs.declared.status.Status.TheVariants as status
-use Rattle.squirrel_cli.specs.Ends.{end_of}
-use Rattle.squirrel_cli.specs.Mounts.{HasRun}
+use Rattle.squirrel_cli.specs.Mounts.{ClosesAfter, ClosesAs, HasRun}
 use Rattle.squirrel_cli.specs.Replays.{HasReplayed, unlisted_end}
 use Rattle.squirrel_cli.specs.Rows.{DoesJob, IsToldWhy, MountsAnd}
 use Rattle.squirrel_cli.specs.Seen.{Seen}
-use Rattle.squirrel_cli.specs.Tells.{HasListed}
+use Rattle.squirrel_cli.specs.Tells.{HasListed, TellsAndCloses}
 use Rattle.squirrel_cli.specs.Told.{IsToldOrCut}
-use Rattle.squirrel_cli.specs.Works.{HasWorked}
+use Rattle.squirrel_cli.specs.Works.{HasWorked, sums_of}
 
 -- no text is told with it
 not_told : {wanted is : Status} {text : List ℕ} {took now : List ℕ → Type 0} → wanted ≢ status.Usage → IsToldOrCut wanted text is took now → is ≢ status.Usage
@@ -30,9 +37,25 @@ not_mounted F old new is more (inr (inl (unsound, refused))) usage = not_why ref
 not_mounted F old new is more (inr (inr (sound, tidy, inl fails))) usage = let fault = fails.is in cc (fault, usage)
 not_mounted F old new is more (inr (inr (sound, tidy, inr did))) usage = more did usage
 
+-- nor by one that closes the volume
+not_closed_as : (P : ℕ) (state : State) (ran after : DeviceView) (is : Status) → ClosesAs P state ran after is → is ≢ status.Usage
+not_closed_as P state ran after is (inl (done, closes)) usage = cc (done, usage)
+not_closed_as P state ran after is (inr (fault, closes)) usage = cc (fault, usage)
+
+not_closed : (P : ℕ) (state : State) (text : List ℕ) (ran after : DeviceView) (is : Status) (took now : List ℕ → Type 0) → TellsAndCloses P state text ran after is took now → is ≢ status.Usage
+not_closed P state text ran after is took now (inl (taken, closes)) usage = not_closed_as P state ran after is closes usage
+not_closed P state text ran after is took now (inr (cut, prefix, same)) usage = cc (cut, usage)
+
+not_ran : (P : ℕ) (state : State) (ran after : DeviceView) (is : Status) (end : RunEnd) → ClosesAfter end P state ran after is → is ≢ status.Usage
+not_ran P state ran after is ends.Done closes usage = not_closed_as P state ran after is closes usage
+not_ran P state ran after is ends.Faulted (told, same) usage = cc (told, usage)
+not_ran P state ran after is ends.ReadFault (told, same) usage = cc (told, usage)
+not_ran P state ran after is ends.WriteFault (told, same) usage = cc (told, usage)
+not_ran P state ran after is ends.Limit (told, same) usage = cc (told, usage)
+
 not_worked : {S K : Type 0} (seed count : ℕ) (old new : Seen S K) (is : Status) → HasWorked seed count old new is → is ≢ status.Usage
 not_worked seed count old new is (inl fault) usage = let device = fault.is in cc (device, usage)
-not_worked seed count old new is (inr works) usage = not_told (λ e. cc e) works.sums.told usage
+not_worked seed count old new is (inr works) usage = not_closed (pages_in_image old.device.words) (last_state works.ran.run.start works.ran.run.states) (work_text (sums_of (pages_in_image old.device.words) count works.ran.run.start works.ran.run.answers works.ran.run.states)) works.worked new.device is old.took new.took works.told usage
 
 -- it is told where no job is asked, or a volume of another size than the device
 pub usage_asked : {S K : Type 0} (asked : Option Job) (old new : Seen S K) (is : Status) → DoesJob asked old new is → is ≡ status.Usage
@@ -42,8 +65,8 @@ usage_asked (Some (Mkfs pages)) old new is (inl (memory, silent, alone)) usage =
 usage_asked (Some (Mkfs pages)) old new is (inr (inl (other, told, same))) usage = inr (pages, refl, other)
 usage_asked (Some (Mkfs pages)) old new is (inr (inr (size, inl fails))) usage = absurd (let fault = fails.is in cc (fault, usage))
 usage_asked (Some (Mkfs pages)) old new is (inr (inr (size, inr has))) usage = absurd (not_told (λ e. cc e) has.told usage)
-usage_asked (Some Run) old new is does usage = absurd (not_mounted HasRun old new is (λ runs other. let e = sym (ap end_of other) ∙ runs.ended in cc e) does usage)
-usage_asked (Some Tree) old new is does usage = absurd (not_mounted HasListed old new is (λ lists. not_told (λ e. cc e) lists.told) does usage)
+usage_asked (Some Run) old new is does usage = absurd (not_mounted HasRun old new is (λ runs. not_ran (pages_in_image old.device.words) (last_state runs.runs.run.start runs.runs.run.states) runs.ran new.device is runs.end runs.closes) does usage)
+usage_asked (Some Tree) old new is does usage = absurd (not_mounted HasListed old new is (λ lists. not_closed (pages_in_image old.device.words) lists.mounted.start (listing_text lists.mounted.start.tree) lists.listed new.device is old.took new.took lists.told) does usage)
 usage_asked (Some Check) old new is (inl (memory, same)) usage = absurd (cc (memory, usage))
 usage_asked (Some Check) old new is (inr (inl (unsound, refused))) usage = absurd (not_why refused.told usage)
 usage_asked (Some Check) old new is (inr (inr (sound, has))) usage = absurd (not_told (λ e. cc e) has.told usage)

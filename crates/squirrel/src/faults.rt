@@ -1,5 +1,5 @@
 // What the ends of a job are told as.
-ghost use Rattle.std.specs.Prelude.{◌≡◌, ◌≢◌, [], Some, true, false};
+ghost use Rattle.std.specs.Prelude.{◌≡◌, ◌≢◌, [], None, Some, true, false};
 ghost use Rattle.std.specs.Process.{exit_status};
 ghost use Rattle.squirrel_cli.specs.Status.{number_of_status};
 ghost use Rattle.pm_file.specs.declared.cause.Cause.{Cause as TheCause};
@@ -94,8 +94,9 @@ pub fn status_of_file_fault(fault: FileFault) -> Status
     }
 }
 
-/// Why a file gave no device, where it isn't for want of memory.
+/// Why a file gave no device, where it isn't for want of memory. That has no cause, and its status is no device fault.
 pub fn cause_of_file_fault(fault: FileFault) -> Option<Cause>
+    ensures no_memory { fault ≡ FileFault.NoMemory → result ≡ None }
     ensures failed { (cause : TheCause) → fault ≡ FileFault.Failed cause → result ≡ Some cause }
 {
     match fault {

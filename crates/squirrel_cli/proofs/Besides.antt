@@ -36,14 +36,14 @@ module _ {S K : Type 0} (source : Sources S) (sink : Sinks K) (script : S) (befo
   lists_beside lists = mounts_beside HasListed HasListed listed lists
     where
       listed : {is : Status} → HasListed (seen_alone sink before output) (seen_alone sink after written) is → HasListed (seen source sink before script output) (seen source sink after script written) is
-      listed has = record { script = refl; mounted = has.mounted; told = has.told }
+      listed has = record { script = refl; listed = has.listed; mounted = has.mounted; told = has.told; keeps = has.keeps; beside = has.beside }
 
   pub works_beside : (seed count : ℕ) {is : Status} → Works seed count (seen_alone sink before output) (seen_alone sink after written) is → Works seed count (seen source sink before script output) (seen source sink after script written) is
   works_beside seed count works = mounts_beside (HasWorked seed count) (HasWorked seed count) worked works
     where
       worked : {is : Status} → HasWorked seed count (seen_alone sink before output) (seen_alone sink after written) is → HasWorked seed count (seen source sink before script output) (seen source sink after script written) is
       worked (inl fault) = inl (record { is = fault.is; silent = silent fault.silent; ran = fault.ran })
-      worked (inr sums) = inr (record { script = refl; ran = sums.ran; sums = sums.sums })
+      worked (inr sums) = inr (record { script = refl; worked = sums.worked; ran = sums.ran; all = sums.all; told = sums.told; keeps = sums.keeps })
 
   pub checks_beside : {is : Status} → Checks (seen_alone sink before output) (seen_alone sink after written) is → Checks (seen source sink before script output) (seen source sink after script written) is
   checks_beside (inl (memory, same)) = inl (memory, untouched same)

@@ -2,9 +2,13 @@
 use Rattle.std.proofs.Common.{◌≡◌, ◌≢◌, ◌⊎◌, inl, inr, ℕ, List, refl, sym, subst}
 use Rattle.std.specs.Prelude.{Some}
 use Rattle.pm_trait.specs.Device.{HasRisen}
+use Rattle.pm_trait.specs.DeviceView.{DeviceView}
 use Rattle.io_edge.specs.declared.source.Source.{Ghosts as Sources}
 use Rattle.io_edge.specs.declared.sink.Sink.{Ghosts as Sinks}
+use Rattle.layout.specs.Superblock.{HasMark}
+use Rattle.tree_model.specs.Run.{State}
 use Rattle.script.specs.declared.run_end.RunEnd.{RunEnd}
+use Rattle.script.specs.declared.run_end.RunEnd.TheVariants as run_end
 use Rattle.crash_replay.specs.declared.moment.Moment.{Moment}
 use Rattle.command_line.specs.declared.job.Job.{Job}
 use Rattle.command_line.specs.declared.job.Job.TheVariants.{Mkfs, Run, Tree, Check, Crash, Work}
@@ -12,15 +16,16 @@ use Rattle.squirrel_cli.specs.declared.status.Status.{Status}
 use Rattle.squirrel_cli.specs.declared.status.Status.TheVariants as status
 use Rattle.squirrel_cli.specs.Asked.{ReadsScript}
 use Rattle.squirrel_cli.specs.Causes.{TellsFaults}
-use Rattle.squirrel_cli.specs.Complete.{CompleteLaw, HasNoFault, ReplayCompleteLaw}
-use Rattle.squirrel_cli.specs.Ends.{IsMountable, IsReadyFor, GaveAll, end_of}
-use Rattle.squirrel_cli.specs.Mounts.{HasRun}
+use Rattle.squirrel_cli.specs.Complete.{ClosedLaw, ClosesVolume, CompleteLaw, HasNoFault, ReplayCompleteLaw}
+use Rattle.squirrel_cli.specs.Ends.{IsMountable, IsReadyFor, GaveAll}
+use Rattle.squirrel_cli.specs.Mounts.{ClosesAfter, ClosesAs, HasRun}
 use Rattle.squirrel_cli.specs.Replays.{HasReplayed, unlisted_end}
 use Rattle.squirrel_cli.specs.Rows.{DoesJob, IsToldWhy, MountsAnd}
 use Rattle.squirrel_cli.specs.Seen.{Seen, seen}
-use Rattle.squirrel_cli.specs.Tells.{HasListed}
+use Rattle.squirrel_cli.specs.Tells.{HasListed, TellsAndCloses}
 use Rattle.squirrel_cli.specs.Told.{IsToldOrCut}
 use Rattle.squirrel_cli.specs.Works.{HasWorked}
+use Rattle.squirrel_cli.proofs.Closing.{close_never, run_marked, told_marked}
 use Rattle.squirrel_cli.proofs.StatusEnds.{not_at_limit}
 
 -- done, or memory was short
@@ -32,17 +37,18 @@ not_limited : {is : Status} → Ended is → is ≢ status.ScriptLimit
 not_limited (inl done) limit = cc (done, limit)
 not_limited (inr memory) limit = cc (memory, limit)
 
+-- a close whose fence did not fail
+close_ended : (P : ℕ) (state : State) (ran after : DeviceView) {is : Status} → ClosesAs P state ran after is → is ≢ status.DeviceFault → Ended is
+close_ended P state ran after (inl (done, closes)) device = inl done
+close_ended P state ran after (inr (fault, closes)) device = absurd (device fault)
+
 -- the status of a run or a replay whose end is told, where nothing failed
-run_ended : (is : Status) {end : RunEnd} → end_of is ≡ Some end → is ≢ status.DeviceFault → is ≢ status.ReadFault → is ≢ status.WriteFault → Ended is ⊎ (is ≡ status.ScriptLimit)
-run_ended status.Done ended device read write = inl (inl refl)
-run_ended status.Usage ended device read write = absurd (cc ended)
-run_ended status.NoMemory ended device read write = inl (inr refl)
-run_ended status.NotVolume ended device read write = absurd (cc ended)
-run_ended (status.Damaged violation) ended device read write = absurd (cc ended)
-run_ended status.DeviceFault ended device read write = absurd (device refl)
-run_ended status.ReadFault ended device read write = absurd (read refl)
-run_ended status.WriteFault ended device read write = absurd (write refl)
-run_ended status.ScriptLimit ended device read write = inr refl
+run_ended : (P : ℕ) (state : State) (ran after : DeviceView) {is : Status} (end : RunEnd) → ClosesAfter end P state ran after is → is ≢ status.DeviceFault → is ≢ status.ReadFault → is ≢ status.WriteFault → Ended is ⊎ (is ≡ status.ScriptLimit)
+run_ended P state ran after run_end.Done closes device read write = inl (close_ended P state ran after closes device)
+run_ended P state ran after run_end.Faulted (told, same) device read write = absurd (device told)
+run_ended P state ran after run_end.ReadFault (told, same) device read write = absurd (read told)
+run_ended P state ran after run_end.WriteFault (told, same) device read write = absurd (write told)
+run_ended P state ran after run_end.Limit (told, same) device read write = inr told
 
 replay_ended : (is : Status) {end : RunEnd} → unlisted_end is ≡ Some end → is ≢ status.DeviceFault → is ≢ status.ReadFault → Ended is ⊎ (is ≡ status.ScriptLimit)
 replay_ended status.Done ended device read = inl (inl refl)
@@ -59,7 +65,23 @@ told_ended : {is : Status} {text : List ℕ} {took now : List ℕ → Type 0} �
 told_ended (inl told) write = inl told.0
 told_ended (inr cut) write = absurd (write cut.0)
 
--- what is told of words that are no sound volume is no limit
+-- a text and the close after it
+tells_ended : (P : ℕ) (state : State) (text : List ℕ) (ran after : DeviceView) {is : Status} (took now : List ℕ → Type 0) → TellsAndCloses P state text ran after is took now → is ≢ status.DeviceFault → is ≢ status.WriteFault → Ended is
+tells_ended P state text ran after took now (inl (told, closes)) device write = close_ended P state ran after closes device
+tells_ended P state text ran after took now (inr (cut, told, same)) device write = absurd (write cut)
+
+tells_limit : (P : ℕ) (state : State) (text : List ℕ) (ran after : DeviceView) {is : Status} (took now : List ℕ → Type 0) → TellsAndCloses P state text ran after is took now → is ≢ status.ScriptLimit
+tells_limit P state text ran after took now (inl (told, closes)) limit = close_never P state ran after closes limit (λ e. cc e) (λ e. cc e)
+tells_limit P state text ran after took now (inr (cut, told, same)) limit = cc (cut, limit)
+
+-- what is told of words that are no sound volume is neither done
+why_not_done : {words : List ℕ} {is : Status} {took now : List ℕ → Type 0} → IsToldWhy words is took now → is ≢ status.Done
+why_not_done (inl (not, inl told)) done = let e = told.0 in cc (e, done)
+why_not_done (inl (not, inr cut)) done = let e = cut.0 in cc (e, done)
+why_not_done (inr (holds, (violation, first, inl told))) done = let e = told.0 in cc (e, done)
+why_not_done (inr (holds, (violation, first, inr cut))) done = let e = cut.0 in cc (e, done)
+
+-- nor is it a limit
 why_unlimited : {words : List ℕ} {is : Status} {took now : List ℕ → Type 0} → IsToldWhy words is took now → is ≢ status.ScriptLimit
 why_unlimited (inl (not, inl told)) limit = let e = told.0 in cc (e, limit)
 why_unlimited (inl (not, inr cut)) limit = let e = cut.0 in cc (e, limit)
@@ -93,20 +115,14 @@ replayed_ended moment keep old new device read write (inr replays) = inl (told_e
 
 worked_ended : {S K : Type 0} (seed count : ℕ) (old new : Seen S K) {is : Status} → is ≢ status.DeviceFault → is ≢ status.WriteFault → HasWorked seed count old new is → Ended is ⊎ ⊥
 worked_ended seed count old new device write (inl fault) = absurd (device fault.is)
-worked_ended seed count old new device write (inr works) = inl (told_ended works.sums.told write)
+worked_ended seed count old new device write (inr works) = inl (tells_ended _ _ _ _ _ _ _ works.told device write)
 
 worked_limit : {S K : Type 0} (seed count : ℕ) (old new : Seen S K) {is : Status} → is ≡ status.ScriptLimit → HasWorked seed count old new is → ⊥
 worked_limit seed count old new limit (inl fault) = let e = fault.is in cc (e, limit)
-worked_limit seed count old new limit (inr works) = elim works.sums.told [
-  | inl told ↦ let e = told.0 in cc (e, limit)
-  | inr cut ↦ let e = cut.0 in cc (e, limit)
-]
+worked_limit seed count old new limit (inr works) = tells_limit _ _ _ _ _ _ _ works.told limit
 
 listed_limit : {S K : Type 0} (old new : Seen S K) {is : Status} → is ≡ status.ScriptLimit → HasListed old new is → ⊥
-listed_limit old new limit lists = elim lists.told [
-  | inl told ↦ let e = told.0 in cc (e, limit)
-  | inr cut ↦ let e = cut.0 in cc (e, limit)
-]
+listed_limit old new limit lists = tells_limit _ _ _ _ _ _ _ lists.told limit
 
 -- ---- the laws
 
@@ -157,9 +173,9 @@ ends (Mkfs pages) old new is (inr (inl (other, usage, same))) cause ready (devic
 ends (Mkfs pages) old new is (inr (inr (size, inl fails))) cause ready (device, write) reads = absurd (device (cause.device fails.is))
 ends (Mkfs pages) old new is (inr (inr (size, inr has))) cause ready (device, write) reads = with_none (Mkfs pages) (inl (told_ended has.told (λ e. write (cause.write e))))
 ends Run old new is does cause ready (device, write) reads =
-    with_limit Run tt (mounts_ended HasRun old new ready (λ e. device (cause.device e)) (λ runs. run_ended is runs.ended (λ e. device (cause.device e)) (λ e. no_read reads (cause.read e)) (λ e. write (cause.write e))) does)
+    with_limit Run tt (mounts_ended HasRun old new ready (λ e. device (cause.device e)) (λ runs. run_ended _ _ _ _ runs.end runs.closes (λ e. device (cause.device e)) (λ e. no_read reads (cause.read e)) (λ e. write (cause.write e))) does)
 ends Tree old new is does cause ready (device, write) reads =
-    with_none Tree (mounts_ended HasListed old new ready (λ e. device (cause.device e)) (λ lists. inl (told_ended lists.told (λ e. write (cause.write e)))) does)
+    with_none Tree (mounts_ended HasListed old new ready (λ e. device (cause.device e)) (λ lists. inl (tells_ended _ _ _ _ _ _ _ lists.told (λ e. device (cause.device e)) (λ e. write (cause.write e)))) does)
 ends Check old new is (inl (memory, same)) cause ready (device, write) reads = inr (inl memory)
 ends Check old new is (inr (inl (unsound, refused))) cause ready (device, write) reads = absurd (unsound ready)
 ends Check old new is (inr (inr (sound, has))) cause ready (device, write) reads = with_none Check (inl (told_ended has.told (λ e. write (cause.write e))))
@@ -189,3 +205,26 @@ replay_complete_law-holds source sink moment keep before after script rest outpu
       | inl ended ↦ ended
       | inr limit ↦ absurd (not_at_limit old.left new.left few (mounts_limit (HasReplayed moment keep) old new limit (replayed_limit moment keep old new limit) replays))
     ]
+
+-- ---- what a job that is done leaves
+
+mounts_done : {S K : Type 0} (F : Seen S K → Seen S K → Status → Type 0) {A : Type 0} (old new : Seen S K) {is : Status} → is ≡ status.Done → (F old new is → A) → MountsAnd F old new is → A
+mounts_done F old new done more (inl short) = absurd (let memory = short.is in cc (memory, done))
+mounts_done F old new done more (inr (inl (unsound, refused))) = absurd (why_not_done refused.told done)
+mounts_done F old new done more (inr (inr (held, tidy, inl fails))) = absurd (let fault = fails.is in cc (fault, done))
+mounts_done F old new done more (inr (inr (held, tidy, inr did))) = more did
+
+worked_marked : {S K : Type 0} (seed count : ℕ) (old new : Seen S K) {is : Status} → is ≡ status.Done → HasWorked seed count old new is → HasMark new.device.words
+worked_marked seed count old new done (inl fault) = absurd (let e = fault.is in cc (e, done))
+worked_marked seed count old new done (inr works) = told_marked _ _ _ _ _ _ _ works.told done
+
+closed : {S K : Type 0} (job : Job) (old new : Seen S K) (is : Status) → DoesJob (Some job) old new is → ClosesVolume job → is ≡ status.Done → HasMark new.device.words
+closed (Mkfs pages) old new is does closes done = absurd closes
+closed Run old new is does closes done = mounts_done HasRun old new done (λ runs. run_marked _ _ _ _ runs.end runs.closes done) does
+closed Tree old new is does closes done = mounts_done HasListed old new done (λ lists. told_marked _ _ _ _ _ _ _ lists.told done) does
+closed Check old new is does closes done = absurd closes
+closed (Crash moment keep again) old new is does closes done = absurd closes
+closed (Work seed count) old new is does closes done = mounts_done (HasWorked seed count) old new done (worked_marked seed count old new done) does
+
+pub closed_law-holds : {S K : Type 0} (source : Sources S) (sink : Sinks K) → ClosedLaw source sink
+closed_law-holds source sink job before after script rest output written is does closes done = closed job (seen source sink before script output) (seen source sink after rest written) is does closes done

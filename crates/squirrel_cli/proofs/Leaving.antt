@@ -4,7 +4,7 @@ use Rattle.std.proofs.lemmas.Bool.{cases_lt}
 use Rattle.std.specs.Prelude.{Option, Some, None, [], ◌∷◌, ◌++◌, take}
 use Rattle.pm_trait.specs.Trail.{Trail, IsCrashImage, trail_at, count_acks}
 use Rattle.pm_memory.specs.Chosen.{IsChosenImage}
-use Rattle.image_laws.specs.Frame.{SameMeaning}
+use Rattle.image_laws.specs.Frame.{SameMeaning, IsSoundAs}
 use Rattle.image_laws.proofs.Meaning.{meanings_chain}
 use Rattle.pm_trait.specs.Device.{LeavesOnly, MayLeave, moment_of}
 use Rattle.pm_trait.specs.DeviceView.{DeviceView}
@@ -37,7 +37,7 @@ use Rattle.squirrel_cli.specs.ReplaySteps.{HasLeft, LeavesSound, LeavesSoundSoFa
 
 -- a sound image has as many pages as its length says
 pub own_pages : {P : ℕ} (W : List ℕ) → Sound P W → pages_in_image W ≡ P
-own_pages {P} W sound = pages_law P W (λ place. sound head place)
+own_pages {P} W sound = pages_law P W (λ place. sound.coherent head place)
 
 pub sound_image : {P : ℕ} (W : List ℕ) → Sound P W → IsSound W
 sound_image W sound = subst (λ (pages : ℕ). Sound pages W) (sym (own_pages W sound)) sound
@@ -102,7 +102,9 @@ any_run {end = end} {took = took} {now = now} run = record {
   last = run.last;
   fences = run.fences;
   events = run.events;
+  mark = run.mark;
   cut = run.cut;
+  beside = run.beside;
   no_memory = run.no_memory;
   refused = run.refused;
   any_moment = run.any_moment;
@@ -120,14 +122,14 @@ left_alone {image = image} none chosen crash whole = record {
   whole = whole;
   in_turn = subst (λ (a : Option SecondCrash). LeaveInTurn (crashes_of a) image image) (sym none) refl;
   sound = whole;
-  means = meanings_chain.itself (pages_in_image image) image whole;
+  means = meanings_chain.itself (pages_in_image image) image whole.coherent;
 }
 
 pub left_again : {keep : List ℕ} {again : Option SecondCrash} {second : SecondCrash} {trail : Trail} {image lent words : List ℕ} → again ≡ Some second → lent ≡ image
-    → IsChosenImage trail keep image → IsCrashImage trail image → IsSound image → LeaveInTurn (record { moment = second.at; keep = second.keep } ∷ []) lent words → (IsSound lent → SameMeaning (pages_in_image lent) lent words) → HasLeft keep again trail words
+    → IsChosenImage trail keep image → IsCrashImage trail image → IsSound image → LeaveInTurn (record { moment = second.at; keep = second.keep } ∷ []) lent words → (IsSound lent → IsSoundAs (pages_in_image lent) lent words) → HasLeft keep again trail words
 left_again {second = second} {image = image} {words = words} some same chosen crash whole in_turn means =
-    let there : SameMeaning (pages_in_image image) image words =
-    subst (λ (I : List ℕ). SameMeaning (pages_in_image I) I words) same (means (subst IsSound (sym same) whole)) in
+    let there : IsSoundAs (pages_in_image image) image words =
+    subst (λ (I : List ℕ). IsSoundAs (pages_in_image I) I words) same (means (subst IsSound (sym same) whole)) in
     record {
       image = image;
       chosen = chosen;
@@ -135,8 +137,8 @@ left_again {second = second} {image = image} {words = words} some same chosen cr
       whole = whole;
       in_turn = subst (λ (a : Option SecondCrash). LeaveInTurn (crashes_of a) image words) (sym some)
           (subst (λ (I : List ℕ). LeaveInTurn (record { moment = second.at; keep = second.keep } ∷ []) I words) same in_turn);
-      sound = sound_image words there.coherent;
-      means = there;
+      sound = sound_image words there.sound;
+      means = there.same;
     }
 
 -- what is listed of them is the tree of the image
@@ -145,9 +147,9 @@ pub lists_left : {moment : Moment} {keep : List ℕ} {again : Option SecondCrash
     → ((tree : Tree) → Reads (pages_in_image lent) lent tree → IsToldUnlessShort (acked_text acked ++ listing_text tree) result took now)
     → (result ≡ status.NoMemory) ⊎ ListsLeft moment keep mark trail result took now
 lists_left {moment} {keep} {mark} {place} {acked} {trail} {lent} {words} {result} {took} {now} same placed counted left lists =
-    let (tree, reads, form) = tree_law (pages_in_image left.image) left.image left.whole in
+    let (tree, reads, form) = tree_law (pages_in_image left.image) left.image left.whole.coherent in
     let there : Reads (pages_in_image left.image) words tree = left.means.reads tree reads in
-    let own : pages_in_image words ≡ pages_in_image left.image = own_pages words left.means.coherent in
+    let own : pages_in_image words ≡ pages_in_image left.image = pages_law (pages_in_image left.image) words (λ place. left.means.coherent head place) in
     let number : acked ≡ acked_before trail mark moment = counted ∙ ap (λ (k : ℕ). count_acks (take k trail.events)) placed in
     let here : Reads (pages_in_image lent) lent tree = subst (λ (W : List ℕ). Reads (pages_in_image W) W tree) (sym same) (subst (λ (pages : ℕ). Reads pages words tree) (sym own) there) in
     elim (lists tree here) [

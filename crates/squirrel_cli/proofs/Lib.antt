@@ -2,6 +2,9 @@ pub mod Unacknowledged
 pub mod StatusEnds
 pub mod Refusals
 pub mod Mounted
+pub mod Closing
+pub mod Answered
+pub mod Listed
 pub mod Leaving
 pub mod ReplayTells
 pub mod ReplayRuns

@@ -1,13 +1,16 @@
 -- A mount, and the run after it.
-use Rattle.std.proofs.Common.{◌≡◌, ◌⊎◌, inl, inr, ℕ, ◌++◌, List, length, refl, sym, ap, subst, ◌∙◌, arith}
+use Rattle.std.proofs.Common.{◌≡◌, ◌⊎◌, inl, inr, ℕ, ◌+◌, ◌<◌, ◌++◌, List, length, refl, sym, ap, subst, ◌∙◌, arith}
 use Rattle.std.proofs.lemmas.Bool.{cases_lt}
-use Rattle.std.specs.Prelude.{Option, Some, None, Ok, Err, slice_get}
+use Rattle.std.specs.Prelude.{Option, Some, None, Ok, Err, Bool, ◌==◌, slice_get}
 use Rattle.pm_trait.specs.Trail.{Trail}
 use Rattle.pm_trait.specs.Device.{HasRisen, Continues, acks_from, moment_of}
-use Rattle.pm_trait.specs.DeviceView.{DeviceView, IsSettledView}
+use Rattle.pm_trait.specs.DeviceView.{DeviceView, GrowsBy, IsSettledView}
+use Rattle.pm_trait.specs.Unfolds.{KeepsWords}
+use Rattle.layout.specs.Superblock.{IsSuperblockWord, closed_mark, has_mark, mark_word}
 use Rattle.pm_trait.proofs.ContinuesLaws.{acks_from-joined}
 use Rattle.pm_trait.proofs.DeviceLaws.{leaves_weaker, leaves_next}
 use Rattle.pm_trait.proofs.AckLaws.{acks_none, acks_next}
+use Rattle.tree_model.specs.Fences.{fences_of_run}
 use Rattle.tree_model.specs.Run.{Line, State}
 use Rattle.tree_model.specs.Tree.{Tree}
 use Rattle.image_reading.specs.Reading.{Reads, ReadsAs}
@@ -18,16 +21,18 @@ use Rattle.image_reading.proofs.Readings.{one_tree}
 use Rattle.image_reading.proofs.Violations.{pages_law}
 use Rattle.script.specs.declared.run_end.RunEnd.{RunEnd}
 use Rattle.script.specs.declared.run_end.RunEnd.TheVariants as run_end
+use Rattle.volume.specs.Costs.{fences_with_mark, mark_after}
 use Rattle.volume.specs.Crashes.{MayReadAs, MeansState}
 use Rattle.volume.specs.Stands.{IsStanding, StandsFor}
 use Rattle.volume.specs.Volume.{VolumeView}
 use Rattle.mount_scan.proofs.Answered.{one_state}
 use Rattle.mount_scan.specs.Mounting.{IsTidy}
 use Rattle.mount_scan.specs.Mounts.{HasMounted, IsOnlyMounted, Mounts}
+use Rattle.engine.specs.Exec.{mark_left}
 use Rattle.engine.specs.Quiet.{ActsOnly}
 use Rattle.engine.specs.Run.{command_of, IsBetween, IsStateAfter}
 use Rattle.engine.specs.Session.{Mounted}
-use Rattle.engine.specs.Script.{LeavesRun, RunsScript, ExecutesTold}
+use Rattle.engine.specs.Script.{IsCutShort, LeavesRun, RunsScript, ExecutesTold, events_of_marked_run}
 use Rattle.engine.proofs.After.{acked_then}
 use Rattle.script.specs.Texts.{acked_text, listing_text}
 use Rattle.squirrel_cli.specs.Causes.{TellsFaults}
@@ -42,7 +47,7 @@ use Rattle.squirrel_cli.specs.declared.status.Status.{Status}
 use Rattle.squirrel_cli.specs.declared.status.Status.TheVariants as status
 
 -- the state before a command is one that a crash in it may leave
-may_start : {P : ℕ} {start : State} {image : List ℕ} (line : Option Line) → MeansState P start image → MayReadAs P start (command_of line) image
+pub may_start : {P : ℕ} {start : State} {image : List ℕ} (line : Option Line) → MeansState P start image → MayReadAs P start (command_of line) image
 may_start {start = start} None means = record { sound = means.sound; tree = start.tree; reads = means.reads.tree; allowed = refl }
 may_start {start = start} (Some (Ok command)) means = record { sound = means.sound; tree = start.tree; reads = means.reads.tree; allowed = inl refl }
 may_start {start = start} (Some (Err fault)) means = record { sound = means.sound; tree = start.tree; reads = means.reads.tree; allowed = refl }
@@ -63,6 +68,29 @@ acts_after_mount {F} {a} {b} {c} one none two acts = record {
         inr (subst F since (acts.each moment later upto no_ack))
   ];
 }
+
+-- the mark that the words at entry have is there when the run begins
+pub mark_at_mount : (W mounted : List ℕ) → KeepsWords IsSuperblockWord W mounted → has_mark mounted ≡ has_mark W
+mark_at_mount W mounted keeps = ap (λ (w : ℕ). w == closed_mark) (keeps mark_word (omega arith))
+
+-- what a run from the mount on says with the mark of the mounted words is said with that of the words at entry
+module _ {P : ℕ} {before mounted after : DeviceView} {end : RunEnd} {script rest : Option (List ℕ)} {took now : List ℕ → Type 0} (run : RunsScript P mounted after end script rest took now) (mount : Mounts P run.start before mounted) where
+  abbrev pub fences : ℕ
+  fences = fences_of_run run.start run.lines run.answers run.states
+
+  pub as_entered : has_mark mounted.words ≡ has_mark before.words
+  as_entered = mark_at_mount before.words mounted.words mount.beside
+
+  pub fences_at_entry : length run.states ≡ length run.answers → after.fences ≡ mounted.fences + fences_with_mark (has_mark before.words) fences
+  fences_at_entry each = subst (λ (m : Bool). after.fences ≡ mounted.fences + fences_with_mark m fences) as_entered (run.fences each)
+
+  pub events_at_entry : length run.states ≡ length run.answers → GrowsBy (events_of_marked_run (has_mark before.words) run.start run.lines run.answers run.states) mounted after
+  events_at_entry each = subst (λ (m : Bool). GrowsBy (events_of_marked_run m run.start run.lines run.answers run.states) mounted after) as_entered (run.events each)
+
+  pub cut_at_entry : length run.states < length run.answers → IsCutShort P run.start run.lines run.states (mark_after (has_mark before.words) fences)
+      (fences_with_mark (has_mark before.words) fences) (events_of_marked_run (has_mark before.words) run.start run.lines run.answers run.states) mounted after
+  cut_at_entry fewer = subst (λ (m : Bool). IsCutShort P run.start run.lines run.states (mark_after m fences)
+      (fences_with_mark m fences) (events_of_marked_run m run.start run.lines run.answers run.states) mounted after) as_entered (run.cut fewer)
 
 -- The run of a whole job: what a run says from the mount on is said from the entry on.
 unfoldable pub mounts_and_runs : {P : ℕ} {before mounted after : DeviceView} {end : RunEnd} {script rest : Option (List ℕ)} {took now : List ℕ → Type 0} → (run : RunsScript P mounted after end script rest took now)
@@ -85,10 +113,15 @@ mounts_and_runs {P} {before} {mounted} {after} run reads mount = record {
     | inl places ↦ inl places
     | inr risen ↦ inr (subst (λ (refused : ℕ). HasRisen refused after.refused) mount.refused risen)
   ];
-  fences = λ each. let was = mount.fences in let more = run.fences each in omega (arith, was, more);
-  events = λ each. let was = mount.events in let more = run.events each in omega (arith, was, more);
+  fences = λ each. let was = mount.fences in let more = fences_at_entry run mount each in omega (arith, was, more);
+  events = λ each. let was = mount.events in let more = events_at_entry run mount each in omega (arith, was, more);
+  mark = λ each. record {
+    mark = (run.mark each).mark ∙ ap (λ (m : ℕ). mark_left m (fences_of_run run.start run.lines run.answers run.states)) (mount.beside mark_word (omega arith));
+    beside = λ a is other. (run.mark each).beside a is other ∙ mount.beside a is;
+  };
+  beside = λ a is other. run.beside a is other ∙ mount.beside a is;
   cut = λ fewer.
-      let cut = run.cut fewer in
+      let cut = cut_at_entry run mount fewer in
       record {
         line = cut.line;
         next = cut.next;
@@ -126,7 +159,7 @@ risen_from_entry same (inr holds) = inr holds
 -- what is tidy at some number of pages is so at its own
 pub tidy_pages : {A : Type 0} {P : ℕ} (W : List ℕ) → A ⊎ Tidy P W → A ⊎ IsTidy W
 tidy_pages W (inl other) = inl other
-tidy_pages {P = P} W (inr tidy) = inr (subst (λ (pages : ℕ). Tidy pages W) (sym (pages_law P W (λ place. tidy.sound head place))) tidy)
+tidy_pages {P = P} W (inr tidy) = inr (subst (λ (pages : ℕ). Tidy pages W) (sym (pages_law P W (λ place. tidy.sound.coherent head place))) tidy)
 
 pub limit_gives : (before after : Option (List ℕ)) (lines : List Line) → ExecutesTold run_end.Limit before after lines → GaveAll before after
 limit_gives None after lines executes = tt
@@ -181,26 +214,6 @@ module _ {S K : Type 0} (old new : Seen S K) {mounted : DeviceView} {volume : Vo
     unsound = λ not. absurd (not mount.sound);
   })
   mounted_row F G is leaves (inr did) more = inr (inr (mount.sound, tidy_entry leaves, inr (more did)))
-
-  pub run_entry : {is : Status} → RunsOn volume.size (record old { device = mounted }) new is → HasRun old new is
-  run_entry {is} runs = record {
-    end = runs.end;
-    ended = runs.ended;
-    runs = runs_mounted mount.size mount.only runs.run;
-    limit = gave_at_limit is runs.end old.left new.left runs.ended (runs.run.lines, runs.run.executes);
-  }
-
--- a listing leaves the mounted device alone
-pub list_row : {S K : Type 0} (old new : Seen S K) {is : Status} {volume : VolumeView} → (mount : HasMounted volume old.device new.device) → new.script ≡ old.script → (is ≡ status.NoMemory → new.output ≡ old.output)
-    → IsToldUnlessShort (listing_text mount.only.start.tree) is old.took new.took → MountsAnd HasListed old new is
-list_row old new mount script silent (inl memory) = inl (record {
-  is = memory;
-  silent = record { script = script; output = silent memory };
-  device = inr (mount.sound, mount.only);
-  unsound = λ not. absurd (not mount.sound);
-})
-list_row old new mount script silent (inr told) =
-    inr (inr (mount.sound, tidy_pages new.device.words (inr mount.only.mount.tidy), inr (record { script = script; mounted = mount.only; told = told })))
 
 -- ---- a session's volume
 

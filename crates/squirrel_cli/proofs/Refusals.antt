@@ -7,10 +7,10 @@ use Rattle.pm_trait.specs.Device.{HasRisen, IsSettledAt}
 use Rattle.pm_trait.specs.DeviceView.{DeviceView, IsSettledView}
 use Rattle.io_edge.specs.declared.sink.WriteFault.{WriteFault}
 use Rattle.io_edge.specs.Bytes.{Writes}
-use Rattle.image_reading.specs.Soundness.{IsFirstViolation, Obeys, Rule, number, pages_in_image}
+use Rattle.image_reading.specs.Soundness.{BreaksMark, BreaksRule, IsFirstViolation, Obeys, Rule, number, pages_in_image}
 use Rattle.image_reading.specs.Soundness.Rule.{head, root, pointers, one_pointer, inodes, names, kinds, own_names, own_directories, page_kinds, sizes, all_pages, own_offsets, links}
 use Rattle.image_reading.specs.declared.Violation.{Violation}
-use Rattle.image_reading.proofs.Violations.{head_law, no_fault, same_rule}
+use Rattle.image_reading.proofs.Violations.{head_law, no_violation, same_rule}
 use Rattle.mount_scan.specs.Mounting.{HoldsVolume, IsSound}
 use Rattle.mount_scan.proofs.Answered.{refused_sound}
 use Rattle.mount_scan.specs.Mounts.{IsLeftAlone, RefusesMount}
@@ -34,11 +34,11 @@ not_told apart uncut (inr cut) is = uncut (sym is ∙ cut.0)
 
 -- what is sound is a volume
 pub sound_volume : (W : List ℕ) → IsSound W → HoldsVolume W
-sound_volume W sound = (head_law (pages_in_image W) W).0 (λ place. sound head place)
+sound_volume W sound = (head_law (pages_in_image W) W).0 (λ place. sound.coherent head place)
 
 -- a first violation is none of a sound volume
 pub not_sound : {W : List ℕ} {violation : Violation} → IsFirstViolation W violation → ¬ IsSound W
-not_sound {W} {violation} is sound = no_fault (pages_in_image W) W is.rule violation.place sound is.first
+not_sound {W} {violation} is sound = no_violation W violation sound is
 
 module _ {S K : Type 0} (old new : Seen S K) {is : Status} where
   -- a job that mounts the device does what was told, and no more
@@ -165,13 +165,13 @@ number_least all_pages = omega arith
 number_least own_offsets = omega arith
 number_least links = omega arith
 
-first_rule : (W : List ℕ) (violation : Violation) → (is : IsFirstViolation W violation) → violation.rule ≡ 1 → ¬ HoldsVolume W
-first_rule W violation is one holds =
+breaks_first : (W : List ℕ) (violation : Violation) → (is : BreaksRule W violation) → violation.rule ≡ 1 → ¬ HoldsVolume W
+breaks_first W violation is one holds =
     let at_head : is.rule ≡ head = same_rule is.rule head (is.numbered ∙ one) in
     is.first.broken (subst (λ (rule : Rule). Obeys (pages_in_image W) W rule violation.place) (sym at_head) ((head_law (pages_in_image W) W).1 holds violation.place))
 
-later_rule : (W : List ℕ) (violation : Violation) → (is : IsFirstViolation W violation) → (violation.rule == 1) ≡ false → HoldsVolume W
-later_rule W violation is other = elim (cases_lt 1 (number is.rule)) [
+breaks_later : (W : List ℕ) (violation : Violation) → (is : BreaksRule W violation) → (violation.rule == 1) ≡ false → HoldsVolume W
+breaks_later W violation is other = elim (cases_lt 1 (number is.rule)) [
   | inl more ↦ (head_law (pages_in_image W) W).0 (λ place. is.first.earlier_rules head place more)
   | inr most ↦
       let least = number_least is.rule in
@@ -180,6 +180,18 @@ later_rule W violation is other = elim (cases_lt 1 (number is.rule)) [
       let same : (violation.rule == 1) ≡ true = ap (λ (n : ℕ). n == 1) one in
       absurd (cc (same, other))
 ]
+
+-- words that break the rule of the mark fit together, so they are a volume, and that rule is not the first
+mark_later : (violation : Violation) {W : List ℕ} → BreaksMark W violation → violation.rule ≢ 1
+mark_later violation is one = let last = is.numbered in omega (arith, last, one)
+
+first_rule : (W : List ℕ) (violation : Violation) → IsFirstViolation W violation → violation.rule ≡ 1 → ¬ HoldsVolume W
+first_rule W violation (inl is) one = breaks_first W violation is one
+first_rule W violation (inr is) one = absurd (mark_later violation is one)
+
+later_rule : (W : List ℕ) (violation : Violation) → IsFirstViolation W violation → (violation.rule == 1) ≡ false → HoldsVolume W
+later_rule W violation (inl is) other = breaks_later W violation is other
+later_rule W violation (inr is) other = (head_law (pages_in_image W) W).0 (λ place. is.coherent head place)
 
 -- what a mount refuses such words with tells why
 pub why_broken : (device : DeviceView) (violation : Violation) → IsFirstViolation device.words violation → RefusesMount (refusal_of violation) device device

@@ -1,5 +1,5 @@
 -- A generated script on a mounted volume, and its sums.
-use Rattle.std.proofs.Common.{◌≡◌, inl, inr, ℕ, ◌+◌, ◌^◌, ◌<◌, ◌≤◌, List, [], length, ap, subst, ◌∙◌, arith}
+use Rattle.std.proofs.Common.{◌≡◌, inl, inr, ℕ, ◌+◌, ◌^◌, ◌<◌, ◌≤◌, List, [], length, refl, ap, subst, ◌∙◌, arith}
 use Rattle.std.specs.Prelude.{Option, Some, None, Result}
 use Rattle.io_edge.specs.Bytes.{Writes}
 use Rattle.io_edge.specs.declared.sink.WriteFault.{WriteFault}
@@ -20,21 +20,25 @@ use Rattle.crash_replay.specs.Work.{work_script}
 use Rattle.crash_replay.specs.declared.tally.Tally.{Tally}
 use Rattle.crash_replay.proofs.Tallies.{tally_law-holds}
 use Rattle.crash_replay.proofs.WorkScripts.{work_law-holds}
-use Rattle.engine.specs.Script.{ExecutesTold, RunsScript}
+use Rattle.engine.specs.Script.{ExecutesTold, LeavesRun, RunsScript}
+use Rattle.engine.specs.Session.{Mounted}
 use Rattle.engine.proofs.Runs.{answers_as_lines}
 use Rattle.image_reading.specs.Reading.{ReadsAs}
+use Rattle.image_reading.specs.Soundness.{pages_in_image}
 use Rattle.volume.specs.Volume.{VolumeView}
 use Rattle.volume.specs.Stands.{IsStanding, StandsFor}
 use Rattle.engine.specs.Run.{IsAt, last_state}
 use Rattle.squirrel_cli.specs.declared.status.Status.{Status}
-use Rattle.squirrel_cli.specs.declared.status.Status.TheVariants as status
-use Rattle.squirrel_cli.specs.Told.{IsToldOrCut}
+use Rattle.squirrel_cli.specs.Tells.{TellsAndCloses}
 use Rattle.mount_scan.proofs.Answered.{one_state}
 use Rattle.mount_scan.specs.Mounts.{HasMounted}
 use Rattle.squirrel_cli.specs.Seen.{Seen}
 use Rattle.squirrel_cli.specs.ReplaySteps.{RunsMounted}
-use Rattle.squirrel_cli.specs.Works.{HasWorked, WorksScript, summary_of}
+use Rattle.squirrel_cli.specs.Works.{HasWorked, WorksScript, summary_of, sums_of}
 use Rattle.squirrel_cli.specs.WorkSteps.{CountsGenerated, RunsGenerated, SumsGenerated, WorksOn}
+use Rattle.squirrel_cli.specs.GoingOn.{LeavesGoing}
+use Rattle.squirrel_cli.specs.Mounts.{ClosesAs}
+use Rattle.squirrel_cli.proofs.Closing.{close_going, keeps_closed, tells_quietly}
 use Rattle.squirrel_cli.proofs.Leaving.{any_run}
 use Rattle.squirrel_cli.proofs.Mounted.{limit_gives, mounted_state, mounts_and_runs, runs_mounted}
 use Rattle.squirrel_cli.proofs.StatusEnds.{not_at_limit}
@@ -115,26 +119,40 @@ pub sums_written : {took now : List ℕ → Type 0} {faults_before faults_after 
 sums_written {took} {now} {faults_before} {faults_after} {written = written} same writes = subst (λ (s : WorkSummary). Writes took now faults_before faults_after (work_text s) written) same writes
 
 -- They are told of the last state, for which the volume in memory stands.
-pub sums_generated : {S K : Type 0} {P seed count : ℕ} (old new : Seen S K) {tally : Tally} {volume : VolumeView} {result : Status} → new.script ≡ old.script → CountsGenerated P seed count old.device new.device tally
-    → volume.size ≡ P → IsStanding volume new.device
-    → ((state : State) → StandsFor volume new.device state → IsToldOrCut status.Done (work_text (summary_of volume.size count (accepted_count tally) (refused_count tally) state)) result old.took new.took)
+pub sums_generated : {S K : Type 0} {P seed count : ℕ} (old new : Seen S K) (worked : DeviceView) {tally : Tally} (volume : VolumeView) (result : Status) → new.script ≡ old.script → CountsGenerated P seed count old.device worked tally
+    → volume.size ≡ P → IsStanding volume worked
+    → ((state : State) → StandsFor volume worked state → TellsAndCloses volume.size state (work_text (summary_of volume.size count (accepted_count tally) (refused_count tally) state)) worked new.device result old.took new.took)
     → SumsGenerated P seed count old new result
-sums_generated {P = P} {count = count} old new {tally = tally} {volume = volume} {result = result} script counted size (state, stands) told =
+sums_generated {P = P} {count = count} old new worked {tally = tally} volume result script counted size (state, stands) told =
     let run = counted.run in
     let last : State = last_state run.start run.states in
-    let ended : IsAt P last new.device.words = run.last run.ends in
-    let same : state ≡ last = one_state state last (subst (λ (p : ℕ). ReadsAs p new.device.words state) size stands.reads) ended.reads in
-    let sized = subst (λ (p : ℕ). IsToldOrCut status.Done (work_text (summary_of p count (accepted_count tally) (refused_count tally) state)) result old.took new.took) size (told state stands) in
-    let accepted = subst (λ (n : ℕ). IsToldOrCut status.Done (work_text (summary_of P count n (refused_count tally) state)) result old.took new.took) counted.accepted sized in
-    let refused = subst (λ (n : ℕ). IsToldOrCut status.Done (work_text (summary_of P count (accepted_in run.answers) n state)) result old.took new.took) counted.refused accepted in
+    let ended : IsAt P last worked.words = run.last run.ends in
+    let same : state ≡ last = one_state state last (subst (λ (p : ℕ). ReadsAs p worked.words state) size stands.reads) ended.reads in
+    let sized = subst (λ (p : ℕ). TellsAndCloses p state (work_text (summary_of p count (accepted_count tally) (refused_count tally) state)) worked new.device result old.took new.took) size (told state stands) in
+    let accepted = subst (λ (n : ℕ). TellsAndCloses P state (work_text (summary_of P count n (refused_count tally) state)) worked new.device result old.took new.took) counted.accepted sized in
+    let refused = subst (λ (n : ℕ). TellsAndCloses P state (work_text (summary_of P count (accepted_in run.answers) n state)) worked new.device result old.took new.took) counted.refused accepted in
     record {
       script = script;
+      worked = worked;
       run = run;
-      sums = record {
-        all = counted.all;
-        told = subst (λ (s : State). IsToldOrCut status.Done (work_text (summary_of P count (accepted_in run.answers) (refused_in run.answers) s)) result old.took new.took) same refused;
-      };
+      all = counted.all;
+      told = subst (λ (s : State). TellsAndCloses P s (work_text (summary_of P count (accepted_in run.answers) (refused_in run.answers) s)) worked new.device result old.took new.took) same refused;
     }
+
+-- they were written of the volume that the session lent
+pub sums_lent : {lent volume : VolumeView} (device : DeviceView) (count accepted refused : ℕ) {took now : List ℕ → Type 0} {faults_before faults_after : ℕ} {written : Result (Unit {0}) WriteFault} → lent ≡ volume
+    → ((state : State) → StandsFor lent device state → Writes took now faults_before faults_after (work_text (summary_of lent.size count accepted refused state)) written)
+    → (state : State) → StandsFor volume device state → Writes took now faults_before faults_after (work_text (summary_of volume.size count accepted refused state)) written
+sums_lent device count accepted refused {took} {now} {faults_before} {faults_after} {written} same writes =
+    subst (λ (v : VolumeView). (state : State) → StandsFor v device state → Writes took now faults_before faults_after (work_text (summary_of v.size count accepted refused state)) written) same writes
+
+-- the volume was closed behind them
+pub work_going : {old new : Mounted} {volume : VolumeView} (after : DeviceView) (is : Status) → old.volume ≡ volume → LeavesRun run_end.Done old new
+    → ((state : State) → StandsFor new.volume new.device state → ClosesAs new.volume.size state new.device after is) → LeavesGoing volume.size old.device after
+work_going {old} {new} after is same leaves closes =
+    let (state, stands) = leaves.stands (leaves.done refl).1 in
+    subst (λ (p : ℕ). LeavesGoing p old.device after) (leaves.size ∙ ap (λ (v : VolumeView). v.size) same)
+    (close_going new.volume.size state old.device new.device after is (leaves.done refl).0 leaves.acks (closes state stands))
 
 -- of the volume that the session was started with
 pub sums_of_volume : {S K : Type 0} {seed count : ℕ} {session volume : VolumeView} {result : Status} (old new : Seen S K) → session ≡ volume
@@ -153,7 +171,20 @@ unfolding mounts_and_runs
 sums_entry seed count old new {mounted} {result = result} mount sums =
     let here = subst (λ (p : ℕ). SumsGenerated p seed count (record old { device = mounted }) new result) mount.size sums in
     let (reads, made) = mounted_state here.run.start mount.only here.run.reads in
-    record { script = here.script; ran = mounts_and_runs here.run reads made; sums = here.sums }
+    let P = pages_in_image old.device.words in
+    let last = last_state here.run.start here.run.states in
+    let whole = mounts_and_runs here.run reads made in
+    let at = here.run.last here.run.ends in
+    let text = work_text (sums_of P count here.run.start here.run.answers here.run.states) in
+    record {
+      script = here.script;
+      worked = here.worked;
+      ran = whole;
+      all = here.all;
+      told = here.told;
+      keeps = keeps_closed whole
+          (tells_quietly P last here.worked new.device text result old.took new.took (record { settled = here.run.settled here.run.ends; tidy = at.tidy; reads = at.reads }) here.told);
+    }
 
 pub works_entry : {S K : Type 0} (seed count : ℕ) (old new : Seen S K) {mounted : DeviceView} {volume : VolumeView} {result : Status} → HasMounted volume old.device mounted
     → WorksOn volume.size seed count (record old { device = mounted }) new result → HasWorked seed count old new result

@@ -5,7 +5,9 @@ use Rattle.pm_trait.specs.DeviceView.{DeviceView}
 use Rattle.io_edge.specs.declared.source.Source.{Ghosts as Sources}
 use Rattle.io_edge.specs.declared.sink.Sink.{Ghosts as Sinks}
 use Rattle.crash_replay.specs.declared.moment.Moment.{Moment}
+use Rattle.layout.specs.Superblock.{HasMark}
 use Rattle.command_line.specs.declared.job.Job.{Job}
+use Rattle.command_line.specs.declared.job.Job.TheVariants.{Mkfs, Run, Tree, Check, Crash, Work}
 use Rattle.squirrel_cli.specs.declared.status.Status.{Status}
 use Rattle.squirrel_cli.specs.declared.status.Status.TheVariants.{Done, NoMemory, ScriptLimit}
 use Rattle.squirrel_cli.specs.Asked.{ReadsScript}
@@ -38,3 +40,20 @@ ReplayCompleteLaw {S} {K} source sink = (moment : Moment) (keep : List ℕ) (bef
     → TellsFaults (seen source sink before script output) (seen source sink after rest written) status
     → IsMountable before.words → IsShortScript (source.left script) → HasNoFault (seen source sink before script output) (seen source sink after rest written)
     → ¬ HasRisen (source.faults script) (source.faults rest) → (status ≡ Done) ⊎ (status ≡ NoMemory)
+
+-- ---- what a job that is done leaves
+
+-- it closes the volume where it is done
+abbrev pub ClosesVolume : Job → Type 0
+ClosesVolume (Mkfs pages) = ⊥
+ClosesVolume Run = Unit {0}
+ClosesVolume Tree = Unit {0}
+ClosesVolume Check = ⊥
+ClosesVolume (Crash moment keep again) = ⊥
+ClosesVolume (Work seed count) = Unit {0}
+
+-- Such a job that is done leaves the mark of a volume that was closed.
+abbrev pub ClosedLaw : {S K : Type 0} → Sources S → Sinks K → Type 0
+ClosedLaw {S} {K} source sink = (job : Job) (before after : DeviceView) (script rest : S) (output written : K) (status : Status)
+    → DoesJob (Some job) (seen source sink before script output) (seen source sink after rest written) status
+    → ClosesVolume job → status ≡ Done → HasMark after.words

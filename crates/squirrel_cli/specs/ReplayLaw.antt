@@ -8,7 +8,8 @@ use Rattle.tree_model.specs.Run.{Line, State}
 use Rattle.tree_model.specs.Allowed.{Allowed}
 use Rattle.engine.specs.Run.{command_of, state_after}
 use Rattle.recovery.specs.Repairs.{events_of_repairs}
-use Rattle.volume.specs.LineEvents.{events_of_run}
+use Rattle.layout.specs.Superblock.{has_mark}
+use Rattle.engine.specs.Script.{events_of_marked_run}
 use Rattle.crash_replay.specs.Replay.{fences_of_call}
 use Rattle.crash_replay.specs.declared.moment.Moment.{Moment}
 use Rattle.crash_replay.specs.declared.moment.Moment.TheVariants.{At, Before}
@@ -45,6 +46,6 @@ ReplayLaw = (moment : Moment) (keep : List ℕ) (P : ℕ) (before after : Device
 -- Behind as many events as the mount and the lines may make, every line is acknowledged, and the tree is the last one.
 abbrev pub ReplayEndLaw : Type 0
 ReplayEndLaw = (k : ℕ) (keep : List ℕ) (P : ℕ) (before after : DeviceView) (script rest : Option (List ℕ)) → IsUnbegun before → (replay : Replayed (At k) keep P before after script rest)
-    → events_of_repairs replay.ran.mount.repairs + events_of_run replay.ran.run.start replay.ran.run.lines replay.ran.run.answers replay.ran.run.states ≤ k
+    → events_of_repairs replay.ran.mount.repairs + events_of_marked_run (has_mark before.words) replay.ran.run.start replay.ran.run.lines replay.ran.run.answers replay.ran.run.states ≤ k
     → (acked_before replay.trail (moment_of replay.ran.mounted.trail) (At k) ≡ length replay.ran.run.states)
     × IsTreeAfter replay.ran.run.start replay.ran.run.states (length replay.ran.run.states) replay.tree

@@ -14,10 +14,11 @@ use Rattle.engine.specs.Run.{last_state}
 use Rattle.crash_replay.specs.Tally.{accepted_in, refused_in}
 use Rattle.crash_replay.specs.Work.{work_script}
 use Rattle.squirrel_cli.specs.declared.status.Status.{Status}
-use Rattle.squirrel_cli.specs.declared.status.Status.TheVariants.{Done, DeviceFault}
+use Rattle.squirrel_cli.specs.declared.status.Status.TheVariants.{DeviceFault}
 use Rattle.squirrel_cli.specs.Seen.{Seen, IsSilent}
 use Rattle.squirrel_cli.specs.Replays.{RunsThrough}
-use Rattle.squirrel_cli.specs.Told.{IsToldOrCut}
+use Rattle.squirrel_cli.specs.Mounts.{KeepsRun}
+use Rattle.squirrel_cli.specs.Tells.{TellsAndCloses}
 
 -- The device was mounted, and the generated script run through on it to this end. Of what the run's own sink took nothing is asked.
 abbrev pub RunsWork : ℕ → ℕ → ℕ → DeviceView → DeviceView → RunEnd → Type 0
@@ -34,10 +35,9 @@ summary_of P count accepted refused last = record {
   bytes = (totals_of last.tree).bytes;
 }
 
--- Every line was answered, and the sums of the answers and of the last state were written, or a prefix of them where a write failed.
-pub record SumsUp (P count : ℕ) (start : State) (answers : List Answer) (states : List State) (result : Status) (took now : List ℕ → Type 0) : Type 0 where
-  pub all : accepted_in answers + refused_in answers ≡ count + 4
-  pub told : IsToldOrCut Done (work_text (summary_of P count (accepted_in answers) (refused_in answers) (last_state start states))) result took now
+-- the sums of the answers and of the last state
+abbrev pub sums_of : ℕ → ℕ → State → List Answer → List State → WorkSummary
+sums_of P count start answers states = summary_of P count (accepted_in answers) (refused_in answers) (last_state start states)
 
 -- A fence failed in the run of the generated script, and nothing was written.
 pub record FaultsInWork {S K : Type 0} (seed count : ℕ) (old new : Seen S K) (status : Status) : Type 0 where
@@ -45,11 +45,17 @@ pub record FaultsInWork {S K : Type 0} (seed count : ℕ) (old new : Seen S K) (
   pub silent : IsSilent old new
   pub ran : RunsWork (pages_in_image old.device.words) seed count old.device new.device ends.Faulted
 
--- The generated script was run through, no line of it was answered Fault, and its sums were told.
+-- The generated script was run through, no line of it was answered Fault, its sums were told, or a prefix of them where a write failed,
+-- and the volume was closed.
 pub record WorksScript {S K : Type 0} (seed count : ℕ) (old new : Seen S K) (status : Status) : Type 0 where
   pub script : new.script ≡ old.script
-  pub ran : RunsWork (pages_in_image old.device.words) seed count old.device new.device ends.Done
-  pub sums : SumsUp (pages_in_image old.device.words) count ran.run.start ran.run.answers ran.run.states status old.took new.took
+  pub worked : DeviceView
+  pub ran : RunsWork (pages_in_image old.device.words) seed count old.device worked ends.Done
+  pub all : accepted_in ran.run.answers + refused_in ran.run.answers ≡ count + 4
+  pub told : TellsAndCloses (pages_in_image old.device.words) (last_state ran.run.start ran.run.states)
+      (work_text (sums_of (pages_in_image old.device.words) count ran.run.start ran.run.answers ran.run.states)) worked new.device status old.took new.took
+  pub keeps : KeepsRun (pages_in_image old.device.words) ran.run.start ran.run.lines ran.run.states old.device new.device
+  pub open keeps use *
 
 -- What `work` does on a sound volume: what `run` says of a crash is said of the generated lines.
 abbrev pub HasWorked : {S K : Type 0} → ℕ → ℕ → Seen S K → Seen S K → Status → Type 0

@@ -1,5 +1,5 @@
 // What a caller may rest on of jobs and replays, as contracts.
-ghost use Rattle.squirrel_cli.specs.Complete.{CompleteLaw, ReplayCompleteLaw};
+ghost use Rattle.squirrel_cli.specs.Complete.{ClosedLaw, CompleteLaw, ReplayCompleteLaw};
 ghost use Rattle.squirrel_cli.specs.ReplayLaw.{ReplayEndLaw, ReplayLaw};
 
 use io_edge::{Sink, Source};
@@ -7,6 +7,11 @@ use io_edge::{Sink, Source};
 /// When a job is done: where nothing fails, unless memory is short or the script is too long.
 pub fn complete_law<S: Source, K: Sink>()
     ensures { CompleteLaw S.Source K.Sink }
+{}
+
+/// A `run`, `tree` or `work` that is done has closed the volume.
+pub fn closed_law<S: Source, K: Sink>()
+    ensures { ClosedLaw S.Source K.Sink }
 {}
 
 /// When a replay is done: that of a short script where nothing fails, unless memory is short.

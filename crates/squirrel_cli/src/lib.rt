@@ -15,7 +15,7 @@ mod top_call;
 mod working;
 
 pub use command_line::{ImagePath, Wanted, Words, device_of};
-pub use laws::{complete_law, replay_complete_law, replay_end_law, replay_law};
+pub use laws::{closed_law, complete_law, replay_complete_law, replay_end_law, replay_law};
 pub use replaying::replay;
 pub use status::Status;
 pub use top_call::squirrel;

@@ -1,20 +1,18 @@
 // The tree of a volume.
-ghost use Rattle.std.specs.Prelude.{◌≡◌, ◌⊎◌, false};
+ghost use Rattle.std.specs.Prelude.{◌⊎◌};
 ghost use Rattle.pm_trait.specs.Device.{HasRisen};
 ghost use Rattle.pm_trait.specs.DeviceView.{IsSettledView};
-ghost use Rattle.tree_model.specs.Run.{State};
-ghost use Rattle.volume.specs.Stands.{IsStanding, StandsFor};
-ghost use Rattle.script.specs.Texts.{listing_text};
 ghost use Rattle.squirrel_cli.specs.Causes.{TellsFaults};
 ghost use Rattle.squirrel_cli.specs.Ends.{IsStart};
+ghost use Rattle.squirrel_cli.specs.GoingOn.{GoesOn, UnlessShort, LeavesGoing, ListsOn};
 ghost use Rattle.squirrel_cli.specs.Rows.{Lists};
 ghost use Rattle.squirrel_cli.specs.Seen.{seen_alone};
-ghost use Rattle.squirrel_cli.specs.Told.{IsToldUnlessShort, TellsWrites};
 
 use crate::refused::refuse;
-use crate::status::{Status, status_of_write};
+use crate::scripted::close_session;
+use crate::status::Status;
 use engine::Session;
-use io_edge::Sink;
+use io_edge::{Sink, WriteFault};
 use mount_scan::mount;
 use pm_trait::Pm;
 use std::alloc::Global;
@@ -33,17 +31,19 @@ pub fn list_volume<P: Pm, K: Sink>(alloc: Global, out: &mut K, pm: &mut P) -> St
     }
 }
 
-// Lists the tree of a mounted volume.
-fn list_tree<P: Pm, K: Sink>(alloc: Global, volume: Volume, out: &mut K, pm: &P) -> Status
-    requires going { volume.stopped ≡ false }
-    requires stands { IsStanding volume (P.view pm.now) }
-    ensures no_memory { result ≡ Status.NoMemory → out.new ≡ out.old }
-    ensures lists { (state : State) → StandsFor volume (P.view pm.now) state →
-        IsToldUnlessShort (listing_text state.tree) result (K.took out.old) (K.took out.new) }
-    ensures cause { TellsWrites result (K.faults out.old) (K.faults out.new) }
+// Lists the tree of a mounted volume, and closes it.
+fn list_tree<P: Pm, K: Sink>(alloc: Global, volume: Volume, out: &mut K, pm: &mut P) -> Status
+    requires goes_on { GoesOn volume (P.view pm.old) }
+    ensures lists { UnlessShort (ListsOn volume) (seen_alone K.Sink (P.view pm.old) out.old)
+        (seen_alone K.Sink (P.view pm.new) out.new) result }
+    ensures cause { TellsFaults (seen_alone K.Sink (P.view pm.old) out.old) (seen_alone K.Sink (P.view pm.new) out.new) result }
+    ensures leaves { LeavesGoing volume.size (P.view pm.old) (P.view pm.new) }
 {
     let Ok(mut session) = Session::start(alloc, volume) else {
         return Status::NoMemory;
     };
-    status_of_write(session.listing(out, pm), Status::Done)
+    match session.listing(out, pm) {
+        Ok(()) => close_session(session, pm),
+        Err(WriteFault) => Status::WriteFault,
+    }
 }

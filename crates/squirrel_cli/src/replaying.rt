@@ -19,7 +19,7 @@ ghost use Rattle.squirrel_cli.specs.Told.{IsToldUnlessShort, TellsWrites};
 
 use crate::chosen::{ChosenCrash, SecondCrash};
 use crate::refused::refuse;
-use crate::scripted::answer_lines;
+use crate::scripted::{answer_lines, status_of_end};
 use crate::status::{Status, status_of_write};
 use crash_replay::{Moment, Tally, acks_before, place_of};
 use engine::Session;
@@ -28,7 +28,7 @@ use mount_scan::{MountError, mount};
 use pm_memory::{RamPm, Recorded, SteadyPm};
 use pm_trait::{NoMemory, Pm};
 use remounts::{Crash, words_after};
-use script::write_acked;
+use script::{RunEnd, write_acked};
 use std::alloc::Global;
 use volume::Volume;
 
@@ -109,10 +109,13 @@ fn replay_on<P: Recorded, S: Source, K: Sink>(
     };
     let mark = pm.ram().events();
     let mut tally = Tally::new();
-    match answer_lines(alloc, volume, source, &mut tally, pm) {
-        Status::Done if tally.lacking() == 0 => list_left(alloc, pm.ram(), mark, sink, crash),
-        Status::Done => Status::NoMemory,
-        status => status,
+    let Ok(answered) = answer_lines(alloc, volume, source, &mut tally, pm) else {
+        return Status::NoMemory;
+    };
+    match answered.end {
+        RunEnd::Done if tally.lacking() == 0 => list_left(alloc, pm.ram(), mark, sink, crash),
+        RunEnd::Done => Status::NoMemory,
+        end => status_of_end(end),
     }
 }
 

@@ -20,7 +20,8 @@ ghost use Rattle.squirrel_cli.specs.WorkSteps.{CountsGenerated, RunsGenerated, W
 
 use crate::generated::Generated;
 use crate::refused::refuse;
-use crate::status::{Status, status_of_write};
+use crate::scripted::close_session;
+use crate::status::Status;
 use crash_replay::{Tally, Work};
 use engine::{Session, run};
 use io_edge::{Sink, WriteFault};
@@ -71,11 +72,11 @@ fn work_lines<P: Pm, K: Sink>(
     };
     match run_generated(&mut session, &mut buffers, generated, pm) {
         Some(tally) => {
-            let lent = session.volume();
-            status_of_write(
-                write_sums(generated.count, &tally, lent, out, pm),
-                Status::Done,
-            )
+            let written = write_sums(generated.count, &tally, session.volume(), out, pm);
+            match written {
+                Ok(()) => close_session(session, pm),
+                Err(WriteFault) => Status::WriteFault,
+            }
         }
         None => Status::DeviceFault,
     }

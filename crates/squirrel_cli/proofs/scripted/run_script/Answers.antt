@@ -1,30 +1,31 @@
 use Rattle.std.proofs.Common.{refl}
-use Rattle.squirrel_cli.specs.GoingOn.{RunsOn}
+use Rattle.squirrel_cli.specs.GoingOn.{RunsAndCloses}
 use Rattle.squirrel_cli.specs.Mounts.{HasRun}
 use Rattle.squirrel_cli.specs.Seen.{seen}
-use Rattle.squirrel_cli.proofs.Mounted.{cause_entry, goes_on, mounted_row, run_entry, settled_entry}
+use Rattle.squirrel_cli.proofs.Closing.{closes_entry}
+use Rattle.squirrel_cli.proofs.Mounted.{cause_entry, goes_on, mounted_row, settled_entry}
 use Rattle.squirrel_cli.proofs.Refusals.{refused_cause, refused_row, refused_settled}
 use Rattle.squirrel_cli.proofs.scripted.run_script.Goals as goal
 
-pub answer_lines-requires : goal.answer_lines-requires
-answer_lines-requires g c = record { goes_on = goes_on c.in-Ok.ensures.answers c.requires.start }
+pub run_lines-requires : goal.run_lines-requires
+run_lines-requires g c = record { goes_on = goes_on c.in-Ok.ensures.answers c.requires.start }
 
 pub returns-in-Ok-clause-runs : goal.returns-in-Ok-clause-runs
 returns-in-Ok-clause-runs g c =
     let mount = c.in-Ok.ensures.answers in
     let old = seen g.S.Source g.K.Sink (g.P.Pm.view c.args.pm.now) c.args.script.now c.args.out.now in
-    let new = seen g.S.Source g.K.Sink (g.P.Pm.view c.answer_lines.new.pm) c.answer_lines.new.script c.answer_lines.new.out in
-    mounted_row old new mount (RunsOn c.in-Ok.volume.size) HasRun c.answer_lines.result c.answer_lines.ensures.leaves c.answer_lines.ensures.runs (λ runs. run_entry old new mount runs)
+    let new = seen g.S.Source g.K.Sink (g.P.Pm.view c.run_lines.new.pm) c.run_lines.new.script c.run_lines.new.out in
+    mounted_row old new mount (RunsAndCloses c.in-Ok.volume.size) HasRun c.run_lines.result c.run_lines.ensures.leaves c.run_lines.ensures.runs (λ runs. closes_entry old new mount runs)
 
 pub returns-in-Ok-clause-cause : goal.returns-in-Ok-clause-cause
 returns-in-Ok-clause-cause g c =
     cause_entry (seen g.S.Source g.K.Sink (g.P.Pm.view c.args.pm.now) c.args.script.now c.args.out.now)
-    (seen g.S.Source g.K.Sink (g.P.Pm.view c.answer_lines.new.pm) c.answer_lines.new.script c.answer_lines.new.out) c.in-Ok.ensures.answers c.answer_lines.ensures.cause
+    (seen g.S.Source g.K.Sink (g.P.Pm.view c.run_lines.new.pm) c.run_lines.new.script c.run_lines.new.out) c.in-Ok.ensures.answers c.run_lines.ensures.cause
 
 pub returns-in-Ok-clause-settled : goal.returns-in-Ok-clause-settled
 returns-in-Ok-clause-settled g c =
     settled_entry (seen g.S.Source g.K.Sink (g.P.Pm.view c.args.pm.now) c.args.script.now c.args.out.now)
-    (seen g.S.Source g.K.Sink (g.P.Pm.view c.answer_lines.new.pm) c.answer_lines.new.script c.answer_lines.new.out) c.in-Ok.ensures.answers c.answer_lines.ensures.leaves
+    (seen g.S.Source g.K.Sink (g.P.Pm.view c.run_lines.new.pm) c.run_lines.new.script c.run_lines.new.out) c.in-Ok.ensures.answers c.run_lines.ensures.leaves
 
 pub returns-in-Err-clause-runs : goal.returns-in-Err-clause-runs
 returns-in-Err-clause-runs g c =
