@@ -5,8 +5,18 @@ import subprocess
 from trees import LONGEST, Tree, parent_of, path_of, written_bytes
 
 
+CLOSED = 1
+
+
 class NotListed(Exception):
     """What the program answered, where that is no tree."""
+
+
+def mark_of(image):
+    """Word 5 of an image file, the mark: 1 where the volume was closed."""
+    with open(image, "rb") as file:
+        file.seek(5 * 8)
+        return int.from_bytes(file.read(8), "little")
 
 
 class Session:

@@ -6,17 +6,19 @@ import signal
 import subprocess
 import time
 
+from listing import mark_of
 from mounts import (
-    EACH_CALL_FAILS, KILLED, PAGE, ROOT, Mount, await_so, environment, error_of, expect, expect_equal, expect_error, listed,
-    opened, read, replies, start_in_background, start_words, tell, unmount, write,
+    EACH_CALL_FAILS, KILLED, PAGE, ROOT, UNMOUNTED, Mount, await_so, environment, error_of, expect, expect_closed, expect_equal,
+    expect_error, listed, opened, read, replies, start_in_background, start_words, tell, unmount, write,
 )
+
 
 def device_fault(image, cause):
     return 5, "", f"squirrel: device fault\nsquirrel-mount: {image}: {cause}\n"
 
 
 def killed(trial):
-    """Each call is EIO from then on, and the volume is as it was told once it is mounted anew."""
+    """Each call is EIO from then on, and the volume, which isn't closed, is as it was told once it is mounted anew."""
     trial.make(256)
     with trial.mount() as mount:
         os.mkdir(trial.at("d"))
@@ -41,6 +43,7 @@ def killed(trial):
         expect_error("EIO", os.stat, trial.at("d"))
         os.close(file)
         mount.end(KILLED)
+    expect_equal("the mark after a kill", mark_of(trial.image), 0)
 
 
 def killed_anew(trial):
@@ -179,6 +182,7 @@ def adapter_killed(trial):
                 expect(unmount(trial.folder), "it can't be unmounted")
             expect_equal("the names of the empty folder", os.listdir(trial.folder), [])
         await_so(lambda: is_free(trial.image), "the end of the program")
+        expect_closed(trial.image, "the end of the adapter")
     expect_equal("the names", listed(trial.program, trial.image), ["d", "d-auto_unmount"])
 
 
@@ -214,6 +218,7 @@ def in_background(trial):
     finally:
         await_so(lambda: unmount(trial.folder), "the unmount")
     await_so(lambda: is_free(trial.image), "the end of the program")
+    expect_closed(trial.image, "an unmount in the background")
     expect_equal("the names", listed(trial.program, trial.image), ["a", "b"])
 
 
@@ -225,7 +230,8 @@ def interrupts(trial):
             os.unlink(trial.at("a"))
             expect_equal("what is read", os.read(file, 9), b"a")
             mount.job.send_signal(number)
-            expect_equal("the end by a signal", mount.ended(), (0, "", ""))
+            expect_equal("the end by a signal", mount.ended(), UNMOUNTED)
+            expect_closed(trial.image, "the end by a signal")
             expect_error("ENOTCONN", os.fsync, file)
             error_of(os.close, file)
             expect(not os.path.ismount(trial.folder), "it is still mounted")

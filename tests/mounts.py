@@ -9,11 +9,14 @@ import subprocess
 import time
 from pathlib import Path
 
+from listing import CLOSED, mark_of
+
 ROOT = Path(__file__).resolve().parent.parent
 START = str(ROOT / "bin" / "squirrel-mount")
 RENAME_NOREPLACE, RENAME_EXCHANGE = 1, 2
 LONGEST_WAIT = 120.0
 STAND_IN = str(ROOT / "tests" / "stand_in.py")
+UNMOUNTED = (0, "", "")
 PAGE = 4096
 EACH_CALL_FAILS = "each call is answered EIO until the volume is mounted anew"
 KILLED = (137, "", f"squirrel-mount: the program ended with status 137: {EACH_CALL_FAILS}\n")
@@ -73,6 +76,10 @@ def listed(program, image, directory="/"):
     return replies(program, image, f"list {directory}")[0].split()[2:]
 
 
+def expect_closed(image, what):
+    expect_equal(f"the mark after {what}", mark_of(image), CLOSED)
+
+
 def start_words(image, folder, options=(), is_foreground=True):
     words = [START, str(image), str(folder)]
     words += ["-f"] if is_foreground else []
@@ -113,7 +120,7 @@ class Mount:
     """An adapter in the foreground, with the folder that it has mounted."""
 
     def __init__(self, program, image, folder, options=()):
-        self.folder = str(folder)
+        self.folder, self.image, self.is_stand_in = str(folder), image, program == STAND_IN
         self.job = subprocess.Popen(start_words(image, folder, options), env=environment(program), stdin=subprocess.DEVNULL,
                                     stdout=subprocess.PIPE, stderr=subprocess.PIPE, text=True)
         await_so(lambda: self.job.poll() is not None or os.path.ismount(self.folder), "a mount")
@@ -140,10 +147,12 @@ class Mount:
         out, err = self.job.communicate(timeout=LONGEST_WAIT)
         return self.job.returncode, out, err
 
-    def end(self, wanted=(0, "", "")):
-        """Unmounts the folder; the adapter ends so."""
+    def end(self, wanted=UNMOUNTED):
+        """Unmounts the folder; the adapter ends so. Where nothing went wrong the volume is closed."""
         await_so(lambda: unmount(self.folder), "the unmount")
         expect_equal("the end of a mount", self.ended(), wanted)
+        if wanted == UNMOUNTED and not self.is_stand_in:
+            expect_closed(self.image, "an unmount")
 
     def abandon(self):
         """Unmounts it whatever it was at."""

@@ -3,6 +3,7 @@
 
 #[cfg(test)]
 mod costs;
+mod marks;
 #[cfg(test)]
 mod plans;
 #[cfg(test)]

@@ -4,9 +4,9 @@ use pm_memory::RamPm;
 use script::Call;
 use std::alloc::Global;
 use std::test::Fail;
-use worked_drivers::jobs::{events_of, is_done, run_on, same};
+use worked_drivers::jobs::{events_of, is_done, mark_fences, run_on, same};
 
-// A script, its replies, and how many fences and events it takes.
+// A script, its replies, and how many fences and events its lines take.
 pub(crate) type Cost<'a> = (&'a str, &'a str, u64, u64);
 
 // Runs each script on what those before it left, the first on this volume. What they left at the end.
@@ -29,8 +29,13 @@ fn compare_cost(alloc: Global, volume: &[u64], cost: Cost<'_>) -> Result<Vec<u64
     let mut pm = RamPm::new(alloc, volume)?;
     let left = run_on(alloc, &mut pm, script)?;
     is_done(&left, told, script)?;
+    let marking = mark_fences(volume, fences);
     let counted = (left.fences, events_of(&pm)?.saturating_sub(left.acks));
-    same(counted, (fences, events), script)?;
+    let wanted = (
+        fences.saturating_add(marking),
+        events.saturating_add(marking.saturating_mul(3)),
+    );
+    same(counted, wanted, script)?;
     Ok(left.image)
 }
 

@@ -182,19 +182,22 @@ fn a_fence_of_mkfs_fails(rt: HostRuntime) -> Result<(), Fail> {
     Ok(())
 }
 
-// The first file takes a page: three fences. The second has room in it: two. What the failed fence left is then found as it
-// reads: a name is there once its number is stored.
+// The mark goes with the first fence. The first file takes a page: three fences. The second has room in it: two. The last one closes
+// the volume. What the failed fence left is then found as it reads: a name is there once its number is stored.
 #[test]
 fn a_fence_of_a_line_fails(rt: HostRuntime) -> Result<(), Fail> {
     let volume = small_volume(rt.alloc())?;
     let first = "error Fault\nerror Stopped\nerror Stopped\nerror Stopped\n";
     let second = "ok\nok 1 a\nerror Fault\nerror Stopped\n";
+    let whole = "ok\nok 1 a\nok\nerror BadLine\n";
     for (fence, told, acks, found) in [
         (1, first, 0, "ok 0\n"),
         (2, first, 0, "ok 0\n"),
-        (3, first, 0, "ok 1 a\n"),
-        (4, second, 2, "ok 1 a\n"),
-        (5, second, 2, "ok 2 a b\n"),
+        (3, first, 0, "ok 0\n"),
+        (4, first, 0, "ok 1 a\n"),
+        (5, second, 2, "ok 1 a\n"),
+        (6, second, 2, "ok 2 a b\n"),
+        (7, whole, 4, "ok 2 a b\n"),
     ] {
         let left = job_with_fault(
             rt.alloc(),
@@ -221,17 +224,17 @@ fn a_fence_fails_that_is_not_made(rt: HostRuntime) -> Result<(), Fail> {
         "squirrel run v",
         volume.as_slice(),
         b"create /a\ncreate /b\nlist /\ncreate /b\n",
-        6,
+        8,
     )?;
     is_done(&left, "ok\nok\nok 2 a b\nerror Exists\n", "no fence fails")?;
-    same((left.fences, left.acks), (5, 4), "no fence fails")
+    same((left.fences, left.acks), (7, 4), "no fence fails")
 }
 
 // A read fails after a fence has failed: the run ends there.
 #[test]
 fn a_read_fails_after_a_fence(rt: HostRuntime) -> Result<(), Fail> {
     let volume = small_volume(rt.alloc())?;
-    let failing = [3].to_vec(rt.alloc())?;
+    let failing = [4].to_vec(rt.alloc())?;
     let mut pm = RamPm::with_failing(rt.alloc(), volume.as_slice(), failing)?;
     let source = source_of(rt.alloc(), b"create /a\nlist /\nlist /\n", 1, 18)?;
     let sink = sink_of(rt.alloc(), 4_096, 0)?;

@@ -6,6 +6,8 @@ mod crashes;
 #[cfg(test)]
 mod faults;
 #[cfg(test)]
+mod marks;
+#[cfg(test)]
 mod recoveries;
 #[cfg(test)]
 mod scarce;

@@ -10,7 +10,9 @@ use worked_drivers::jobs::{
     crash_at, do_job, events_of, is_done, run_on, same, sink_of, source_of, text_of,
 };
 use worked_drivers::rows::compare_run;
-use worked_drivers::volumes::{LITTERED, littered, small_volume, volume_with_a, with_words};
+use worked_drivers::volumes::{
+    LITTERED, littered, set_words, small_volume, volume_with_a, with_words,
+};
 
 // The number of each step's fence.
 const FENCES: [u64; 4] = [1, 2, 3, 4];
@@ -18,8 +20,8 @@ const FENCES: [u64; 4] = [1, 2, 3, 4];
 // Of the words that are old or new by themselves: all old, all new, or one like this and the next like that.
 const MIXES: [[u8; 2]; 4] = [[0, 0], [1, 1], [0, 1], [1, 0]];
 
-// Words that are set in a volume, what the mount takes in fences and in events, and how many words of the volume are
-// others afterwards. Then what a script is answered, and how many inodes and data pages are free.
+// Words that are set in a volume, which isn't closed then, what the mount takes in fences and in events, and which words of the volume
+// are others afterwards. Then what a script is answered, and how many inodes and data pages are free.
 #[derive(Clone, Copy)]
 pub(crate) struct Row<'a> {
     pub(crate) words: &'a [(usize, u64)],
@@ -31,14 +33,17 @@ pub(crate) struct Row<'a> {
     pub(crate) free: (u64, u64),
 }
 
-// Runs the script on the volume with the words set, and again on what the first run left, which takes no fence.
+// Runs the script on the volume with the words set, and closes it by a fence of 3 events; and again on what the first run left, which
+// takes no fence.
 pub(crate) fn compare(alloc: Global, volume: &[u64], row: &Row<'_>) -> Result<(), Fail> {
-    let image = with_words(alloc, volume, row.words)?;
+    let mut image = with_words(alloc, volume, row.words)?;
+    set_words(&mut image, &[(5, 0)])?;
     let mut pm = RamPm::new(alloc, image.as_slice())?;
     let left = run_on(alloc, &mut pm, row.script)?;
     is_done(&left, row.told, row.script)?;
     let events = events_of(&pm)?.saturating_sub(left.acks);
-    same((left.fences, events), (row.fences, row.events), row.told)?;
+    let taken = (row.fences.saturating_add(1), row.events.saturating_add(3));
+    same((left.fences, events), taken, row.told)?;
     let mended = with_words(alloc, volume, row.mended)?;
     same(left.image.as_slice(), mended.as_slice(), row.told)?;
     compare_run(alloc, mended.as_slice(), row.script, row.told, 0)?;
@@ -198,7 +203,7 @@ fn a_crash_at_each_moment_of_a_mount(rt: HostRuntime) -> Result<(), Fail> {
     let mut pm = RamPm::new(rt.alloc(), image.as_slice())?;
     let left = run_on(rt.alloc(), &mut pm, "")?;
     is_done(&left, "", "a mount")?;
-    same(events_of(&pm)?, 59, "a mount")?;
+    same(events_of(&pm)?, 62, "a mount")?;
     finds_the_file_everywhere(rt.alloc(), &pm, MIXES.as_slice())
 }
 

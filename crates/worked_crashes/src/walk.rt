@@ -117,12 +117,14 @@ const CRASHES: [Crash<'static>; 9] = [
     },
 ];
 
-// The fence of each interval fails in turn: in the image in which each word is new all that was stored until then is there.
+// The mark goes before the first interval. The fence of each interval fails in turn: in the image in which each word is new all that
+// was stored until then is there.
 #[test]
 fn each_interval_changes_its_words(rt: HostRuntime) -> Result<(), Fail> {
     let volume = small_volume(rt.alloc())?;
     let mut stored = volume.to_vec(rt.alloc())?;
-    let mut fence = 0u64;
+    set_words(&mut stored, &[(5, 0)])?;
+    let mut fence = 1u64;
     for changes in CHANGES {
         fence = fence.saturating_add(1);
         set_words(&mut stored, changes)?;

@@ -16,7 +16,8 @@ pub struct Found<'a> {
 
 /// A line on what a first script left of 16 pages, and for each of its fences how many a mount takes of the words as they were
 /// settled, and of all that was stored since. The tree before it is found up to the settled words of the fence `commit`, and
-/// from its stored ones on the tree after it. Both are found by the same script, which only reads.
+/// from its stored ones on the tree after it. Both are found by the same script, which only reads. The volume is closed: a fence
+/// takes its mark away before those of the line, and one gives it back behind them.
 #[derive(Clone, Copy)]
 pub struct Crashes<'a> {
     pub first: &'a str,
@@ -28,7 +29,7 @@ pub struct Crashes<'a> {
     pub after: Found<'a>,
 }
 
-/// Lets each fence of each line fail in turn. The line has no more of them.
+/// Lets each fence of each line fail in turn, and those of the mark. The line has no more of them.
 pub fn compare_crashes(alloc: Global, rows: &[Crashes<'_>]) -> Result<(), Fail> {
     for row in rows {
         let volume = volume_after(alloc, 16, row.first)?;
@@ -39,8 +40,24 @@ pub fn compare_crashes(alloc: Global, rows: &[Crashes<'_>]) -> Result<(), Fail> 
             row.line.as_bytes(),
         )?;
         is_done(&whole, "ok\n", row.line)?;
-        same(whole.fences, row.mounts.len() as u64, row.line)?;
+        let fences = row.mounts.len() as u64;
+        same(whole.fences, fences.saturating_add(2), row.line)?;
+        compare_marks(alloc, volume.as_slice(), *row)?;
         compare_mounts(alloc, volume.as_slice(), *row)?;
+    }
+    Ok(())
+}
+
+// Lets the fences of the mark fail. A run that finds the volume without the mark closes it.
+fn compare_marks(alloc: Global, volume: &[u64], row: Crashes<'_>) -> Result<(), Fail> {
+    let closing = (row.mounts.len() as u64).saturating_add(1);
+    for (fence, found, runs) in [(0, row.before, (0, 1)), (closing, row.after, (1, 0))] {
+        let pm = cut_at(alloc, volume, row.line, fence)?;
+        let fences = (
+            run_fences(alloc, &pm, [0, 0], row.asked, found)?,
+            run_fences(alloc, &pm, [1, 1], row.asked, found)?,
+        );
+        same((fence, fences), (fence, runs), row.line)?;
     }
     Ok(())
 }
@@ -69,17 +86,29 @@ impl<'a> Crashes<'a> {
     }
 }
 
-/// The device on which a fence of a line has failed.
+/// The device on which a fence of a line on a closed volume has failed. Fence 0 takes the mark away.
 pub fn cut_at(alloc: Global, volume: &[u64], line: &str, fence: u64) -> Result<RamPm, Fail> {
-    let failing = [fence].to_vec(alloc)?;
+    let failing = [fence.saturating_add(1)].to_vec(alloc)?;
     let mut pm = RamPm::with_failing(alloc, volume, failing)?;
     let left = run_on(alloc, &mut pm, line)?;
     same((fence, left.status), (fence, Status::DeviceFault), line)?;
     Ok(pm)
 }
 
-// How many fences a mount takes of the words that a crash at the end left, which are found as they should be.
+// How many fences a mount takes of the words that a crash at the end left, which are found as they should be. They aren't closed, which
+// the run does at its end.
 fn mount_fences(
+    alloc: Global,
+    pm: &RamPm,
+    keep: [u8; 2],
+    asked: &str,
+    found: Found<'_>,
+) -> Result<u64, Fail> {
+    Ok(run_fences(alloc, pm, keep, asked, found)?.saturating_sub(1))
+}
+
+// How many fences the run takes that finds them.
+fn run_fences(
     alloc: Global,
     pm: &RamPm,
     keep: [u8; 2],

@@ -3,6 +3,7 @@ ghost use Rattle.std.specs.Prelude.{◌≡◌, ◌≤◌};
 ghost use Rattle.pm_trait.specs.Device.{IsSettledAt};
 
 use io_edge::{MemSink, MemSource};
+use layout::superblock::{CLOSED_MARK, MARK_WORD};
 use pm_memory::RamPm;
 use pm_trait::Pm;
 use squirrel_cli::{Status, Words, squirrel};
@@ -50,6 +51,21 @@ pub fn is_done(left: &Left, told: &str, place: &str) -> Result<(), Fail> {
 /// The text of what was told.
 pub fn text_of(told: &[u8]) -> &str {
     std::str::from_utf8(told).unwrap_or("no text")
+}
+
+/// Whether words have the mark of a volume that was closed.
+pub fn is_closed(image: &[u64]) -> bool {
+    image.get(MARK_WORD as usize) == Some(&CLOSED_MARK)
+}
+
+/// How many fences a job takes for the mark, beside so many of its lines: one before the first of these and one at the end, or the
+/// latter alone where the volume wasn't closed. Each has 3 events.
+pub fn mark_fences(image: &[u64], fences: u64) -> u64 {
+    match (is_closed(image), fences) {
+        (true, 0) => 0,
+        (true, _) => 2,
+        (false, _) => 1,
+    }
 }
 
 // The words of a command line, each after a space.

@@ -1,9 +1,9 @@
 // Rows of scripts: what is told, and how many fences that takes.
-use crate::jobs::{Left, is_done, job_on, same};
+use crate::jobs::{Left, is_closed, is_done, job_on, mark_fences, same};
 use std::alloc::Global;
 use std::test::Fail;
 
-/// A script, its replies, and how many fences it takes.
+/// A script, its replies, and how many fences its lines take.
 pub type Row<'a> = (&'a str, &'a str, u64);
 
 /// Runs each script on the same volume, and compares what is told alone.
@@ -23,7 +23,7 @@ pub fn compare_rows(alloc: Global, volume: &[u64], rows: &[Row<'_>]) -> Result<(
     Ok(())
 }
 
-/// Runs a script to its end.
+/// Runs a script to its end, which closes the volume.
 pub fn compare_run(
     alloc: Global,
     volume: &[u64],
@@ -33,7 +33,9 @@ pub fn compare_run(
 ) -> Result<Left, Fail> {
     let left = job_on(alloc, "squirrel run v", volume, script.as_bytes())?;
     is_done(&left, told, script)?;
-    same(left.fences, fences, script)?;
+    let marking = mark_fences(volume, fences);
+    same(left.fences, fences.saturating_add(marking), script)?;
+    same(is_closed(left.image.as_slice()), true, script)?;
     Ok(left)
 }
 

@@ -2,7 +2,7 @@
 use std::alloc::Global;
 use std::test::Fail;
 use worked_drivers::jobs::{Left, is_done, job_without_script, same};
-use worked_drivers::volumes::{LITTERED, volume_after, with_words};
+use worked_drivers::volumes::{LITTERED, set_words, volume_after, with_words};
 
 // How many directories, files and names a tree has.
 type Held = (u64, u64, u64);
@@ -23,7 +23,7 @@ const FILE_A: &str = "d 1 2 1 /\nf 2 1 0 /a -\n";
 
 const FILE_B: &str = "d 1 2 1 /\nf 2 1 0 /b -\n";
 
-// Words that are set in what a script left of 16 pages, what `check` counts of them, and the listing of the tree.
+// Words that are set in what a script left of 16 pages, which isn't closed then, what `check` counts of them, and the listing of the tree.
 #[derive(Clone, Copy)]
 struct Row<'a> {
     script: &'a str,
@@ -153,7 +153,8 @@ fn volumes_are_checked(rt: HostRuntime) -> Result<(), Fail> {
     let alloc = rt.alloc();
     for row in ROWS {
         let volume = volume_after(alloc, 16, row.script)?;
-        let image = with_words(alloc, volume.as_slice(), row.words)?;
+        let mut image = with_words(alloc, volume.as_slice(), row.words)?;
+        set_words(&mut image, &[(5, 0)])?;
         compare_check(alloc, image.as_slice(), row.held, row.repairs)?;
         let left = compare_tree(alloc, image.as_slice(), row.tree)?;
         compare_check(alloc, left.image.as_slice(), row.held, NO_REPAIRS)?;

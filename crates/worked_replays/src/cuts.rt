@@ -1,4 +1,4 @@
-// Scripts that are cut in their last line, before each of its fences.
+// Scripts that are cut in their last line, before each of its fences. The first of a script's first line takes the mark away.
 use std::alloc::Global;
 use std::test::Fail;
 use worked_drivers::replays::{Cut, compare_cuts};
@@ -14,8 +14,8 @@ fn a_name_is_made_or_not(rt: HostRuntime) -> Result<(), Fail> {
             Cut {
                 script: "create /a\n",
                 call: 1,
-                fences: 3,
-                commit: 3,
+                fences: 4,
+                commit: 4,
                 before: "d 1 2 0 /\n",
                 after: "d 1 2 1 /\nf 2 1 0 /a -\n",
             },
@@ -99,8 +99,8 @@ fn a_directory_moves_or_not(rt: HostRuntime) -> Result<(), Fail> {
         &[Cut {
             script: "rename /p/d /q/e\n",
             call: 1,
-            fences: 8,
-            commit: 4,
+            fences: 9,
+            commit: 5,
             before: "d 1 4 2 /\nd 2 3 1 /p\nd 4 2 1 /p/d\nf 5 1 0 /p/d/x -\nd 3 2 0 /q\n",
             after: "d 1 4 2 /\nd 2 2 0 /p\nd 3 3 1 /q\nd 4 2 1 /q/e\nf 5 1 0 /q/e/x -\n",
         }],

@@ -79,30 +79,31 @@ fn a_read_or_a_write_fails(rt: HostRuntime) -> Result<(), Fail> {
     Ok(())
 }
 
-// The mount before a listing has two fences: it clears a pointer, and then the slot.
+// The mount before a listing has two fences: it clears a pointer, and then the slot. The third closes the volume behind the listing.
 #[test]
 fn a_fence_of_the_mount_before_a_listing_fails(rt: HostRuntime) -> Result<(), Fail> {
     let volume = with_words(
         rt.alloc(),
         volume_with_a(rt.alloc())?.as_slice(),
-        &[(1_553, 1), (1_554, 0x62_0001)],
+        &[(5, 0), (1_553, 1), (1_554, 0x62_0001)],
     )?;
-    for (fence, number, told) in [(1, 5, ""), (2, 5, ""), (3, 0, "d 1 2 1 /\nf 2 1 0 /a -\n")] {
+    let tree = "d 1 2 1 /\nf 2 1 0 /a -\n";
+    for (fence, number, told) in [(1, 5, ""), (2, 5, ""), (3, 5, tree), (4, 0, tree)] {
         let left = job_with_fault(rt.alloc(), "squirrel tree v", volume.as_slice(), b"", fence)?;
         compare_end(&left, number, told, "tree")?;
     }
     Ok(())
 }
 
-// The second line's last fence is the fifth of the device.
+// The second line's last fence is the sixth of the device.
 #[test]
 fn a_fence_of_a_replayed_run_fails(rt: HostRuntime) -> Result<(), Fail> {
     let alloc = rt.alloc();
     let volume = small_volume(alloc)?;
     for (fence, status, told) in [
-        (5, Status::DeviceFault, ""),
+        (6, Status::DeviceFault, ""),
         (
-            6,
+            7,
             Status::Done,
             "acked 1\nd 1 2 2 /\nf 2 1 0 /a -\nf 3 1 0 /b -\n",
         ),

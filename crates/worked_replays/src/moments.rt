@@ -52,9 +52,9 @@ fn a_line_too_long_is_a_call(rt: HostRuntime) -> Result<(), Fail> {
         script.as_str(),
         &[
             ("--call 1 --fence 0 --keep ff", "acked 0\nd 1 2 0 /\n"),
-            ("--call 2 --fence 3 --keep 00", "acked 1\nd 1 2 0 /\n"),
+            ("--call 2 --fence 4 --keep 00", "acked 1\nd 1 2 0 /\n"),
             (
-                "--call 2 --fence 3 --keep ff",
+                "--call 2 --fence 4 --keep ff",
                 "acked 1\nd 1 2 1 /\nf 2 1 0 /a -\n",
             ),
             (
@@ -65,8 +65,8 @@ fn a_line_too_long_is_a_call(rt: HostRuntime) -> Result<(), Fail> {
     )
 }
 
-// The run has 618 events: 591 of the first line, with the last fence at their end, and its acknowledgement; 25 of the second and its
-// acknowledgement.
+// The run has 621 events: 3 that take the mark away and 591 of the first line, with the last fence at their end, and its acknowledgement;
+// 25 of the second and its acknowledgement.
 #[test]
 fn a_moment_is_behind_so_many_events(rt: HostRuntime) -> Result<(), Fail> {
     let both = "acked 2\nd 1 2 2 /\nf 2 1 0 /a -\nf 3 1 0 /b -\n";
@@ -76,15 +76,15 @@ fn a_moment_is_behind_so_many_events(rt: HostRuntime) -> Result<(), Fail> {
         "create /a\ncreate /b\n",
         &[
             ("--at 0 --keep 00", "acked 0\nd 1 2 0 /\n"),
-            ("--at 590 --keep 00", "acked 0\nd 1 2 0 /\n"),
-            ("--at 591 --keep 00", "acked 0\nd 1 2 1 /\nf 2 1 0 /a -\n"),
-            ("--at 592 --keep 00", "acked 1\nd 1 2 1 /\nf 2 1 0 /a -\n"),
+            ("--at 593 --keep 00", "acked 0\nd 1 2 0 /\n"),
+            ("--at 594 --keep 00", "acked 0\nd 1 2 1 /\nf 2 1 0 /a -\n"),
+            ("--at 595 --keep 00", "acked 1\nd 1 2 1 /\nf 2 1 0 /a -\n"),
             (
-                "--at 617 --keep 00",
+                "--at 620 --keep 00",
                 "acked 1\nd 1 2 2 /\nf 2 1 0 /a -\nf 3 1 0 /b -\n",
             ),
-            ("--at 618 --keep 00", both),
-            ("--at 619 --keep 00", both),
+            ("--at 621 --keep 00", both),
+            ("--at 622 --keep 00", both),
             ("--at 18446744073709551615 --keep fF", both),
         ],
     )

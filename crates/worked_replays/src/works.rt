@@ -179,10 +179,10 @@ fn on_other_volumes(rt: HostRuntime) -> Result<(), Fail> {
 fn fences_of_work(rt: HostRuntime) -> Result<(), Fail> {
     let alloc = rt.alloc();
     for (pages, seed, count, fences) in [
-        (256, 0, 1, 12),
-        (256, 1, 10, 22),
-        (256, 1, 100, 54),
-        (64, 5, 2_000, 674),
+        (256, 0, 1, 14),
+        (256, 1, 10, 24),
+        (256, 1, 100, 56),
+        (64, 5, 2_000, 676),
     ] {
         let fresh = fresh_volume(alloc, pages)?;
         let left = work_on(alloc, fresh.as_slice(), seed, count)?;
@@ -260,7 +260,7 @@ fn a_long_work(rt: HostRuntime) -> Result<(), Fail> {
         (43, 107_082),
     );
     let left = compare(alloc, fresh.as_slice(), lines)?;
-    same(left.fences, 18_006, "work")
+    same(left.fences, 18_008, "work")
 }
 
 // A fence that fails, in the mount, in the first line or in a later one, leaves the sums untold; an output that is full cuts them.

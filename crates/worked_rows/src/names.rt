@@ -80,7 +80,8 @@ fn of_many_twins_the_second_is_told(rt: HostRuntime) -> Result<(), Fail> {
 fn a_twin_that_is_not_live_is_none(rt: HostRuntime) -> Result<(), Fail> {
     let volume = one_directory(rt.alloc())?;
     let changes = [(40, NAME, N02), (40, NUMBER, 2), (39, POINTER, 41)];
-    let image = with_slots(rt.alloc(), volume.as_slice(), &changes)?;
+    let mut image = with_slots(rt.alloc(), volume.as_slice(), &changes)?;
+    set_words(&mut image, &[(5, 0)])?;
     let told = "ok inodes 14 16 pages 59 61\n";
     compare_replies(rt.alloc(), image.as_slice(), &[("df\n", told)])
 }

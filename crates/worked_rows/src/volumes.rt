@@ -57,7 +57,7 @@ fn a_fresh_volume_has_the_words_of_the_format(rt: HostRuntime) -> Result<(), Fai
     let left = make(rt.alloc(), "squirrel mkfs v 16", 16)?;
     same(left.image.len(), 8_192, "a volume of 16 pages")?;
     for (first, wanted) in [
-        (0usize, [MAGIC, 1, 16, 4, 13, 0].as_slice()),
+        (0usize, [MAGIC, 1, 16, 4, 13, 1, 0].as_slice()),
         (512, [2, 2, 0, 1, 0].as_slice()),
         (528, [0, 0, 0, 0].as_slice()),
         (1_024, [0, 0, 0].as_slice()),
@@ -209,7 +209,7 @@ fn volumes_that_break_a_rule_by_more_words(rt: HostRuntime) -> Result<(), Fail> 
 fn words_that_are_not_read(rt: HostRuntime) -> Result<(), Fail> {
     let volume = volume_with_a(rt.alloc())?;
     for word in [
-        5, 511, 514, 516, 527, 532, 1_026, 1_027, 1_031, 1_035, 2_048, 8_191,
+        6, 511, 514, 516, 527, 532, 1_026, 1_027, 1_031, 1_035, 2_048, 8_191,
     ] {
         let image = with_words(rt.alloc(), volume.as_slice(), &[(word, 9)])?;
         let left = compare_run(rt.alloc(), image.as_slice(), "list /\n", "ok 1 a\n", 0)?;
