@@ -1,5 +1,6 @@
--- What a device over a file has still to write.
-use Rattle.std.specs.Prelude.{ℕ, List}
+-- What a device over a file has still to write, and what it knows of its file.
+use Rattle.std.specs.Prelude.{ℕ, List, Option}
+use Rattle.pm_file.specs.declared.cause.Cause.{Cause}
 use Rattle.pm_file.specs.declared.device.FilePm.{FilePm}
 use Rattle.pm_file.specs.Calls.{failed_calls}
 use Rattle.pm_file.specs.Mirrored.{listed_lines, HasNextRound, faults_behind, IsWhole}
@@ -19,3 +20,7 @@ file_faults pm = faults_behind failed_calls pm.mirror
 -- its file has just the bytes of its words, which only the file's own answer gives
 abbrev pub HasWholeFile : {R F E : Type 0} → (F → ℕ → Type 0) → FilePm R F E → Type 0
 HasWholeFile is_length pm = IsWhole (λ medium. is_length medium.file.file) pm.mirror
+
+-- why the last of its fences that failed did so, if one did
+abbrev pub cause_told : {R F E : Type 0} → FilePm R F E → Option Cause
+cause_told pm = pm.cause
