@@ -1,6 +1,6 @@
 // The words of a file in memory, and which of their lines the file has still to be given.
-ghost use Rattle.std.specs.Prelude.{◌≡◌, ◌+◌, ◌-◌, ◌*◌, ◌^◌, ◌<◌, ◌≤◌, ℕ, List, [], ◌∷◌, ◌++◌, length, slice_index, slice_set, vec_len, take, IfOk, OnOk, OnErr, IsTrue, true};
-ghost use Rattle.std.specs.List.Sorted.{IsPermutation, IsNonDecreasing, IsStrictlyIncreasing};
+ghost use Rattle.std.specs.Prelude.{◌≡◌, ◌+◌, ◌-◌, ◌*◌, ◌^◌, ◌<◌, ◌≤◌, ℕ, List, [], ◌∷◌, ◌++◌, length, slice_index, slice_set, vec_len, take, IfOk, OnOk, OnErr, true};
+ghost use Rattle.std.specs.List.Sorted.{IsPermutation, IsStrictlyIncreasing};
 ghost use Rattle.std.specs.Vec.{vec_capacity};
 ghost use Rattle.std.proofs.lemmas.Map.Keys.{IsDistinct-prop};
 ghost use Rattle.pm_file.specs.Faults.{CountsFaults};
@@ -10,7 +10,7 @@ ghost use Rattle.pm_file.specs.Room.{IsRoomFor};
 use crate::FileFault;
 use crate::medium::Medium;
 use crate::sizes::{
-    BYTES_OF_A_WORD, FEW_LINES, LINES_OF_A_PAGE, LINES_OF_A_RUN, PAGES_OF_A_READ, WORDS_OF_A_LINE,
+    BYTES_OF_A_WORD, LINES_OF_A_PAGE, LINES_OF_A_RUN, PAGES_OF_A_READ, WORDS_OF_A_LINE,
     WORDS_OF_A_PAGE,
 };
 use layout::PAGE_BYTES;
@@ -97,8 +97,8 @@ fn write_lines<F: Medium>(medium: &mut F, words: &[u64], lines: &[u64]) -> io::R
     Ok(())
 }
 
-/// Adds a line behind the others where there is room for it.
-fn put_last(flushed: &mut Vec<u64>, line: u64)
+/// Adds a line where there is room for it.
+fn note(flushed: &mut Vec<u64>, line: u64)
     requires { vec_len flushed.old < vec_capacity flushed.old }
     ensures items { flushed.new.items ≡ flushed.old.items ++ line ∷ [] }
     ensures capacity { vec_capacity flushed.old ≤ vec_capacity flushed.new }
@@ -106,37 +106,14 @@ fn put_last(flushed: &mut Vec<u64>, line: u64)
     let _ = flushed.push(line);
 }
 
-/// Adds a line among rising ones where there is room for it: behind those below it.
-fn put_in_order(flushed: &mut Vec<u64>, line: u64)
-    requires room { vec_len flushed.old < vec_capacity flushed.old }
-    requires rising { IsNonDecreasing flushed.old.items }
-    ensures same { IsPermutation (flushed.old.items ++ line ∷ []) flushed.new.items }
-    ensures rising { IsNonDecreasing flushed.new.items }
-    ensures capacity { vec_capacity flushed.old ≤ vec_capacity flushed.new }
+/// Brings the last line to the front where it is below the first: a page's descriptor is flushed behind the page, and stands before it.
+fn bring_to_front(lines: &mut [u64])
+    ensures { IsPermutation lines.old lines.new }
 {
-    let place = flushed.partition_point(|listed| *listed < line);
-    let _ = flushed.insert(place, line);
-}
-
-/// Adds a line where there is room for it, in its order where the others rise and are few. It answers whether they rise.
-fn note(flushed: &mut Vec<u64>, line: u64, rises: bool) -> bool
-    requires room { vec_len flushed.old < vec_capacity flushed.old }
-    requires rising { IsTrue rises → IsNonDecreasing flushed.old.items }
-    ensures same { IsPermutation (flushed.old.items ++ line ∷ []) flushed.new.items }
-    ensures rising { IsTrue result → IsNonDecreasing flushed.new.items }
-    ensures capacity { vec_capacity flushed.old ≤ vec_capacity flushed.new }
-{
-    let count = flushed.len();
-    if count == 0 || flushed[count - 1] < line {
-        put_last(flushed, line);
-        return rises;
+    let count = lines.len();
+    if 1 < count && lines[count - 1] < lines[0] {
+        lines.rotate_right(1);
     }
-    if rises && count < FEW_LINES {
-        put_in_order(flushed, line);
-        return true;
-    }
-    put_last(flushed, line);
-    false
 }
 
 /// The words of a medium. A round ends each time that the flushed lines were written and are safe there.
@@ -146,10 +123,8 @@ pub struct Mirror<F> {
     words: Vec<u64>,
     /// For each line the last round in which it was flushed, or 0.
     rounds: Vec<u64>,
-    /// The lines that were flushed in this round, each once.
+    /// The lines that were flushed in this round, each once, in any order.
     flushed: Vec<u64>,
-    /// Whether they are known to stand in the order of their addresses.
-    rises: bool,
     round: u64,
     ghost whole_lines: { length words.items ≡ 8 * length rounds.items },
     ghost in_file: { 8 * length words.items < 2 ^ 63 },
@@ -160,7 +135,6 @@ pub struct Mirror<F> {
     ghost noted: { (line : ℕ) → slice_index rounds.items line ≡ round → is_listed flushed.items line ≡ true },
     ghost only: { (line : ℕ) → is_listed flushed.items line ≡ true → slice_index rounds.items line ≡ round },
     ghost once: { IsEachOnce flushed.items } by { IsDistinct-prop _ flushed.items },
-    ghost in_order: { IsTrue rises → IsNonDecreasing flushed.items },
 }
 
 impl<F: Medium + Drop> Mirror<F> {
@@ -186,7 +160,6 @@ impl<F: Medium + Drop> Mirror<F> {
             words,
             rounds,
             flushed,
-            rises: true,
             round: 1,
         })
     }
@@ -218,7 +191,7 @@ impl<F: Medium + Drop> Mirror<F> {
     {
         if self.rounds[line as usize] < self.round {
             self.rounds[line as usize] = self.round;
-            self.rises = note(&mut self.flushed, line, self.rises);
+            note(&mut self.flushed, line);
         }
     }
 
@@ -230,10 +203,8 @@ impl<F: Medium + Drop> Mirror<F> {
         ensures same { IsPermutation self.old.flushed.items self.new.flushed.items }
         ensures rising { IsStrictlyIncreasing self.new.flushed.items }
     {
-        if !self.rises {
-            self.flushed.sort_unstable();
-            self.rises = true;
-        }
+        bring_to_front(&mut self.flushed);
+        self.flushed.sort_unstable();
     }
 
     /// Writes the flushed lines to the medium and waits until they are safe there. Where that fails the same lines are

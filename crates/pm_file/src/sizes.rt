@@ -12,9 +12,6 @@ pub const BYTES_OF_A_WORD: usize = (LINE_BYTES / LINE_WORDS) as usize;
 /// The most lines that one write takes.
 pub const LINES_OF_A_RUN: usize = 512;
 
-/// The most lines among which one more is put in its order at once: more than a command's bytes flush in one fence.
-pub const FEW_LINES: usize = 1024;
-
 pub const BYTES_OF_A_PAGE: usize = PAGE_BYTES as usize;
 
 /// The most pages that one read takes.
