@@ -68,6 +68,7 @@ module _ (session : SessionView) (device acked : DeviceView) (same : acked.words
     knows = subst (λ (w : List ℕ). Knows session.volume w) (sym same) stands.knows;
     mark = stands.mark ∙ ap (λ (w : List ℕ). has_mark w) (sym same);
     room = let least = stands.room in omega (arith, least, room);
+    no_call = stands.no_call;
   }
 
   -- and the session has what is written of an answer

@@ -262,6 +262,7 @@ same_places volume = record {
   same_size = refl;
   same_state = refl;
   same_mark = refl;
+  same_kept = refl;
   index = record {
     each_inode = refl;
     entries = λ i. refl;

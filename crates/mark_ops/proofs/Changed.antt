@@ -99,6 +99,7 @@ module _ {T E : Type 0} {volume : VolumeView} {before after : DeviceView} where
           knows = knows_marked volume false same stands.knows;
           mark = sym (no_mark before.words after.words (has_mark_word volume before (state, stands)) takes.makes);
           room = omega (arith, room, taken);
+          no_call = stands.no_call;
         }
 
     -- and a plan for it stays one

@@ -1,7 +1,7 @@
 -- What a volume knows of words it knows of them whatever their mark.
 use Rattle.std.proofs.Common.{ℕ, Bool, List, ◌∙◌}
 use Rattle.image_laws.specs.Marking.{SameButMark}
-use Rattle.image_laws.proofs.Marking.{marked_back, same_inode_kind, same_page_owner, same_page_offset, reached_marked, entry_marked}
+use Rattle.image_laws.proofs.Marking.{marked_back, same_inode_kind, same_page_owner, same_page_kind, same_page_offset, reached_marked, entry_marked}
 use Rattle.volatile_index.specs.Index.{NodeView}
 use Rattle.volume.specs.Stands.{KnowsNodes, Knows}
 use Rattle.volume.specs.Volume.{VolumeView}
@@ -30,6 +30,8 @@ knows_marked volume marked same knows = let back = marked_back same in record {
       ((λ free. same_inode_kind same i ∙ both.0 free), (λ none. both.1 (same_inode_kind back i ∙ none)));
   each_page = knows.each_page;
   data_pages = λ j lt.
-      let both = knows.data_pages j lt in
-      ((λ free. same_page_owner volume.size same j ∙ both.0 free), (λ none. both.1 (same_page_owner volume.size back j ∙ none)));
+      let both = knows.data_pages j lt in (
+        (λ free. let unused = both.0 free in (same_page_owner volume.size same j ∙ unused.0, same_page_kind volume.size same j ∙ unused.1)),
+        (λ unused. both.1 (same_page_owner volume.size back j ∙ unused.0, same_page_kind volume.size back j ∙ unused.1)),
+      );
 }

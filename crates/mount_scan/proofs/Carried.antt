@@ -20,6 +20,7 @@ use Rattle.repair_laws.proofs.Mended.{some_law, mended_law, index_law}
 use Rattle.allocators.specs.Numbers.{IsFree}
 use Rattle.volatile_index.specs.Index.{NodeView, node_of, inodes_of_index, IsSameElsewhere}
 use Rattle.volume.specs.Stands.{KnowsNodes, Knows}
+use Rattle.volume.proofs.Unused.{free_unused}
 use Rattle.mount_scan.specs.Building.{Holds}
 use Rattle.mount_scan.proofs.Facts.{offset_below}
 use Rattle.mount_scan.proofs.Holding.{page_skipped, file_page_set, page_pushed}
@@ -171,7 +172,7 @@ module _ (P : ℕ) (W : List ℕ) (coherent : IsCoherent P W) where
     pub knows : (index : List NodeView) (inodes data_pages : List Bool) (marked : Bool) → length W ≡ 512 * P → KnowsNodes P index K
         → length inodes ≡ inodes_of P → ((number : ℕ) → number < inodes_of P → IsFree inodes number ↔ ¬ Reached P W (number + 1))
         → length data_pages ≡ data_pages_of P → ((page : ℕ) → page < data_pages_of P → IsFree data_pages page ↔ ¬ IsKept P W page)
-        → Knows (record { size = P; index = index; inodes = inodes; data_pages = data_pages; stopped = false; marked = marked }) K
+        → Knows (record { size = P; index = index; inodes = inodes; data_pages = data_pages; stopped = false; marked = marked; kept = 0 }) K
     knows index inodes data_pages marked whole nodes each_inode unreached each_page unkept = record {
       whole = mended.size ∙ whole;
       nodes = nodes;
@@ -187,5 +188,5 @@ module _ (P : ℕ) (W : List ℕ) (coherent : IsCoherent P W) where
       data_pages = λ j within.
           let known = unkept j within in
           let after = free_page j within in
-          ((λ free. after.0 (known.0 free)), (λ zero. known.1 (after.1 zero)));
+          free_unused P K data_pages (mended_law P W K coherent mended).1 j within ((λ free. after.0 (known.0 free)), (λ zero. known.1 (after.1 zero)));
     }

@@ -114,6 +114,7 @@ module _ {T E : Type 0} (found : Found) (before reserved after : DeviceView) (do
           knows = repaired.has.knows after.words mended;
           mark = repaired.has.marked ∙ sym (same_mark before.words after.words only.mount.beside);
           room = closes found before reserved after (Ok done) repaired;
+          no_call = repaired.has.no_call;
         };
         size = repaired.has.size;
         going = repaired.has.going;

@@ -16,6 +16,7 @@ pub record HasFound (W : List ℕ) (found : Found) : Type 0 where
   pub size : found.volume.size ≡ pages_in_image W
   pub going : found.volume.stopped ≡ false
   pub marked : found.volume.marked ≡ has_mark W
+  pub no_call : found.volume.kept ≡ 0
   pub knows : (K : List ℕ) → IsMended (pages_in_image W) W K → Knows found.volume K
   pub made_for : found.repairs.geometry.pages ≡ pages_in_image W
   pub planned : IsPlanOf W found.repairs

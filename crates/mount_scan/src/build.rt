@@ -25,6 +25,7 @@ pub(crate) fn volume_of_words(alloc: Global, scanned: &Scanned<'_>) -> Result<Vo
     ensures size { IfOk result (λ volume. volume.size ≡ scanned.now.image.geometry.pages) }
     ensures going { IfOk result (λ volume. volume.stopped ≡ false) }
     ensures marked { IfOk result (λ volume. volume.marked ≡ has_mark scanned.now.image.words.now) }
+    ensures no_call { IfOk result (λ volume. volume.kept ≡ 0) }
 {
     let index = index_of_words(alloc, scanned)?;
     let inodes = free_inodes(alloc, scanned)?;

@@ -8,7 +8,7 @@ use Rattle.allocators.specs.Numbers.{IsFree}
 use Rattle.allocators.proofs.NumbersLaws.{free_still}
 use Rattle.volatile_index.specs.Index.{NodeView, pages_of, page_places_of, IsWithPages, ChangesNode}
 use Rattle.volume.specs.Volume.{VolumeView}
-use Rattle.volume.specs.Entered.{HasPagePlaces, EntersPages, LeavesLastPages, HasResized, with_taken}
+use Rattle.volume.specs.Entered.{HasPagePlaces, EntersPages, PutsPages, LeavesLastPages, HasResized, with_taken}
 use Rattle.volume.specs.declared.plan.Resizing.{Resizing}
 use Rattle.volume.proofs.Given.{not_before}
 
@@ -91,6 +91,9 @@ in_dropped k xs x there = subst (λ l. Contains l x) (take-append-drop k xs) (Co
 
 pub none_entered : (volume : VolumeView) (inode : ℕ) → EntersPages volume volume inode []
 none_entered volume inode = record { index = none_added inode volume.index; rest = refl }
+
+pub none_put : (volume : VolumeView) (inode : ℕ) → PutsPages volume volume inode []
+none_put volume inode = record { index = none_added inode volume.index; rest = refl }
 
 pub none_lost : (volume : VolumeView) (inode : ℕ) → LeavesLastPages volume volume inode 0
 none_lost volume inode = record {

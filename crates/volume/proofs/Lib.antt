@@ -1,6 +1,7 @@
 pub mod Statuses
 pub mod Walked
 pub mod Ways
+pub mod Unused
 pub mod Places
 pub mod PageRooms
 pub mod Reserved
@@ -10,8 +11,9 @@ pub mod Rows
 pub mod LinkRows
 pub mod PageLists
 pub mod Given
-pub mod Removed
-pub mod FilePages
+pub mod MayStill
+pub mod PlannedRemovals
+pub mod PlannedPages
 pub mod RemovalRows
 pub mod RenameRows
 pub mod Readings
@@ -24,7 +26,10 @@ pub mod PlanActions
 pub mod Listed
 pub mod PlanRows
 pub mod Staying
-pub mod NameMoves
+pub mod PlannedMoves
+pub mod PlannedNames
+pub mod Moments
+pub mod KeptEvents
 pub mod Summed
 pub mod PlanZero
 pub mod Unmarked

@@ -57,7 +57,7 @@ apart : {X : Type 0} (test : Action → Bool) (action other : Action) → action
 apart test action other is one none = let both : true ≡ false = sym one ∙ ap test is ∙ none in absurd (cc)
 
 -- a link adds a name
-abbrev IsOfLink : ℕ → List ℕ → State → Command → NewName → Type 0
+abbrev pub IsOfLink : ℕ → List ℕ → State → Command → NewName → Type 0
 IsOfLink P I state command link = (from : Route) × (to : Route) × (command ≡ Link from to) × IsLinkFor P I state from to link
 
 pub planned_linking : (P : ℕ) (I : List ℕ) (state : State) (command : Command) (link : NewName) → IsPlanOf P I state command (Name link) → IsOfLink P I state command link

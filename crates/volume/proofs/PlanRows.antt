@@ -119,8 +119,12 @@ nothing = ((refl, refl), (refl, refl), (refl, refl))
 
 -- ---- what is reserved
 
-reserved : (reserved_events true Space ≡ 0) × (reserved_events true KeepNames ≡ 0) × (reserved_events false (new_node File None) ≡ 28) × (reserved_events true (new_node File None) ≡ 31)
+reserved : (reserved_events true 7 Space ≡ 0) × (reserved_events true 7 KeepNames ≡ 0) × (reserved_events false 0 (new_node File None) ≡ 28) × (reserved_events true 0 (new_node File None) ≡ 31)
 reserved = (refl, refl, refl, refl)
+
+-- and beside calls that run
+reserved_beside : (reserved_events false 591 (new_node File None) ≡ 619) × (reserved_events true 591 (new_node File None) ≡ 622)
+reserved_beside = (refl, refl)
 
 kept : (kept_events false ≡ 3) × (kept_events true ≡ 6)
 kept = (refl, refl)

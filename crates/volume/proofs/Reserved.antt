@@ -22,7 +22,7 @@ use Rattle.volume.specs.declared.plan.Action.{Action}
 
 -- a volume with another index that holds the same
 abbrev with_index : VolumeView → List NodeView → VolumeView
-with_index volume index = record { size = volume.size; index = index; inodes = volume.inodes; data_pages = volume.data_pages; stopped = volume.stopped; marked = volume.marked }
+with_index volume index = record { size = volume.size; index = index; inodes = volume.inodes; data_pages = volume.data_pages; stopped = volume.stopped; marked = volume.marked; kept = volume.kept }
 
 nodes_still : (P : ℕ) (I : List ℕ) (old new : List NodeView) → HasSameContents old new → KnowsNodes P old I → KnowsNodes P new I
 nodes_still P I old new same knows = record {
@@ -54,6 +54,7 @@ module _ (old new : VolumeView) (before after : DeviceView) (state : State) (sam
         data_pages = sym same.data_pages i;
         stopped = sym same.same_state i;
         marked = sym same.same_mark i;
+        kept = sym same.same_kept i;
       } in
       subst (λ (volume : VolumeView). StandsFor volume after state) view (record {
         settled = subst (λ (t : Option Trail). IsSettledAt after.words t) (sym room.trail) (subst (λ (now : List ℕ). IsSettledAt now before.trail) (sym room.words) stands.settled);
@@ -62,6 +63,7 @@ module _ (old new : VolumeView) (before after : DeviceView) (state : State) (sam
         knows = subst (Knows (with_index old new.index)) (sym room.words) (knows_still old new.index before.words same.index stands.knows);
         mark = stands.mark ∙ ap has_mark (sym room.words);
         room = let more = room.room in let enough = stands.room in omega (arith, more, enough);
+        no_call = stands.no_call;
       })
 
   -- and a plan is one of it

@@ -173,9 +173,10 @@ mark_events = commit_events
 abbrev pub kept_events : Bool → ℕ
 kept_events marked = mark_events + where_true marked mark_events
 
--- what a plan has reserved on a volume with the mark or without it: one that stores nothing needs no room
-abbrev pub reserved_events : Bool → Action → ℕ
-reserved_events marked action = where_true (nat_lt 0 (events_of action)) (events_of action + kept_events marked)
+-- what a plan has reserved on a volume with the mark or without it, where running calls have so many events left: one that stores
+-- nothing needs no room
+abbrev pub reserved_events : Bool → ℕ → Action → ℕ
+reserved_events marked kept action = where_true (nat_lt 0 (events_of action)) (events_of action + (kept_events marked + kept))
 
 -- ---- fences
 

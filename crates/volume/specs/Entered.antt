@@ -1,8 +1,8 @@
--- What a volume knows once an action is done: what its index and its sets of free numbers gained and lost.
+-- What a volume's index and its sets of free numbers gain and lose: at the moments of a running call, and in all, once its action is done.
 use Rattle.std.specs.Prelude.{◌≡◌, ℕ, ◌+◌, ◌-◌, ◌<◌, ◌≤◌, Bool, true, false, List, [], ◌∷◌, ◌++◌, length, IsTrue, Contains, Option, Some, None, slice_set}
 use Rattle.image_reading.specs.Counts.{IsDistinct}
 use Rattle.allocators.specs.Numbers.{IsFree}
-use Rattle.volatile_index.specs.Entries.{IsAbsent}
+use Rattle.volatile_index.specs.Entries.{IsAbsent, IsPresent}
 use Rattle.volatile_index.specs.Index.{inodes_of_index, entries_of, has_place_of, pages_of, page_places_of, IsWithPages, DropsPage, PutsEntry, RemovesEntry, ChangesNode}
 use Rattle.volume.specs.Volume.{VolumeView}
 use Rattle.volume.specs.declared.plan.Moving.{Moving}
@@ -64,27 +64,6 @@ IsReserved volume (Status inode) = Unit {0}
 IsReserved volume (Names inode) = Unit {0}
 IsReserved volume Space = Unit {0}
 
--- ---- what may be entered
-
--- the new page is free, where there is one
-abbrev pub IsFreePlace : List Bool → Option ℕ → Type 0
-IsFreePlace free None = Unit {0}
-IsFreePlace free (Some page) = IsFree free page
-
--- The directory is one of the index and has no entry of the name, and its new page is free.
-pub record MayEnterName (volume : VolumeView) (directory : ℕ) (name : List ℕ) (new_page : Option ℕ) : Type 0 where
-  pub least : 1 ≤ directory
-  pub most : directory ≤ inodes_of_index volume.index
-  pub absent : IsAbsent (entries_of volume.index directory) name
-  pub page : IsFreePlace volume.data_pages new_page
-
--- The inode is one of the index, and each page is free and stands once.
-pub record MayEnterPages (volume : VolumeView) (inode : ℕ) (pages : List ℕ) : Type 0 where
-  pub least : 1 ≤ inode
-  pub most : inode ≤ inodes_of_index volume.index
-  pub once : IsDistinct pages
-  pub free : (page : ℕ) → Contains pages page → IsFree volume.data_pages page
-
 -- ---- what is entered
 
 -- The inode gets these pages at the end of its own, in the places that were there, and they are taken.
@@ -103,11 +82,46 @@ pub record EntersName (old new : VolumeView) (directory : ℕ) (name : List ℕ)
 abbrev pub EntersInode : VolumeView → VolumeView → ℕ → Type 0
 EntersInode old new inode = new ≡ record old { inodes = slice_set old.inodes (inode - 1) false }
 
+-- ---- what a running call enters: its numbers behind its first step, its name and pages behind its commit
+
+-- the new pages are free, each once
+pub record MayTakePages (volume : VolumeView) (pages : List ℕ) : Type 0 where
+  pub once : IsDistinct pages
+  pub free : (page : ℕ) → Contains pages page → IsFree volume.data_pages page
+
+-- the pages are taken; no list has them yet
+abbrev pub TakesPages : VolumeView → VolumeView → List ℕ → Type 0
+TakesPages old new pages = new ≡ record old { data_pages = with_taken old.data_pages pages }
+
+-- The directory is one of the index and has no entry of the name.
+pub record MayPutName (volume : VolumeView) (directory : ℕ) (name : List ℕ) : Type 0 where
+  pub least : 1 ≤ directory
+  pub most : directory ≤ inodes_of_index volume.index
+  pub absent : IsAbsent (entries_of volume.index directory) name
+
+-- the list of the inode gets these pages at its end, in the places that were there
+pub record PutsPages (old new : VolumeView) (inode : ℕ) (pages : List ℕ) : Type 0 where
+  pub index : ChangesNode inode old.index new.index (λ old new. IsWithPages (old.pages ++ pages) old new)
+  pub rest : new ≡ record old { index = new.index }
+
+-- the directory gets its new page, where there is one, in its list, and the name
+pub record PutsName (old new : VolumeView) (directory : ℕ) (name : List ℕ) (slot : ℕ) (new_page : Option ℕ) : Type 0 where
+  pub opened : VolumeView
+  pub page : PutsPages old opened directory (pages_of_option new_page)
+  pub index : ChangesNode directory opened.index new.index (PutsEntry (record { name = name; slot = slot }))
+  pub rest : new ≡ record opened { index = new.index }
+
 -- ---- what may leave
 
 -- the number is one of the set's, and not free
 abbrev pub IsTaken : List Bool → ℕ → Type 0
 IsTaken free k = (k < length free) × ¬ IsFree free k
+
+-- The directory is one of the index and has an entry of the name.
+pub record MayRemoveName (volume : VolumeView) (directory : ℕ) (name : List ℕ) : Type 0 where
+  pub least : 1 ≤ directory
+  pub most : directory ≤ inodes_of_index volume.index
+  pub present : IsPresent (entries_of volume.index directory) name
 
 -- the page is one of the directory's, where there is one
 abbrev pub MayGiveBack : VolumeView → ℕ → Option ℕ → Type 0

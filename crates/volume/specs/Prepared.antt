@@ -190,6 +190,7 @@ pub record IsSameButPlaces (old new : VolumeView) : Type 0 where
   pub same_size : new.size ≡ old.size
   pub same_state : new.stopped ≡ old.stopped
   pub same_mark : new.marked ≡ old.marked
+  pub same_kept : new.kept ≡ old.kept
   pub index : HasSameContents old.index new.index
   pub inodes : new.inodes ≡ old.inodes
   pub data_pages : new.data_pages ≡ old.data_pages

@@ -3,7 +3,7 @@ use Rattle.std.specs.Prelude.{◌≡◌, ◌↔◌, ℕ, ◌-◌, ◌*◌, ◌<�
 use Rattle.pm_trait.specs.DeviceView.{DeviceView, IsSettledView}
 use Rattle.layout.specs.Superblock.{has_mark}
 use Rattle.layout.specs.Geometry.{inodes_of, data_pages_of}
-use Rattle.layout.specs.Fields.{inode_kind, page_owner, page_offset}
+use Rattle.layout.specs.Fields.{inode_kind, page_kind, page_owner, page_offset}
 use Rattle.tree_model.specs.Tree.{node_at}
 use Rattle.tree_model.specs.Run.{State}
 use Rattle.image_reading.specs.Counts.{IsDistinct}
@@ -23,6 +23,10 @@ pub record KnowsNodes (P : ℕ) (index : List NodeView) (I : List ℕ) : Type 0 
   pub once : (i : ℕ) → 1 ≤ i → i ≤ inodes_of P → IsDistinct (pages_of index i)
   pub offsets : (i k page : ℕ) → Reached P I i → HasBytes I i → slice_get (pages_of index i) k ≡ Some page → page_offset P I page ≡ k
 
+-- page j is in no use: it has neither an owner nor a kind; without an owner alone it may be a running call's
+abbrev pub IsUnusedPage : ℕ → List ℕ → ℕ → Type 0
+IsUnusedPage P I j = (page_owner P I j ≡ 0) × (page_kind P I j ≡ 0)
+
 -- It knows what the words say: the entries and pages, and which inodes and data pages are free.
 pub record Knows (volume : VolumeView) (I : List ℕ) : Type 0 where
   pub whole : length I ≡ 512 * volume.size
@@ -30,10 +34,11 @@ pub record Knows (volume : VolumeView) (I : List ℕ) : Type 0 where
   pub each_inode : length volume.inodes ≡ inodes_of volume.size
   pub inodes : (i : ℕ) → 1 ≤ i → i ≤ inodes_of volume.size → IsFree volume.inodes (i - 1) ↔ (inode_kind I i ≡ 0)
   pub each_page : length volume.data_pages ≡ data_pages_of volume.size
-  pub data_pages : (j : ℕ) → j < data_pages_of volume.size → IsFree volume.data_pages j ↔ (page_owner volume.size I j ≡ 0)
+  pub data_pages : (j : ℕ) → j < data_pages_of volume.size → IsFree volume.data_pages j ↔ IsUnusedPage volume.size I j
 
 -- The volume stands for this tree and this room: the device is settled, its words are tidy and read as the tree and the
--- room, and the volume knows what they say, the mark among it. There is room for the events of closing.
+-- room, and the volume knows what they say, the mark among it. There is room for the events of closing,
+-- and no call runs.
 pub record StandsFor (volume : VolumeView) (device : DeviceView) (state : State) : Type 0 where
   pub settled : IsSettledView device
   pub tidy : Tidy volume.size device.words
@@ -41,6 +46,7 @@ pub record StandsFor (volume : VolumeView) (device : DeviceView) (state : State)
   pub knows : Knows volume device.words
   pub mark : volume.marked ≡ has_mark device.words
   pub room : mark_events ≤ device.spare
+  pub no_call : volume.kept ≡ 0
 
 -- it stands for some tree and room
 abbrev pub IsStanding : VolumeView → DeviceView → Type 0

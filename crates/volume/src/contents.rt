@@ -3,7 +3,7 @@ ghost use Rattle.std.specs.Prelude.{◌≡◌, ◌++◌, ◌+◌, ◌<◌, ◌�
 ghost use Rattle.image_reading.specs.Counts.{IsDistinct};
 ghost use Rattle.allocators.specs.Numbers.{IsFree};
 ghost use Rattle.volatile_index.specs.Index.{inodes_of_index, pages_of, page_places_of, ChangesNode, IsWithPages};
-ghost use Rattle.volume.specs.Entered.{HasPagePlaces, MayEnterPages, MayLosePages, EntersPages, LeavesLastPages, with_taken};
+ghost use Rattle.volume.specs.Entered.{HasPagePlaces, MayTakePages, MayLosePages, TakesPages, PutsPages, LeavesLastPages, with_taken};
 
 use crate::leaving::give_all;
 use crate::volume::Volume;
@@ -11,14 +11,22 @@ use allocators::Numbers;
 use volatile_index::Index;
 
 impl Volume {
-    /// Takes in pages that a file was given, at the end of its own, in the order in which they are listed. It takes no memory:
-    /// `prepare` has reserved the places.
-    pub fn enter_pages(&mut self, inode: u64, pages: &[u64])
-        requires may_enter { MayEnterPages self.old inode pages.now }
-        requires reserved { HasPagePlaces self.old inode pages.now }
-        ensures { EntersPages self.old self.new inode pages.now }
+    /// Takes the new pages of a file: they are no longer free.
+    pub fn take_pages(&mut self, pages: &[u64])
+        requires free { MayTakePages self.old pages.now }
+        ensures { TakesPages self.old self.new pages.now }
     {
         take_all(&mut self.data_pages, pages);
+    }
+
+    /// Puts pages, which the call has taken, at the end of a file's, in the order in which they are listed. It takes no memory: `prepare`
+    /// has reserved the places.
+    pub fn put_pages(&mut self, inode: u64, pages: &[u64])
+        requires from_one { 1 ≤ inode }
+        requires in_range { inode ≤ inodes_of_index self.old.index }
+        requires reserved { HasPagePlaces self.old inode pages.now }
+        ensures { PutsPages self.old self.new inode pages.now }
+    {
         push_all(&mut self.index, inode, pages);
     }
 

@@ -1,33 +1,25 @@
 // What a volume forgets of a name that was taken away.
 ghost use Rattle.std.specs.Prelude.{◌≡◌, ◌≤◌, ℕ, true, Contains};
-ghost use Rattle.pm_trait.specs.DeviceView.{DeviceView};
-ghost use Rattle.tree_model.specs.Run.{State};
-ghost use Rattle.tree_model.specs.declared.command.Command.{Command};
 ghost use Rattle.image_reading.specs.Counts.{IsDistinct};
 ghost use Rattle.volatile_index.specs.Index.{inodes_of_index};
-ghost use Rattle.volume.specs.Carried.{IsPlanFor};
-ghost use Rattle.volume.specs.Entered.{IsTaken, with_given, MayGiveBack, MayGo, LeavesPageOf, LeavesInodeIf, HasRemoved};
-ghost use Rattle.volume.specs.declared.plan.Action.{Action};
+ghost use Rattle.volume.specs.Entered.{IsTaken, with_given, MayRemoveName, MayGiveBack, MayGo, LeavesName, LeavesPageOf, LeavesInodeIf};
 
-use crate::plan::{Loss, Removal};
+use crate::plan::Loss;
 use crate::volume::Volume;
 use allocators::Numbers;
+use layout::Name;
 
 impl Volume {
-    /// Takes out a name that is gone from the device, as the plan of its removal says, and gives back what went with it:
-    /// the page of its slot, and the inode of its node with all its pages. It takes no memory.
-    pub fn leave(&mut self, removal: &Removal)
-        requires planned { (device : DeviceView) × (state : State) × (command : Command)
-            × IsPlanFor self.old device state command (Action.Remove removal.now) }
-        ensures { HasRemoved self.old self.new removal.now }
+    /// Takes a name out of its directory. It takes no memory.
+    pub fn remove_name(&mut self, directory: u64, name: &Name)
+        requires may_remove { MayRemoveName self.old directory name.now }
+        ensures { LeavesName self.old self.new directory name.now }
     {
-        self.index.remove(removal.directory, &removal.name);
-        self.give_page(removal.directory, removal.given_back);
-        self.give_inode(&removal.loss);
+        self.index.remove(directory, name);
     }
 
-    // Gives back a page of a directory, where there is one.
-    pub(crate) fn give_page(&mut self, directory: u64, given_back: Option<u64>)
+    /// Gives back a page of a directory, where there is one. It takes no memory.
+    pub fn give_page(&mut self, directory: u64, given_back: Option<u64>)
         requires least { 1 ≤ directory }
         requires most { directory ≤ inodes_of_index self.old.index }
         requires may_give { MayGiveBack self.old directory given_back }
@@ -39,8 +31,8 @@ impl Volume {
         }
     }
 
-    // Gives back the inode of a node that goes, and all its pages.
-    pub(crate) fn give_inode(&mut self, loss: &Loss)
+    /// Gives back the inode of a node that goes, and all its pages. It takes no memory.
+    pub fn give_inode(&mut self, loss: &Loss)
         requires may_go { loss.now.goes ≡ true → MayGo self.old loss.now.inode }
         ensures { LeavesInodeIf loss.now.goes self.old self.new loss.now.inode }
     {

@@ -5,8 +5,8 @@ mod contents;
 mod costs;
 mod fences;
 mod leaving;
-mod moved;
 mod names;
+mod next;
 mod place;
 mod plan;
 mod prepare;
@@ -19,8 +19,10 @@ pub use costs::{
     COMMIT_EVENTS, DESCRIPTOR_REST_EVENTS, FENCE_EVENTS, INODE_EVENTS, MARK_EVENTS, NAME_EVENTS,
     NEW_PAGE_EVENTS, PAGE_EVENTS, SLOT_REST_EVENTS, WORD_EVENTS,
 };
+pub use next::{Held, Next};
 pub use plan::{
     Action, Loss, Moving, NewEntry, NewName, NewPages, Plan, Reading, Removal, Resizing, Writing,
+    span_events,
 };
 pub use prepare::{LONGEST_FILE, LONGEST_READ};
 pub use resolve::Walk;

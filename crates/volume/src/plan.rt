@@ -335,8 +335,8 @@ fn pieces(bytes: u64, size: u64) -> u64
     (bytes + (size - 1)) / size
 }
 
-// The events by which the words of the bytes from `first` to before `end` are stored.
-fn span_events(first: u64, end: u64) -> u64
+/// The events by which the words of the bytes from `first` to before `end` are stored.
+pub fn span_events(first: u64, end: u64) -> u64
     requires { end ≤ 2 ^ 41 }
     ensures { result ≡ events_of_span first end }
 {

@@ -23,14 +23,59 @@ fn takes_in_a_name_and_a_node(rt: HostRuntime) -> Result<(), Fail> {
     let data_pages = Numbers::new(rt.alloc(), geometry.data_pages)?;
     let mut volume = Volume::from_parts(rt.alloc(), geometry, index, inodes, data_pages, false);
     assert_eq!(rt; volume.inodes.free_count(), 3);
-    volume.enter_name(1, name, 7, None);
-    volume.enter_inode(2);
+    volume.take_inode(2);
+    volume.put_name(1, name, 7, None);
     assert_eq!(rt; volume.inodes.free_count(), 2);
     assert_eq!(rt; volume.index.count(1), 1);
     let entry = volume.index.nth(1, 0);
     assert_eq!(rt; entry.name.as_slice(), b"a".as_slice());
     assert_eq!(rt; entry.slot, 7);
     assert_eq!(rt; volume.geometry().pages, 16);
+    Ok(())
+}
+
+#[test]
+fn a_new_page_is_taken_before_its_name_is_in(rt: HostRuntime) -> Result<(), Fail> {
+    let geometry = Geometry::of(16).ok_or("no volume")?;
+    if geometry.inodes != 4 || geometry.data_pages != 13 {
+        return Err("another number of inodes or pages".into());
+    }
+    let name = Name::new(b"a").ok().ok_or("no name")?;
+    let mut index = Index::new(rt.alloc(), &geometry)?;
+    index.reserve_one(1)?;
+    index.reserve_pages(1, 1)?;
+    let None = index.find(1, &name) else {
+        return Err("the name is there".into());
+    };
+    let inodes = Numbers::new(rt.alloc(), 4)?;
+    let data_pages = Numbers::new(rt.alloc(), 13)?;
+    let mut volume = Volume::from_parts(rt.alloc(), geometry, index, inodes, data_pages, false);
+    volume.take_page(Some(2));
+    assert_eq!(rt; volume.data_pages.free_count(), 12);
+    assert_eq!(rt; volume.pages(1).len(), 0);
+    volume.put_name(1, name, 64, Some(2));
+    assert_eq!(rt; volume.data_pages.free_count(), 12);
+    assert_eq!(rt; volume.pages(1), [2].as_slice());
+    volume.give_page(1, Some(2));
+    assert_eq!(rt; volume.data_pages.free_count(), 13);
+    assert_eq!(rt; volume.pages(1).len(), 0);
+    Ok(())
+}
+
+#[test]
+fn keeps_the_events_of_calls_that_run(rt: HostRuntime) -> Result<(), Fail> {
+    let geometry = Geometry::of(16).ok_or("no volume")?;
+    let index = Index::new(rt.alloc(), &geometry)?;
+    let inodes = Numbers::new(rt.alloc(), geometry.inodes)?;
+    let data_pages = Numbers::new(rt.alloc(), geometry.data_pages)?;
+    let mut volume = Volume::from_parts(rt.alloc(), geometry, index, inodes, data_pages, false);
+    volume.keep(25);
+    volume.keep(591);
+    assert_eq!(rt; volume.events_beside(), 619);
+    volume.spend(22);
+    assert_eq!(rt; volume.events_beside(), 597);
+    volume.spend(594);
+    assert_eq!(rt; volume.events_beside(), 3);
     Ok(())
 }
 
@@ -55,10 +100,10 @@ fn has_its_mark_until_it_is_cleared(rt: HostRuntime) -> Result<(), Fail> {
     let data_pages = Numbers::new(rt.alloc(), geometry.data_pages)?;
     let mut volume = Volume::from_parts(rt.alloc(), geometry, index, inodes, data_pages, true);
     assert!(rt; volume.marked());
-    assert_eq!(rt; volume.kept_events(), 6);
+    assert_eq!(rt; volume.events_beside(), 6);
     volume.clear_mark();
     assert!(rt; !volume.marked());
-    assert_eq!(rt; volume.kept_events(), 3);
+    assert_eq!(rt; volume.events_beside(), 3);
     Ok(())
 }
 

@@ -1,8 +1,8 @@
-ghost use Rattle.std.specs.Prelude.{◌≡◌, ◌-◌, ◌≤◌, false, true};
+ghost use Rattle.std.specs.Prelude.{◌≡◌, ◌+◌, ◌-◌, ◌^◌, ◌<◌, ◌≤◌, false, true};
 ghost use Rattle.allocators.specs.Numbers.{IsFree};
 ghost use Rattle.volatile_index.specs.Index.{inodes_of_index, pages_of};
 ghost use Rattle.volume.specs.Costs.{kept_events};
-ghost use Rattle.volume.specs.Entered.{pages_of_option, HasPagePlaces, HasNamePlace, IsFreePlace, MayEnterName, EntersPages, EntersName, EntersInode};
+ghost use Rattle.volume.specs.Entered.{pages_of_option, HasNamePlace, MayTakePages, MayPutName, EntersInode, TakesPages, PutsName};
 
 use crate::costs::MARK_EVENTS;
 use allocators::Numbers;
@@ -24,6 +24,8 @@ pub struct Volume {
     stopped: bool,
     // Whether the device has the mark of a volume that was closed.
     marked: bool,
+    // How many events running calls have left.
+    kept: u64,
 }
 
 impl Model for Volume {
@@ -31,7 +33,7 @@ impl Model for Volume {
 
     ghost Value = { VolumeView };
 
-    ghost view = { λ volume. record { size = volume.geometry.pages; index = volume.index; inodes = volume.inodes; data_pages = volume.data_pages; stopped = volume.stopped; marked = volume.marked } };
+    ghost view = { λ volume. record { size = volume.geometry.pages; index = volume.index; inodes = volume.inodes; data_pages = volume.data_pages; stopped = volume.stopped; marked = volume.marked; kept = volume.kept } };
 }
 
 impl Volume {
@@ -52,6 +54,7 @@ impl Volume {
           data_pages = data_pages;
           stopped = false;
           marked = marked;
+          kept = 0;
         } }
     {
         Volume {
@@ -62,6 +65,7 @@ impl Volume {
             data_pages,
             stopped: false,
             marked,
+            kept: 0,
         }
     }
 
@@ -93,15 +97,33 @@ impl Volume {
         self.marked = false;
     }
 
-    // The events for which room is kept beside those of a plan.
-    pub(crate) fn kept_events(&self) -> u64
-        ensures { result ≡ kept_events self.now.marked }
+    /// Keeps so many events of a call that begins: `prepare` has room for them beside those of a later plan.
+    pub fn keep(&mut self, events: u64)
+        requires countable { self.old.kept + events < 2 ^ 64 }
+        ensures { self.new ≡ record self.old { kept = self.old.kept + events } }
     {
-        if self.marked {
+        self.kept += events;
+    }
+
+    /// Keeps so many events no more, behind a step of a call that has made them.
+    pub fn spend(&mut self, events: u64)
+        requires kept { events ≤ self.old.kept }
+        ensures { self.new ≡ record self.old { kept = self.old.kept - events } }
+    {
+        self.kept -= events;
+    }
+
+    // The events for which there is room beside those of a plan: those of the mark, and what running calls have left.
+    pub(crate) fn events_beside(&self) -> u64
+        requires countable { self.now.kept ≤ 2 ^ 62 }
+        ensures { result ≡ kept_events self.now.marked + self.now.kept }
+    {
+        let mark = if self.marked {
             2 * MARK_EVENTS
         } else {
             MARK_EVENTS
-        }
+        };
+        mark + self.kept
     }
 
     /// The regions of the volume.
@@ -120,19 +142,8 @@ impl Volume {
         self.index.pages(inode)
     }
 
-    /// Takes in a name that a directory was given, with the new page that it may have needed. It takes no memory:
-    /// `prepare` has reserved the places.
-    pub fn enter_name(&mut self, directory: u64, name: Name, slot: u64, new_page: Option<u64>)
-        requires may_enter { MayEnterName self.old directory name new_page }
-        requires reserved { HasNamePlace self.old directory new_page }
-        ensures { EntersName self.old self.new directory name slot new_page }
-    {
-        self.take_page(directory, new_page);
-        self.index.put(directory, name, slot);
-    }
-
-    /// Takes in a new node: its inode is no longer free.
-    pub fn enter_inode(&mut self, inode: u64)
+    /// Takes the inode of a new node: it is no longer free.
+    pub fn take_inode(&mut self, inode: u64)
         requires from_one { 1 ≤ inode }
         requires free { IsFree self.old.inodes (inode - 1) }
         ensures { EntersInode self.old self.new inode }
@@ -140,17 +151,26 @@ impl Volume {
         self.inodes.take(inode - 1);
     }
 
-    // Gives a directory its new page, where there is one.
-    fn take_page(&mut self, directory: u64, new_page: Option<u64>)
-        requires least { 1 ≤ directory }
-        requires most { directory ≤ inodes_of_index self.old.index }
-        requires free { IsFreePlace self.old.data_pages new_page }
-        requires places { HasPagePlaces self.old directory (pages_of_option new_page) }
-        ensures { EntersPages self.old self.new directory (pages_of_option new_page) }
+    /// Takes the new page of a directory, where there is one: it is no longer free.
+    pub fn take_page(&mut self, new_page: Option<u64>)
+        requires free { MayTakePages self.old (pages_of_option new_page) }
+        ensures { TakesPages self.old self.new (pages_of_option new_page) }
     {
         if let Some(page) = new_page {
             self.data_pages.take(page);
+        }
+    }
+
+    /// Puts a name into its directory, with the new page that it may have needed, which the call has taken. It takes no memory:
+    /// `prepare` has reserved the places.
+    pub fn put_name(&mut self, directory: u64, name: Name, slot: u64, new_page: Option<u64>)
+        requires may_put { MayPutName self.old directory name }
+        requires reserved { HasNamePlace self.old directory new_page }
+        ensures { PutsName self.old self.new directory name slot new_page }
+    {
+        if let Some(page) = new_page {
             self.index.push_page(directory, page);
         }
+        self.index.put(directory, name, slot);
     }
 }

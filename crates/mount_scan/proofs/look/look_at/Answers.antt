@@ -44,6 +44,7 @@ returns c =
       sound = sound;
       size = c.in_ok-volume.ensures.size ∙ pages;
       going = c.in_ok-volume.ensures.going;
+      no_call = c.in_ok-volume.ensures.no_call;
       marked = c.in_ok-volume.ensures.marked ∙ ap has_mark scanned.ensures.words;
       knows = λ K mended. c.in_ok-volume.ensures.knows K
           (subst (λ (words : List ℕ). IsMended scanned.result.image.geometry.pages words K) (sym scanned.ensures.words) (subst (λ (n : ℕ). IsMended n W K) (sym pages) mended));

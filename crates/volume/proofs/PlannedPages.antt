@@ -1,10 +1,9 @@
--- What a planned write and a planned change of a size add and cut is there.
-use Rattle.std.proofs.Common.{◌≡◌, ℕ, true, List, length, Option, Some, sym, ap, ◌∙◌, arith}
+-- The pages that a planned write and a planned change of a size take are free, and those that they cut are there.
+use Rattle.std.proofs.Common.{◌≡◌, ℕ, ◌≤◌, true, List, length, Option, Some, sym, ap, ◌∙◌, arith}
 use Rattle.pm_trait.specs.DeviceView.{DeviceView}
 use Rattle.layout.specs.Geometry.{pieces}
 use Rattle.layout.specs.Fields.{inode_size}
-use Rattle.tree_model.specs.PathText.{Route}
-use Rattle.tree_model.specs.Tree.{id_at, node_at, is_file_node, bytes_of, bytes_of_node}
+use Rattle.tree_model.specs.Tree.{node_at, is_file_node, bytes_of, bytes_of_node}
 use Rattle.tree_model.specs.Capacity.{untaken}
 use Rattle.tree_model.specs.Step.{refusal_of, need}
 use Rattle.tree_model.specs.Run.{State}
@@ -17,12 +16,12 @@ use Rattle.image_reading.proofs.Tidied.{tidied}
 use Rattle.image_counts.specs.Entries.{IsPageIn, IsFreePage}
 use Rattle.image_counts.proofs.Nodes.{size_law}
 use Rattle.image_counts.proofs.Tidied.{file_pages_law}
-use Rattle.volatile_index.specs.Index.{pages_of}
+use Rattle.volatile_index.specs.Index.{inodes_of_index, pages_of}
 use Rattle.volume.specs.Volume.{VolumeView}
 use Rattle.volume.specs.Stands.{StandsFor}
 use Rattle.volume.specs.Lowest.{AreLowestOf}
 use Rattle.volume.specs.Carried.{IsPlanFor}
-use Rattle.volume.specs.Entered.{MayEnterPages, MayLosePages}
+use Rattle.volume.specs.Entered.{MayTakePages, MayLosePages}
 use Rattle.volume.specs.declared.plan.Writing.{Writing}
 use Rattle.volume.specs.declared.plan.Resizing.{Resizing}
 use Rattle.volume.specs.declared.plan.Action.TheVariants.{Write as WriteBytes, Resize}
@@ -31,31 +30,35 @@ use Rattle.volume.proofs.Places.{page_free}
 use Rattle.volume.proofs.PageLists.{pages_counted}
 use Rattle.volume.proofs.LowestPages.{rising_distinct}
 use Rattle.volume.proofs.ContentPlans.{planned_writing, planned_resizing}
-use Rattle.volume.proofs.Removed.{page_taken}
+use Rattle.volume.proofs.PlanActions.{directory_within}
+use Rattle.volume.proofs.PlannedRemovals.{page_taken}
 
 same_some : (x y : ℕ) → ◌≡◌ {A = Option ℕ} (Some x) (Some y) → x ≡ y
 same_some x y e = cc
 
 module _ (volume : VolumeView) (device : DeviceView) (state : State) where
-  may_enter : (path : Route) (inode n : ℕ) (pages : List ℕ) → StandsFor volume device state → id_at state.tree path ≡ Some inode → AreLowestOf (IsFreePage volume.size device.words) n pages → MayEnterPages volume inode pages
-  may_enter path inode n pages stands named lowest =
-      let (least, most) = in_index volume device inode (state, stands) (reached_at volume device state path inode stands named) in
-      record {
-        least = least;
-        most = most;
-        once = rising_distinct pages lowest.rising;
-        free = λ page there. page_free volume device (state, stands) page (lowest.each page there);
-      }
+  may_take : (n : ℕ) (pages : List ℕ) → StandsFor volume device state → AreLowestOf (IsFreePage volume.size device.words) n pages → MayTakePages volume pages
+  may_take n pages stands lowest = record {
+    once = rising_distinct pages lowest.rising;
+    free = λ page there. page_free volume device (state, stands) page (lowest.each page there);
+  }
 
-  pub may_enter_written : (command : Command) (writing : Writing) → IsPlanFor volume device state command (WriteBytes writing) → MayEnterPages volume writing.inode writing.new_pages
-  may_enter_written command writing plan =
+  pub may_take_written : (command : Command) (writing : Writing) → IsPlanFor volume device state command (WriteBytes writing) → MayTakePages volume writing.new_pages
+  may_take_written command writing plan =
       let (path, offset, bytes, is, for) = planned_writing volume.size device.words state command writing plan.planned.plan_is in
-      may_enter path writing.inode (need state.tree state.room (Write path offset bytes)) writing.new_pages plan.stands for.inode_is for.new_pages
+      may_take (need state.tree state.room (Write path offset bytes)) writing.new_pages plan.stands for.new_pages
 
-  pub may_enter_resized : (command : Command) (resizing : Resizing) → IsPlanFor volume device state command (Resize resizing) → MayEnterPages volume resizing.inode resizing.new_pages
-  may_enter_resized command resizing plan =
+  pub may_take_resized : (command : Command) (resizing : Resizing) → IsPlanFor volume device state command (Resize resizing) → MayTakePages volume resizing.new_pages
+  may_take_resized command resizing plan =
       let (path, size, is, for) = planned_resizing volume.size device.words state command resizing plan.planned.plan_is in
-      may_enter path resizing.inode (need state.tree state.room (Truncate path size)) resizing.new_pages plan.stands for.inode_is for.new_pages
+      may_take (need state.tree state.room (Truncate path size)) resizing.new_pages plan.stands for.new_pages
+
+  -- the file is one of the index
+  pub written_in_index : (command : Command) (writing : Writing) → IsPlanFor volume device state command (WriteBytes writing) → (1 ≤ writing.inode) × (writing.inode ≤ inodes_of_index volume.index)
+  written_in_index command writing plan = directory_within volume device state plan.stands command (WriteBytes writing) plan.planned
+
+  pub resized_in_index : (command : Command) (resizing : Resizing) → IsPlanFor volume device state command (Resize resizing) → (1 ≤ resizing.inode) × (resizing.inode ≤ inodes_of_index volume.index)
+  resized_in_index command resizing plan = directory_within volume device state plan.stands command (Resize resizing) plan.planned
 
   -- a file has as many pages as its size asks for
   pages_held : (inode : ℕ) (bytes : List ℕ) → StandsFor volume device state → Reached volume.size device.words inode → is_file_node (node_at state.tree inode) ≡ true → length (bytes_of state.tree inode) ≡ inode_size device.words inode
