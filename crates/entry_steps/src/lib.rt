@@ -5,7 +5,9 @@ mod links;
 mod name;
 mod page;
 mod place;
+mod settling;
 
 pub use links::raise_links;
 pub use page::{claim_page, fill_page};
 pub use place::NamePlace;
+pub use settling::settle;
