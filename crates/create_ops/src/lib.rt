@@ -4,5 +4,7 @@
 mod calls;
 mod make;
 mod node;
+mod run;
 
 pub use calls::{apply_create, apply_mkdir};
+pub use run::{Running, advance, begin};

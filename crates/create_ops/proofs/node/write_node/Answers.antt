@@ -1,4 +1,4 @@
-use Rattle.std.proofs.Common.{ap, rules, arith}
+use Rattle.std.proofs.Common.{ap, rules}
 use Rattle.pm_trait.proofs.DeviceViewLaws.{stores_then, ok_ends}
 use Rattle.inode_state.specs.Inode.{InodeView}
 use Rattle.fence_token.proofs.ObjectLaws.{stands_in_flight_fence}
