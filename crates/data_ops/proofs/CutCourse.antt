@@ -1,6 +1,6 @@
 -- What a crash leaves while a file is cut, and what is cut then: by what stands before each step.
-use Rattle.std.proofs.Common.{◌≡◌, inl, inr, ℕ, ◌+◌, ◌*◌, ◌||◌, Bool, true, false, nat_lt, List, [], ◌∷◌, length, refl, sym, ap, subst, ◌∙◌, arith}
-use Rattle.std.specs.Prelude.{Option, Result, Ok, OnOk, Some, Contains}
+use Rattle.std.proofs.Common.{◌≡◌, inl, inr, ℕ, ◌+◌, ◌*◌, ◌||◌, Bool, true, false, nat_lt, List, [], ◌∷◌, refl, sym, ap, subst, ◌∙◌, arith}
+use Rattle.std.specs.Prelude.{Option, Result, OnOk, Some, Contains}
 use Rattle.pm_trait.specs.DeviceView.{DeviceView, IsSettledView}
 use Rattle.layout.specs.Geometry.{inode_word_of}
 use Rattle.tree_model.specs.PathText.{Route}
@@ -25,12 +25,12 @@ use Rattle.volume.specs.Costs.{where_true, inode_events, descriptor_rest_events,
 use Rattle.volume.specs.declared.plan.Resizing.{Resizing}
 use Rattle.volume.proofs.ContentPlans.{planned_resizing}
 use Rattle.volume.proofs.Unmarked.{ReadsAllowed}
-use Rattle.pm_trait.specs.Unfolds.{MayFence, Along, events_in, fences_in, Takes, Unfolds}
+use Rattle.pm_trait.specs.Unfolds.{Along, events_in, fences_in, Unfolds}
 use Rattle.entry_steps.proofs.Moments.{is_mix}
 use Rattle.entry_steps.proofs.Turning.{IsUnderway, Turns, one_side, turned}
-use Rattle.pm_trait.proofs.Unfolding.{map_ok, through, starts, next}
+use Rattle.pm_trait.proofs.Unfolding.{map_ok, through, next}
 use Rattle.data_ops.specs.Growing.{owner_events, release_events}
-use Rattle.data_ops.specs.Steps.{sizing, giving, freeing}
+use Rattle.data_ops.specs.Steps.{giving, freeing}
 use Rattle.data_ops.specs.Cutting.{MayCut, IsResizingAt, StoresCut, gone_pages, cut_steps}
 use Rattle.data_ops.proofs.CutPages
 
@@ -50,15 +50,6 @@ module _ {P : ℕ} {W : List ℕ} {state : State} {path : Route} {resizing : Res
 
   tree_is : (step P state.tree state.room (Truncate path resizing.new_size)).tree ≡ with_size state.tree resizing.inode resizing.new_size
   tree_is = tree_steps ∙ sym (resized_tree state.tree path resizing.inode resizing.new_size (least_free_id state.tree) named)
-
--- ---- the steps, by the list of pages as the code takes it
-
-module _ {T E : Type 0} {P : ℕ} {pages more : List ℕ} {a b : DeviceView} {result : Result T E} (same : pages ≡ more) where
-  pub given_as : Takes (giving P pages) a b result → Takes (giving P more) a b result
-  given_as takes = subst (λ (l : List ℕ). Takes (giving P l) a b result) same takes
-
-  pub freed_as : Takes (freeing P pages) a b result → Takes (freeing P more) a b result
-  freed_as takes = subst (λ (l : List ℕ). Takes (freeing P l) a b result) same takes
 
 -- ---- what it costs
 
@@ -89,24 +80,14 @@ module _ {P : ℕ} (old : DeviceView) {resizing : Resizing} {pages : List ℕ} (
   costs =
       ap (λ (b : Bool). commit_events + (where_true (nat_lt 0 resizing.cut) (owner_events resizing.cut) + where_true b (resizing.cut * descriptor_rest_events + where_true false inode_events + fence_events))) (or_false (nat_lt 0 resizing.cut))
       ∙ ap (λ (n : ℕ). commit_events + (where_true (nat_lt 0 resizing.cut) (owner_events resizing.cut) + where_true (nat_lt 0 resizing.cut) n)) (rest_is resizing.cut)
-      ∙ ap (λ (n : ℕ). commit_events + (where_true (nat_lt 0 n) (owner_events n) + where_true (nat_lt 0 n) (release_events n))) (sym (CutPages.gone_long may))
+      ∙ ap (λ (n : ℕ). commit_events + (where_true (nat_lt 0 n) (owner_events n) + where_true (nat_lt 0 n) (release_events n))) (sym (CutPages.gone_long (CutPages.can_be_cut may)))
       ∙ sum_of commit_events _ _
 
   pub fences : 1 + fences_for_loss resizing.cut false ≡ fences_in (cut_steps P resizing pages)
   fences =
       ap (λ (b : Bool). 1 + (where_true (nat_lt 0 resizing.cut) 1 + where_true b 1)) (or_false (nat_lt 0 resizing.cut))
-      ∙ ap (λ (n : ℕ). 1 + (where_true (nat_lt 0 n) 1 + where_true (nat_lt 0 n) 1)) (sym (CutPages.gone_long may))
+      ∙ ap (λ (n : ℕ). 1 + (where_true (nat_lt 0 n) 1 + where_true (nat_lt 0 n) 1)) (sym (CutPages.gone_long (CutPages.can_be_cut may)))
       ∙ sum_of 1 _ _
-
-  module _ {words : ℕ} (begins : MayFence old words (events_in (cut_steps P resizing pages)) 3) {T E : Type 0} (b : DeviceView) {value : T} (one : Takes {E = E} (sizing i z) old b (Ok value)) where
-    after_size : MayFence b words (events_in (giving P gone ∷ freeing P gone ∷ [])) 2
-    after_size = next (sizing i z) (giving P gone ∷ freeing P gone ∷ []) b one begins
-
-    pub may_give : MayFence b words (where_true (nat_lt 0 (length gone)) (owner_events (length gone))) 1
-    may_give = starts (giving P gone) (freeing P gone ∷ []) after_size
-
-    pub may_free : {U F : Type 0} (c : DeviceView) {other : U} → Takes {E = F} (giving P gone) b c (Ok other) → MayFence c words (where_true (nat_lt 0 (length gone)) (release_events (length gone))) 1
-    may_free c two = starts (freeing P gone) [] (next (giving P gone) (freeing P gone ∷ []) c two after_size)
 
   -- ---- each mix
 

@@ -1,18 +1,19 @@
--- The pages behind a file's new end, and what the steps of a cut and their laws ask of them.
-use Rattle.std.proofs.Common.{◌≡◌, ◌≢◌, ℕ, ◌+◌, ◌-◌, ◌<◌, ◌≤◌, List, length, slice_index, take, drop, get_or-set_other, inl, inr, sym, ap, subst, ◌∙◌, arith, length-drop}
+-- The pages behind a file's new end: what stands before each step of a cut, by the words as they are, and what the laws ask of them.
+use Rattle.std.proofs.Common.{◌≡◌, ◌≢◌, ◌⊎◌, ℕ, ◌+◌, ◌-◌, ◌*◌, ◌<◌, ◌≤◌, List, length, slice_index, get_or-set_other, inl, inr, sym, ap, subst, ◌∙◌, arith, length-drop}
 use Rattle.std.specs.Prelude.{Contains}
-use Rattle.std.proofs.lemmas.List.{get_or_default, get_or-drop, take_rest}
+use Rattle.std.proofs.lemmas.List.{get_or_default, get_or-drop, get_or-set_same}
 use Rattle.std.proofs.lemmas.List.Elements.{Contains-get_or}
 use Rattle.layout.specs.declared.fields.DescriptorFields.{DescriptorFields}
-use Rattle.layout.specs.Geometry.{pieces, data_pages_of, inode_word_of, descriptor_word_of}
+use Rattle.layout.specs.Geometry.{IsVolumeSize, pieces, data_pages_of, inode_word_of, descriptor_word_of}
 use Rattle.layout.specs.Fields.{word, inode_size, page_owner, page_kind, page_offset}
-use Rattle.layout.proofs.GeometryLaws.{same_descriptor_word, inode_word_not_descriptor_word}
+use Rattle.layout.proofs.GeometryLaws.{inode_word_within, same_descriptor_word, inode_word_not_descriptor_word}
 use Rattle.page_state.specs.Page.{EachPage, descriptor_of}
 use Rattle.page_state.proofs.PageLaws.{same_descriptor_fields}
 use Rattle.image_reading.specs.Reading.{pages_of_size}
 use Rattle.image_laws.specs.Drop.{GivesPages}
 use Rattle.image_laws.specs.Frame.{SameMeaning}
 use Rattle.image_laws.proofs.Meaning.{same_itself}
+use Rattle.image_laws.proofs.Resize.{only_size}
 use Rattle.content_laws.specs.Cut.{IsPastCut, ClearsPages, Cuts, MayTrim}
 use Rattle.content_laws.specs.Growth.{sized}
 use Rattle.content_laws.proofs.CutQuiet as quiet
@@ -21,10 +22,24 @@ use Rattle.volume.specs.declared.plan.Resizing.{Resizing}
 use Rattle.data_ops.specs.Files.{AreBytesFrom}
 use Rattle.data_ops.specs.Cutting.{MayCut, gone_pages}
 use Rattle.data_ops.specs.Steps.{CanDisown, CanRelease}
+use Rattle.data_ops.specs.ResizeStages.{CanCutFile}
+
+-- a file that may be cut
+pub can_be_cut : {P : ℕ} {W : List ℕ} {resizing : Resizing} {pages : List ℕ} → MayCut P W resizing pages → CanCutFile P W resizing pages
+can_be_cut may = record {
+  lower = record { least = may.held.least; most = may.held.most; live = may.held.live; less = may.can.less };
+  held = may.held;
+  old_size = may.old_size;
+  cut = may.cut;
+}
+
+-- so many are the last pages of a list
+pub last_long : (resizing : Resizing) (pages : List ℕ) → resizing.cut ≤ length pages → length (gone_pages resizing pages) ≡ resizing.cut
+last_long resizing pages enough = let all = length-drop (length pages - resizing.cut) pages in omega (arith, all, enough)
 
 -- ---- the pages
 
-module _ {P : ℕ} {W : List ℕ} {resizing : Resizing} {pages : List ℕ} (may : MayCut P W resizing pages) where
+module _ {P : ℕ} {W : List ℕ} {resizing : Resizing} {pages : List ℕ} (may : CanCutFile P W resizing pages) where
   abbrev i : ℕ
   i = resizing.inode
 
@@ -36,7 +51,7 @@ module _ {P : ℕ} {W : List ℕ} {resizing : Resizing} {pages : List ℕ} (may 
 
   fewer : pages_of_size z ≤ pages_of_size (inode_size W i)
   unfolding pages_of_size
-  fewer = let less = may.can.less in omega (arith, less)
+  fewer = let less = may.lower.less in omega (arith, less)
 
   pub enough : resizing.cut ≤ length pages
   enough = let is = cut_is in let count = may.held.count in omega (arith, is, count)
@@ -55,22 +70,15 @@ module _ {P : ℕ} {W : List ℕ} {resizing : Resizing} {pages : List ℕ} (may 
   unfolding page_owner page_kind page_offset
   sized_descriptor j = same_descriptor_fields (descriptor_of P (sized W i z) j) (descriptor_of P W j) (sized_word j 0) (sized_word j 1) (sized_word j 2)
 
-  -- the words with the new size mean what they mean
-  pub sized_same : SameMeaning P (sized W i z) (sized W i z)
-  sized_same = same_itself P (sized W i z) (words.resized_file P W i z may.can).coherent
-
   offset_of : (k : ℕ) → k < length pages → page_offset P W (slice_index pages k) ≡ k
   offset_of k low = let at = ap (λ (d : DescriptorFields). d.offset) (may.held.bytes.each k low) in omega (arith, at)
 
   -- they are the last of its pages, as the code takes them
-  abbrev pub gone : List ℕ
+  abbrev gone : List ℕ
   gone = gone_pages resizing pages
 
-  pub gone_are : take (length pages - (length pages - resizing.cut)) (drop (length pages - resizing.cut) pages) ≡ gone
-  gone_are = take_rest pages (length pages - resizing.cut)
-
   pub gone_long : length gone ≡ resizing.cut
-  gone_long = let all = length-drop (length pages - resizing.cut) pages in let most = enough in omega (arith, all, most)
+  gone_long = last_long resizing pages enough
 
   gone_at : (k : ℕ) → slice_index gone k ≡ slice_index pages (length pages - resizing.cut + k)
   gone_at k = get_or-drop (length pages - resizing.cut) pages k 0
@@ -95,88 +103,109 @@ module _ {P : ℕ} {W : List ℕ} {resizing : Resizing} {pages : List ℕ} (may 
         ∙ ap (λ (n : ℕ). let fields : DescriptorFields = record { owner = i; kind = 1; offset = n } in fields) (let same : 0 + (length pages - resizing.cut + k) ≡ length pages - resizing.cut + k = omega arith in same);
   }
 
-  -- they are those that the laws speak of
-  to_past : (j : ℕ) → Contains gone j → IsPastCut P W i z j
-  to_past j (k, low, is) =
-      let page : slice_index gone k ≡ j = get_or_default gone k 0 j low ∙ is in
-      let here = sym (gone_at k) ∙ page in
-      let at = gone_low k low in
-      let offset = offset_of (length pages - resizing.cut + k) at in
-      let least = kept_is in
+  -- the file has its new size, and they stand past its end
+  pub can_disown : IsVolumeSize P → length W ≡ 512 * P → CanDisown P (sized W i z) i gone
+  unfolding pages_of_size inode_size word
+  can_disown size whole =
+      let least = may.lower.least in
+      let most = may.lower.most in
+      let only = only_size P W i z least most in
+      let within = inode_word_within P i 2 size least most (omega arith) in
+      let inside : inode_word_of i 2 < length W = omega (arith, within, whole) in
       record {
-        in_range = subst (λ (x : ℕ). x < data_pages_of P) page (in_range.each k low);
+        least = least;
+        most = most;
+        live = (subst (λ (kind : ℕ). (kind ≡ 1) ⊎ (kind ≡ 2)) (sym (only.node_kind i)) may.lower.live.0, only.own i ∙ may.lower.live.1);
+        first = length pages - resizing.cut;
+        behind = let first = kept_is in let stored = ap (λ (n : ℕ). pieces n 4096) (get_or-set_same W (inode_word_of i 2) z 0 inside) in omega (arith, first, stored);
+        pages_are = from_sized;
+      }
+
+-- Pages past a file's end that lose their owner can be released.
+pub can_release : {P : ℕ} {I : List ℕ} {i : ℕ} {gone : List ℕ} (J : List ℕ) → CanDisown P I i gone → GivesPages P I J (Contains gone) → CanRelease P J gone
+unfolding page_owner page_kind page_offset
+can_release {P} {I} {i} {gone} J can gives = record {
+  first = can.first;
+  pages_are = record {
+    in_range = can.pages_are.in_range;
+    distinct = can.pages_are.distinct;
+    each = λ k low.
+        let page = slice_index gone k in
+        let stays : (f : ℕ) → f < 8 → f ≢ 0 → word J (descriptor_word_of P page f) ≡ word I (descriptor_word_of P page f)
+        = λ f few some. gives.others (descriptor_word_of P page f) (λ j there same. some (same_descriptor_word P page j f 0 few (omega arith) same).1) in
+        same_descriptor_fields (descriptor_of P J page) (record { owner = 0; kind = 1; offset = can.first + k })
+        (gives.owners page (Contains-get_or gone k 0 low))
+        (stays 1 (omega arith) (λ same. omega (arith, same)) ∙ ap (λ (d : DescriptorFields). d.kind) (can.pages_are.each k low))
+        (stays 2 (omega arith) (λ same. omega (arith, same)) ∙ ap (λ (d : DescriptorFields). d.offset) (can.pages_are.each k low));
+  };
+}
+
+-- ---- what the laws ask for
+
+module _ {P : ℕ} {W : List ℕ} {resizing : Resizing} {pages : List ℕ} (may : MayCut P W resizing pages) where
+  abbrev file : CanCutFile P W resizing pages
+  file = can_be_cut may
+
+  abbrev last : List ℕ
+  last = gone_pages resizing pages
+
+  abbrev inode : ℕ
+  inode = resizing.inode
+
+  abbrev end : ℕ
+  end = resizing.new_size
+
+  -- the words with the new size mean what they mean
+  pub sized_same : SameMeaning P (sized W inode end) (sized W inode end)
+  sized_same = same_itself P (sized W inode end) (words.resized_file P W inode end may.can).coherent
+
+  -- they are those that the laws speak of
+  to_past : (j : ℕ) → Contains last j → IsPastCut P W inode end j
+  to_past j (k, low, is) =
+      let page : slice_index last k ≡ j = get_or_default last k 0 j low ∙ is in
+      let here = sym (gone_at file k) ∙ page in
+      let at = gone_low file k low in
+      let offset = offset_of file (length pages - resizing.cut + k) at in
+      let least = kept_is file in
+      record {
+        in_range = subst (λ (x : ℕ). x < data_pages_of P) page ((in_range file).each k low);
         owner = ap (λ (x : ℕ). page_owner P W x) (sym here) ∙ ap (λ (d : DescriptorFields). d.owner) (may.held.bytes.each (length pages - resizing.cut + k) at);
         past = let same = ap (λ (x : ℕ). page_offset P W x) (sym here) ∙ offset in omega (arith, same, least);
       }
 
-  of_past : (j : ℕ) → IsPastCut P W i z j → Contains gone j
+  of_past : (j : ℕ) → IsPastCut P W inode end j → Contains last j
   of_past j past =
       let (n, inside, is) = may.held.all j (record { in_range = past.in_range; owner = past.owner }) in
       let page : slice_index pages n ≡ j = get_or_default pages n 0 j inside ∙ is in
-      let offset = ap (λ (x : ℕ). page_offset P W x) (sym page) ∙ offset_of n inside in
+      let offset = ap (λ (x : ℕ). page_offset P W x) (sym page) ∙ offset_of file n inside in
       let behind = past.past in
-      let first = kept_is in
-      let long = gone_long in
+      let first = kept_is file in
+      let long = gone_long file in
       let k = n - (length pages - resizing.cut) in
       let back : length pages - resizing.cut + k ≡ n = omega (arith, offset, behind, first) in
-      let low : k < length gone = omega (arith, back, inside, long) in
-      subst (λ (x : ℕ). Contains gone x) (gone_at k ∙ ap (λ (m : ℕ). slice_index pages m) back ∙ page) (Contains-get_or gone k 0 low)
+      let low : k < length last = omega (arith, back, inside, long) in
+      subst (λ (x : ℕ). Contains last x) (gone_at file k ∙ ap (λ (m : ℕ). slice_index pages m) back ∙ page) (Contains-get_or last k 0 low)
 
-  gives_past : (J : List ℕ) → GivesPages P (sized W i z) J (Contains gone) → GivesPages P (sized W i z) J (IsPastCut P W i z)
+  gives_past : (J : List ℕ) → GivesPages P (sized W inode end) J (Contains last) → GivesPages P (sized W inode end) J (IsPastCut P W inode end)
   gives_past J gives = record {
     size = gives.size;
     owners = λ j past. gives.owners j (of_past j past);
     others = λ a out. gives.others a (λ j there. out j (to_past j there));
   }
 
-  clears_past : (J K : List ℕ) → ClearsPages P J K (Contains gone) → ClearsPages P J K (IsPastCut P W i z)
+  clears_past : (J K : List ℕ) → ClearsPages P J K (Contains last) → ClearsPages P J K (IsPastCut P W inode end)
   clears_past J K clears = record {
     size = clears.size;
     rests = λ j f past. clears.rests j f (of_past j past);
     others = λ a out. clears.others a (λ j f there. out j f (to_past j there));
   }
 
-  pub cuts_are : (J K : List ℕ) → GivesPages P (sized W i z) J (Contains gone) → ClearsPages P J K (Contains gone) → Cuts P W J K i z
+  pub cuts_are : (J K : List ℕ) → GivesPages P (sized W inode end) J (Contains last) → ClearsPages P J K (Contains last) → Cuts P W J K inode end
   cuts_are J K gives clears = record { gives = gives_past J gives; clears = clears_past J K clears }
 
-  -- ---- what the steps ask for
-
-  pub can_disown : CanDisown P (sized W i z) i gone
-  unfolding pages_of_size
-  can_disown =
-      let only = words.only P W i z may.can in
-      record {
-        least = may.held.least;
-        most = may.held.most;
-        live = (inl (only.node_kind i ∙ may.can.file), only.own i ∙ may.held.live.1);
-        first = length pages - resizing.cut;
-        behind = let first = kept_is in let size = ap (λ (n : ℕ). pieces n 4096) (words.size_is P W i z may.can) in omega (arith, first, size);
-        pages_are = from_sized;
-      }
-
-  from_given : (J : List ℕ) → GivesPages P (sized W i z) J (Contains gone) → AreBytesFrom P J 0 (length pages - resizing.cut) gone
-  unfolding page_owner page_kind page_offset
-  from_given J gives = record {
-    in_range = in_range;
-    distinct = from_sized.distinct;
-    each = λ k low.
-        let page = slice_index gone k in
-        let stays : (f : ℕ) → f < 8 → f ≢ 0 → word J (descriptor_word_of P page f) ≡ word (sized W i z) (descriptor_word_of P page f)
-        = λ f few some. gives.others (descriptor_word_of P page f) (λ j there same. some (same_descriptor_word P page j f 0 few (omega arith) same).1) in
-        same_descriptor_fields (descriptor_of P J page) (record { owner = 0; kind = 1; offset = length pages - resizing.cut + k })
-        (gives.owners page (Contains-get_or gone k 0 low))
-        (stays 1 (omega arith) (λ same. omega (arith, same)) ∙ ap (λ (d : DescriptorFields). d.kind) (from_sized.each k low))
-        (stays 2 (omega arith) (λ same. omega (arith, same)) ∙ ap (λ (d : DescriptorFields). d.offset) (from_sized.each k low));
-  }
-
-  pub can_release : (J : List ℕ) → GivesPages P (sized W i z) J (Contains gone) → CanRelease P J gone
-  can_release J gives = record { first = length pages - resizing.cut; pages_are = from_given J gives }
-
-  -- ---- what the laws ask for
-
-  pub may_trim : MayTrim P (sized W i z) i (Contains gone)
+  pub may_trim : MayTrim P (sized W inode end) inode (Contains last)
   may_trim =
-      let law = quiet.may_trim P W i z may.can in
+      let law = quiet.may_trim P W inode end may.can in
       record {
         coherent = law.coherent;
         reached = law.reached;

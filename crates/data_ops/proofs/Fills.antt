@@ -18,12 +18,12 @@ use Rattle.page_state.proofs.Contents.{filled_is_own}
 use Rattle.page_state.proofs.NewStores.{new_is_own}
 use Rattle.page_state.proofs.PageLaws.{own_words_apart, same_descriptor_of}
 use Rattle.image_reading.specs.Reading.{IsPageOf}
-use Rattle.image_reading.specs.Soundness.{Rule}
 use Rattle.content_laws.specs.Range.{IsWrittenByte, WritesBelow, WritesTail}
 use Rattle.content_laws.specs.Growth.{FillsFile, IsFillWord}
 use Rattle.data_ops.specs.declared.grow.Growth.{Growth}
 use Rattle.data_ops.specs.Files.{AreBytesFrom, AreFree}
-use Rattle.data_ops.specs.Growing.{MayGrow, MayFill, IsTailWord}
+use Rattle.data_ops.specs.Growing.{MayFill, IsTailWord}
+use Rattle.data_ops.specs.GrowthStages.{CanFill}
 use Rattle.data_ops.proofs.Pages.{pages_settled}
 use Rattle.data_ops.proofs.Spans.{IsPart, page_at, zero_byte}
 
@@ -41,25 +41,21 @@ slice_at pages k j at =
     let same : ◌≡◌ {A = Option ℕ} (Some (slice_index pages k)) (Some j) = sym (slice_get-get_or pages k 0 low) ∙ at in
     (low, cc)
 
-pub grown_whole : {P : ℕ} {W : List ℕ} {growth : Growth} {bytes old_pages new_pages : List ℕ} → MayGrow P W growth bytes old_pages new_pages → length W ≡ 512 * P
-grown_whole may = (may.can.tidy.coherent Rule.head 0).whole refl
-
-pub may_fill : (P : ℕ) (W : List ℕ) (growth : Growth) (bytes old_pages new_pages : List ℕ) → MayGrow P W growth bytes old_pages new_pages → MayFill P W growth bytes old_pages
-may_fill P W growth bytes old_pages new_pages may =
-    let larger = may.can.larger in
-    let small = may.can.small in
-    let inside = may.can.inside in
-    let same = may.old_size in
+pub may_fill : (P : ℕ) (W : List ℕ) (growth : Growth) (bytes old_pages new_pages : List ℕ) → CanFill P W growth bytes old_pages new_pages → MayFill P W growth bytes old_pages
+may_fill P W growth bytes old_pages new_pages can =
+    let larger = can.larger in
+    let small = can.small in
+    let inside = can.inside in
     record {
-      held = may.held;
-      size = may.old_size;
-      small = omega (arith, larger, small, same);
+      held = can.held;
+      size = can.old_size;
+      small = omega (arith, larger, small);
       range = omega (arith, small, inside);
-      reaches = may.reaches;
-      some = may.some;
+      reaches = can.reaches;
+      some = can.some;
     }
 
-module _ (P : ℕ) (W : List ℕ) (growth : Growth) (bytes old_pages new_pages : List ℕ) (may : MayGrow P W growth bytes old_pages new_pages) {tw : Option Trail} (size : IsVolumeSize P) (whole : length W ≡ 512 * P) (settled : IsSettledAt W tw) where
+module _ (P : ℕ) (W : List ℕ) (growth : Growth) (bytes old_pages new_pages : List ℕ) (can : CanFill P W growth bytes old_pages new_pages) {tw : Option Trail} (size : IsVolumeSize P) (whole : length W ≡ 512 * P) (settled : IsSettledAt W tw) where
   abbrev i : ℕ
   i = growth.inode
 
@@ -67,9 +63,9 @@ module _ (P : ℕ) (W : List ℕ) (growth : Growth) (bytes old_pages new_pages :
   pub pages_differ : (k j n : ℕ) → IsPageOf P W i k j → n < length new_pages → j ≢ slice_index new_pages n
   pages_differ k j n page low same =
       let owned = page.owner in
-      let free = ap (λ (d : DescriptorFields). d.owner) (may.free.free.each n low) in
+      let free = ap (λ (d : DescriptorFields). d.owner) (can.free.free.each n low) in
       let moved = ap (λ (p : ℕ). (descriptor_of P W p).owner) same in
-      let least = may.held.least in
+      let least = can.held.least in
       omega (arith, owned, free, moved, least)
 
   pub apart : (w : ℕ) → IsTailWord P growth bytes old_pages w → OfSome new_pages (IsOwnWord P) w → ⊥
@@ -78,10 +74,10 @@ module _ (P : ℕ) (W : List ℕ) (growth : Growth) (bytes old_pages new_pages :
       let place = tail.index in
       let first = min growth.offset growth.old_size / 4096 in
       let parts = dropped_part old_pages first in
-      let page = page_at P W i old_pages may.held (first + place) (parts.below place low) in
+      let page = page_at P W i old_pages can.held (first + place) (parts.below place low) in
       let is = sym (parts.same place low) in
       own_words_apart P (slice_index (drop first old_pages) place) (slice_index new_pages some.index) w
-      (subst (λ (p : ℕ). p < data_pages_of P) is page.in_range) (may.free.in_range.each some.index some.before)
+      (subst (λ (p : ℕ). p < data_pages_of P) is page.in_range) (can.free.in_range.each some.index some.before)
       (λ same. pages_differ (first + place) (slice_index old_pages (first + place)) some.index page some.before (is ∙ same))
       (new_is_own (span_of first growth.old_size growth.offset bytes) P (first + place) (slice_index (drop first old_pages) place) w tail.is) some.is
 
@@ -90,16 +86,16 @@ module _ (P : ℕ) (W : List ℕ) (growth : Growth) (bytes old_pages new_pages :
 
   module _ {M : List ℕ} {tm : Option Trail} (one : IsInterval (IsTailWord P growth bytes old_pages) W tw M tm) where
     pub still_settled : (w : ℕ) → OfSome new_pages (IsOwnWord P) w → IsClean M tm w
-    still_settled w some = clean_stays w one (λ tail. apart w tail some) (pages_settled P new_pages W tw size may.free.in_range whole settled w some)
+    still_settled w some = clean_stays w one (λ tail. apart w tail some) (pages_settled P new_pages W tw size can.free.in_range whole settled w some)
 
     pub still_free : AreFree P M new_pages
     still_free = record {
-      in_range = may.free.in_range;
-      distinct = may.free.distinct;
+      in_range = can.free.in_range;
+      distinct = can.free.distinct;
       free = record {
         each = λ n low.
             same_descriptor_of P (slice_index new_pages n) W M (λ w is. interval_keeps w one (λ tail. apart w tail (record { index = n; before = low; is = inr is })))
-            ∙ may.free.free.each n low;
+            ∙ can.free.free.each n low;
       };
     }
 
@@ -113,7 +109,7 @@ module _ (P : ℕ) (W : List ℕ) (growth : Growth) (bytes old_pages new_pages :
       byte_same : (o k j : ℕ) → IsPageOf P W i k j → page_byte P A j (o % 4096) ≡ page_byte P M j (o % 4096)
       unfolding word
       byte_same o k j page = page_byte-kept P M A j (o % 4096) (interval_keeps (page_word_of P j (o % 4096 / 8)) two (λ some.
-          own_words_apart P j (slice_index new_pages some.index) (page_word_of P j (o % 4096 / 8)) page.in_range (may.free.in_range.each some.index some.before)
+          own_words_apart P j (slice_index new_pages some.index) (page_word_of P j (o % 4096 / 8)) page.in_range (can.free.in_range.each some.index some.before)
           (pages_differ k j some.index page some.before) (inl (record { place = o % 4096 / 8; in_page = omega arith; at = refl }))
           (filled_is_own P (slice_index new_pages some.index) (page_word_of P j (o % 4096 / 8)) some.is)))
 
@@ -133,7 +129,7 @@ module _ (P : ℕ) (W : List ℕ) (growth : Growth) (bytes old_pages new_pages :
           let parts = dropped_part old_pages first in
           let place = tail.is in
           let at = place.is.at in
-          let page = page_at P W i old_pages may.held (first + tail.index) (parts.below tail.index low) in
+          let page = page_at P W i old_pages can.held (first + tail.index) (parts.below tail.index low) in
           subst (IsFillWord P W i new_pages) (sym (at ∙ ap (λ (p : ℕ). page_word_of P p place.index) (parts.same tail.index low)))
           (IsFillWord.old (first + tail.index) (slice_index old_pages (first + tail.index)) place.index page place.below)
 
@@ -150,12 +146,12 @@ module _ (P : ℕ) (W : List ℕ) (growth : Growth) (bytes old_pages new_pages :
         kinds = λ k j at. let (low, is) = slice_at new_pages k j at in ap (λ (p : ℕ). (descriptor_of P A p).kind) (sym is) ∙ ap (λ (d : DescriptorFields). d.kind) (from.each k low);
         offsets = λ k j at.
             let (low, is) = slice_at new_pages k j at in
-            let count = may.held.count in
+            let count = can.held.count in
             let offset = ap (λ (p : ℕ). (descriptor_of P A p).offset) (sym is) ∙ ap (λ (d : DescriptorFields). d.offset) (from.each k low) in
             omega (arith, count, offset);
         filled = λ k j o at stands.
             let (low, is) = slice_at new_pages k j at in
-            let count = may.held.count in
+            let count = can.held.count in
             let here : 4096 * (length old_pages + k) + o % 4096 ≡ o = omega (arith, count, stands) in
             let span = span_of (length old_pages) 0 growth.offset bytes in
             zero_byte span bytes o 0 (page_byte P A j (o % 4096)) refl (omega arith)

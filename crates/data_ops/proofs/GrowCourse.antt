@@ -1,6 +1,6 @@
 -- What a crash leaves while a file grows, and how it has grown then: by what stands before each step.
 use Rattle.std.proofs.Common.{◌≡◌, inl, inr, ℕ, ◌+◌, Bool, true, nat_lt, List, [], ◌∷◌, length, refl, sym, ap, subst, ◌∙◌, arith}
-use Rattle.std.specs.Prelude.{Result, Ok, OnOk, Some}
+use Rattle.std.specs.Prelude.{Result, OnOk, Some}
 use Rattle.std.proofs.lemmas.Bool.Decides.{nat_tests}
 use Rattle.pm_trait.specs.Device.{Mix}
 use Rattle.pm_trait.specs.DeviceView.{DeviceView, IsSettledView}
@@ -15,14 +15,14 @@ use Rattle.content_laws.specs.Growth.{FillsFile}
 use Rattle.content_laws.specs.Moments.{IsEarly}
 use Rattle.content_laws.proofs.Growth.{inside}
 use Rattle.content_laws.proofs.Moments.{taking_law, growth_hangs_law}
-use Rattle.volume.specs.Costs.{where_true, commit_events, growth_events, fences_for_growth}
+use Rattle.volume.specs.Costs.{where_true, growth_events, fences_for_growth}
 use Rattle.volume.proofs.Unmarked.{ReadsAllowed}
-use Rattle.pm_trait.specs.Unfolds.{MayFence, events_in, fences_in, Takes, Unfolds}
+use Rattle.pm_trait.specs.Unfolds.{events_in, fences_in, Unfolds}
 use Rattle.entry_steps.proofs.Moments.{is_mix}
 use Rattle.entry_steps.proofs.Turning.{IsUnderway, IsSide, Turns, one_side, turned}
-use Rattle.pm_trait.proofs.Unfolding.{map_ok, through, starts, next}
+use Rattle.pm_trait.proofs.Unfolding.{map_ok, through, next}
 use Rattle.data_ops.specs.declared.grow.Growth.{Growth}
-use Rattle.data_ops.specs.Growing.{MayGrow, IsGrowthBy, StoresGrowth, fill_events, owner_events}
+use Rattle.data_ops.specs.Growing.{MayGrow, IsGrowthBy, StoresGrowth}
 use Rattle.data_ops.specs.Hanging.{IsRangeWord}
 use Rattle.data_ops.specs.Steps.{filling_file, owning, sizing, growth_steps}
 use Rattle.data_ops.proofs.Growing
@@ -43,20 +43,6 @@ fences_are (page ∷ pages) =
 
 pub fences : (P : ℕ) (growth : Growth) (bytes pages : List ℕ) → fences_for_growth pages ≡ fences_in (growth_steps P growth bytes pages)
 fences P growth bytes pages = fences_are pages
-
-module _ (P : ℕ) (growth : Growth) (bytes pages : List ℕ) {a : DeviceView} {words : ℕ} (begins : MayFence a words (events_in (growth_steps P growth bytes pages)) 3) where
-  pub may_fill : MayFence a words (fill_events growth (length pages)) 1
-  may_fill = starts (filling_file P growth bytes pages) (owning P growth.inode pages ∷ sizing growth.inode growth.new_size ∷ []) begins
-
-module _ (P : ℕ) (growth : Growth) (bytes pages : List ℕ) {a : DeviceView} {words : ℕ} (begins : MayFence a words (events_in (growth_steps P growth bytes pages)) 3) {T E : Type 0} (b : DeviceView) {value : T} (one : Takes {E = E} (filling_file P growth bytes pages) a b (Ok value)) where
-  after_fill : MayFence b words (events_in (owning P growth.inode pages ∷ sizing growth.inode growth.new_size ∷ [])) 2
-  after_fill = next (filling_file P growth bytes pages) (owning P growth.inode pages ∷ sizing growth.inode growth.new_size ∷ []) b one begins
-
-  pub may_own : MayFence b words (where_true (nat_lt 0 (length pages)) (owner_events (length pages))) 1
-  may_own = starts (owning P growth.inode pages) (sizing growth.inode growth.new_size ∷ []) after_fill
-
-  pub may_raise : {U F : Type 0} (c : DeviceView) {other : U} → Takes {E = F} (owning P growth.inode pages) b c (Ok other) → MayFence c words commit_events 1
-  may_raise c two = starts (sizing growth.inode growth.new_size) [] (next (owning P growth.inode pages) (sizing growth.inode growth.new_size ∷ []) c two after_fill)
 
 -- ---- the whole call
 

@@ -1,5 +1,5 @@
 -- Pages of a file that are written inside its size.
-use Rattle.std.proofs.Common.{◌≡◌, inl, inr, ℕ, ◌+◌, ◌-◌, ◌*◌, ◌/◌, ◌%◌, ◌^◌, ◌<◌, ◌≤◌, Bool, true, cond, List, length, take, drop, min, refl, sym, ap, subst, ◌∙◌, arith, length-take, length-drop}
+use Rattle.std.proofs.Common.{◌≡◌, inl, inr, ℕ, ◌+◌, ◌-◌, ◌/◌, ◌%◌, ◌^◌, ◌<◌, ◌≤◌, Bool, true, cond, List, length, take, drop, min, refl, sym, ap, subst, ◌∙◌, arith, length-take, length-drop}
 use Rattle.std.specs.Prelude.{Option, None, nat_lt, slice_index}
 use Rattle.std.proofs.lemmas.Bool.{cases_lt}
 use Rattle.std.proofs.lemmas.Bool.Decides.{nat_tests}
@@ -19,22 +19,26 @@ use Rattle.page_state.specs.Page.{PageView, OfSome, IsOwnWord, IsNewWordOf, desc
 use Rattle.page_state.specs.Events.{HaveBytes, WritesSpan, FlushesPages}
 use Rattle.page_state.proofs.Counted.{inside_law}
 use Rattle.image_reading.specs.Reading.{IsPageOf, pages_of_size}
-use Rattle.image_reading.specs.Soundness.{Rule}
 use Rattle.content_laws.specs.Range.{WritesBelow}
 use Rattle.content_laws.specs.Inside.{WritesInside}
 use Rattle.volume.specs.Costs.{span_events}
+use Rattle.volume.specs.declared.plan.Writing.{Writing}
 use Rattle.data_ops.specs.Files.{AreBytesFrom}
-use Rattle.data_ops.specs.Writing.{MayWriteInside, StoresInside}
+use Rattle.data_ops.specs.Writing.{StoresInside}
+use Rattle.data_ops.specs.WriteStages.{CanOverwrite}
 use Rattle.data_ops.proofs.Spans.{IsPart, bytes_part, byte_at, byte_kept, no_other, written_byte, span_stored, span_flushed, new_of_pages, have_of_pages}
 
-pub whole : {P : ℕ} {W : List ℕ} {i offset : ℕ} {bytes pages : List ℕ} → MayWriteInside P W i offset bytes pages → length W ≡ 512 * P
-whole may = (may.can.tidy.coherent Rule.head 0).whole refl
-
 -- the range is below the size, and that below 2^40
-pub range : {P : ℕ} {W : List ℕ} {i offset : ℕ} {bytes pages : List ℕ} → MayWriteInside P W i offset bytes pages → (offset + length bytes ≤ inode_size W i) × (inode_size W i ≤ 2 ^ 40)
-range {i = i} may = (may.can.inside, may.can.tidy.coherent Rule.sizes i may.can.reached may.can.file)
+pub range : {P : ℕ} {W : List ℕ} {writing : Writing} {bytes pages : List ℕ} → CanOverwrite P W writing bytes pages → (writing.offset + length bytes ≤ inode_size W writing.inode) × (inode_size W writing.inode ≤ 2 ^ 40)
+range may = (may.inside, may.small)
 
-module _ {P : ℕ} {W : List ℕ} {i offset : ℕ} {bytes pages : List ℕ} (may : MayWriteInside P W i offset bytes pages) {end : ℕ} (up : end ≡ (offset + length bytes) / 4096 + min 1 ((offset + length bytes) % 4096)) where
+module _ {P : ℕ} {W : List ℕ} {writing : Writing} {bytes pages : List ℕ} (may : CanOverwrite P W writing bytes pages) {end : ℕ} (up : end ≡ (writing.offset + length bytes) / 4096 + min 1 ((writing.offset + length bytes) % 4096)) where
+  abbrev i : ℕ
+  i = writing.inode
+
+  abbrev offset : ℕ
+  offset = writing.offset
+
   -- the pieces of a page, as the code rounds up
   end_is : end ≡ pieces (offset + length bytes) 4096
   end_is = omega (arith, up)
@@ -56,7 +60,7 @@ module _ {P : ℕ} {W : List ℕ} {i offset : ℕ} {bytes pages : List ℕ} (may
   order = let some = may.some in omega (arith, end_is, some)
 
   within : end ≤ length pages
-  within = let all = count in let inside = may.can.inside in omega (arith, all, inside, end_is)
+  within = let all = count in let inside = may.inside in omega (arith, all, inside, end_is)
 
   few : end ≤ 2 ^ 28
   few = let (inside, far) = range may in omega (arith, far, inside, end_is)
@@ -130,7 +134,7 @@ module _ {P : ℕ} {W : List ℕ} {i offset : ℕ} {bytes pages : List ℕ} (may
             let all = long in
             let more = order in
             let top = few in
-            let inside = may.can.inside in
+            let inside = may.inside in
             let is = written_byte span bytes o (page_byte P W j (o % 4096)) (page_byte P b j (o % 4096)) refl (omega (arith, high, all, more, top))
             (byte_at P W i pages may.held span bytes part parts run have o j page there high) in
             is.kept (inr (omega (arith, behind, inside)))

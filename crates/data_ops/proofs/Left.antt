@@ -1,5 +1,5 @@
 -- A file that has got another size leaves a volume that stands for what its command leaves.
-use Rattle.std.proofs.Common.{◌≡◌, ◌+◌, ◌<◌, inl, inr, refl, arith}
+use Rattle.std.proofs.Common.{◌<◌, inl, inr, refl, arith}
 use Rattle.std.proofs.lemmas.Bool.{cases_lt}
 use Rattle.pm_trait.specs.DeviceView.{DeviceView, IsSettledView}
 use Rattle.tree_model.specs.PathText.{Route}
@@ -7,7 +7,6 @@ use Rattle.tree_model.specs.Run.{State}
 use Rattle.tree_model.specs.Step.{Done}
 use Rattle.tree_model.specs.declared.command.Command.TheVariants.{Truncate}
 use Rattle.volume.specs.Carried.{IsPlanFor, LeavesState}
-use Rattle.volume.specs.Costs.{fences_of_plan}
 use Rattle.volume.specs.declared.plan.Action.TheVariants.{Resize}
 use Rattle.volume.specs.Entered.{HasResized}
 use Rattle.volume.specs.Volume.{VolumeView}

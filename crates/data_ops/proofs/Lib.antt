@@ -5,7 +5,10 @@ mod ReadBytes
 mod WordBytes
 mod Spans
 mod Fills
-mod Raising
+mod GrowthWords
+mod Advancing
+mod GrowthGoing
+pub mod WriteGoing
 mod NewPages
 mod OldPages
 mod InsidePages
@@ -18,8 +21,11 @@ mod WriteSteps
 mod Stepping
 mod WriteLeft
 mod WriteCarrying
+pub mod WriteBegins
 mod NothingWritten
 mod CutPages
+mod CutStages
+mod CutGoing
 mod CutCourse
 mod CutKnown
 mod Truncations
@@ -30,3 +36,5 @@ mod Resizing
 mod GrownKnown
 mod GrownLeft
 mod Left
+pub mod ResizeGoing
+pub mod Truncated

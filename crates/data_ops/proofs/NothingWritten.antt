@@ -85,7 +85,7 @@ module _ (volume : VolumeView) (device : DeviceView) (state : State) (path : Rou
 
   made : LeavesState volume volume device device state (Write path offset bytes) (Count (length bytes))
   made = Stepping.leaves_state volume device state (Write path offset bytes) (Count (length bytes)) WriteNothing stands plan.planned refl (λ gives. refl) device.words stands.tidy is_stepped volume device refl stands.knows refl stands.settled (omega arith, omega arith)
-      (record { known = stands.mark; same = refl; beside = λ word k. refl; room = stands.room })
+      (record { known = stands.mark; same = refl; beside = λ word k. refl; room = stands.room; no_call = stands.no_call })
 
   reads_after : Reads volume.size device.words (step volume.size state.tree state.room (Write path offset bytes)).tree
   reads_after =

@@ -16,7 +16,7 @@ use Rattle.volume.specs.Commit.{HangsOn, HangsOnWords}
 use Rattle.volume.specs.Costs.{growth_events, fences_for_growth, commit_events, loss_events, fences_for_loss, events_of_resize, fences_of_resize}
 use Rattle.volume.specs.declared.plan.Resizing.{Resizing}
 use Rattle.volume.proofs.Unmarked.{moments_read}
-use Rattle.pm_trait.specs.Unfolds.{MayFence, events_in, fences_in, Unfolds}
+use Rattle.pm_trait.specs.Unfolds.{events_in, fences_in, Unfolds}
 use Rattle.entry_steps.proofs.Turning.{hangs_on}
 use Rattle.pm_trait.proofs.Unfolding.{intervals, map_ok}
 use Rattle.data_ops.specs.Hanging.{IsRangeWord}
@@ -57,20 +57,17 @@ not_less_test : (a b : ℕ) → b < a → nat_lt a b ≡ false
 not_less_test a b less = grind (arith, nat_tests)
 
 module _ (resizing : Resizing) where
-  pub cut_events : resizing.new_size < resizing.old_size → events_of_resize resizing ≡ commit_events + loss_events resizing.cut false
+  cut_events : resizing.new_size < resizing.old_size → events_of_resize resizing ≡ commit_events + loss_events resizing.cut false
   cut_events less = ap (λ (b : Bool). cond b (growth_events resizing.old_size resizing.old_size (length resizing.new_pages)) (commit_events + loss_events resizing.cut false)) (not_less_test resizing.old_size resizing.new_size less)
 
-  pub cut_fences : resizing.new_size < resizing.old_size → fences_of_resize resizing ≡ 1 + fences_for_loss resizing.cut false
+  cut_fences : resizing.new_size < resizing.old_size → fences_of_resize resizing ≡ 1 + fences_for_loss resizing.cut false
   cut_fences less = ap (λ (b : Bool). cond b (fences_for_growth resizing.new_pages) (1 + fences_for_loss resizing.cut false)) (not_less_test resizing.old_size resizing.new_size less)
 
-  pub grown_events : resizing.old_size < resizing.new_size → events_of_resize resizing ≡ growth_events resizing.old_size resizing.old_size (length resizing.new_pages)
+  grown_events : resizing.old_size < resizing.new_size → events_of_resize resizing ≡ growth_events resizing.old_size resizing.old_size (length resizing.new_pages)
   grown_events less = ap (λ (b : Bool). cond b (growth_events resizing.old_size resizing.old_size (length resizing.new_pages)) (commit_events + loss_events resizing.cut false)) (less_test resizing.old_size resizing.new_size less)
 
-  pub grown_fences : resizing.old_size < resizing.new_size → fences_of_resize resizing ≡ fences_for_growth resizing.new_pages
+  grown_fences : resizing.old_size < resizing.new_size → fences_of_resize resizing ≡ fences_for_growth resizing.new_pages
   grown_fences less = ap (λ (b : Bool). cond b (fences_for_growth resizing.new_pages) (1 + fences_for_loss resizing.cut false)) (less_test resizing.old_size resizing.new_size less)
-
-pub may_as : (device : DeviceView) {words : ℕ} (events other made : ℕ) → events ≡ other → MayFence device words events made → MayFence device words other made
-may_as device {words} events other made same may = subst (λ (n : ℕ). MayFence device words n made) same may
 
 pub made_as : {T E : Type 0} {a b : DeviceView} {result : Result T E} (events other fences more : ℕ) → other ≡ events → more ≡ fences → MakesIntervals a b events fences result → MakesIntervals a b other more result
 made_as {a = a} {b} {result} events other fences more same again made =
@@ -79,17 +76,24 @@ made_as {a = a} {b} {result} events other fences more same again made =
 -- ---- the steps of either way
 
 module _ {T E : Type 0} (P : ℕ) {old new : DeviceView} (resizing : Resizing) (pages : List ℕ) {result : Result T E} where
-  pub of_cut : resizing.new_size < resizing.old_size → Unfolds (cut_steps P resizing pages) old new result → Unfolds (resize_steps P resizing pages) old new result
-  of_cut less made = subst (λ (b : Bool). Unfolds (either_steps b (growth_steps P (growth_to resizing) [] resizing.new_pages) (cut_steps P resizing pages)) old new result) (sym (not_less_test resizing.old_size resizing.new_size less)) made
-
   as_cut : resizing.new_size < resizing.old_size → Unfolds (resize_steps P resizing pages) old new result → Unfolds (cut_steps P resizing pages) old new result
   as_cut less made = subst (λ (b : Bool). Unfolds (either_steps b (growth_steps P (growth_to resizing) [] resizing.new_pages) (cut_steps P resizing pages)) old new result) (not_less_test resizing.old_size resizing.new_size less) made
 
-  pub of_growth : resizing.old_size < resizing.new_size → Unfolds (growth_steps P (growth_to resizing) [] resizing.new_pages) old new result → Unfolds (resize_steps P resizing pages) old new result
-  of_growth more made = subst (λ (b : Bool). Unfolds (either_steps b (growth_steps P (growth_to resizing) [] resizing.new_pages) (cut_steps P resizing pages)) old new result) (sym (less_test resizing.old_size resizing.new_size more)) made
-
   as_growth : resizing.old_size < resizing.new_size → Unfolds (resize_steps P resizing pages) old new result → Unfolds (growth_steps P (growth_to resizing) [] resizing.new_pages) old new result
   as_growth more made = subst (λ (b : Bool). Unfolds (either_steps b (growth_steps P (growth_to resizing) [] resizing.new_pages) (cut_steps P resizing pages)) old new result) (less_test resizing.old_size resizing.new_size more) made
+
+-- the plan's events are those of its steps
+pub all_costs : (P : ℕ) (old : DeviceView) (resizing : Resizing) (pages : List ℕ) → MayResize P old.words resizing pages → events_of_resize resizing ≡ events_in (resize_steps P resizing pages)
+all_costs P old resizing pages may = elim (cases_lt resizing.new_size resizing.old_size) [
+  | inl less ↦
+      cut_events resizing less ∙ CutCourse.costs old (may.cut less)
+      ∙ sym (ap (λ (b : Bool). events_in (either_steps b (growth_steps P (growth_to resizing) [] resizing.new_pages) (cut_steps P resizing pages))) (not_less_test resizing.old_size resizing.new_size less))
+  | inr most ↦
+      let other = may.other in
+      let more : resizing.old_size < resizing.new_size = omega (arith, most, other) in
+      grown_events resizing more ∙ GrowCourse.costs P (growth_to resizing) [] resizing.new_pages
+      ∙ sym (ap (λ (b : Bool). events_in (either_steps b (growth_steps P (growth_to resizing) [] resizing.new_pages) (cut_steps P resizing pages))) (less_test resizing.old_size resizing.new_size more))
+]
 
 -- ---- what it leaves
 

@@ -41,7 +41,7 @@ use Rattle.data_ops.specs.Cutting.{IsTruncation}
 use Rattle.data_ops.proofs.Stepping
 use Rattle.data_ops.proofs.NothingWritten.{stays_all}
 
-nothing_set : (resizing : Resizing) → KeepSize ≢ Resize resizing
+pub nothing_set : (resizing : Resizing) → KeepSize ≢ Resize resizing
 nothing_set resizing e = cc
 
 same_by : (same : Bool) (For : Resizing → Type 0) → IsNothingOr same KeepSize (λ action. (x : Resizing) × (action ≡ Resize x) × For x) KeepSize → same ≡ true
@@ -110,7 +110,7 @@ module _ (volume : VolumeView) (device : DeviceView) (state : State) (path : Rou
 
   made : LeavesState volume volume device device state (Truncate path size) Done
   made = Stepping.leaves_state volume device state (Truncate path size) Done KeepSize stands plan.planned refl (λ gives. refl) device.words stands.tidy is_stepped volume device refl stands.knows refl stands.settled (omega arith, omega arith)
-      (record { known = stands.mark; same = refl; beside = λ word k. refl; room = stands.room })
+      (record { known = stands.mark; same = refl; beside = λ word k. refl; room = stands.room; no_call = stands.no_call })
 
   reads_after : Reads volume.size device.words (step volume.size state.tree state.room (Truncate path size)).tree
   reads_after =

@@ -1,5 +1,5 @@
 -- The plan of a write is carried out, once the bytes are on the device and the new pages in the volume.
-use Rattle.std.proofs.Common.{◌≡◌, ℕ, ◌+◌, ◌*◌, ◌<◌, false, true, cond, List, length, sym, ap, subst, ◌∙◌, arith}
+use Rattle.std.proofs.Common.{◌≡◌, ℕ, ◌+◌, ◌<◌, false, true, cond, List, length, sym, ap, subst, ◌∙◌, arith}
 use Rattle.std.specs.Prelude.{Result, Ok, Err, nat_le}
 use Rattle.pm_trait.specs.DeviceView.{DeviceView, IsSettledView, MakesIntervals}
 use Rattle.pm_trait.proofs.DeviceViewLaws.{intervals_as}
@@ -13,18 +13,16 @@ use Rattle.tree_model.specs.declared.command.Command.TheVariants.{Write}
 use Rattle.tree_model.specs.declared.reply.Reply.{Reply}
 use Rattle.tree_model.specs.declared.reply.Reply.TheVariants.{Count as Told}
 use Rattle.volume.specs.Carried.{IsPlanFor, MayCarry, IsAtomic, Follows, Carries}
-use Rattle.volume.specs.Costs.{kept_events, span_events, fence_events, growth_events, events_of, events_of_write, fences_of_plan}
+use Rattle.volume.specs.Costs.{span_events, fence_events, growth_events, events_of, fences_of_plan}
 use Rattle.volume.specs.declared.plan.Action.TheVariants.{Write as WriteBytes}
 use Rattle.volatile_index.specs.Index.{pages_of}
-use Rattle.volume.specs.Entered.{MayEnterPages, EntersPages}
+use Rattle.volume.specs.Entered.{EntersPages}
 use Rattle.volume.specs.Volume.{VolumeView}
 use Rattle.volume.specs.declared.plan.Writing.{Writing}
 use Rattle.volume.proofs.ContentPlans.{planned_writing}
-use Rattle.volume.proofs.FilePages.{may_enter_written}
-use Rattle.pm_trait.specs.Unfolds.{KeepsWords, MayFence, Unfolds}
+use Rattle.pm_trait.specs.Unfolds.{KeepsWords, Unfolds}
 use Rattle.plan_laws.proofs.Left.{KeepsMark, kept_room}
 use Rattle.entry_steps.proofs.Answered.{failed_as, follows_as}
-use Rattle.entry_steps.proofs.Reserved.{enough}
 use Rattle.data_ops.specs.Writing.{IsWriteOf, MayWriteBytes, HasStoredBytes, write_steps}
 use Rattle.data_ops.proofs.Beside.{write_keep}
 use Rattle.data_ops.proofs.Resizes.{some}
@@ -56,9 +54,6 @@ module _ {volume : VolumeView} {old : DeviceView} {writing : Writing} {bytes : L
   may : MayWriteBytes volume.size old.words writing bytes pages
   may = Writings.may_write_bytes volume old planned.0 planned.1 bytes writing planned.2
 
-  pub may_take : MayEnterPages volume writing.inode writing.new_pages
-  may_take = may_enter_written volume old planned.0 (Write planned.1 writing.offset bytes) writing planned.2
-
   -- the device has no mark
   no_mark : MayCarry volume old (WriteBytes writing) → has_mark old.words ≡ false
   no_mark ready = sym planned.2.stands.mark ∙ ready.unmarked (more_events writing)
@@ -72,81 +67,63 @@ module _ {volume : VolumeView} {old : DeviceView} {writing : Writing} {bytes : L
       let whole = is ∙ ap (λ (n : ℕ). Write path n more) (sym for.offset_is) ∙ ap (λ (l : List ℕ). Write path writing.offset l) (sym same) in
       (path, whole, subst (λ (c : Command). IsPlanFor volume old state c (WriteBytes writing)) whole plan)
 
-  module _ {P : ℕ} (size : P ≡ volume.size) where
-    pub may_write : {all : List ℕ} → all ≡ pages → MayWriteBytes P old.words writing bytes all
-    may_write are =
-        subst (λ (l : List ℕ). MayWriteBytes P old.words writing bytes l) (sym are)
-        (subst (λ (p : ℕ). MayWriteBytes p old.words writing bytes pages) (sym size) may)
+  module _ {T E : Type 0} {new : DeviceView} {result : Result T E} (made : Unfolds (write_steps volume.size writing bytes) old new result) where
+    pub stored : HasStoredBytes volume.size old new writing bytes result
+    stored = has_stored volume.size old new writing bytes pages result may settled made (record { reads = planned.2.stands.reads; planned = planned.2.planned })
 
-    -- the plan has its room
-    pub may_begin : MayCarry volume old (WriteBytes writing) → MayFence old (512 * P) (events_of_write writing) 3
-    may_begin ready = record {
-      whole = planned.2.stands.knows.whole ∙ ap (λ (p : ℕ). 512 * p) (sym size);
-      settled = settled;
-      room = enough (events_of_write writing) (kept_events volume.marked) old.spare ready.reserved.room;
-      countable = let few = ready.countable in omega (arith, few);
-    }
+    device : MakesIntervals old new (events_of (WriteBytes writing)) (fences_of_plan (WriteBytes writing)) result
+    device = all_intervals volume.size old new writing bytes pages result may settled made
 
-    module _ {T E : Type 0} {new : DeviceView} {result : Result T E} (unfolds : Unfolds (write_steps P writing bytes) old new result) where
-      made : Unfolds (write_steps volume.size writing bytes) old new result
-      made = subst (λ (p : ℕ). Unfolds (write_steps p writing bytes) old new result) size unfolds
+    beside : KeepsWords IsSuperblockWord old.words new.words
+    beside = words_kept IsSuperblockWord (write_keep volume.size writing bytes) made
 
-      pub stored : HasStoredBytes volume.size old new writing bytes result
-      stored = has_stored volume.size old new writing bytes pages result may settled made (record { reads = planned.2.stands.reads; planned = planned.2.planned })
+    atomic : MayCarry volume old (WriteBytes writing) → (state : State) (path : Route) → IsPlanFor volume old state (Write path writing.offset bytes) (WriteBytes writing) → IsAtomic volume.size old new state (Write path writing.offset bytes)
+    atomic ready state path plan = is_atomic volume.size old new writing bytes pages result may settled made (record { reads = plan.stands.reads; planned = plan.planned }) (no_mark ready)
 
-      device : MakesIntervals old new (events_of (WriteBytes writing)) (fences_of_plan (WriteBytes writing)) result
-      device = all_intervals volume.size old new writing bytes pages result may settled made
+  pub carried : {E T : Type 0} {done : T} {new : DeviceView} {after : VolumeView} → Unfolds {E = E} (write_steps volume.size writing bytes) old new (Ok done) → EntersPages volume after writing.inode writing.new_pages → MayCarry volume old (WriteBytes writing)
+      → Carries {E = E} volume after old new (WriteBytes writing) (Count (length bytes)) (IsWriteOf bytes) (Ok (Told writing.count))
+  carried {E} {done = done} {new} {after} unfolds enters ready =
+      let all = device unfolds in
+      let stores = stores_bytes volume.size old new writing bytes pages (Ok done) may settled unfolds in
+      let same_mark = ap (λ (v : VolumeView). v.marked) enters.rest in
+      let keeps : KeepsMark volume after old.words new.words new = record {
+        known = planned.2.stands.mark;
+        same = same_mark;
+        beside = beside unfolds;
+        room = kept_room volume.marked volume.kept (WriteBytes writing) old new (more_events writing) ready.reserved.room all.room;
+        no_call = ap (λ (v : VolumeView). v.kept) enters.rest ∙ planned.2.stands.no_call;
+      } in
+      record {
+        meaning = λ state command ours plan.
+            let (path, same, here) = found state command ours plan in
+            let follows : Follows {E = E} volume after old new state (Write path writing.offset bytes) (Count (length bytes)) (Ok (Told writing.count)) = record {
+              made = leaves_state volume old state path bytes writing here new stores after enters all.settled (all.counted, all.grown) keeps;
+              atomic = atomic unfolds ready state path here;
+            } in
+            follows_as (Write path writing.offset bytes) command same follows;
+        answered = record {
+          reply = ap (λ (n : ℕ). let reply : Reply = Told n in reply) (Writings.for_writing volume old planned.0 planned.1 bytes writing planned.2).count_is;
+          going = ap (λ (v : VolumeView). v.stopped) enters.rest ∙ ready.going;
+          knows = enters;
+          stopped = tt;
+          size = ap (λ (v : VolumeView). v.size) enters.rest;
+          marked = same_mark;
+        };
+        device = intervals_as (Told writing.count) all;
+        idle = λ none. absurd (some_events writing none);
+        beside = beside unfolds;
+      }
 
-      beside : KeepsWords IsSuperblockWord old.words new.words
-      beside = words_kept IsSuperblockWord (write_keep volume.size writing bytes) made
-
-      atomic : MayCarry volume old (WriteBytes writing) → (state : State) (path : Route) → IsPlanFor volume old state (Write path writing.offset bytes) (WriteBytes writing) → IsAtomic volume.size old new state (Write path writing.offset bytes)
-      atomic ready state path plan = is_atomic volume.size old new writing bytes pages result may settled made (record { reads = plan.stands.reads; planned = plan.planned }) (no_mark ready)
-
-    pub carried : {E T : Type 0} {done : T} {new : DeviceView} {after : VolumeView} {list : List ℕ} → Unfolds {E = E} (write_steps P writing bytes) old new (Ok done) → list ≡ writing.new_pages → EntersPages volume after writing.inode list → MayCarry volume old (WriteBytes writing)
-        → Carries {E = E} volume after old new (WriteBytes writing) (Count (length bytes)) (IsWriteOf bytes) (Ok (Told writing.count))
-    carried {E} {done = done} {new} {after} unfolds list_is took ready =
-        let enters = subst (λ (l : List ℕ). EntersPages volume after writing.inode l) list_is took in
-        let all = device unfolds in
-        let stores = stores_bytes volume.size old new writing bytes pages (Ok done) may settled (made unfolds) in
-        let same_mark = ap (λ (v : VolumeView). v.marked) enters.rest in
-        let keeps : KeepsMark volume after old.words new.words new = record {
-          known = planned.2.stands.mark;
-          same = same_mark;
-          beside = beside unfolds;
-          room = kept_room volume.marked (WriteBytes writing) old new (more_events writing) ready.reserved.room all.room;
-        } in
-        record {
-          meaning = λ state command ours plan.
-              let (path, same, here) = found state command ours plan in
-              let follows : Follows {E = E} volume after old new state (Write path writing.offset bytes) (Count (length bytes)) (Ok (Told writing.count)) = record {
-                made = leaves_state volume old state path bytes writing here new stores after enters all.settled (all.counted, all.grown) keeps;
-                atomic = atomic unfolds ready state path here;
-              } in
-              follows_as (Write path writing.offset bytes) command same follows;
-          answered = record {
-            reply = ap (λ (n : ℕ). let reply : Reply = Told n in reply) (Writings.for_writing volume old planned.0 planned.1 bytes writing planned.2).count_is;
-            going = ap (λ (v : VolumeView). v.stopped) enters.rest ∙ ready.going;
-            knows = enters;
-            stopped = tt;
-            size = ap (λ (v : VolumeView). v.size) enters.rest;
-            marked = same_mark;
-          };
-          device = intervals_as (Told writing.count) all;
-          idle = λ none. absurd (some_events writing none);
-          beside = beside unfolds;
-        }
-
-    -- a fence failed, and the volume is stopped
-    pub carried_no_further : {E F T : Type 0} {new : DeviceView} {after : VolumeView} {failed : F} (fault : E) → Unfolds {T = T} (write_steps P writing bytes) old new (Err failed)
-        → MayCarry volume old (WriteBytes writing) → after ≡ record volume { stopped = true } → Carries {E = E} volume after old new (WriteBytes writing) (Count (length bytes)) (IsWriteOf bytes) (Err fault)
-    carried_no_further {E} {new = new} {after} fault unfolds ready stopped = record {
-      meaning = λ state command ours plan.
-          let (path, same, here) = found state command ours plan in
-          let follows : Follows {E = E} volume after old new state (Write path writing.offset bytes) (Count (length bytes)) (Err fault) = record { made = tt; atomic = atomic unfolds ready state path here } in
-          follows_as (Write path writing.offset bytes) command same follows;
-      answered = record { reply = tt; going = tt; knows = tt; stopped = ap (λ (v : VolumeView). v.stopped) stopped; size = ap (λ (v : VolumeView). v.size) stopped; marked = ap (λ (v : VolumeView). v.marked) stopped };
-      device = failed_as fault (device unfolds);
-      idle = λ none. absurd (some_events writing none);
-      beside = beside unfolds;
-    }
+  -- a fence failed, and the volume is stopped
+  pub carried_no_further : {E T : Type 0} {new : DeviceView} {after : VolumeView} (fault : E) → Unfolds {T = T} (write_steps volume.size writing bytes) old new (Err fault) → MayCarry volume old (WriteBytes writing)
+      → (after.stopped ≡ true) × (after.size ≡ volume.size) × (after.marked ≡ volume.marked) → Carries {E = E} volume after old new (WriteBytes writing) (Count (length bytes)) (IsWriteOf bytes) (Err fault)
+  carried_no_further {E} {new = new} {after} fault unfolds ready stopped = record {
+    meaning = λ state command ours plan.
+        let (path, same, here) = found state command ours plan in
+        let follows : Follows {E = E} volume after old new state (Write path writing.offset bytes) (Count (length bytes)) (Err fault) = record { made = tt; atomic = atomic unfolds ready state path here } in
+        follows_as (Write path writing.offset bytes) command same follows;
+    answered = record { reply = tt; going = tt; knows = tt; stopped = stopped.0; size = stopped.1; marked = stopped.2 };
+    device = failed_as fault (device unfolds);
+    idle = λ none. absurd (some_events writing none);
+    beside = beside unfolds;
+  }

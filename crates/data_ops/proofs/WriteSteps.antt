@@ -27,7 +27,7 @@ use Rattle.volume.specs.Costs.{span_events, fence_events, growth_events, fences_
 use Rattle.volume.specs.declared.plan.Writing.{Writing}
 use Rattle.volume.proofs.Unmarked.{ReadsAllowed, moments_read}
 use Rattle.pm_trait.specs.Unfolds.{events_in, fences_in, Takes, Unfolds, Quietly}
-use Rattle.pm_trait.proofs.Unfolding.{quiet_fenced, last, intervals, map_ok}
+use Rattle.pm_trait.proofs.Unfolding.{quiet_fenced, intervals, map_ok}
 use Rattle.entry_steps.proofs.Moments.{is_mix, on_ok}
 use Rattle.volume.specs.Commit.{HangsOnWords}
 use Rattle.data_ops.specs.Hanging.{IsRangeWord}
@@ -102,18 +102,9 @@ module _ (writing : Writing) where
 -- ---- the steps of either way
 
 module _ {T E : Type 0} (P : ℕ) {old new : DeviceView} (writing : Writing) (bytes : List ℕ) {result : Result T E} where
-  pub of_inside : writing.offset + writing.count ≤ writing.old_size → Takes (overwriting P writing.inode writing.offset bytes) old new result → Unfolds (write_steps P writing bytes) old new result
-  of_inside inside takes =
-      subst (λ (t : Bool). Unfolds (either_steps t (overwriting P writing.inode writing.offset bytes ∷ []) (growth_steps P (growth_of writing) bytes writing.new_pages)) old new result) (sym (at_most (writing.offset + writing.count) writing.old_size inside))
-      (last result takes)
-
   as_inside : writing.offset + writing.count ≤ writing.old_size → Unfolds (write_steps P writing bytes) old new result → Takes (overwriting P writing.inode writing.offset bytes) old new result
   as_inside inside made =
       only (subst (λ (t : Bool). Unfolds (either_steps t (overwriting P writing.inode writing.offset bytes ∷ []) (growth_steps P (growth_of writing) bytes writing.new_pages)) old new result) (at_most (writing.offset + writing.count) writing.old_size inside) made)
-
-  pub of_growth : writing.old_size < writing.offset + writing.count → Unfolds (growth_steps P (growth_of writing) bytes writing.new_pages) old new result → Unfolds (write_steps P writing bytes) old new result
-  of_growth more made =
-      subst (λ (t : Bool). Unfolds (either_steps t (overwriting P writing.inode writing.offset bytes ∷ []) (growth_steps P (growth_of writing) bytes writing.new_pages)) old new result) (sym (more_than (writing.offset + writing.count) writing.old_size more)) made
 
   as_growth : writing.old_size < writing.offset + writing.count → Unfolds (write_steps P writing bytes) old new result → Unfolds (growth_steps P (growth_of writing) bytes writing.new_pages) old new result
   as_growth more made =

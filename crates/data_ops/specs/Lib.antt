@@ -5,3 +5,7 @@ pub mod Growing
 pub mod Steps
 pub mod Writing
 pub mod Cutting
+pub mod GrowthStages
+pub mod GrowthSteps
+pub mod ResizeStages
+pub mod WriteStages

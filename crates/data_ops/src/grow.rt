@@ -1,23 +1,31 @@
 // A file grows, each interval settled by its fence: its bytes with the new pages, their owners, and then its size.
-ghost use Rattle.std.specs.Prelude.{◌≡◌, ◌+◌, ◌*◌, ◌^◌, ◌≤◌, ℕ, nat_lt, length};
+ghost use Rattle.std.specs.Prelude.{◌≡◌, ◌+◌, ◌*◌, ◌^◌, ◌<◌, ◌≤◌, ℕ, List, nat_lt, length, IfOk};
 ghost use Rattle.pm_trait.specs.Device.{IsFlushed, IsClean};
-ghost use Rattle.pm_trait.specs.DeviceView.{IsSettledView, Stores};
+ghost use Rattle.pm_trait.specs.DeviceView.{DeviceView, IsSettledView, Stores};
 ghost use Rattle.page_state.specs.Spans.{span_of};
 ghost use Rattle.page_state.specs.Page.{OfSome, IsOwnWord, IsFilledWord};
 ghost use Rattle.page_state.specs.Events.{HaveBytes};
 ghost use Rattle.content_laws.specs.Range.{WritesBelow, WritesTail};
 ghost use Rattle.volume.specs.Costs.{where_true, page_events};
-ghost use Rattle.pm_trait.specs.Unfolds.{MayFence, events_in, Takes, Unfolds};
+ghost use Rattle.volume.specs.Stages.{Advances};
+ghost use Rattle.pm_trait.specs.Unfolds.{MayFence, Takes, fences_in};
 ghost use Rattle.data_ops.specs.Files.{AreBytesFrom, AreFree};
-ghost use Rattle.data_ops.specs.Growing.{MayGrow, MayFill, IsTailWord, old_page_events, fill_events, owner_events};
-ghost use Rattle.data_ops.specs.Steps.{CanOwn, CanRaise, filling_file, owning, sizing, growth_steps};
+ghost use Rattle.data_ops.specs.Growing.{MayFill, IsTailWord, old_page_events, fill_events as events_of_fill, owner_events};
+ghost use Rattle.data_ops.specs.Steps.{CanOwn, CanRaise, filling_file, owning, sizing};
+ghost use Rattle.data_ops.specs.GrowthStages.{CanFill, IsGrowthAt, KnowsGrowth, EntersGrowth, left_of_growth, step_of_growth, next_of_growth};
+ghost use Rattle.data_ops.specs.GrowthSteps.{StandsGrowth, StandsNextGrowth};
+ghost use Rattle.data_ops.specs.declared.grow.Growth.{Growth as Grown};
+ghost use Rattle.data_ops.specs.declared.grow.Progress.TheVariants.{Begun as Begins};
 
+use entry_steps::settle;
 use fence_token::{Clean, end_interval};
 use inode_state::{InodeH, Live as LiveNode};
 use layout::{Geometry, PAGE_BYTES};
 use page_state::{Filled, Free, Live, PageH};
 use pm_trait::{Pm, PmFault};
-use volume::COMMIT_EVENTS;
+use volume::{
+    COMMIT_EVENTS, FENCE_EVENTS, NewPages, PAGE_EVENTS, Volume, WORD_EVENTS, span_events,
+};
 
 /// A file that grows, and where the bytes begin that are written with that. All are in bytes.
 #[derive(Clone, Copy)]
@@ -30,6 +38,17 @@ pub struct Growth {
     pub new_size: u64,
     /// Where the bytes begin that are written: the old size where there are none.
     pub offset: u64,
+}
+
+// What of a growth is settled.
+#[derive(Clone, Copy)]
+pub enum Progress {
+    // Nothing.
+    Begun,
+    // The bytes, with new pages that have no owner yet.
+    Filled,
+    // These, and the owner of the new pages, where there are any.
+    Owned,
 }
 
 // Writes into old pages of a file the bytes of the range, and beside it zeros from the old size on, and flushes them.
@@ -96,9 +115,9 @@ fn fill<P: Pm>(
     new_pages: &[u64],
     bytes: &[u8],
 ) -> Result<(), PmFault>
-    requires ready { MayGrow geometry.now.pages (P.view pm.old).words growth.now bytes.now old_pages.now new_pages.now }
+    requires ready { CanFill geometry.now.pages (P.view pm.old).words growth.now bytes.now old_pages.now new_pages.now }
     requires begins { MayFence (P.view pm.old) (512 * geometry.now.pages)
-        (fill_events growth.now (length new_pages.now)) 1 }
+        (events_of_fill growth.now (length new_pages.now)) 1 }
     ensures takes { Takes (filling_file geometry.now.pages growth.now bytes.now new_pages.now) (P.view pm.old)
         (P.view pm.new) result }
 {
@@ -136,23 +155,126 @@ fn raise_size<P: Pm>(pm: &mut P, geometry: &Geometry, inode: u64, size: u64) -> 
     end_interval(pm)
 }
 
-/// Makes a file grow on the device, over its old pages and the new ones that it needs, and writes the bytes from `growth.offset` on.
-/// It takes 2 fences, and 3 with a new page.
-pub fn grow<P: Pm>(
+// Makes the next step of a growth, to its fence.
+fn grow_step<P: Pm>(
     pm: &mut P,
     geometry: &Geometry,
     growth: &Growth,
+    progress: Progress,
     old_pages: &[u64],
     new_pages: &[u64],
     bytes: &[u8],
 ) -> Result<(), PmFault>
-    requires may { MayGrow geometry.now.pages (P.view pm.old).words growth.now bytes.now old_pages.now new_pages.now }
-    requires begins { MayFence (P.view pm.old) (512 * geometry.now.pages) (events_in (growth_steps geometry.now.pages growth.now bytes.now
-        new_pages.now)) 3 }
-    ensures unfolds { Unfolds (growth_steps geometry.now.pages growth.now bytes.now new_pages.now) (P.view pm.old)
+    requires stands { IsGrowthAt geometry.now.pages (P.view pm.old) growth.now bytes.now old_pages.now new_pages.now progress }
+    requires begins { MayFence (P.view pm.old) (512 * geometry.now.pages)
+        (step_of_growth geometry.now.pages growth.now bytes.now new_pages.now progress).events 1 }
+    ensures takes { Takes (step_of_growth geometry.now.pages growth.now bytes.now new_pages.now progress) (P.view pm.old)
         (P.view pm.new) result }
 {
-    fill(pm, geometry, growth, old_pages, new_pages, bytes)?;
-    own(pm, geometry, new_pages, growth.inode)?;
-    raise_size(pm, geometry, growth.inode, growth.new_size)
+    match progress {
+        Progress::Begun => fill(pm, geometry, growth, old_pages, new_pages, bytes),
+        Progress::Filled => own(pm, geometry, new_pages, growth.inode),
+        Progress::Owned => raise_size(pm, geometry, growth.inode, growth.new_size),
+    }
+}
+
+// The events by which a file's old pages are written and so many new ones are filled.
+fn fill_events(growth: &Growth, new_pages: u64) -> u64
+    requires small { growth.now.old_size ≤ 2 ^ 40 }
+    requires countable { events_of_fill growth.now new_pages < 2 ^ 64 }
+    ensures { result ≡ events_of_fill growth.now new_pages }
+{
+    let old_end = growth.old_size.div_ceil(PAGE_BYTES) * PAGE_BYTES;
+    span_events(growth.offset.min(growth.old_size), old_end)
+        + new_pages * PAGE_EVENTS
+        + FENCE_EVENTS
+}
+
+// Takes a step of a growth into the volume: the new pages behind the first, and their places in the file's list behind the last.
+fn enter_growth(volume: &mut Volume, inode: u64, pages: &[u64], progress: Progress)
+    requires knows { KnowsGrowth volume.old inode pages.now progress }
+    ensures { EntersGrowth inode pages.now progress volume.old volume.new }
+{
+    match progress {
+        Progress::Begun => volume.take_pages(pages),
+        Progress::Filled => {}
+        Progress::Owned => volume.put_pages(inode, pages),
+    }
+}
+
+// Makes the next step of a growth over these new pages, to its fence, and takes it into the volume. It answers what is settled then,
+// where the growth has a step left.
+pub fn advance_growth<P: Pm>(
+    growth: &Growth,
+    progress: Progress,
+    new_pages: &NewPages,
+    bytes: &[u8],
+    volume: &mut Volume,
+    pm: &mut P,
+) -> Result<Option<Progress>, PmFault>
+    requires stands { StandsGrowth volume.old (P.view pm.old) growth.now bytes.now new_pages.now progress }
+    requires begins { MayFence (P.view pm.old) (512 * volume.old.size)
+        (step_of_growth volume.old.size growth.now bytes.now new_pages.now progress).events 1 }
+    ensures takes { Takes (step_of_growth volume.old.size growth.now bytes.now new_pages.now progress) (P.view pm.old)
+        (P.view pm.new) result }
+    ensures next { IfOk result (λ next. next ≡ next_of_growth progress new_pages.now) }
+    ensures volume { Advances (step_of_growth volume.old.size growth.now bytes.now new_pages.now progress).events
+        (EntersGrowth growth.now.inode new_pages.now progress) volume.old volume.new result }
+    ensures stands { IfOk result (λ next. StandsNextGrowth volume.new (P.view pm.new) growth.now bytes.now new_pages.now next) }
+{
+    let geometry = *volume.geometry();
+    let events = progress.step_events(growth, new_pages);
+    let old_pages = volume.pages(growth.inode);
+    let pages = new_pages.as_slice();
+    let made = grow_step(pm, &geometry, growth, progress, old_pages, pages, bytes);
+    settle(volume, made, events)?;
+    enter_growth(volume, growth.inode, pages, progress);
+    Ok(progress.next(new_pages))
+}
+
+impl Progress {
+    // How many fences a growth over these pages has left.
+    pub fn fences_left(&self, new_pages: &NewPages) -> u64
+        ensures { (volume_pages : ℕ) (growth : Grown) (bytes : List ℕ)
+            → result ≡ fences_in (left_of_growth volume_pages growth bytes new_pages.now self.now) }
+    {
+        let owners = if new_pages.count() > 0 { 1 } else { 0 };
+        match self {
+            Progress::Begun => 2 + owners,
+            Progress::Filled => 1 + owners,
+            Progress::Owned => 1,
+        }
+    }
+
+    // How many events the next step of a growth over these pages makes, at most.
+    fn step_events(&self, growth: &Growth, new_pages: &NewPages) -> u64
+        requires small { self.now ≡ Begins → growth.now.old_size ≤ 2 ^ 40 }
+        requires countable { (volume_pages : ℕ) × (bytes : List ℕ)
+            × (step_of_growth volume_pages growth.now bytes new_pages.now self.now).events < 2 ^ 64 }
+        ensures { (volume_pages : ℕ) (bytes : List ℕ)
+            → result ≡ (step_of_growth volume_pages growth.now bytes new_pages.now self.now).events }
+    {
+        match self {
+            Progress::Begun => fill_events(growth, new_pages.count()),
+            Progress::Filled => new_pages.count() * WORD_EVENTS + FENCE_EVENTS,
+            Progress::Owned => COMMIT_EVENTS,
+        }
+    }
+
+    // What is settled behind the next step of a growth over these pages, where it isn't the last: owners are given where there are pages.
+    fn next(&self, new_pages: &NewPages) -> Option<Progress>
+        ensures { result ≡ next_of_growth self.now new_pages.now }
+    {
+        match self {
+            Progress::Begun => {
+                if new_pages.count() > 0 {
+                    Some(Progress::Filled)
+                } else {
+                    Some(Progress::Owned)
+                }
+            }
+            Progress::Filled => Some(Progress::Owned),
+            Progress::Owned => None,
+        }
+    }
 }

@@ -3,8 +3,8 @@
 
 mod grow;
 mod reading;
-mod truncate;
-mod write;
+pub mod truncate;
+pub mod write;
 
 pub use reading::read;
 pub use truncate::apply_truncate;

@@ -1,28 +1,38 @@
 // A file gets another size: a greater one by its growth; a smaller one in the size alone, and then the pages behind it are given back.
-ghost use Rattle.std.specs.Prelude.{◌≡◌, ◌+◌, ◌*◌, ◌≤◌, ℕ, nat_lt, length};
+ghost use Rattle.std.specs.Prelude.{◌≡◌, ◌*◌, ◌^◌, ◌≤◌, ℕ, List, nat_lt, length, IfOk};
+ghost use Rattle.pm_trait.specs.DeviceView.{DeviceView};
 ghost use Rattle.tree_model.specs.PathText.{Route};
 ghost use Rattle.tree_model.specs.Run.{State};
 ghost use Rattle.tree_model.specs.Step.{Done};
 ghost use Rattle.tree_model.specs.declared.command.Command.TheVariants.{Truncate};
 ghost use Rattle.volatile_index.specs.Index.{pages_of};
 ghost use Rattle.volume.specs.Carried.{IsPlanFor, MayCarry, Carries};
-ghost use Rattle.volume.specs.Costs.{where_true, events_of_resize};
-ghost use Rattle.volume.specs.Entered.{HasPagePlaces, MayEnterPages, MayLosePages};
+ghost use Rattle.volume.specs.Costs.{where_true};
+ghost use Rattle.volume.specs.Entered.{MayLosePages};
+ghost use Rattle.volume.specs.Stages.{Advances, keeping};
+ghost use Rattle.volume.specs.Volume.{VolumeView};
 ghost use Rattle.volume.specs.declared.plan.Resizing.{Resizing as Resized};
 ghost use Rattle.volume.specs.declared.plan.Action.TheVariants.{Resize as Resizes};
-ghost use Rattle.pm_trait.specs.Unfolds.{MayFence, events_in, Takes, Unfolds};
+ghost use Rattle.pm_trait.specs.Unfolds.{MayFence, Takes, fences_in};
 ghost use Rattle.data_ops.specs.Growing.{owner_events, release_events};
 ghost use Rattle.data_ops.specs.Steps.{CanLower, CanDisown, CanRelease, sizing, giving, freeing};
-ghost use Rattle.data_ops.specs.Cutting.{IsTruncation, MayCut, MayResize, TakesIn, HasStoredSize, cut_steps, resize_steps};
+ghost use Rattle.data_ops.specs.Cutting.{IsTruncation, HasStoredSize, gone_pages};
+ghost use Rattle.data_ops.specs.ResizeStages.{StandsStage, StandsNext, MayBegin, IsCutAt, EntersAt, EntersCut, begun, begun_resizing, step_of, step_of_cut, left_of, next_of, next_cutting, held_of};
+ghost use Rattle.data_ops.specs.declared.truncate.Stage.TheVariants.{Cutting as Cuts, Growing as Grows};
 
-use crate::grow::{Growth, grow};
+use crate::grow::{Growth, Progress, advance_growth};
+use entry_steps::settle;
 use fence_token::{Clean, end_interval};
 use inode_state::{Cut, InodeH, Live as LiveNode};
 use layout::Geometry;
 use page_state::{Live, PageH, Released};
 use pm_trait::{Pm, PmFault};
+use std::marker::Model;
 use tree_model::Reply;
-use volume::{Action, COMMIT_EVENTS, Plan, Resizing, Volume};
+use volume::{
+    Action, COMMIT_EVENTS, DESCRIPTOR_REST_EVENTS, FENCE_EVENTS, Held, Next, Plan, Resizing,
+    Volume, WORD_EVENTS,
+};
 
 // Lowers a file's size.
 fn lower_size<P: Pm>(pm: &mut P, geometry: &Geometry, inode: u64, size: u64) -> Result<(), PmFault>
@@ -69,94 +79,246 @@ fn release<P: Pm>(pm: &mut P, geometry: &Geometry, pages: &[u64]) -> Result<(), 
     end_interval(pm)
 }
 
-// Cuts a file on the device, whose pages these are. It takes 1 fence, and 3 where pages are given back.
-fn cut<P: Pm>(
-    pm: &mut P,
-    geometry: &Geometry,
-    resizing: &Resizing,
-    pages: &[u64],
-) -> Result<(), PmFault>
-    requires may { MayCut geometry.now.pages (P.view pm.old).words resizing.now pages.now }
-    requires begins { MayFence (P.view pm.old) (512 * geometry.now.pages) (events_in (cut_steps geometry.now.pages resizing.now pages.now)) 3 }
-    ensures unfolds { Unfolds (cut_steps geometry.now.pages resizing.now pages.now) (P.view pm.old) (P.view pm.new)
-        result }
-{
-    lower_size(pm, geometry, resizing.inode, resizing.new_size)?;
-    let kept = pages.len() - resizing.cut as usize;
-    let gone = &pages[kept..];
-    disown(pm, geometry, resizing.inode, gone)?;
-    release(pm, geometry, gone)
+// What of a cut is settled.
+#[derive(Clone, Copy)]
+pub enum CutProgress {
+    // Nothing.
+    Begun,
+    // The size.
+    Lowered,
+    // That, and that the pages behind it have no owner.
+    Trimmed,
 }
 
-// Gives a file its new size on the device, whose pages these are.
-fn resize<P: Pm>(
+// What of a truncation is settled.
+#[derive(Drop)]
+pub enum Stage {
+    // The file has the size already, and nothing is to be done.
+    Nothing,
+    // So much of its growth.
+    Growing(Resizing, Progress),
+    // So much of its cut.
+    Cutting(Resizing, CutProgress),
+}
+
+/// The change of a file to another size, between two of its steps.
+#[derive(Drop)]
+pub struct Running {
+    stage: Stage,
+}
+
+impl Model for Running {
+    ghost use Rattle.data_ops.specs.declared.truncate.Stage.{Stage};
+
+    ghost Value = { Stage };
+
+    ghost view = { λ running. running.stage };
+}
+
+impl Running {
+    /// How many inodes and data pages it holds, which aren't free for other calls: the new pages of a growth, and behind the first step
+    /// of a cut the pages that it has to give back.
+    pub fn held(&self) -> Held
+        ensures { result ≡ held_of self.now }
+    {
+        let pages = match &self.stage {
+            Stage::Nothing => 0,
+            Stage::Growing(resizing, _) => resizing.new_pages.count(),
+            Stage::Cutting(resizing, progress) => match progress {
+                CutProgress::Begun => 0,
+                CutProgress::Lowered | CutProgress::Trimmed => resizing.cut,
+            },
+        };
+        Held { inodes: 0, pages }
+    }
+
+    /// How many fences it has left: one for each step that has a store.
+    pub fn fences_left(&self) -> u64
+        ensures { (volume : VolumeView) (device : DeviceView) → StandsStage volume device self.now
+            → result ≡ fences_in (left_of volume self.now) }
+    {
+        match &self.stage {
+            Stage::Nothing => 0,
+            Stage::Growing(resizing, progress) => progress.fences_left(&resizing.new_pages),
+            Stage::Cutting(resizing, progress) => match progress {
+                CutProgress::Begun => { if resizing.cut > 0 { 3 } else { 1 } }
+                CutProgress::Lowered => 2,
+                CutProgress::Trimmed => 1,
+            },
+        }
+    }
+}
+
+// Where a file begins to get its new size.
+fn first_stage(resizing: Resizing) -> Stage
+    ensures { result ≡ begun_resizing resizing }
+{
+    if resizing.old_size < resizing.new_size {
+        Stage::Growing(resizing, Progress::Begun)
+    } else {
+        Stage::Cutting(resizing, CutProgress::Begun)
+    }
+}
+
+/// Begins to carry out the plan of an accepted `truncate`: its events are kept, and nothing is stored.
+pub fn begin(volume: &mut Volume, plan: Plan) -> Running
+    requires stands { (device : DeviceView) × MayBegin volume.old device plan }
+    ensures running { result ≡ begun plan }
+    ensures volume { volume.new ≡ keeping volume.old plan }
+{
+    match plan.into_action() {
+        Action::Resize(resizing) => {
+            volume.keep(resizing.events());
+            Running {
+                stage: first_stage(resizing),
+            }
+        }
+        _nothing => Running {
+            stage: Stage::Nothing,
+        },
+    }
+}
+
+// Makes the next step of a cut, to its fence, of a file whose pages these are.
+fn cut_step<P: Pm>(
     pm: &mut P,
     geometry: &Geometry,
     resizing: &Resizing,
+    progress: CutProgress,
     pages: &[u64],
 ) -> Result<(), PmFault>
-    requires may { MayResize geometry.now.pages (P.view pm.old).words resizing.now pages.now }
-    requires begins { MayFence (P.view pm.old) (512 * geometry.now.pages) (events_of_resize resizing.now) 3 }
-    ensures unfolds { Unfolds (resize_steps geometry.now.pages resizing.now pages.now) (P.view pm.old) (P.view pm.new)
-        result }
+    requires ready { IsCutAt geometry.now.pages (P.view pm.old).words resizing.now pages.now progress }
+    requires enough { resizing.now.cut ≤ length pages.now }
+    requires begins { MayFence (P.view pm.old) (512 * geometry.now.pages)
+        (step_of_cut geometry.now.pages resizing.now pages.now progress).events 1 }
+    ensures takes { Takes (step_of_cut geometry.now.pages resizing.now pages.now progress) (P.view pm.old)
+        (P.view pm.new) result }
 {
-    if resizing.new_size < resizing.old_size {
-        return cut(pm, geometry, resizing, pages);
+    let kept = pages.len() - resizing.cut as usize;
+    let gone = &pages[kept..];
+    match progress {
+        CutProgress::Begun => lower_size(pm, geometry, resizing.inode, resizing.new_size),
+        CutProgress::Lowered => disown(pm, geometry, resizing.inode, gone),
+        CutProgress::Trimmed => release(pm, geometry, gone),
     }
+}
+
+// The events of that step, at most.
+fn cut_events(resizing: &Resizing, progress: CutProgress) -> u64
+    requires few { resizing.now.cut ≤ 2 ^ 28 }
+    ensures { (volume_pages : ℕ) (pages : List ℕ) → length (gone_pages resizing.now pages) ≡ resizing.now.cut
+        → result ≡ (step_of_cut volume_pages resizing.now pages progress).events }
+{
+    match progress {
+        CutProgress::Begun => COMMIT_EVENTS,
+        CutProgress::Lowered => resizing.cut * WORD_EVENTS + FENCE_EVENTS,
+        CutProgress::Trimmed => resizing.cut * DESCRIPTOR_REST_EVENTS + FENCE_EVENTS,
+    }
+}
+
+// Takes that step into the volume: behind the last one the pages are free.
+fn enter_cut(volume: &mut Volume, resizing: &Resizing, progress: CutProgress)
+    requires may { MayLosePages volume.old resizing.now.inode resizing.now.cut }
+    ensures { EntersCut resizing.now progress volume.old volume.new }
+{
+    match progress {
+        CutProgress::Begun | CutProgress::Lowered => {}
+        CutProgress::Trimmed => volume.leave_pages(resizing.inode, resizing.cut),
+    }
+}
+
+// What is left of a cut behind that step.
+fn next_cut(resizing: Resizing, progress: CutProgress) -> Next<Running>
+    ensures { result ≡ next_cutting resizing progress }
+{
+    let next = match progress {
+        CutProgress::Begun => {
+            if resizing.cut == 0 {
+                return Next::Ended(Reply::Done);
+            }
+            CutProgress::Lowered
+        }
+        CutProgress::Lowered => CutProgress::Trimmed,
+        CutProgress::Trimmed => return Next::Ended(Reply::Done),
+    };
+    Next::More(Running {
+        stage: Stage::Cutting(resizing, next),
+    })
+}
+
+// Makes the next step of a cut and takes it in.
+fn cut<P: Pm>(
+    resizing: Resizing,
+    progress: CutProgress,
+    volume: &mut Volume,
+    pm: &mut P,
+) -> Result<Next<Running>, PmFault>
+    requires stands { StandsStage volume.old (P.view pm.old) (Cuts resizing progress) }
+    requires begins { MayFence (P.view pm.old) (512 * volume.old.size) (step_of volume.old (Cuts resizing progress)).events 1 }
+    ensures takes { Takes (step_of volume.old (Cuts resizing progress)) (P.view pm.old) (P.view pm.new) result }
+    ensures next { IfOk result (λ next. next ≡ next_cutting resizing progress) }
+    ensures volume { Advances (step_of volume.old (Cuts resizing progress)).events (EntersCut resizing progress)
+        volume.old volume.new result }
+    ensures stage { IfOk result (λ next. StandsNext volume.new (P.view pm.new) next) }
+{
+    let geometry = *volume.geometry();
+    let events = cut_events(&resizing, progress);
+    let pages = volume.pages(resizing.inode);
+    let made = cut_step(pm, &geometry, &resizing, progress, pages);
+    settle(volume, made, events)?;
+    enter_cut(volume, &resizing, progress);
+    Ok(next_cut(resizing, progress))
+}
+
+// Makes the next step of a growth, in which no byte is written, and takes it in.
+fn grow<P: Pm>(
+    resizing: Resizing,
+    progress: Progress,
+    volume: &mut Volume,
+    pm: &mut P,
+) -> Result<Next<Running>, PmFault>
+    requires stands { StandsStage volume.old (P.view pm.old) (Grows resizing progress) }
+    requires begins { MayFence (P.view pm.old) (512 * volume.old.size) (step_of volume.old (Grows resizing progress)).events 1 }
+    ensures takes { Takes (step_of volume.old (Grows resizing progress)) (P.view pm.old) (P.view pm.new) result }
+    ensures next { IfOk result (λ next. next ≡ next_of (Grows resizing progress)) }
+    ensures volume { Advances (step_of volume.old (Grows resizing progress)).events (EntersAt (Grows resizing progress)) volume.old
+        volume.new result }
+    ensures stage { IfOk result (λ next. StandsNext volume.new (P.view pm.new) next) }
+{
     let growth = Growth {
         inode: resizing.inode,
         old_size: resizing.old_size,
         new_size: resizing.new_size,
         offset: resizing.old_size,
     };
-    grow(
-        pm,
-        geometry,
-        &growth,
-        pages,
-        resizing.new_pages.as_slice(),
-        &[],
-    )
-}
-
-// Takes in the pages that a file got with its new size, or gives back those that it lost.
-fn take_in(volume: &mut Volume, resizing: &Resizing)
-    requires may_enter { MayEnterPages volume.old resizing.now.inode resizing.now.new_pages }
-    requires reserved { HasPagePlaces volume.old resizing.now.inode resizing.now.new_pages }
-    requires may_lose { MayLosePages volume.old resizing.now.inode resizing.now.cut }
-    ensures { TakesIn volume.old volume.new resizing.now }
-{
-    if resizing.new_size < resizing.old_size {
-        return volume.leave_pages(resizing.inode, resizing.cut);
+    let pages = &resizing.new_pages;
+    match advance_growth(&growth, progress, pages, &[], volume, pm)? {
+        Some(progress) => Ok(Next::More(Running {
+            stage: Stage::Growing(resizing, progress),
+        })),
+        None => Ok(Next::Ended(Reply::Done)),
     }
-    volume.enter_pages(resizing.inode, resizing.new_pages.as_slice())
 }
 
-// Carries out a plan that gives a file another size.
-fn carry_resize<P: Pm>(
+/// Makes the next step of a truncation, to its fence, and takes it into the volume: new pages are taken behind the first step and are the
+/// file's behind the last, and pages that a cut gives back are free behind its last. Where the fence fails, the volume is stopped. It
+/// takes no memory.
+pub fn advance<P: Pm>(
+    running: Running,
     volume: &mut Volume,
-    resizing: &Resizing,
     pm: &mut P,
-) -> Result<Reply, PmFault>
-    requires planned { (state : State) × (path : Route) × IsPlanFor volume.old (P.view pm.old) state
-        (Truncate path resizing.now.new_size) (Resizes resizing.now) }
-    requires ready { MayCarry volume.old (P.view pm.old) (Resizes resizing.now) }
-    ensures carries { Carries volume.old volume.new (P.view pm.old) (P.view pm.new) (Resizes resizing.now) Done
-        IsTruncation result }
-    ensures stored { HasStoredSize volume.old.size (P.view pm.old) (P.view pm.new) resizing.now
-        (pages_of volume.old.index resizing.now.inode) result }
+) -> Result<Next<Running>, PmFault>
+    requires stands { StandsStage volume.old (P.view pm.old) running }
+    requires begins { MayFence (P.view pm.old) (512 * volume.old.size) (step_of volume.old running).events 1 }
+    ensures takes { Takes (step_of volume.old running) (P.view pm.old) (P.view pm.new) result }
+    ensures next { IfOk result (λ next. next ≡ next_of running) }
+    ensures volume { Advances (step_of volume.old running).events (EntersAt running) volume.old volume.new result }
+    ensures stage { IfOk result (λ next. StandsNext volume.new (P.view pm.new) next) }
 {
-    let geometry = *volume.geometry();
-    let pages = volume.pages(resizing.inode);
-    match resize(pm, &geometry, resizing, pages) {
-        Ok(()) => {
-            take_in(volume, resizing);
-            Ok(Reply::Done)
-        }
-        Err(fault) => {
-            volume.stop();
-            Err(fault)
-        }
+    match running.stage {
+        Stage::Nothing => Ok(Next::Ended(Reply::Done)),
+        Stage::Growing(resizing, progress) => grow(resizing, progress, volume, pm),
+        Stage::Cutting(resizing, progress) => cut(resizing, progress, volume, pm),
     }
 }
 
@@ -173,9 +335,11 @@ pub fn apply_truncate<P: Pm>(volume: &mut Volume, plan: Plan, pm: &mut P) -> Res
     ensures stored { (resizing : Resized) → plan ≡ Resizes resizing → HasStoredSize volume.old.size (P.view pm.old)
         (P.view pm.new) resizing (pages_of volume.old.index resizing.inode) result }
 {
-    match plan.into_action() {
-        Action::Resize(resizing) => carry_resize(volume, &resizing, pm),
-        Action::KeepSize => Ok(Reply::Done),
-        _other => unreachable!(),
+    let mut next = Next::More(begin(volume, plan));
+    loop {
+        match next {
+            Next::More(running) => next = advance(running, volume, pm)?,
+            Next::Ended(reply) => return Ok(reply),
+        }
     }
 }

@@ -1,58 +1,83 @@
-use Rattle.std.proofs.Common.{◌≡◌, ℕ, ◌≢◌, sym, subst, ◌∙◌}
-use Rattle.std.specs.Prelude.{Ok}
-use Rattle.pm_trait.specs.declared.event.PmFault.{PmFault}
-use Rattle.tree_model.specs.Step.{Done}
-use Rattle.tree_model.specs.declared.command.Command.TheVariants.{Truncate}
-use Rattle.tree_model.specs.declared.reply.Reply.TheVariants.{Done as Told}
-use Rattle.volatile_index.specs.Index.{pages_of}
-use Rattle.volume.specs.Carried.{IsPlanFor, MayCarry, Carries}
-use Rattle.volume.specs.declared.plan.Resizing.{Resizing}
+use Rattle.std.proofs.Common.{◌≡◌, ◌<◌, sym, subst}
+use Rattle.pm_trait.specs.DeviceView.{DeviceView}
+use Rattle.volume.specs.Volume.{VolumeView}
+use Rattle.volume.specs.Stages.{keeping}
+use Rattle.volume.specs.declared.next.Next.{Next}
+use Rattle.volume.specs.declared.next.Next.TheVariants.{More}
 use Rattle.volume.specs.declared.plan.Action.{Action}
-use Rattle.volume.specs.declared.plan.Action.TheVariants.{Resize, KeepSize}
-use Rattle.data_ops.specs.Cutting.{IsTruncation, HasStoredSize}
-use Rattle.data_ops.proofs.Truncations.{resizing_at}
-use Rattle.data_ops.proofs.Unchanged.{carried_nothing}
+use Rattle.data_ops.specs.ResizeStages.{next_of}
+use Rattle.data_ops.specs.declared.truncate.Stage.{Stage}
+use Rattle.data_ops.proofs.ResizeGoing.{HasGone, begins, gone_on, rank, fewer}
+use Rattle.data_ops.proofs.Truncated.{may_begin, first_gone, carries_on, stored_size, carries_no_further, stored_no_further}
 use Rattle.data_ops.proofs.truncate.apply_truncate.Goals as goal
 
-same_resizing : (one two : Resizing) → ◌≡◌ {A = Action} (Resize one) (Resize two) → one ≡ two
-same_resizing one two e = cc
+gone_as : (old : VolumeView) (before : DeviceView) (plan : Action) (volume : VolumeView) (device : DeviceView) (next : Next Stage) (running : Next Stage) → next ≡ running → HasGone old before plan volume device next → HasGone old before plan volume device running
+gone_as old before plan volume device next running is gone = subst (HasGone old before plan volume device) is gone
 
-not_resizing : (resizing : Resizing) → ◌≢◌ {A = Action} KeepSize (Resize resizing)
-not_resizing resizing e = cc
+pub begin-requires : goal.begin-requires
+begin-requires g c = record { stands = (g.P.Pm.view c.args.pm.now, may_begin c.requires.planned c.requires.ready) }
 
-pub carry_resize-requires-clause-planned : goal.carry_resize-requires-clause-planned
-carry_resize-requires-clause-planned g c =
-    let (state, path, size, plan) = c.requires.planned in
+pub loop-next-init : goal.loop-next-init
+loop-next-init g c =
     let volume = c.args.volume.now in
     let device = g.P.Pm.view c.args.pm.now in
-    let resizing = c.in-Resize.resizing in
-    let here : IsPlanFor volume device state (Truncate path size) (Resize resizing) = subst (λ (action : Action). IsPlanFor volume device state (Truncate path size) action) (sym c.into_action.ensures ∙ c.in-Resize.is) plan in
-    let for = resizing_at volume.size device.words state path size resizing here.planned.plan_is in
-    (state, path, subst (λ (n : ℕ). IsPlanFor volume device state (Truncate path n) (Resize resizing)) (sym for.new_is) here)
+    record {
+      gone = subst (λ (v : VolumeView). HasGone volume device c.args.plan v device (More c.begin.result)) (sym c.begin.ensures.volume)
+          (subst (λ (s : Stage). HasGone volume device c.args.plan (keeping volume c.args.plan) device (More s)) (sym c.begin.ensures.running) (first_gone c.requires.planned c.requires.ready));
+    }
 
-pub carry_resize-requires-clause-ready : goal.carry_resize-requires-clause-ready
-carry_resize-requires-clause-ready g c =
-    subst (λ (action : Action). MayCarry c.args.volume.now (g.P.Pm.view c.args.pm.now) action) (sym c.into_action.ensures ∙ c.in-Resize.is) c.requires.ready
+pub advance-requires-clause-stands : goal.advance-requires-clause-stands
+advance-requires-clause-stands g c =
+    (gone_as c.args.volume.now (g.P.Pm.view c.args.pm.now) c.args.plan c.loop-next.volume (g.P.Pm.view c.loop-next.pm) c.loop-next.next (More c.in-More.running) c.in-More.is c.loop-next.invariant.gone).stands
 
-pub returns-in-Resize-clause-carries : goal.returns-in-Resize-clause-carries
-returns-in-Resize-clause-carries g c =
-    let old = g.P.Pm.view c.args.pm.now in
-    let new = g.P.Pm.view c.carry_resize.new.pm in
-    subst (λ (action : Action). Carries {E = PmFault} c.args.volume.now c.carry_resize.new.volume old new action Done IsTruncation c.carry_resize.result) (sym (sym c.into_action.ensures ∙ c.in-Resize.is)) c.carry_resize.ensures.carries
-
-pub returns-in-Resize-clause-stored : goal.returns-in-Resize-clause-stored
-returns-in-Resize-clause-stored g c = λ other is.
-    let old = g.P.Pm.view c.args.pm.now in
-    let new = g.P.Pm.view c.carry_resize.new.pm in
-    let same = same_resizing c.in-Resize.resizing other (sym (sym c.into_action.ensures ∙ c.in-Resize.is) ∙ is) in
-    subst (λ (resizing : Resizing). HasStoredSize c.args.volume.now.size old new resizing (pages_of c.args.volume.now.index resizing.inode) c.carry_resize.result) same c.carry_resize.ensures.stored
-
-pub returns-in-KeepSize-clause-carries : goal.returns-in-KeepSize-clause-carries
-returns-in-KeepSize-clause-carries g c =
-    let (state, path, size, plan) = c.requires.planned in
+pub advance-requires-clause-begins : goal.advance-requires-clause-begins
+advance-requires-clause-begins g c =
     let volume = c.args.volume.now in
     let old = g.P.Pm.view c.args.pm.now in
-    subst (λ (action : Action). Carries {E = PmFault} volume volume old old action Done IsTruncation (Ok Told)) (sym (sym c.into_action.ensures ∙ c.in-KeepSize.is)) (carried_nothing volume old plan.stands.settled c.requires.ready.going)
+    let device = g.P.Pm.view c.loop-next.pm in
+    begins volume old c.args.plan c.loop-next.volume device c.in-More.running
+    (gone_as volume old c.args.plan c.loop-next.volume device c.loop-next.next (More c.in-More.running) c.in-More.is c.loop-next.invariant.gone)
 
-pub returns-in-KeepSize-clause-stored : goal.returns-in-KeepSize-clause-stored
-returns-in-KeepSize-clause-stored g c = λ resizing is. absurd (not_resizing resizing (sym (sym c.into_action.ensures ∙ c.in-KeepSize.is) ∙ is))
+pub returns-in_err-next-in-More-clause-carries : goal.returns-in_err-next-in-More-clause-carries
+returns-in_err-next-in-More-clause-carries g c =
+    let volume = c.args.volume.now in
+    let old = g.P.Pm.view c.args.pm.now in
+    let device = g.P.Pm.view c.loop-next.pm in
+    let gone = gone_as volume old c.args.plan c.loop-next.volume device c.loop-next.next (More c.in-More.running) c.in-More.is c.loop-next.invariant.gone in
+    carries_no_further c.requires.planned c.requires.ready c.loop-next.volume device c.in-More.running gone c.advance.new.volume (g.P.Pm.view c.advance.new.pm) c.from_residual.result c.from_residual.ensures.0 c.in_err-next-in-More.ensures.takes
+    c.in_err-next-in-More.ensures.volume.failed
+
+pub returns-in_err-next-in-More-clause-stored : goal.returns-in_err-next-in-More-clause-stored
+returns-in_err-next-in-More-clause-stored g c =
+    let volume = c.args.volume.now in
+    let old = g.P.Pm.view c.args.pm.now in
+    let device = g.P.Pm.view c.loop-next.pm in
+    let gone = gone_as volume old c.args.plan c.loop-next.volume device c.loop-next.next (More c.in-More.running) c.in-More.is c.loop-next.invariant.gone in
+    stored_no_further c.requires.planned c.requires.ready c.loop-next.volume device c.in-More.running gone c.advance.new.volume (g.P.Pm.view c.advance.new.pm) c.from_residual.result c.from_residual.ensures.0 c.in_err-next-in-More.ensures.takes
+
+pub loop-next-smaller : goal.loop-next-smaller
+loop-next-smaller g c =
+    subst (λ (n : Next Stage). rank n < rank c.loop-next.next) (sym c.in_ok-next-in-More.ensures.next)
+    (subst (λ (n : Next Stage). rank (next_of c.in-More.running) < rank n) (sym c.in-More.is) (fewer c.in-More.running))
+
+pub loop-next-preserved : goal.loop-next-preserved
+loop-next-preserved g c =
+    let volume = c.args.volume.now in
+    let old = g.P.Pm.view c.args.pm.now in
+    let device = g.P.Pm.view c.loop-next.pm in
+    let step = c.in_ok-next-in-More.ensures in
+    record {
+      gone = gone_on volume old c.args.plan c.loop-next.volume device c.in-More.running
+          (gone_as volume old c.args.plan c.loop-next.volume device c.loop-next.next (More c.in-More.running) c.in-More.is c.loop-next.invariant.gone)
+          c.advance.new.volume (g.P.Pm.view c.advance.new.pm) c.in_ok-next-in-More.next step.takes step.volume.made step.next step.stage;
+    }
+
+pub returns-in-Ended-clause-carries : goal.returns-in-Ended-clause-carries
+returns-in-Ended-clause-carries g c =
+    carries_on c.requires.planned c.requires.ready c.loop-next.volume (g.P.Pm.view c.loop-next.pm) c.in-Ended.reply
+    (gone_as c.args.volume.now (g.P.Pm.view c.args.pm.now) c.args.plan c.loop-next.volume (g.P.Pm.view c.loop-next.pm) c.loop-next.next _ c.in-Ended.is c.loop-next.invariant.gone)
+
+pub returns-in-Ended-clause-stored : goal.returns-in-Ended-clause-stored
+returns-in-Ended-clause-stored g c =
+    stored_size c.requires.planned c.requires.ready c.loop-next.volume (g.P.Pm.view c.loop-next.pm) c.in-Ended.reply
+    (gone_as c.args.volume.now (g.P.Pm.view c.args.pm.now) c.args.plan c.loop-next.volume (g.P.Pm.view c.loop-next.pm) c.loop-next.next _ c.in-Ended.is c.loop-next.invariant.gone)

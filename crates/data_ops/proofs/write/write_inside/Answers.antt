@@ -6,8 +6,8 @@ use Rattle.data_ops.proofs.Pages.{pages_settled, in_volume, all_live, bytes_alik
 use Rattle.data_ops.proofs.InsidePages
 use Rattle.data_ops.proofs.write.write_inside.Goals as goal
 
-pub overflow_add-offset : goal.overflow_add-offset
-overflow_add-offset g c = let (inside, far) = InsidePages.range c.requires.ready in omega arith
+pub overflow_add-writing : goal.overflow_add-writing
+overflow_add-writing g c = let (inside, far) = InsidePages.range c.requires.ready in omega arith
 
 pub div_ceil-end-requires : goal.div_ceil-end-requires
 div_ceil-end-requires g c = omega arith
@@ -25,25 +25,25 @@ pub slice_bounds-part-end : goal.slice_bounds-part-end
 slice_bounds-part-end g c = let (low, most, top, long) = InsidePages.bounds c.requires.ready c.div_ceil-end.ensures in omega arith
 
 pub at-live-requires-clause-whole : goal.at-live-requires-clause-whole
-at-live-requires-clause-whole g c = InsidePages.whole c.requires.ready
+at-live-requires-clause-whole g c = c.requires.begins.whole
 
 pub at-live-requires-clause-data_pages : goal.at-live-requires-clause-data_pages
 at-live-requires-clause-data_pages g c =
-    in_volume c.args.geometry.now.pages (g.P.Pm.view c.args.pm.now).words c.args.inode _ _ (InsidePages.from_first c.requires.ready c.div_ceil-end.ensures) c.args.geometry.now.data_pages c.args.geometry.now.data_pages_exact
+    in_volume c.args.geometry.now.pages (g.P.Pm.view c.args.pm.now).words c.args.writing.now.inode _ _ (InsidePages.from_first c.requires.ready c.div_ceil-end.ensures) c.args.geometry.now.data_pages c.args.geometry.now.data_pages_exact
     (InsidePages.some c.requires.ready c.div_ceil-end.ensures)
 
 pub at-live-requires-clause-settled : goal.at-live-requires-clause-settled
 at-live-requires-clause-settled g c =
     let device = g.P.Pm.view c.args.pm.now in
-    pages_settled c.args.geometry.now.pages _ device.words device.trail c.args.geometry.now.volume_size (InsidePages.from_first c.requires.ready c.div_ceil-end.ensures).in_range (InsidePages.whole c.requires.ready) c.requires.begins.settled
+    pages_settled c.args.geometry.now.pages _ device.words device.trail c.args.geometry.now.volume_size (InsidePages.from_first c.requires.ready c.div_ceil-end.ensures).in_range (c.requires.begins.whole) c.requires.begins.settled
 
 pub at-live-requires-clause-reads : goal.at-live-requires-clause-reads
 at-live-requires-clause-reads g c =
-    all_live c.args.geometry.now.pages (g.P.Pm.view c.args.pm.now).words c.args.inode _ _ (InsidePages.from_first c.requires.ready c.div_ceil-end.ensures) (λ none. let least = c.requires.ready.held.least in omega (arith, least, none))
+    all_live c.args.geometry.now.pages (g.P.Pm.view c.args.pm.now).words c.args.writing.now.inode _ _ (InsidePages.from_first c.requires.ready c.div_ceil-end.ensures) (λ none. let least = c.requires.ready.held.least in omega (arith, least, none))
 
 pub at-live-requires-clause-alike : goal.at-live-requires-clause-alike
 at-live-requires-clause-alike g c =
-    bytes_alike c.args.geometry.now.pages (g.P.Pm.view c.args.pm.now).words c.args.inode _ _ (InsidePages.from_first c.requires.ready c.div_ceil-end.ensures) (InsidePages.some c.requires.ready c.div_ceil-end.ensures)
+    bytes_alike c.args.geometry.now.pages (g.P.Pm.view c.args.pm.now).words c.args.writing.now.inode _ _ (InsidePages.from_first c.requires.ready c.div_ceil-end.ensures) (InsidePages.some c.requires.ready c.div_ceil-end.ensures)
 
 pub write_span-written-requires-clause-clean : goal.write_span-written-requires-clause-clean
 write_span-written-requires-clause-clean g c = c.at-live.ensures.clean

@@ -1,0 +1,8 @@
+use Rattle.data_ops.proofs.WriteGoing.{HasGone, rank}
+use Rattle.data_ops.proofs.write.apply_write.Given as goal
+
+abbrev pub invariant-loop-next : goal.invariant-loop-next
+invariant-loop-next g l = record { gone : HasGone l.fn.volume (g.P.Pm.view l.fn.pm) l.fn.plan l.fn.bytes l.volume (g.P.Pm.view l.pm) l.next }
+
+abbrev pub decreases-loop-next : goal.decreases-loop-next
+decreases-loop-next g l = rank l.next
