@@ -1,9 +1,9 @@
 -- What a crash leaves while a name moves: what means the words before, and from the number of the new slot on the words with it.
-use Rattle.std.proofs.Common.{◌≡◌, inl, inr, ℕ, ◌+◌, ◌*◌, List, [], ◌∷◌, ◌++◌, reverse, Option, Some, None, refl, sym, ap, subst, ◌∙◌, arith}
+use Rattle.std.proofs.Common.{◌≡◌, inl, inr, ℕ, List, [], ◌∷◌, ◌++◌, length, reverse, Option, Some, None, refl, sym, ap, subst, ◌∙◌, arith}
 use Rattle.std.specs.Prelude.{Result}
 use Rattle.pm_trait.specs.Device.{Mix}
 use Rattle.pm_trait.specs.DeviceView.{DeviceView, IsSettledView, MakesIntervals}
-use Rattle.pm_trait.specs.Unfolds.{Step, Along, Through, Unfolds, events_in, fences_in}
+use Rattle.pm_trait.specs.Unfolds.{Step, Along, Through, Unfolds, events_in}
 use Rattle.pm_trait.proofs.Unfolding.{intervals, map_ok, through}
 use Rattle.layout.specs.Geometry.{slot_word_of}
 use Rattle.layout.specs.declared.fields.DescriptorFields.{DescriptorFields}
@@ -26,7 +26,7 @@ use Rattle.rename_laws.specs.Intervals.{left, ClearsSource}
 use Rattle.rename_laws.proofs.Differs
 use Rattle.rename_laws.proofs.MoveIntervals.{leaving_law, clearing_law, giving_law, freeing_law}
 use Rattle.rename_laws.proofs.Ready.{ready_law}
-use Rattle.volume.specs.Costs.{count_of, goes_of, pages_replaced, word_events, fence_events, page_events, commit_events, clearing_events, pointing_events, new_page_events, loss_events, events_of, fences_for_page, fences_for_loss, fences_of_plan}
+use Rattle.volume.specs.Costs.{pages_of_loss, goes_of, events_of, fences_of_plan}
 use Rattle.volume.specs.Moves.{rising_of, falling_of}
 use Rattle.volume.specs.declared.plan.Action.TheVariants.{Move}
 use Rattle.volume.specs.declared.plan.Moving.{Moving}
@@ -34,26 +34,15 @@ use Rattle.volume.proofs.Unmarked.{ReadsAllowed}
 use Rattle.entry_steps.specs.Steps.{MayTake}
 use Rattle.entry_steps.proofs.Moments.{is_mix}
 use Rattle.entry_steps.proofs.Turning.{IsUnderway, Turns, one_side, hangs_on, turned}
-use Rattle.removal_steps.specs.Steps.{AreGonePages, count_cut, number_of, unnaming, giving, freeing}
+use Rattle.removal_steps.specs.Steps.{AreGonePages, number_of, unnaming, giving, freeing}
 use Rattle.rename_ptr.specs.Steps.{target_of, opening, clearing_source, moving_steps, steps_of}
 use Rattle.rename_ptr.specs.Renaming.{IsMovingAt, IsRenamed, HasRenamed}
 use Rattle.rename_ptr.proofs.Begun
+use Rattle.rename_ptr.proofs.Costs.{costs, fences}
 use Rattle.rename_ptr.proofs.Finished
 use Rattle.rename_ptr.proofs.Given
 use Rattle.rename_ptr.proofs.Gone
 use Rattle.rename_ptr.proofs.Moves
-
-sum_of : (point commit clear give free : ℕ) → 0 + point + 2 * commit + clear + (give + free) ≡ point + (commit + (commit + (clear + (give + (free + 0)))))
-sum_of point commit clear give free = omega arith
-
-sum_with : (fill own point commit clear give free : ℕ) → fill + own + point + 2 * commit + clear + (give + free) ≡ fill + (own + (point + (commit + (commit + (clear + (give + (free + 0)))))))
-sum_with fill own point commit clear give free = omega arith
-
-four_and : (give free : ℕ) → 0 + 4 + (give + free) ≡ 1 + (1 + (1 + (1 + (give + (free + 0)))))
-four_and give free = omega arith
-
-six_and : (give free : ℕ) → 2 + 4 + (give + free) ≡ 1 + (1 + (1 + (1 + (1 + (1 + (give + (free + 0)))))))
-six_and give free = omega arith
 
 -- its words fit together, and it reads as the tree
 record IsLater (P : ℕ) (tree : Tree) (image : List ℕ) : Type 0 where
@@ -191,29 +180,10 @@ module _ {P : ℕ} (old : DeviceView) {state : State} (from to : Route) {moving 
 
   -- ---- what it costs
 
-  all_pages : pages_replaced moving ≡ count_cut pages moving.given_back
-  all_pages = ap (λ (n : ℕ). n + count_of moving.given_back) (sym (Finished.counted from to at pages are))
-
-  costs_by : (page : Option ℕ) → new_page_events page + (pointing_events moving + count_of (rising_of moving) * word_events + fence_events) + 2 * commit_events
-      + (word_events + clearing_events (count_of (falling_of moving))) + loss_events (count_cut pages moving.given_back) (goes_of moving.replaced)
-      ≡ events_in (opening P moving page ++ moving_steps P moving pages)
-  costs_by None = sum_of (pointing_events moving + count_of (rising_of moving) * word_events + fence_events) commit_events (word_events + clearing_events (count_of (falling_of moving))) _ _
-  costs_by (Some page) = sum_with (page_events + fence_events) commit_events (pointing_events moving + count_of (rising_of moving) * word_events + fence_events) commit_events (word_events + clearing_events (count_of (falling_of moving))) _ _
-
-  pub costs : events_of (Move moving) ≡ events_in (steps_of P moving pages)
-  costs =
-      ap (λ (n : ℕ). new_page_events moving.new_page + (pointing_events moving + count_of (rising_of moving) * word_events + fence_events) + 2 * commit_events
-      + (word_events + clearing_events (count_of (falling_of moving))) + loss_events n (goes_of moving.replaced)) all_pages
-      ∙ costs_by moving.new_page
-
-  fences_by : (page : Option ℕ) → fences_for_page page + 4 + fences_for_loss (count_cut pages moving.given_back) (goes_of moving.replaced) ≡ fences_in (opening P moving page ++ moving_steps P moving pages)
-  fences_by None = four_and _ _
-  fences_by (Some page) = six_and _ _
-
-  pub fences : fences_of_plan (Move moving) ≡ fences_in (steps_of P moving pages)
-  fences = ap (λ (n : ℕ). fences_for_page moving.new_page + 4 + fences_for_loss n (goes_of moving.replaced)) all_pages ∙ fences_by moving.new_page
+  abbrev counted : length pages ≡ pages_of_loss moving.replaced
+  counted = Finished.counted from to at pages are
 
   pub all_intervals : {T E : Type 0} (new : DeviceView) (result : Result T E) → IsSettledView old → Unfolds (steps_of P moving pages) old new result → MakesIntervals old new (events_of (Move moving)) (fences_of_plan (Move moving)) result
   all_intervals new result settled made =
-      subst (λ (n : ℕ). MakesIntervals old new n (fences_of_plan (Move moving)) result) (sym costs)
-      (subst (λ (n : ℕ). MakesIntervals old new (events_in (steps_of P moving pages)) n result) (sym fences) (intervals settled made))
+      subst (λ (n : ℕ). MakesIntervals old new n (fences_of_plan (Move moving)) result) (sym (costs P moving pages counted))
+      (subst (λ (n : ℕ). MakesIntervals old new (events_in (steps_of P moving pages)) n result) (sym (fences P moving pages counted)) (intervals settled made))

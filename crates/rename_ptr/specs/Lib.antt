@@ -1,2 +1,4 @@
 pub mod Steps
 pub mod Renaming
+pub mod Stages
+pub mod Counts

@@ -2,9 +2,12 @@
 #![tactic(auto)]
 
 mod clear;
+mod enter;
+mod left;
 mod number;
 mod open;
 mod point;
 mod rename;
+mod step;
 
-pub use rename::apply_rename;
+pub use rename::{Running, advance, apply_rename, begin};

@@ -1,5 +1,6 @@
 // A name moves, in place of another node's name or to a new place, each interval settled by its fence.
-ghost use Rattle.std.specs.Prelude.{◌≡◌, ◌*◌, ◌≤◌};
+ghost use Rattle.std.specs.Prelude.{◌≡◌, ◌*◌, ◌<◌, ◌^◌, IfOk};
+ghost use Rattle.pm_trait.specs.DeviceView.{DeviceView};
 ghost use Rattle.tree_model.specs.PathText.{Route};
 ghost use Rattle.tree_model.specs.Run.{State};
 ghost use Rattle.tree_model.specs.Step.{Done};
@@ -7,42 +8,224 @@ ghost use Rattle.tree_model.specs.declared.command.Command.TheVariants.{Rename};
 ghost use Rattle.volume.specs.Carried.{IsPlanFor, MayCarry, Carries};
 ghost use Rattle.volume.specs.declared.plan.Moving.{Moving as Moved};
 ghost use Rattle.volume.specs.declared.plan.Action.TheVariants.{Move};
-ghost use Rattle.pm_trait.specs.Unfolds.{MayFence, events_in, Unfolds};
-ghost use Rattle.removal_steps.specs.Steps.{AreGonePages, gone_pages as pages_that_go};
-ghost use Rattle.rename_ptr.specs.Steps.{steps_of, moving_steps};
-ghost use Rattle.rename_ptr.specs.Renaming.{IsMovable, HasRenamed};
+ghost use Rattle.volume.specs.declared.next.Next.TheVariants.{More};
+ghost use Rattle.layout.specs.Name.{IsName, IsBytes};
+ghost use Rattle.volume.specs.Costs.{pages_of_loss};
+ghost use Rattle.pm_trait.specs.Unfolds.{MayFence, Takes, fences_in};
+ghost use Rattle.volume.specs.Stages.{Advances, keeping};
+ghost use Rattle.volume.specs.Volume.{VolumeView};
+ghost use Rattle.removal_steps.specs.Steps.{gone_pages as pages_that_go};
+ghost use Rattle.rename_ptr.specs.Renaming.{HasRenamed};
+ghost use Rattle.rename_ptr.specs.Stages.{StandsStage, StandsNext, MayBegin, begun, step_of, left_of, next_of, next_moving, EntersAt, EntersMoving, held_of};
+ghost use Rattle.rename_ptr.specs.declared.rename.Stage.TheVariants.{Moving as Moves};
 
-use crate::clear::clear_source;
-use crate::number::{leave_number, take_number};
-use crate::open::open_page;
-use crate::point::point;
-use layout::Geometry;
+use crate::enter::take_in;
+use crate::left::{fences_left_at, gives_pages, held_at, node_goes, step_events};
+use crate::step::take_step;
+use entry_steps::settle;
 use pm_trait::{Pm, PmFault};
-use removal_steps::{clear_rest, disown, gone_pages};
+use removal_steps::gone_pages;
+use std::marker::Model;
 use tree_model::Reply;
-use volume::{Action, Moving, Plan, Volume};
+use volume::{Action, Held, Moving, Next, Plan, Volume};
 
-// Moves a name on the device, with these pages of a replaced node where that goes.
-fn move_name<P: Pm>(
-    pm: &mut P,
-    geometry: &Geometry,
-    moving: &Moving,
-    pages: &[u64],
-) -> Result<(), PmFault>
-    requires planned { IsMovable geometry.now.pages (P.view pm.old).words moving.now }
-    requires pages { AreGonePages geometry.now.pages (P.view pm.old).words moving.now.replaced pages.now }
-    requires begins { MayFence (P.view pm.old) (512 * geometry.now.pages)
-        (events_in (steps_of geometry.now.pages moving.now pages.now)) 8 }
-    ensures unfolds { Unfolds (steps_of geometry.now.pages moving.now pages.now) (P.view pm.old) (P.view pm.new)
-        result }
+// What of a move is settled.
+#[derive(Clone, Copy)]
+pub enum Progress {
+    // Nothing.
+    Begun,
+    // The new page is filled, with the name, and has no owner yet.
+    Filled,
+    // It has its owner.
+    Opened,
+    // The new name's slot points at the old one's.
+    Pointed,
+    // It has the number: the name has moved.
+    Moved,
+    // The old slot has no number any more.
+    Left,
+    // The pointer and the rest of the old slot are gone.
+    Cleared,
+    // The pages that are given back have no owner.
+    Disowned,
+}
+
+// What of a rename is settled.
+#[derive(Drop)]
+pub enum Stage {
+    // Both names are one node's, and nothing is to be done.
+    Nothing,
+    // So much of a move.
+    Moving(Moving, Progress),
+}
+
+/// The move of a name, between two of its steps.
+#[derive(Drop)]
+pub struct Running {
+    stage: Stage,
+}
+
+impl Model for Running {
+    ghost use Rattle.rename_ptr.specs.declared.rename.Stage.{Stage};
+
+    ghost Value = { Stage };
+
+    ghost view = { λ running. running.stage };
+
+    ghost use Rattle.rename_ptr.specs.Counts.{IsBoundedStage};
+
+    ghost invariant = { λ running. IsBoundedStage running.stage };
+}
+
+impl Running {
+    /// How many inodes and data pages it holds, which aren't free for other calls: its new page until the name has moved, and then those
+    /// that it has to give back.
+    pub fn held(&self) -> Held
+        ensures { result ≡ held_of self.now }
+    {
+        match &self.stage {
+            Stage::Nothing => Held {
+                inodes: 0,
+                pages: 0,
+            },
+            Stage::Moving(moving, progress) => held_at(moving, *progress),
+        }
+    }
+
+    /// How many fences it has left: one for each step that has a store.
+    pub fn fences_left(&self) -> u64
+        ensures { (volume : VolumeView) (device : DeviceView) → StandsStage volume device self.now
+            → result ≡ fences_in (left_of volume self.now) }
+    {
+        match &self.stage {
+            Stage::Nothing => 0,
+            Stage::Moving(moving, progress) => fences_left_at(moving, *progress),
+        }
+    }
+}
+
+/// Begins to carry out the plan of an accepted `rename`: its events are kept, and nothing is stored.
+pub fn begin(volume: &mut Volume, plan: Plan) -> Running
+    requires stands { (device : DeviceView) × MayBegin volume.old device plan }
+    ensures running { result ≡ begun plan }
+    ensures volume { volume.new ≡ keeping volume.old plan }
 {
-    open_page(pm, geometry, moving)?;
-    point(pm, geometry, moving)?;
-    take_number(pm, geometry, moving)?;
-    leave_number(pm, geometry, moving)?;
-    clear_source(pm, geometry, moving)?;
-    disown(pm, geometry, moving.replaced, pages, moving.given_back)?;
-    clear_rest(pm, geometry, moving.replaced, pages, moving.given_back)
+    let Action::Move(moving) = plan.into_action() else {
+        return Running {
+            stage: Stage::Nothing,
+        };
+    };
+    volume.keep(moving.events());
+    Running {
+        stage: Stage::Moving(moving, Progress::Begun),
+    }
+}
+
+/// Makes the next step of a move, to its fence, and takes it into the volume: a new page is taken behind the first step, the names are
+/// moved behind the one that commits, and what is given back is free behind the last. Where the fence fails, the volume is stopped. It
+/// takes no memory. No other call may run beside it.
+pub fn advance<P: Pm>(
+    running: Running,
+    volume: &mut Volume,
+    pm: &mut P,
+) -> Result<Next<Running>, PmFault>
+    requires stands { StandsStage volume.old (P.view pm.old) running }
+    requires begins { MayFence (P.view pm.old) (512 * volume.old.size) (step_of volume.old running).events 1 }
+    ensures takes { Takes (step_of volume.old running) (P.view pm.old) (P.view pm.new) result }
+    ensures next { IfOk result (λ next. next ≡ next_of running) }
+    ensures volume { Advances (step_of volume.old running).events (EntersAt running) volume.old volume.new result }
+    ensures stage { IfOk result (λ next. StandsNext volume.new (P.view pm.new) next) }
+{
+    match running.stage {
+        Stage::Nothing => Ok(Next::Ended(Reply::Done)),
+        Stage::Moving(moving, progress) => move_on(moving, progress, volume, pm),
+    }
+}
+
+// Makes the next step of a move on the device.
+fn make_step<P: Pm>(
+    moving: &Moving,
+    progress: Progress,
+    volume: &Volume,
+    pm: &mut P,
+) -> Result<(), PmFault>
+    requires stands { StandsStage volume.now (P.view pm.old) (Moves moving.now progress) }
+    requires begins { MayFence (P.view pm.old) (512 * volume.now.size)
+        (step_of volume.now (Moves moving.now progress)).events 1 }
+    ensures takes { Takes (step_of volume.now (Moves moving.now progress)) (P.view pm.old) (P.view pm.new) result }
+{
+    let geometry = volume.geometry();
+    let pages = gone_pages(volume, moving.replaced);
+    take_step(pm, geometry, moving, pages, progress)
+}
+
+// The move, so far.
+fn more(moving: Moving, progress: Progress) -> Next<Running>
+    requires bounded { pages_of_loss moving.replaced < 2 ^ 16 }
+    ensures { result ≡ More (Moves moving progress) }
+{
+    Next::More(Running {
+        stage: Stage::Moving(moving, progress),
+    })
+}
+
+// What is left of a move behind a step.
+fn after_step(moving: Moving, progress: Progress) -> Next<Running>
+    requires bounded { pages_of_loss moving.replaced < 2 ^ 16 }
+    ensures { result ≡ next_moving moving progress }
+{
+    match progress {
+        Progress::Begun => match moving.new_page {
+            None => more(moving, Progress::Pointed),
+            Some(_) => more(moving, Progress::Filled),
+        },
+        Progress::Filled => more(moving, Progress::Opened),
+        Progress::Opened => more(moving, Progress::Pointed),
+        Progress::Pointed => more(moving, Progress::Moved),
+        Progress::Moved => more(moving, Progress::Left),
+        Progress::Left => {
+            if gives_pages(&moving) {
+                more(moving, Progress::Cleared)
+            } else if node_goes(&moving) {
+                more(moving, Progress::Disowned)
+            } else {
+                Next::Ended(Reply::Done)
+            }
+        }
+        Progress::Cleared => more(moving, Progress::Disowned),
+        Progress::Disowned => Next::Ended(Reply::Done),
+    }
+}
+
+// Makes the next step of a move, and takes it in.
+fn move_on<P: Pm>(
+    moving: Moving,
+    progress: Progress,
+    volume: &mut Volume,
+    pm: &mut P,
+) -> Result<Next<Running>, PmFault>
+    requires stands { StandsStage volume.old (P.view pm.old) (Moves moving progress) }
+    requires begins { MayFence (P.view pm.old) (512 * volume.old.size)
+        (step_of volume.old (Moves moving progress)).events 1 }
+    ensures takes { Takes (step_of volume.old (Moves moving progress)) (P.view pm.old) (P.view pm.new) result }
+    ensures next { IfOk result (λ next. next ≡ next_moving moving progress) }
+    ensures volume { Advances (step_of volume.old (Moves moving progress)).events (EntersMoving moving progress)
+        volume.old volume.new result }
+    ensures stage { IfOk result (λ next. StandsNext volume.new (P.view pm.new) next) }
+{
+    let made = make_step(&moving, progress, volume, pm);
+    settle(volume, made, step_events(&moving, progress))?;
+    take_in(volume, &moving, progress);
+    Ok(after_step(moving, progress))
+}
+
+// The new name of a plan that moves one is a name.
+fn name_of_plan(plan: &Plan)
+    ensures { (moving : Moved) → plan.now ≡ Move moving → IsName moving.to_name × IsBytes moving.to_name }
+{
+    if let Action::Move(moving) = plan.action() {
+        let _bytes = moving.to_name.as_slice();
+    }
 }
 
 /// Moves a name, by the plan of an accepted `rename`; a node that has the new name loses it, and where this was its last name it goes
@@ -60,20 +243,12 @@ pub fn apply_rename<P: Pm>(volume: &mut Volume, plan: Plan, pm: &mut P) -> Resul
     ensures stored { (moving : Moved) → plan ≡ Move moving → HasRenamed volume.old.size (P.view pm.old)
         (P.view pm.new) moving (pages_that_go volume.old moving.replaced) result }
 {
-    let Action::Move(moving) = plan.into_action() else {
-        return Ok(Reply::Done);
-    };
-    let _bytes = moving.to_name.as_slice();
-    let geometry = *volume.geometry();
-    let pages = gone_pages(volume, moving.replaced);
-    match move_name(pm, &geometry, &moving, pages) {
-        Ok(()) => {
-            volume.move_entry(moving);
-            Ok(Reply::Done)
-        }
-        Err(fault) => {
-            volume.stop();
-            Err(fault)
+    name_of_plan(&plan);
+    let mut next = Next::More(begin(volume, plan));
+    loop {
+        match next {
+            Next::More(running) => next = advance(running, volume, pm)?,
+            Next::Ended(reply) => return Ok(reply),
         }
     }
 }
