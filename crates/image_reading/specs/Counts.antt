@@ -14,6 +14,11 @@ IsDistinct (x ∷ xs) = (IsIn x xs → ⊥) × IsDistinct xs
 abbrev pub Count : (ℕ → Type 0) → ℕ → Type 0
 Count Q n = (xs : List ℕ) × IsDistinct xs × ((x : ℕ) → IsIn x xs ↔ Q x) × (length xs ≡ n)
 
+-- the list has the numbers that have Q, each once, and no other
+pub record IsListOf (Q : ℕ → Type 0) (xs : List ℕ) : Type 0 where
+  pub distinct : IsDistinct xs
+  pub each : (x : ℕ) → IsIn x xs ↔ Q x
+
 -- m and the number of those that have Q are at most n
 abbrev pub AtMost : ℕ → (ℕ → Type 0) → ℕ → Type 0
 AtMost m Q n = (xs : List ℕ) → IsDistinct xs → ((x : ℕ) → IsIn x xs → Q x) → m + length xs ≤ n

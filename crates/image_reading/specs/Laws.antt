@@ -7,9 +7,10 @@ use Rattle.layout.specs.Format.{IsFormattedFrom}
 use Rattle.tree_model.specs.Tree.{Tree, Room, fresh, fresh_room}
 use Rattle.image_reading.specs.Reading.{IsDirectory, slot_owner, IsLive, Reached, IsReachedSlot, Reads, HasRoom}
 use Rattle.image_reading.specs.Repairs.{RepairCounts, HasRepairs}
-use Rattle.image_reading.specs.Soundness.{Sound, KeepsRule1, IsFirstViolation, pages_in_image}
+use Rattle.image_reading.specs.Residue.{Residue, no_residue, repairs_of, IsTidyBeside}
+use Rattle.image_reading.specs.Soundness.{IsCoherent, Sound, KeepsRule1, IsFirstViolation, pages_in_image}
 use Rattle.image_reading.specs.declared.Violation.{Violation}
-use Rattle.image_reading.specs.Tidy.{Tidy}
+use Rattle.image_reading.specs.Tidy.{IsTidied, Tidy}
 
 -- An image reads as one tree at most.
 abbrev pub OneTree : Type 0
@@ -34,6 +35,14 @@ ReachedLaw = (P : ℕ) (I : List ℕ) → IsLeastSet P I
 -- What recovery would repair has one number of each kind.
 abbrev pub OneRepairs : Type 0
 OneRepairs = (P : ℕ) (I : List ℕ) (a b : RepairCounts) → HasRepairs P I a → HasRepairs P I b → a ≡ b
+
+-- It has as many of each as an image's residue has places,
+abbrev pub ResidueLaw : Type 0
+ResidueLaw = (P : ℕ) (I : List ℕ) (residue : Residue) → IsTidyBeside P I residue → HasRepairs P I (repairs_of residue)
+
+-- and there is none exactly where words that fit together are tidy beside nothing.
+abbrev pub TidiedLaw : Type 0
+TidiedLaw = (P : ℕ) (I : List ℕ) → IsTidied P I ↔ (IsCoherent P I × IsTidyBeside P I no_residue)
 
 -- the length and the head of a volume of P pages
 pub record IsVolume (P : ℕ) (I : List ℕ) : Type 0 where
