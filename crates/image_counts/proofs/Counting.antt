@@ -1,9 +1,9 @@
 -- Counts of numbers that are matched with the elements of a list, or are shared out among them.
-use Rattle.std.proofs.Common.{◌≡◌, ◌⊎◌, inl, inr, ℕ, suc, ◌+◌, ◌<◌, ◌≤◌, Bool, true, false, cond, List, [], ◌∷◌, ◌++◌, length, sum_by, filter, refl, sym, subst, ap, ◌∙◌, arith}
+use Rattle.std.proofs.Common.{◌≡◌, ◌↔◌, ◌⊎◌, inl, inr, ℕ, suc, ◌+◌, ◌<◌, ◌≤◌, Bool, true, false, cond, List, [], ◌∷◌, ◌++◌, length, sum_by, filter, refl, sym, subst, ap, ◌∙◌, arith}
 use Rattle.std.proofs.lemmas.List.{length-append}
 use Rattle.std.proofs.lemmas.List.Sums.{sum_by-cons}
 use Rattle.image_reading.specs.Counts.{IsIn, Count}
-use Rattle.image_reading.proofs.Counts.{count_none}
+use Rattle.image_reading.proofs.Counts.{count_none, count_one}
 use Rattle.image_counts.proofs.Distinct.{fewer, in_front, in_back, in_either, distinct_both, run, length-run, in_run, of_run, distinct_run}
 
 -- ---- counts
@@ -48,6 +48,14 @@ count_run start n = (
   (λ x. ((λ among. of_run x start n among), (λ both. in_run x start n both.0 both.1))),
   length-run start n,
 )
+
+-- where each number of a run has the one property or the other, as many have the two as the run is long
+pub count_parts : (Q R : ℕ → Type 0) (start size m n : ℕ) → ((x : ℕ) → Q x → R x → ⊥) → ((x : ℕ) → (Q x ⊎ R x) ↔ ((start ≤ x) × (x < start + size))) → Count Q m → Count R n → m + n ≡ size
+count_parts Q R start size m n apart all some others =
+    count_one (λ x. (start ≤ x) × (x < start + size)) (m + n) size
+    (count_alike (λ x. Q x ⊎ R x) (λ x. (start ≤ x) × (x < start + size)) (m + n) (λ x has. (all x).0 has) (λ x range. (all x).1 range)
+    (count_either Q R m n apart some others))
+    (count_run start size)
 
 -- ---- lists in which nothing stands twice
 

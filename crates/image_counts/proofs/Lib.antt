@@ -3,11 +3,13 @@ pub mod Nodes
 pub mod Distinct
 pub mod Counting
 pub mod Entries
+pub mod Apart
 pub mod Inodes
 pub mod Slots
 pub mod Links
 pub mod Decided
 pub mod Pages
 pub mod PageSlots
+pub mod Beside
 pub mod Tidied
 pub mod States

@@ -6,16 +6,15 @@ use Rattle.layout.specs.Fields.{inode_kind, inode_links, slot_inode}
 use Rattle.tree_model.specs.PathText.{Route}
 use Rattle.tree_model.specs.Tree.{Tree, is_directory, is_in, entries_in, path_count, link_count}
 use Rattle.tree_model.proofs.TreeLaws.{not_true}
-use Rattle.image_reading.specs.Counts.{Count}
+use Rattle.image_reading.specs.Counts.{IsIn, Count}
 use Rattle.image_reading.specs.Reading.{IsDirectory, IsFile, slot_owner, Reached, IsNameOf, IsChildOf, IsLinkCount, Reads}
-use Rattle.image_reading.specs.Repairs.{IsLitterCount}
+use Rattle.image_reading.specs.Residue.{Residue, no_residue, IsTidyBeside}
 use Rattle.image_reading.specs.Soundness.{Rule, IsCoherent}
-use Rattle.image_reading.specs.Tidy.{IsTidied}
 use Rattle.image_reading.proofs.Counts.{count_one}
-use Rattle.image_counts.specs.Laws.{HasLinkCounts, LinkLaw, LinkWordLaw}
+use Rattle.image_counts.specs.Laws.{HasLinkCounts, LinkLaw, LinkWordBesideLaw, LinkWordLaw}
 use Rattle.image_counts.proofs.Paths.{IsLastSlot, reached_slot, inode_reached}
 use Rattle.image_counts.proofs.Nodes.{has_sizes}
-use Rattle.image_counts.proofs.Counting.{none_counted}
+use Rattle.image_counts.proofs.Apart.{reads_tidied, apart_nothing}
 use Rattle.image_counts.proofs.Slots.{all_names, some_names, names_in, count_slots, in_owner, same_numbers, equal_numbers}
 
 pub last_inode : (P : ℕ) (I : List ℕ) (r : Route) (i s : ℕ) → IsLastSlot P I r i s → slot_inode P I s ≡ i
@@ -92,18 +91,22 @@ module _ (P : ℕ) (I : List ℕ) (T : Tree) (coherent : IsCoherent P I) (reads 
   pub has_link_counts : HasLinkCounts P I T
   has_link_counts = record { counted = links_counted; only = only_links }
 
--- a tidy image's link words are right
-link_word : (P : ℕ) (I : List ℕ) (T : Tree) → IsTidied P I → Reads P I T → (i : ℕ) → Reached P I i → link_count T i ≡ inode_links I i
-link_word P I T tidy reads i reached = elim (cases_eq (link_count T i) (inode_links I i)) [
+-- beside a residue a link word is right that isn't the residue's
+link_word : (P : ℕ) (I : List ℕ) (residue : Residue) (T : Tree) → IsCoherent P I → IsTidyBeside P I residue → Reads P I T → (i : ℕ) → Reached P I i → ¬ IsIn i residue.counts
+    → link_count T i ≡ inode_links I i
+link_word P I residue T coherent beside reads i reached apart = elim (cases_eq (link_count T i) (inode_links I i)) [
   | inl same ↦ same
-  | inr other ↦ absurd (none_counted (IsLitterCount P I) tidy.repaired.of_counts i (record {
+  | inr other ↦ absurd (apart ((beside.of_counts.each i).1 (record {
     reached = reached;
-    other = λ links. other (only_links P I T tidy.coherent reads i (inode_links I i) reached links);
-  }))
+    other = λ links. other (only_links P I T coherent reads i (inode_links I i) reached links);
+  })))
 ]
 
 pub link_law : LinkLaw
 link_law P I state coherent reads = has_link_counts P I state.tree coherent reads.tree
 
+pub link_word_beside_law : LinkWordBesideLaw
+link_word_beside_law P I residue state holds i reached apart = link_word P I residue state.tree holds.coherent holds.beside holds.reads.tree i reached apart.links
+
 pub link_word_law : LinkWordLaw
-link_word_law P I state tidy reads i reached = link_word P I state.tree tidy reads.tree i reached
+link_word_law P I state tidy reads i reached = link_word_beside_law P I no_residue state (reads_tidied P I state tidy reads) i reached (apart_nothing P I i)

@@ -1,7 +1,7 @@
 -- The slots and pages of a directory, and what is free.
 use Rattle.std.specs.Prelude.{◌≡◌, ◌≢◌, ℕ, ◌<◌, ◌≤◌, List}
 use Rattle.layout.specs.Geometry.{inodes_of, data_pages_of, slots_of}
-use Rattle.layout.specs.Fields.{inode_kind, page_owner, slot_name}
+use Rattle.layout.specs.Fields.{inode_kind, page_owner, page_kind, slot_name}
 use Rattle.image_reading.specs.Reading.{slot_owner, IsReachedSlot}
 
 -- a reached slot of directory d, with a name
@@ -31,6 +31,14 @@ IsOwnedPage P I j = (j < data_pages_of P) × (page_owner P I j ≢ 0)
 -- and one without
 abbrev pub IsFreePage : ℕ → List ℕ → ℕ → Type 0
 IsFreePage P I j = (j < data_pages_of P) × (page_owner P I j ≡ 0)
+
+-- the page has neither an owner nor a kind
+abbrev pub IsUnusedPage : ℕ → List ℕ → ℕ → Type 0
+IsUnusedPage P I j = (page_owner P I j ≡ 0) × (page_kind P I j ≡ 0)
+
+-- a data page that has neither
+abbrev pub IsUnusedDataPage : ℕ → List ℕ → ℕ → Type 0
+IsUnusedDataPage P I j = (j < data_pages_of P) × IsUnusedPage P I j
 
 -- an inode of the table whose kind is 0
 abbrev pub IsFreeInode : ℕ → List ℕ → ℕ → Type 0

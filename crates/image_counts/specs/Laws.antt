@@ -1,18 +1,19 @@
 -- What is counted in the words of an image, and in the tree that it reads as.
-use Rattle.std.specs.Prelude.{◌≡◌, ◌≢◌, ◌↔◌, ℕ, ◌*◌, ◌<◌, ◌≤◌, true, List, [], ◌∷◌, ◌++◌, length, Some, None}
+use Rattle.std.specs.Prelude.{◌≡◌, ◌≢◌, ◌↔◌, ◌⊎◌, ℕ, ◌*◌, ◌<◌, ◌≤◌, true, List, [], ◌∷◌, ◌++◌, length, Some, None}
 use Rattle.layout.specs.Geometry.{inodes_of, data_pages_of, slot_word_of}
 use Rattle.layout.specs.Fields.{word, inode_kind, inode_links, inode_size, page_owner, slot_inode}
 use Rattle.tree_model.specs.PathText.{Route}
 use Rattle.tree_model.specs.Tree.{Tree, File, id_at, node_at, is_directory, is_file, name_count, link_count, pages_in}
-use Rattle.tree_model.specs.Capacity.{inodes_in_use, pages_in_use, free_inodes, free_pages, untaken}
+use Rattle.tree_model.specs.Capacity.{Supply, inodes_in_use, pages_in_use, free_inodes, free_pages, untaken}
 use Rattle.tree_model.specs.Step.{least_free_id}
 use Rattle.tree_model.specs.Run.{State, IsVolumeState}
-use Rattle.image_reading.specs.Counts.{Count}
-use Rattle.image_reading.specs.Reading.{IsFile, IsDirectory, Reached, IsReachedSlot, IsLinkCount, pages_of_size, ReadsAs}
+use Rattle.image_reading.specs.Counts.{IsIn, Count}
+use Rattle.image_reading.specs.Reading.{IsFile, IsDirectory, slot_owner, Reached, IsReachedSlot, IsLinkCount, pages_of_size, ReadsAs}
 use Rattle.image_reading.specs.Repairs.{IsKept}
+use Rattle.image_reading.specs.Residue.{Residue, IsTidyBeside}
 use Rattle.image_reading.specs.Soundness.{IsCoherent}
 use Rattle.image_reading.specs.Tidy.{IsTidied}
-use Rattle.image_counts.specs.Entries.{IsEntryOf, IsSlotOf, IsSlotIn, IsPageIn, IsOwnedPage, IsFreePage, IsFreeInode}
+use Rattle.image_counts.specs.Entries.{IsEntryOf, IsSlotOf, IsSlotIn, IsPageIn, IsOwnedPage, IsFreePage, IsUnusedPage, IsUnusedDataPage, IsFreeInode}
 
 -- ---- names
 
@@ -111,6 +112,53 @@ pub record HasUsedPages (P : ℕ) (I : List ℕ) (state : State) : Type 0 where
 
 abbrev pub PageCountLaw : Type 0
 PageCountLaw = (P : ℕ) (I : List ℕ) (state : State) → IsTidied P I → ReadsAs P I state → HasUsedPages P I state
+
+-- ---- beside calls that run, each cut at a fence: the residue has what they have left
+
+-- Nothing of inode i is in the residue: no slot of its pages, no page of it, and not its links.
+pub record IsApart (P : ℕ) (I : List ℕ) (residue : Residue) (i : ℕ) : Type 0 where
+  pub slots : (s : ℕ) → IsIn s residue.slots → slot_owner P I s ≢ i
+  pub pages : (j : ℕ) → IsIn j residue.pages → page_owner P I j ≢ i
+  pub links : ¬ IsIn i residue.counts
+
+-- the image fits together, is tidy beside the residue, and reads as the state
+pub record ReadsBeside (P : ℕ) (I : List ℕ) (residue : Residue) (state : State) : Type 0 where
+  pub coherent : IsCoherent P I
+  pub beside : IsTidyBeside P I residue
+  pub reads : ReadsAs P I state
+
+-- what the residue has isn't free for others
+abbrev pub supply_beside : ℕ → Residue → Supply
+supply_beside P residue = record { pages = P; taken_inodes = length residue.inodes; taken_pages = length residue.pages }
+
+abbrev pub RoomBesideLaw : Type 0
+RoomBesideLaw = (P : ℕ) (I : List ℕ) (residue : Residue) (state : State) → ReadsBeside P I residue state → (d : ℕ) → Reached P I d → IsDirectory I d → IsApart P I residue d → HasRoomWords P I state d
+
+abbrev pub LinkWordBesideLaw : Type 0
+LinkWordBesideLaw = (P : ℕ) (I : List ℕ) (residue : Residue) (state : State) → ReadsBeside P I residue state → (i : ℕ) → Reached P I i → IsApart P I residue i
+    → link_count state.tree i ≡ inode_links I i
+
+abbrev pub FilePagesBesideLaw : Type 0
+FilePagesBesideLaw = (P : ℕ) (I : List ℕ) (residue : Residue) (state : State) → ReadsBeside P I residue state → (i : ℕ) → Reached P I i → IsFile I i → IsApart P I residue i
+    → Count (IsPageIn P I i) (pages_of_size (inode_size I i))
+
+-- An inode has a kind exactly where it is reached or the residue has it. One without is no node's, and there are as many as are free.
+pub record HasInodesBeside (P : ℕ) (I : List ℕ) (residue : Residue) (T : Tree) : Type 0 where
+  pub used : (i : ℕ) → 1 ≤ i → i ≤ inodes_of P → (Reached P I i ⊎ IsIn i residue.inodes) ↔ (inode_kind I i ≢ 0)
+  pub fresh : (i : ℕ) → IsFreeInode P I i → node_at T i ≡ None
+  pub free : (n : ℕ) → Count (IsFreeInode P I) n → free_inodes (supply_beside P residue) T ≡ n
+
+abbrev pub FreeInodeBesideLaw : Type 0
+FreeInodeBesideLaw = (P : ℕ) (I : List ℕ) (residue : Residue) (state : State) → ReadsBeside P I residue state → HasInodesBeside P I residue state.tree
+
+-- A page has an owner or a kind exactly where recovery would keep it or the residue has it, and as many have neither as are free.
+pub record HasPagesBeside (P : ℕ) (I : List ℕ) (residue : Residue) (state : State) : Type 0 where
+  pub used : (j : ℕ) → j < data_pages_of P → (IsKept P I j ⊎ IsIn j residue.pages) ↔ ¬ IsUnusedPage P I j
+  pub owned : (j : ℕ) → IsKept P I j → page_owner P I j ≢ 0
+  pub free : (n : ℕ) → Count (IsUnusedDataPage P I) n → free_pages (supply_beside P residue) state.tree state.room ≡ n
+
+abbrev pub PageCountBesideLaw : Type 0
+PageCountBesideLaw = (P : ℕ) (I : List ℕ) (residue : Residue) (state : State) → ReadsBeside P I residue state → HasPagesBeside P I residue state
 
 -- ---- states
 

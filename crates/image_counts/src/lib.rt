@@ -3,6 +3,7 @@
 
 ghost use Rattle.image_counts.specs.Laws.{EntryLaw, AbsenceLaw, NameCountLaw};
 ghost use Rattle.image_counts.specs.Laws.{SizeLaw, InodeCountLaw, FreeInodeLaw, LinkLaw, LinkWordLaw};
+ghost use Rattle.image_counts.specs.Laws.{RoomBesideLaw, LinkWordBesideLaw, FilePagesBesideLaw, FreeInodeBesideLaw, PageCountBesideLaw};
 ghost use Rattle.image_counts.specs.Laws.{RoomLaw, FilePagesLaw, KeptPageLaw, PageCountLaw, StateLaw};
 
 /// The names in a directory are the reached slots of its pages.
@@ -20,9 +21,10 @@ pub fn inode_count_law()
     ensures { InodeCountLaw }
 {}
 
-/// In a tidy image an inode is free exactly where its kind is 0.
+/// In a tidy image an inode is free exactly where its kind is 0. Beside calls that run those aren't free either that they have left.
 pub fn free_inode_law()
-    ensures { FreeInodeLaw }
+    ensures beside { FreeInodeBesideLaw }
+    ensures tidy { FreeInodeLaw }
 {}
 
 /// A directory has as many names as reached slots.
@@ -40,9 +42,10 @@ pub fn link_law()
     ensures { LinkLaw }
 {}
 
-/// In a tidy image it has as many as its link word says.
+/// In a tidy image it has as many as its link word says, and beside calls that run where these have left nothing of it.
 pub fn link_word_law()
-    ensures { LinkWordLaw }
+    ensures beside { LinkWordBesideLaw }
+    ensures tidy { LinkWordLaw }
 {}
 
 /// The pages in use are those that are kept.
@@ -51,19 +54,22 @@ pub fn kept_page_law()
 {}
 
 /// In a tidy image a directory's room is the number of its pages, and it is full where each slot of them has an inode
-/// number.
+/// number; and so it is beside calls that run, where these have left nothing of the directory.
 pub fn room_law()
-    ensures { RoomLaw }
+    ensures beside { RoomBesideLaw }
+    ensures tidy { RoomLaw }
 {}
 
-/// In a tidy image the pages in use are those that have an owner.
+/// In a tidy image the pages in use are those that have an owner. Beside calls that run those aren't free either that they have left.
 pub fn page_count_law()
-    ensures { PageCountLaw }
+    ensures beside { PageCountBesideLaw }
+    ensures tidy { PageCountLaw }
 {}
 
-/// In a tidy image a file's pages are one for each page of its size.
+/// In a tidy image a file's pages are one for each page of its size, and beside calls that run where these have left nothing of it.
 pub fn file_pages_law()
-    ensures { FilePagesLaw }
+    ensures beside { FilePagesBesideLaw }
+    ensures tidy { FilePagesLaw }
 {}
 
 /// What a coherent image reads as is a state that a volume of its size may have.

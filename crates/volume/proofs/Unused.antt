@@ -6,11 +6,12 @@ use Rattle.layout.specs.Fields.{page_kind, page_owner}
 use Rattle.image_reading.specs.Reading.{Reached}
 use Rattle.image_reading.specs.Repairs.{IsKept, IsLitterPage}
 use Rattle.image_reading.specs.Tidy.{IsTidied}
+use Rattle.image_counts.specs.Entries.{IsUnusedPage}
 use Rattle.image_counts.proofs.Counting.{none_counted}
 use Rattle.image_counts.proofs.Paths.{in_range}
 use Rattle.allocators.specs.Numbers.{IsFree}
 use Rattle.volume.specs.Volume.{VolumeView}
-use Rattle.volume.specs.Stands.{IsUnusedPage, Knows}
+use Rattle.volume.specs.Stands.{Knows}
 
 module _ (P : ℕ) (I : List ℕ) (tidy : IsTidied P I) where
   not_reached : (i : ℕ) → i ≡ 0 → Reached P I i → ⊥

@@ -3,13 +3,13 @@ use Rattle.std.specs.Prelude.{◌≡◌, ◌↔◌, ℕ, ◌-◌, ◌*◌, ◌<�
 use Rattle.pm_trait.specs.DeviceView.{DeviceView, IsSettledView}
 use Rattle.layout.specs.Superblock.{has_mark}
 use Rattle.layout.specs.Geometry.{inodes_of, data_pages_of}
-use Rattle.layout.specs.Fields.{inode_kind, page_kind, page_owner, page_offset}
+use Rattle.layout.specs.Fields.{inode_kind, page_offset}
 use Rattle.tree_model.specs.Tree.{node_at}
 use Rattle.tree_model.specs.Run.{State}
 use Rattle.image_reading.specs.Counts.{IsDistinct}
 use Rattle.image_reading.specs.Reading.{HasBytes, Reached, ReadsAs}
 use Rattle.image_reading.specs.Tidy.{Tidy}
-use Rattle.image_counts.specs.Entries.{IsEntryOf, IsPageIn}
+use Rattle.image_counts.specs.Entries.{IsEntryOf, IsPageIn, IsUnusedPage}
 use Rattle.allocators.specs.Numbers.{IsFree}
 use Rattle.volatile_index.specs.Index.{NodeView, inodes_of_index, entries_of, pages_of}
 use Rattle.volume.specs.Costs.{mark_events}
@@ -22,10 +22,6 @@ pub record KnowsNodes (P : ℕ) (index : List NodeView) (I : List ℕ) : Type 0 
   pub pages : (i page : ℕ) → 1 ≤ i → i ≤ inodes_of P → Contains (pages_of index i) page ↔ IsPageIn P I i page
   pub once : (i : ℕ) → 1 ≤ i → i ≤ inodes_of P → IsDistinct (pages_of index i)
   pub offsets : (i k page : ℕ) → Reached P I i → HasBytes I i → slice_get (pages_of index i) k ≡ Some page → page_offset P I page ≡ k
-
--- page j is in no use: it has neither an owner nor a kind; without an owner alone it may be a running call's
-abbrev pub IsUnusedPage : ℕ → List ℕ → ℕ → Type 0
-IsUnusedPage P I j = (page_owner P I j ≡ 0) × (page_kind P I j ≡ 0)
 
 -- It knows what the words say: the entries and pages, and which inodes and data pages are free.
 pub record Knows (volume : VolumeView) (I : List ℕ) : Type 0 where
