@@ -1,0 +1,9 @@
+pub mod Named
+pub mod Edits
+pub mod Unused
+pub mod Stays
+pub mod Walks
+pub mod Apart
+pub mod Still
+pub mod Torn
+pub mod Rows
