@@ -32,7 +32,7 @@ IsOwnedPage P I j = (j < data_pages_of P) × (page_owner P I j ≢ 0)
 abbrev pub IsFreePage : ℕ → List ℕ → ℕ → Type 0
 IsFreePage P I j = (j < data_pages_of P) × (page_owner P I j ≡ 0)
 
--- the page has neither an owner nor a kind
+-- the page has neither an owner nor a kind (one without an owner alone may be a running call's)
 abbrev pub IsUnusedPage : ℕ → List ℕ → ℕ → Type 0
 IsUnusedPage P I j = (page_owner P I j ≡ 0) × (page_kind P I j ≡ 0)
 
