@@ -1,0 +1,21 @@
+pub mod Listed
+pub mod Same
+pub mod Named
+pub mod Raised
+pub mod Written
+pub mod NodeWritten
+pub mod LinkWritten
+pub mod Cleared
+pub mod Contained
+pub mod Lost
+pub mod GivenPages
+pub mod Freed
+pub mod Committed
+pub mod NodeCommitted
+pub mod LinkCommitted
+pub mod PagedBeside
+pub mod PagedOwned
+pub mod PagedWritten
+pub mod PagedNode
+pub mod PagedLink
+mod Swapped

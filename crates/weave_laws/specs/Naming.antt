@@ -1,0 +1,85 @@
+-- A name is written, and then its slot takes the number: what each step leaves to be repaired, beside other calls. P is the number of
+-- pages, I the words before a step, J those after it.
+use Rattle.std.specs.Prelude.{◌≡◌, ℕ, ◌+◌, ◌<◌, List, [], ◌∷◌, Option, Some, None, slice_index}
+use Rattle.layout.specs.Fields.{word, inode_links}
+use Rattle.layout.specs.Geometry.{page_of_slot, inode_word_of}
+use Rattle.tree_model.specs.PathText.{Route}
+use Rattle.tree_model.specs.Tree.{Node, Directory, File}
+use Rattle.image_reading.specs.Litter.{IsZeroInode, IsZeroSlot}
+use Rattle.image_reading.specs.Reading.{IsLinkCount, IsRoomOf}
+use Rattle.image_laws.specs.Add.{IsNewNode, IsOldFile, CanAdd}
+use Rattle.image_laws.specs.Create.{IsEmptyNode, node_words, parent_links, MakesNode, committed}
+use Rattle.image_laws.specs.Link.{MakesLink}
+use Rattle.image_laws.specs.Stages.{IsReady, IsReadySlot}
+use Rattle.image_laws.specs.Taking.{IsNamedPage}
+use Rattle.image_reading.specs.Residue.{Residue, IsTidyBeside}
+use Rattle.weave_laws.specs.Joined.{joined}
+
+-- ---- what a name that waits for its number leaves
+
+-- its slot, or the new page that it is in
+abbrev pub slots_left : ℕ → Option ℕ → List ℕ
+slots_left s None = s ∷ []
+slots_left s (Some page) = []
+
+abbrev pub pages_left : Option ℕ → List ℕ
+pages_left None = []
+pages_left (Some page) = page ∷ []
+
+-- the links of the directory that a directory is made in
+abbrev pub counts_left : Node → ℕ → List ℕ
+counts_left Directory d = d ∷ []
+counts_left (File bytes) d = []
+
+-- with a new node the inode
+abbrev pub node_left : Node → ℕ → ℕ → Option ℕ → ℕ → Residue
+node_left node d s new_page i = record { pointer = None; slots = slots_left s new_page; pages = pages_left new_page; inodes = i ∷ []; counts = counts_left node d }
+
+-- with a link the links of the file
+abbrev pub link_left : ℕ → Option ℕ → ℕ → Residue
+link_left s new_page i = record { pointer = None; slots = slots_left s new_page; pages = pages_left new_page; inodes = []; counts = i ∷ [] }
+
+-- ---- the name is written
+
+-- The slot is zero, in a page of d that has a live one.
+pub record IsBlankSlot (P : ℕ) (I : List ℕ) (d s : ℕ) : Type 0 where
+  pub kept : IsRoomOf P I d (page_of_slot s)
+  pub zero : IsZeroSlot P I s
+
+abbrev pub NodeWrittenLaw : Type 0
+NodeWrittenLaw = (P : ℕ) (I J : List ℕ) (p : Route) (node : Node) (d s i : ℕ) (name : List ℕ) (others : Residue) → IsReady P I p d s i name → IsBlankSlot P I d s → IsZeroInode I i
+    → IsLinkCount P I d (inode_links I d) → IsEmptyNode node → MakesNode P I J node d s i name → IsTidyBeside P I others
+    → IsTidyBeside P J (joined (node_left node d s None i) others)
+
+abbrev pub LinkWrittenLaw : Type 0
+LinkWrittenLaw = (P : ℕ) (I J : List ℕ) (p : Route) (d s i : ℕ) (name : List ℕ) (others : Residue) → IsReadySlot P I p d s name → IsBlankSlot P I d s → IsOldFile P I i
+    → IsLinkCount P I i (inode_links I i) → MakesLink P I J s i name → IsTidyBeside P I others
+    → IsTidyBeside P J (joined (link_left s None i) others)
+
+-- ---- the slot takes the number
+
+-- The words of the new inode stand, and its parent has a link more where it is a directory.
+pub record IsWrittenNode (P : ℕ) (I : List ℕ) (node : Node) (d i : ℕ) : Type 0 where
+  pub empty : IsEmptyNode node
+  pub words : (f : ℕ) → f < 4 → word I (inode_word_of i f) ≡ slice_index (node_words node i) f
+  pub parent : (n : ℕ) × IsLinkCount P I d n × (inode_links I d ≡ parent_links node n)
+
+-- the file has a link more than names
+abbrev pub IsWrittenLink : ℕ → List ℕ → ℕ → Type 0
+IsWrittenLink P I i = (n : ℕ) × IsLinkCount P I i n × (inode_links I i ≡ n + 1)
+
+-- the slot stands in a page that is kept, or in the new page, whose other slots are zero
+abbrev pub IsWrittenPlace : ℕ → List ℕ → ℕ → ℕ → Option ℕ → Type 0
+IsWrittenPlace P I d s None = IsRoomOf P I d (page_of_slot s)
+IsWrittenPlace P I d s (Some page) = (page_of_slot s ≡ page) × ((name : List ℕ) × IsNamedPage P I page s name)
+
+-- then nothing of it is left to be repaired
+abbrev pub NodeCommittedLaw : Type 0
+NodeCommittedLaw = (P : ℕ) (I : List ℕ) (p : Route) (node : Node) (d s : ℕ) (new_page : Option ℕ) (i : ℕ) (others : Residue) → CanAdd P I p d s i → IsNewNode P I i
+    → IsWrittenNode P I node d i → IsWrittenPlace P I d s new_page → IsTidyBeside P I (joined (node_left node d s new_page i) others)
+    → IsTidyBeside P (committed P I s i) others
+
+abbrev pub LinkCommittedLaw : Type 0
+LinkCommittedLaw = (P : ℕ) (I : List ℕ) (p : Route) (d s : ℕ) (new_page : Option ℕ) (i : ℕ) (others : Residue) → CanAdd P I p d s i → IsOldFile P I i
+    → IsWrittenLink P I i → IsWrittenPlace P I d s new_page → IsTidyBeside P I (joined (link_left s new_page i) others)
+    → IsTidyBeside P (committed P I s i) others

@@ -1,0 +1,39 @@
+//! What a step of one call leaves to be repaired, beside what other calls have left.
+#![tactic(auto)]
+
+ghost use Rattle.weave_laws.specs.Paging.{PagedNodeWrittenLaw, PagedLinkWrittenLaw, PageOwnedLaw};
+ghost use Rattle.weave_laws.specs.Removing.{ClearedLaw, GivenLaw, FreedLaw};
+ghost use Rattle.weave_laws.specs.Joined.{SwappedLaw};
+ghost use Rattle.weave_laws.specs.Naming.{NodeWrittenLaw, LinkWrittenLaw, NodeCommittedLaw, LinkCommittedLaw};
+
+/// The order of calls doesn't matter to what they have left together.
+pub fn joined_law()
+    ensures { SwappedLaw }
+{}
+
+/// A name that is written, with a new node or with a link, leaves its slot, the inode and the link word that rose.
+pub fn written_law()
+    ensures node { NodeWrittenLaw }
+    ensures link { LinkWrittenLaw }
+{}
+
+/// A slot that takes its number leaves nothing.
+pub fn committed_law()
+    ensures node { NodeCommittedLaw }
+    ensures link { LinkCommittedLaw }
+{}
+
+/// A name that is written in a new page leaves that page in place of the slot, and the same once the page has its owner.
+pub fn paged_law()
+    ensures node { PagedNodeWrittenLaw }
+    ensures link { PagedLinkWrittenLaw }
+    ensures owned { PageOwnedLaw }
+{}
+
+/// A slot that names nothing any more is cleared and a link falls, pages that nothing needs lose their owner, and the rest of these and
+/// of an inode is cleared: at the end nothing of them is left.
+pub fn cleared_law()
+    ensures slot { ClearedLaw }
+    ensures owners { GivenLaw }
+    ensures rest { FreedLaw }
+{}
