@@ -83,6 +83,7 @@ impl Running {
 }
 
 /// Begins to carry out the plan of an accepted `create` or `mkdir`: its events are kept, and nothing is stored.
+#[inline(always)]
 pub fn begin(volume: &mut Volume, plan: Plan) -> Running
     requires stands { (device : DeviceView) × MayBegin volume.old device plan }
     ensures running { (entry : Entry) → plan ≡ Make entry → result ≡ begun entry }
@@ -98,6 +99,7 @@ pub fn begin(volume: &mut Volume, plan: Plan) -> Running
 
 /// Makes the next step of the making of an entry, to its fence, and takes it into the volume: its numbers behind the first step, its
 /// name behind the last. Where the fence fails, the volume is stopped.
+#[inline(always)]
 pub fn advance<P: Pm>(
     running: Running,
     volume: &mut Volume,
@@ -122,6 +124,7 @@ pub fn advance<P: Pm>(
 }
 
 // The events of its first step: all but those of the owner of its new page, where there is one, and of its number.
+#[inline(always)]
 fn first_events(entry: &NewEntry) -> u64
     ensures { result ≡ written_events entry.now }
 {
@@ -134,6 +137,7 @@ fn first_events(entry: &NewEntry) -> u64
 }
 
 // Writes the node, its name and the links of its directory, and takes its numbers.
+#[inline(always)]
 fn write<P: Pm>(entry: NewEntry, volume: &mut Volume, pm: &mut P) -> Result<Next<Running>, PmFault>
     requires stands { StandsStage volume.old (P.view pm.old) (begun entry) }
     requires begins { MayFence (P.view pm.old) (512 * volume.old.size) (written_events entry) 1 }
@@ -154,6 +158,7 @@ fn write<P: Pm>(entry: NewEntry, volume: &mut Volume, pm: &mut P) -> Result<Next
 }
 
 // Gives the new page that the name is in to its directory.
+#[inline(always)]
 fn claim<P: Pm>(
     entry: NewEntry,
     inode: InodeH<Clean, Init>,
@@ -181,6 +186,7 @@ fn claim<P: Pm>(
 }
 
 // Gives the slot the number of the node, and puts the name into its directory.
+#[inline(always)]
 fn commit<P: Pm>(
     entry: NewEntry,
     node: NamedNode,

@@ -105,6 +105,7 @@ impl Running {
 }
 
 /// Begins to carry out the plan of an accepted `rename`: its events are kept, and nothing is stored.
+#[inline(always)]
 pub fn begin(volume: &mut Volume, plan: Plan) -> Running
     requires stands { (device : DeviceView) × MayBegin volume.old device plan }
     ensures running { result ≡ begun plan }
@@ -124,6 +125,7 @@ pub fn begin(volume: &mut Volume, plan: Plan) -> Running
 /// Makes the next step of a move, to its fence, and takes it into the volume: a new page is taken behind the first step, the names are
 /// moved behind the one that commits, and what is given back is free behind the last. Where the fence fails, the volume is stopped. It
 /// takes no memory. No other call may run beside it.
+#[inline(always)]
 pub fn advance<P: Pm>(
     running: Running,
     volume: &mut Volume,
@@ -143,6 +145,7 @@ pub fn advance<P: Pm>(
 }
 
 // Makes the next step of a move on the device.
+#[inline(always)]
 fn make_step<P: Pm>(
     moving: &Moving,
     progress: Progress,
@@ -160,6 +163,7 @@ fn make_step<P: Pm>(
 }
 
 // The move, so far.
+#[inline(always)]
 fn more(moving: Moving, progress: Progress) -> Next<Running>
     requires bounded { pages_of_loss moving.replaced < 2 ^ 16 }
     ensures { result ≡ More (Moves moving progress) }
@@ -170,6 +174,7 @@ fn more(moving: Moving, progress: Progress) -> Next<Running>
 }
 
 // What is left of a move behind a step.
+#[inline(always)]
 fn after_step(moving: Moving, progress: Progress) -> Next<Running>
     requires bounded { pages_of_loss moving.replaced < 2 ^ 16 }
     ensures { result ≡ next_moving moving progress }
@@ -198,6 +203,7 @@ fn after_step(moving: Moving, progress: Progress) -> Next<Running>
 }
 
 // Makes the next step of a move, and takes it in.
+#[inline(always)]
 fn move_on<P: Pm>(
     moving: Moving,
     progress: Progress,
