@@ -3,8 +3,10 @@
 
 #[cfg(test)]
 mod costs;
+mod course;
 mod marks;
 #[cfg(test)]
 mod plans;
 #[cfg(test)]
 mod renames;
+mod stages;
