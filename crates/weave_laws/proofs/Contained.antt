@@ -17,7 +17,7 @@ contained_in x [] (k, lt, is) = absurd (omega (arith, lt))
 contained_in x (y ∷ xs) (zero, lt, is) = inl (sym is)
 contained_in x (y ∷ xs) (suc k, lt, is) = inr (contained_in x xs (k, omega (arith, lt), is))
 
-in_or_not : (x : ℕ) (xs : List ℕ) → IsDecided (IsIn x xs)
+pub in_or_not : (x : ℕ) (xs : List ℕ) → IsDecided (IsIn x xs)
 in_or_not x [] = inr (λ none. none)
 in_or_not x (y ∷ xs) = elim (cases_eq x y) [
   | inl same ↦ inl (inl same)

@@ -10,6 +10,10 @@ pub mod Contained
 pub mod Lost
 pub mod GivenPages
 pub mod Freed
+pub mod UnnamedSlots
+pub mod UnnamedPages
+pub mod UnnamedLinks
+pub mod Unnamed
 pub mod Committed
 pub mod NodeCommitted
 pub mod LinkCommitted
@@ -18,4 +22,10 @@ pub mod PagedOwned
 pub mod PagedWritten
 pub mod PagedNode
 pub mod PagedLink
+pub mod Sized
+pub mod SizedWords
+pub mod SizedRaised
+pub mod SizedLowered
+pub mod SizedTaken
+pub mod SizedFilled
 mod Swapped

@@ -2,3 +2,5 @@ pub mod Joined
 pub mod Naming
 pub mod Paging
 pub mod Removing
+pub mod Unnaming
+pub mod Sizing

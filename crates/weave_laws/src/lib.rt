@@ -2,6 +2,8 @@
 #![tactic(auto)]
 
 ghost use Rattle.weave_laws.specs.Paging.{PagedNodeWrittenLaw, PagedLinkWrittenLaw, PageOwnedLaw};
+ghost use Rattle.weave_laws.specs.Unnaming.{UnnamedLaw};
+ghost use Rattle.weave_laws.specs.Sizing.{FilledLaw, TakenLaw, RaisedLaw, LoweredLaw};
 ghost use Rattle.weave_laws.specs.Removing.{ClearedLaw, GivenLaw, FreedLaw};
 ghost use Rattle.weave_laws.specs.Joined.{SwappedLaw};
 ghost use Rattle.weave_laws.specs.Naming.{NodeWrittenLaw, LinkWrittenLaw, NodeCommittedLaw, LinkCommittedLaw};
@@ -36,4 +38,18 @@ pub fn cleared_law()
     ensures slot { ClearedLaw }
     ensures owners { GivenLaw }
     ensures rest { FreedLaw }
+{}
+
+/// A slot that gives up its number leaves itself, or its page where no name is left in it, the node with its pages where it goes, and the
+/// link word of what has a link less.
+pub fn unnamed_law()
+    ensures { UnnamedLaw }
+{}
+
+/// New pages of a file are left from when they are filled until its size rises over them, and pages behind its end from when it falls.
+pub fn sized_law()
+    ensures filled { FilledLaw }
+    ensures taken { TakenLaw }
+    ensures raised { RaisedLaw }
+    ensures lowered { LoweredLaw }
 {}
