@@ -1,10 +1,11 @@
--- A command that finds the same where as much is free is accepted still, in a tree.
-use Rattle.std.proofs.Common.{◌≡◌, ℕ, ◌+◌, ◌-◌, ◌*◌, true, false, cond, ◌&&◌, ◌||◌, ◌==◌, nat_lt, nat_le, [], ◌∷◌, ◌++◌, length, Option, Some, None, is_some, unwrap_or, refl, sym, ap, ◌∙◌}
+-- A command that finds the same where enough is free is accepted still, in a tree.
+use Rattle.std.proofs.Common.{◌≡◌, ℕ, ◌+◌, ◌-◌, ◌*◌, ◌≤◌, true, false, cond, ◌&&◌, ◌||◌, ◌==◌, nat_lt, nat_le, [], ◌∷◌, ◌++◌, length, Option, Some, None, is_some, unwrap_or, refl, sym, ap, ◌∙◌, arith}
+use Rattle.std.proofs.lemmas.Bool.Decides.{nat_tests}
 use Rattle.std.specs.List.{Contains}
 use Rattle.layout.specs.Geometry.{pieces}
 use Rattle.tree_model.specs.PathText.{Route}
-use Rattle.tree_model.specs.Tree.{Tree, IsTree, root_id, is_root, parent, is_above, id_at, node_at, is_directory_node, is_file_node, bytes_of_node, is_number, name_count, page_bytes, file_pages, pages_in}
-use Rattle.tree_model.specs.Capacity.{Supply, file_limit}
+use Rattle.tree_model.specs.Tree.{Tree, Room, IsTree, root_id, is_root, parent, is_above, id_at, node_at, is_directory_node, is_file_node, bytes_of_node, is_number, name_count, page_bytes, file_pages, pages_in}
+use Rattle.tree_model.specs.Capacity.{Supply, free_inodes, free_pages, file_limit}
 use Rattle.tree_model.specs.Step.{first, at, later_faults, refusal_with, id_of, is_same_node, gaining, losing, page_for_name, pages_after, rise, read_limit, need}
 use Rattle.tree_model.specs.Run.{State}
 use Rattle.tree_model.specs.Fences.{one_where, gave, gave_from, is_gone, fences_for_loss, fences_of_accepted}
@@ -13,8 +14,9 @@ use Rattle.tree_model.specs.declared.command.Command.{Command}
 use Rattle.tree_model.specs.declared.command.Command.TheVariants.{Create, Mkdir, Link, Unlink, Rmdir, Rename, Write, Truncate, Read, Stat as Tell, List as Show, Df}
 use Rattle.tree_model.specs.declared.reply.Refusal.TheVariants.{NotDir, Root, Exists, IsDir, NotEmpty, IntoItself, TooBig, NoInodes, NoPages}
 use Rattle.tree_model.proofs.AcceptedLaws.{Accepted-from_row}
-use Rattle.naming_laws.specs.Naming.{paths_of, names_inode}
-use Rattle.naming_laws.specs.Still.{FindsSame, IsAsMuchFree, IsStillAccepted, StillLaw}
+use Rattle.tree_model.proofs.FitsLaws.{need-le-free}
+use Rattle.naming_laws.specs.Naming.{paths_of, names_inode, inode_need}
+use Rattle.naming_laws.specs.Still.{FindsSame, HasEnough, IsStillAccepted, StillLaw}
 use Rattle.naming_laws.proofs.Named.{at_first, at_second, at_third, at_fourth, names_at, gains_named, loses_named}
 
 abbrev SameIds : Tree → Tree → Command → Type 0
@@ -147,35 +149,78 @@ need_by supply old new (Tell path) t a f = refl
 need_by supply old new (Show path) t a f = refl
 need_by supply old new Df t a f = refl
 
+-- ---- what is free
+
+-- an accepted command had the inodes that it takes
+pub inodes_enough : (supply : Supply) (T : Tree) (room : Room) (c : Command) → Accepted supply T room c → inode_need c ≤ free_inodes supply T
+inodes_enough supply T room (Create path) a = a.inode
+inodes_enough supply T room (Mkdir path) a = a.inode
+inodes_enough supply T room (Link from to) a = omega arith
+inodes_enough supply T room (Unlink path) a = omega arith
+inodes_enough supply T room (Rmdir path) a = omega arith
+inodes_enough supply T room (Rename from to) a = omega arith
+inodes_enough supply T room (Write path offset bytes) a = omega arith
+inodes_enough supply T room (Truncate path size) a = omega arith
+inodes_enough supply T room (Read path offset count) a = omega arith
+inodes_enough supply T room (Tell path) a = omega arith
+inodes_enough supply T room (Show path) a = omega arith
+inodes_enough supply T room Df a = omega arith
+
+some_free : (n : ℕ) → 1 ≤ n → (n == 0) ≡ false
+some_free n some = grind (arith, nat_tests)
+
+enough_free : (n m : ℕ) → m ≤ n → nat_lt n m ≡ false
+enough_free n m enough = grind (arith, nat_tests)
+
+-- The tests of what is free answer as they did.
+record SameTests (supply later : Supply) (old new : State) (c : Command) : Type 0 where
+  inodes : 1 ≤ inode_need c → (free_inodes later new.tree == 0) ≡ (free_inodes supply old.tree == 0)
+  pages : nat_lt (free_pages later new.tree new.room) (need new.tree new.room c) ≡ nat_lt (free_pages supply old.tree old.room) (need old.tree old.room c)
+
+tests_by : (supply later : Supply) (old new : State) (c : Command) → refusal_with supply old.tree old.room c ≡ None → Accepted supply old.tree old.room c → HasEnough later old new c
+    → need new.tree new.room c ≡ need old.tree old.room c → SameTests supply later old new c
+tests_by supply later old new c accepted a enough needs =
+    let now = enough.inodes in
+    let was = inodes_enough supply old.tree old.room c a in
+    let pages_now = enough.pages in
+    let pages_was = need-le-free supply old.tree old.room c accepted in
+    record {
+      inodes = λ some. some_free (free_inodes later new.tree) (omega (arith, some, now)) ∙ sym (some_free (free_inodes supply old.tree) (omega (arith, some, was)));
+      pages = enough_free (free_pages later new.tree new.room) (need new.tree new.room c) (omega (arith, needs, pages_now))
+          ∙ sym (enough_free (free_pages supply old.tree old.room) (need old.tree old.room c) pages_was);
+    }
+
 -- ---- the rows
 
-rows_by : (supply later : Supply) (old new : State) (c : Command) → IsTree old.tree → Accepted supply old.tree old.room c → FindsSame c old new → IsAsMuchFree supply later old new
-    → need new.tree new.room c ≡ need old.tree old.room c → later_faults later new.tree new.room c ≡ later_faults supply old.tree old.room c
-rows_by supply later old new (Create path) t a f free needs =
+rows_by : (supply later : Supply) (old new : State) (c : Command) → IsTree old.tree → Accepted supply old.tree old.room c → FindsSame c old new → SameTests supply later old new c
+    → later_faults later new.tree new.room c ≡ later_faults supply old.tree old.room c
+rows_by supply later old new (Create path) t a f tests =
     let ids = f.ids path (at_first path (parent path ∷ [])) in
-    λ k. at Root (is_root path) ∷ at Exists (is_some (ids k)) ∷ at NoInodes (free.inodes k == 0) ∷ at NoPages (nat_lt (free.pages k) (needs k)) ∷ []
-rows_by supply later old new (Mkdir path) t a f free needs =
+    let inodes = tests.inodes (omega arith) in
+    λ k. at Root (is_root path) ∷ at Exists (is_some (ids k)) ∷ at NoInodes (inodes k) ∷ at NoPages (tests.pages k) ∷ []
+rows_by supply later old new (Mkdir path) t a f tests =
     let ids = f.ids path (at_first path (parent path ∷ [])) in
-    λ k. at Root (is_root path) ∷ at Exists (is_some (ids k)) ∷ at NoInodes (free.inodes k == 0) ∷ at NoPages (nat_lt (free.pages k) (needs k)) ∷ []
-rows_by supply later old new (Link from to) t a f free needs =
+    let inodes = tests.inodes (omega arith) in
+    λ k. at Root (is_root path) ∷ at Exists (is_some (ids k)) ∷ at NoInodes (inodes k) ∷ at NoPages (tests.pages k) ∷ []
+rows_by supply later old new (Link from to) t a f tests =
     let c = Link from to in
     let ids = f.ids to (at_second from to (parent to ∷ [])) in
     let here = at_first from (to ∷ parent to ∷ []) in
     let node = node_same old new c f from here (file_named old.tree t c from here a.source) in
-    λ k. at Root (is_root to) ∷ at Exists (is_some (ids k)) ∷ at IsDir (is_directory_node (node k)) ∷ at NoPages (nat_lt (free.pages k) (needs k)) ∷ []
-rows_by supply later old new (Unlink path) t a f free needs =
+    λ k. at Root (is_root to) ∷ at Exists (is_some (ids k)) ∷ at IsDir (is_directory_node (node k)) ∷ at NoPages (tests.pages k) ∷ []
+rows_by supply later old new (Unlink path) t a f tests =
     let c = Unlink path in
     let here = at_first path (parent path ∷ []) in
     let node = node_same old new c f path here (file_named old.tree t c path here a.source) in
     λ k. at Root (is_root path) ∷ at IsDir (is_directory_node (node k)) ∷ []
-rows_by supply later old new (Rmdir path) t a f free needs =
+rows_by supply later old new (Rmdir path) t a f tests =
     let c = Rmdir path in
     let here = at_first path (parent path ∷ []) in
     let named = names_at old.tree t c path (id_of old.tree path) here (a.source.named ∙ ap Some (sym a.source.is)) in
     let node = node_same old new c f path here named in
     let count = count_same old new c f path here named in
     λ k. at Root (is_root path) ∷ at NotDir (is_file_node (node k)) ∷ at NotEmpty (nat_lt 0 (count k)) ∷ []
-rows_by supply later old new (Rename from to) t a f free needs =
+rows_by supply later old new (Rename from to) t a f tests =
     let c = Rename from to in
     let first_here = at_first from (parent from ∷ to ∷ parent to ∷ []) in
     let third_here = at_third from (parent from) to (parent to ∷ []) in
@@ -189,26 +234,26 @@ rows_by supply later old new (Rename from to) t a f free needs =
     ∷ at IsDir (is_file_node (moved k) && is_some (there k) && is_directory_node (target k))
     ∷ at NotEmpty (is_directory_node (moved k) && is_some (there k) && is_directory_node (target k) && nat_lt 0 (count k))
     ∷ at IntoItself (is_directory_node (moved k) && is_above from to)
-    ∷ at NoPages (nat_lt (free.pages k) (needs k)) ∷ [])
-rows_by supply later old new (Write path offset bytes) t a f free needs =
+    ∷ at NoPages (tests.pages k) ∷ [])
+rows_by supply later old new (Write path offset bytes) t a f tests =
     let c = Write path offset bytes in
     let node = node_same old new c f path (at_first path []) (file_named old.tree t c path (at_first path []) a.source) in
-    λ k. at IsDir (is_directory_node (node k)) ∷ at TooBig (nat_lt file_limit (offset + length bytes)) ∷ at NoPages (nat_lt (free.pages k) (needs k)) ∷ []
-rows_by supply later old new (Truncate path size) t a f free needs =
+    λ k. at IsDir (is_directory_node (node k)) ∷ at TooBig (nat_lt file_limit (offset + length bytes)) ∷ at NoPages (tests.pages k) ∷ []
+rows_by supply later old new (Truncate path size) t a f tests =
     let c = Truncate path size in
     let node = node_same old new c f path (at_first path []) (file_named old.tree t c path (at_first path []) a.source) in
-    λ k. at IsDir (is_directory_node (node k)) ∷ at TooBig (nat_lt file_limit size) ∷ at NoPages (nat_lt (free.pages k) (needs k)) ∷ []
-rows_by supply later old new (Read path offset count) t a f free needs =
+    λ k. at IsDir (is_directory_node (node k)) ∷ at TooBig (nat_lt file_limit size) ∷ at NoPages (tests.pages k) ∷ []
+rows_by supply later old new (Read path offset count) t a f tests =
     let c = Read path offset count in
     let node = node_same old new c f path (at_first path []) (file_named old.tree t c path (at_first path []) a.source) in
     λ k. at IsDir (is_directory_node (node k)) ∷ at TooBig (nat_lt read_limit count) ∷ []
-rows_by supply later old new (Tell path) t a f free needs = refl
-rows_by supply later old new (Show path) t a f free needs =
+rows_by supply later old new (Tell path) t a f tests = refl
+rows_by supply later old new (Show path) t a f tests =
     let c = Show path in
     let here = at_first path [] in
     let node = node_same old new c f path here (names_at old.tree t c path (id_of old.tree path) here (a.named ∙ ap Some (sym a.is))) in
     λ k. at NotDir (is_file_node (node k)) ∷ []
-rows_by supply later old new Df t a f free needs = refl
+rows_by supply later old new Df t a f tests = refl
 
 -- ---- the fences
 
@@ -241,12 +286,12 @@ fences_by supply old new Df t a f needs after = refl
 
 -- ---- all three
 
-pub still_in_tree : (supply later : Supply) (old new : State) (c : Command) → IsTree old.tree → refusal_with supply old.tree old.room c ≡ None → FindsSame c old new → IsAsMuchFree supply later old new
+pub still_in_tree : (supply later : Supply) (old new : State) (c : Command) → IsTree old.tree → refusal_with supply old.tree old.room c ≡ None → FindsSame c old new → HasEnough later old new c
     → IsStillAccepted later old new c
-still_in_tree supply later old new c t accepted f free =
+still_in_tree supply later old new c t accepted f enough =
     let a = Accepted-from_row supply old.tree old.room c t accepted in
     let needs = need_by supply old new c t a f in
-    let rows = rows_by supply later old new c t a f free needs in
+    let rows = rows_by supply later old new c t a f (tests_by supply later old new c accepted a enough needs) in
     let refusals : refusal_with later new.tree new.room c ≡ refusal_with supply old.tree old.room c = λ k. first (f.walks k ++ rows k) in
     record { accepted = refusals ∙ accepted; need = needs; fences = fences_by supply old new c t a f needs }
 

@@ -1,5 +1,5 @@
 -- A command that doesn't name a file does the same whatever the file's bytes are.
-use Rattle.std.proofs.Common.{◌≡◌, ◌≢◌, ℕ, ◌+◌, ◌-◌, Bool, true, false, cond, ◌&&◌, ◌||◌, ◌==◌, List, [], ◌∷◌, length, take, drop, count_by, Option, Some, None, is_some, refl, sym, ap, subst, ◌∙◌, arith, true≢false, nat_cmp}
+use Rattle.std.proofs.Common.{◌≡◌, ◌≢◌, ℕ, ◌+◌, ◌-◌, ◌≤◌, Bool, true, false, cond, ◌&&◌, ◌||◌, ◌==◌, List, [], ◌∷◌, length, take, drop, count_by, Option, Some, None, is_some, refl, sym, ap, subst, ◌∙◌, arith, true≢false, nat_cmp}
 use Rattle.std.specs.List.{Contains, list_any}
 use Rattle.std.specs.Ordering.{eq_by_cmp}
 use Rattle.std.specs.Cmp.{nat_cmp_total}
@@ -8,8 +8,8 @@ use Rattle.std.specs.FinMap.Entries.{length-put}
 use Rattle.layout.specs.Geometry.{pieces, inodes_of, data_pages_of}
 use Rattle.tree_model.specs.PathText.{Route}
 use Rattle.tree_model.specs.Tree.{Tree, Node, Directory, File, Room, IsTree, id_at, node_at, node_pages, is_directory, is_directory_node, bytes_of_node, is_number, entries_in, name_count, path_count, page_bytes, pages_in}
-use Rattle.tree_model.specs.Capacity.{Supply, inodes_in_use, pages_in_use}
-use Rattle.tree_model.specs.Step.{Status, Bytes, Space, refusal_with, id_of, without_path, without_unnamed, with_new, with_bytes, overwritten, resized, page_for_name, pages_after, room_after, answer_of, tree_after}
+use Rattle.tree_model.specs.Capacity.{Supply, inodes_in_use, pages_in_use, free_inodes, free_pages}
+use Rattle.tree_model.specs.Step.{Status, Bytes, Space, refusal_with, id_of, without_path, without_unnamed, with_new, with_bytes, overwritten, resized, page_for_name, pages_after, room_after, answer_of, tree_after, need}
 use Rattle.tree_model.specs.Accepted.{Accepted}
 use Rattle.tree_model.specs.declared.command.Command.{Command}
 use Rattle.tree_model.specs.declared.command.Command.TheVariants.{Create, Mkdir, Link, Unlink, Rmdir, Rename, Write, Truncate, Read, Stat as Tell, List as Show, Df}
@@ -19,12 +19,13 @@ use Rattle.tree_model.proofs.TreeLaws.{same_id, same_room, node_at-with_new, sam
 use Rattle.tree_model.proofs.TreeEdits.{IsTree-with_bytes}
 use Rattle.tree_model.proofs.RoomLaws.{get-room_after}
 use Rattle.tree_model.proofs.AcceptedLaws.{Accepted-from_row}
-use Rattle.naming_laws.specs.Naming.{paths_of, names_all, is_at_one_of, names_inode}
-use Rattle.naming_laws.specs.Still.{FindsSame, IsAsMuchFree, DifferInBytes, DoesSame, TornLaw}
+use Rattle.tree_model.proofs.FitsLaws.{need-le-free}
+use Rattle.naming_laws.specs.Naming.{paths_of, names_all, is_at_one_of, names_inode, inode_need}
+use Rattle.naming_laws.specs.Still.{FindsSame, HasEnough, DifferInBytes, DoesSame, TornLaw}
 use Rattle.naming_laws.proofs.Named.{at_first, names_at}
 use Rattle.naming_laws.proofs.Edits.{kept_at, leaves_by}
 use Rattle.naming_laws.proofs.Walks.{same_walks}
-use Rattle.naming_laws.proofs.Still.{same_gaining, same_losing, still_in_tree}
+use Rattle.naming_laws.proofs.Still.{same_gaining, same_losing, inodes_enough, still_in_tree}
 
 -- ---- the torn tree is the tree with the torn bytes
 
@@ -76,11 +77,11 @@ module _ (T : Tree) (t : IsTree T) (file : ℕ) (bytes torn : List ℕ) (is : no
       let same : pieces (length torn) page_bytes ≡ pieces (length bytes) page_bytes = ap (λ n. pieces n page_bytes) size in
       omega (arith, placed, was, same)
 
-  as_much_free : (supply : Supply) (room : Room) → IsAsMuchFree supply supply (record { tree = T; room = room }) (record { tree = V; room = room })
-  as_much_free supply room = record {
-    inodes = ap (λ n. inodes_of supply.pages - (n + supply.taken_inodes)) same_inodes;
-    pages = ap (λ n. data_pages_of supply.pages - (n + supply.taken_pages)) (same_pages room);
-  }
+  free_inodes_same : (supply : Supply) → free_inodes supply V ≡ free_inodes supply T
+  free_inodes_same supply = ap (λ n. inodes_of supply.pages - (n + supply.taken_inodes)) same_inodes
+
+  free_pages_same : (supply : Supply) (room : Room) → free_pages supply V room ≡ free_pages supply T room
+  free_pages_same supply room = ap (λ n. data_pages_of supply.pages - (n + supply.taken_pages)) (same_pages room)
 
   -- ---- what is found beside the file
 
@@ -116,8 +117,14 @@ module _ (T : Tree) (t : IsTree T) (file : ℕ) (bytes torn : List ℕ) (is : no
       pages = λ i named. refl;
     }
 
+    has_enough : HasEnough supply (record { tree = T; room = room }) (record { tree = V; room = room }) c
+    has_enough = record {
+      inodes = subst (λ n. inode_need c ≤ n) (sym (free_inodes_same supply)) (inodes_enough supply T room c (Accepted-from_row supply T room c t accepted));
+      pages = subst (λ n. need T room c ≤ n) (sym (free_pages_same supply room)) (need-le-free supply T room c accepted);
+    }
+
     accepted_beside : refusal_with supply V room c ≡ None
-    accepted_beside = (still_in_tree supply supply (record { tree = T; room = room }) (record { tree = V; room = room }) c t accepted finds_beside (as_much_free supply room)).accepted
+    accepted_beside = (still_in_tree supply supply (record { tree = T; room = room }) (record { tree = V; room = room }) c t accepted finds_beside has_enough).accepted
 
     -- the node at a path of the command
     node_beside : (q : Route) (i : ℕ) → Contains (paths_of c) q → id_at T q ≡ Some i → id_of T q ≡ i → node_at V (id_of T q) ≡ node_at T (id_of T q)
@@ -149,8 +156,9 @@ module _ (T : Tree) (t : IsTree T) (file : ℕ) (bytes torn : List ℕ) (is : no
       })
   answer_same supply room (Show path) e apart a = refl
   answer_same supply room Df e apart a =
-      let free = as_much_free supply room in
-      λ k. Space (record { inodes = free.inodes k; inodes_all = inodes_of supply.pages; pages = free.pages k; pages_all = data_pages_of supply.pages })
+      let inodes = free_inodes_same supply in
+      let pages = free_pages_same supply room in
+      λ k. Space (record { inodes = inodes k; inodes_all = inodes_of supply.pages; pages = pages k; pages_all = data_pages_of supply.pages })
 
   -- ---- the tree
 

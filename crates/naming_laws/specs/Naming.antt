@@ -46,3 +46,18 @@ names_inode T c id = if names_all c then is_some (node_at T id) else is_at_one_o
 -- no node is named by both
 abbrev pub AreApart : Tree → Command → Command → Type 0
 AreApart T one other = (id : ℕ) → names_inode T one id ≡ true → names_inode T other id ≡ false
+
+-- how many inodes a command takes
+abbrev pub inode_need : Command → ℕ
+inode_need (Create path) = 1
+inode_need (Mkdir path) = 1
+inode_need (Link from to) = 0
+inode_need (Unlink path) = 0
+inode_need (Rmdir path) = 0
+inode_need (Rename from to) = 0
+inode_need (Write path offset bytes) = 0
+inode_need (Truncate path size) = 0
+inode_need (Read path offset count) = 0
+inode_need (Tell path) = 0
+inode_need (Show path) = 0
+inode_need Df = 0

@@ -1,5 +1,5 @@
 -- What commands that name nothing of each other leave of what the other finds.
-use Rattle.std.specs.Prelude.{◌≡◌, ◌≢◌, ℕ, Bool, true, false, List, length, Some, None}
+use Rattle.std.specs.Prelude.{◌≡◌, ◌≢◌, ℕ, ◌≤◌, Bool, true, false, List, length, Some, None}
 use Rattle.std.specs.List.{Contains}
 use Rattle.tree_model.specs.PathText.{Route}
 use Rattle.tree_model.specs.Tree.{Tree, File, Room, id_at, node_at, name_count, path_count, pages_in}
@@ -8,7 +8,7 @@ use Rattle.tree_model.specs.Step.{walk_faults, need, refusal_with, resolved, ans
 use Rattle.tree_model.specs.Run.{State, IsVolumeState}
 use Rattle.tree_model.specs.Fences.{fences_of_accepted}
 use Rattle.tree_model.specs.declared.command.Command.{Command}
-use Rattle.naming_laws.specs.Naming.{paths_of, names_inode, AreApart}
+use Rattle.naming_laws.specs.Naming.{paths_of, names_inode, AreApart, inode_need}
 
 -- ---- a command that waits
 
@@ -19,7 +19,8 @@ pub record Enters (supply : Supply) (id : ℕ) (old new : State) (c : Command) :
   pub tree : new.tree ≡ tree_after id old.tree (resolved old.tree c)
   pub room : RoomAfterWith None id old.tree old.room c new.room
 
--- The command finds the same in both states: its walks, the ids of its paths, and of the nodes that it names all that it asks for.
+-- The command finds the same in both states: its walks, the ids of its paths, and of each id that it names the node and how many names,
+-- paths and pages it has.
 pub record FindsSame (c : Command) (old new : State) : Type 0 where
   pub walks : walk_faults new.tree c ≡ walk_faults old.tree c
   pub ids : (path : Route) → Contains (paths_of c) path → id_at new.tree path ≡ id_at old.tree path
@@ -39,10 +40,10 @@ abbrev pub UnusedLaw : Type 0
 UnusedLaw = (volume : ℕ) (supply : Supply) (id : ℕ) (old new : State) (other : Command) → IsVolumeState volume old → Enters supply id old new other
     → (free : ℕ) → node_at old.tree free ≡ None → free ≢ id → node_at new.tree free ≡ None
 
--- as much is free by the one supply as by the other
-pub record IsAsMuchFree (supply later : Supply) (old new : State) : Type 0 where
-  pub inodes : free_inodes later new.tree ≡ free_inodes supply old.tree
-  pub pages : free_pages later new.tree new.room ≡ free_pages supply old.tree old.room
+-- As much is free as the command needed.
+pub record HasEnough (later : Supply) (old new : State) (c : Command) : Type 0 where
+  pub inodes : inode_need c ≤ free_inodes later new.tree
+  pub pages : need old.tree old.room c ≤ free_pages later new.tree new.room
 
 -- It is accepted still, needs as many pages, and takes as many fences, whatever state it leaves.
 pub record IsStillAccepted (later : Supply) (old new : State) (c : Command) : Type 0 where
@@ -52,7 +53,7 @@ pub record IsStillAccepted (later : Supply) (old new : State) (c : Command) : Ty
 
 abbrev pub StillLaw : Type 0
 StillLaw = (volume : ℕ) (supply later : Supply) (old new : State) (c : Command) → IsVolumeState volume old → refusal_with supply old.tree old.room c ≡ None → FindsSame c old new
-    → IsAsMuchFree supply later old new → IsStillAccepted later old new c
+    → HasEnough later old new c → IsStillAccepted later old new c
 
 -- ---- a file whose bytes are being written
 

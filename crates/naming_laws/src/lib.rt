@@ -1,4 +1,4 @@
-//! Which nodes a command names, and that commands which name nothing of each other find the same in either order.
+//! Which nodes a command names, and that one which names nothing of what another names finds the same after it.
 #![tactic(auto)]
 
 ghost use Rattle.naming_laws.specs.Still.{ApartLaw, UnusedLaw, StillLaw, TornLaw};
@@ -9,7 +9,7 @@ pub fn apart_law()
     ensures unused { UnusedLaw }
 {}
 
-/// A command that finds the same where as much is free is accepted still, with the same need and the same fences.
+/// A command that finds the same where enough is free is accepted still, with the same need and the same fences.
 pub fn still_law()
     ensures { StillLaw }
 {}

@@ -28,4 +28,5 @@ pub mod SizedRaised
 pub mod SizedLowered
 pub mod SizedTaken
 pub mod SizedFilled
-mod Swapped
+mod Ordered
+mod SizedInside

@@ -1,5 +1,6 @@
 -- The residue of several calls together.
-use Rattle.std.specs.Prelude.{◌≡◌, ℕ, List, ◌++◌, Option, Some, None}
+use Rattle.std.specs.Prelude.{◌≡◌, ◌↔◌, ℕ, List, ◌++◌, Option, Some, None}
+use Rattle.image_reading.specs.Counts.{IsIn, IsDistinct}
 use Rattle.image_reading.specs.Residue.{Residue, IsTidyBeside}
 
 abbrev pub first_of : Option ℕ → Option ℕ → Option ℕ
@@ -15,6 +16,20 @@ joined one other = record {
   counts = one.counts ++ other.counts;
 }
 
--- A call that left no pointer may stand behind another one.
-abbrev pub SwappedLaw : Type 0
-SwappedLaw = (P : ℕ) (I : List ℕ) (one two rest : Residue) → one.pointer ≡ None → IsTidyBeside P I (joined one (joined two rest)) → IsTidyBeside P I (joined two (joined one rest))
+-- ---- the order of places
+
+-- the other list has the same numbers, each once
+pub record HasSameNumbers (xs ys : List ℕ) : Type 0 where
+  pub distinct : IsDistinct ys
+  pub each : (x : ℕ) → IsIn x ys ↔ IsIn x xs
+
+pub record HasSamePlaces (one other : Residue) : Type 0 where
+  pub pointer : other.pointer ≡ one.pointer
+  pub slots : HasSameNumbers one.slots other.slots
+  pub pages : HasSameNumbers one.pages other.pages
+  pub inodes : HasSameNumbers one.inodes other.inodes
+  pub counts : HasSameNumbers one.counts other.counts
+
+-- It doesn't matter in which order the places stand, and so in which order the calls.
+abbrev pub AnyOrderLaw : Type 0
+AnyOrderLaw = (P : ℕ) (I : List ℕ) (one other : Residue) → HasSamePlaces one other → IsTidyBeside P I one → IsTidyBeside P I other

@@ -1,4 +1,4 @@
--- A file gets new pages and a greater size, or a smaller size: what each step leaves to be repaired, beside other calls. P is the number of
+-- A file's bytes change, or it gets new pages and a greater size, or a smaller size: what each step leaves to be repaired, beside other calls. P is the number of
 -- pages, I the words before a step, J those after it.
 use Rattle.std.specs.Prelude.{◌≡◌, ◌↔◌, ℕ, ◌<◌, ◌≤◌, List, [], None, Contains}
 use Rattle.layout.specs.Fields.{inode_size, page_kind, page_offset}
@@ -10,8 +10,14 @@ use Rattle.image_reading.specs.Residue.{Residue, IsTidyBeside}
 use Rattle.image_reading.specs.Soundness.{IsCoherent}
 use Rattle.image_counts.specs.Entries.{IsPageIn}
 use Rattle.image_laws.specs.Frame.{SameShape}
+use Rattle.content_laws.specs.Inside.{WritesInside}
 use Rattle.content_laws.specs.Growth.{FillsFile, TakesPages, sized}
 use Rattle.weave_laws.specs.Joined.{joined}
+
+-- Bytes below the size are written: what was left is left.
+abbrev pub WrittenInsideLaw : Type 0
+WrittenInsideLaw = (P : ℕ) (I J : List ℕ) (i offset : ℕ) (bytes : List ℕ) (residue : Residue) → IsCoherent P I → Reached P I i → WritesInside P I J i offset bytes → SameShape P I J
+    → IsTidyBeside P I residue → IsTidyBeside P J residue
 
 -- pages that the file doesn't reach: new ones before its size rises, and those behind its end once it fell
 abbrev pub behind_left : List ℕ → Residue
@@ -23,7 +29,7 @@ FilledLaw = (P : ℕ) (I J : List ℕ) (i offset : ℕ) (bytes pages : List ℕ)
     → ((j : ℕ) → Contains pages j → (j < data_pages_of P) × IsZeroDescriptor P I j) → FillsFile P I J i offset bytes pages → SameShape P I J
     → IsTidyBeside P I others → IsTidyBeside P J (joined (behind_left pages) others)
 
--- A page of kind 1 that has no owner, behind the end of file i.
+-- A page of the residue, of kind 1, with an offset behind the end of file i.
 pub record IsFilledPage (P : ℕ) (I : List ℕ) (residue : Residue) (i j : ℕ) : Type 0 where
   pub left : IsIn j residue.pages
   pub kind : page_kind P I j ≡ 1

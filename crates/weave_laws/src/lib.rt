@@ -3,14 +3,14 @@
 
 ghost use Rattle.weave_laws.specs.Paging.{PagedNodeWrittenLaw, PagedLinkWrittenLaw, PageOwnedLaw};
 ghost use Rattle.weave_laws.specs.Unnaming.{UnnamedLaw};
-ghost use Rattle.weave_laws.specs.Sizing.{FilledLaw, TakenLaw, RaisedLaw, LoweredLaw};
+ghost use Rattle.weave_laws.specs.Sizing.{WrittenInsideLaw, FilledLaw, TakenLaw, RaisedLaw, LoweredLaw};
 ghost use Rattle.weave_laws.specs.Removing.{ClearedLaw, GivenLaw, FreedLaw};
-ghost use Rattle.weave_laws.specs.Joined.{SwappedLaw};
+ghost use Rattle.weave_laws.specs.Joined.{AnyOrderLaw};
 ghost use Rattle.weave_laws.specs.Naming.{NodeWrittenLaw, LinkWrittenLaw, NodeCommittedLaw, LinkCommittedLaw};
 
-/// The order of calls doesn't matter to what they have left together.
+/// The order in which calls have left places doesn't matter.
 pub fn joined_law()
-    ensures { SwappedLaw }
+    ensures { AnyOrderLaw }
 {}
 
 /// A name that is written, with a new node or with a link, leaves its slot, the inode and the link word that rose.
@@ -46,8 +46,10 @@ pub fn unnamed_law()
     ensures { UnnamedLaw }
 {}
 
-/// New pages of a file are left from when they are filled until its size rises over them, and pages behind its end from when it falls.
+/// Bytes that are written below a file's size leave what was left. New pages are left from when they are filled until the size rises over
+/// them, and pages behind the end from when it falls.
 pub fn sized_law()
+    ensures inside { WrittenInsideLaw }
     ensures filled { FilledLaw }
     ensures taken { TakenLaw }
     ensures raised { RaisedLaw }

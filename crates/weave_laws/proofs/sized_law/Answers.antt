@@ -1,8 +1,12 @@
 use Rattle.weave_laws.proofs.SizedFilled.{filled_law}
+use Rattle.weave_laws.proofs.SizedInside.{written_inside_law}
 use Rattle.weave_laws.proofs.SizedLowered.{lowered_law}
 use Rattle.weave_laws.proofs.SizedRaised.{raised_law}
 use Rattle.weave_laws.proofs.SizedTaken.{taken_law}
 use Rattle.weave_laws.proofs.sized_law.Goals as goal
+
+pub returns-clause-inside : goal.returns-clause-inside
+returns-clause-inside c = written_inside_law
 
 pub returns-clause-filled : goal.returns-clause-filled
 returns-clause-filled c = filled_law

@@ -1,0 +1,47 @@
+-- Bytes of a file below its size are written: nothing is left that wasn't, and nothing goes.
+use Rattle.std.proofs.Common.{◌↔◌, ℕ, List, sym, subst, arith}
+use Rattle.layout.specs.Geometry.{descriptor_word_of}
+use Rattle.image_reading.specs.Reading.{Reached}
+use Rattle.image_reading.specs.Repairs.{IsLitterPage}
+use Rattle.image_reading.specs.Residue.{Residue, IsTidyBeside}
+use Rattle.image_reading.specs.Soundness.{IsCoherent}
+use Rattle.image_laws.specs.Frame.{SameShape}
+use Rattle.image_laws.proofs.Addresses.{descriptor-ne_page}
+use Rattle.content_laws.specs.Inside.{WritesInside}
+use Rattle.content_laws.specs.Mix.{IsBytesWord, StoresContent}
+use Rattle.content_laws.proofs.Quiet as quiet
+use Rattle.weave_laws.specs.Sizing.{WrittenInsideLaw}
+use Rattle.weave_laws.proofs.Listed.{listed_same}
+use Rattle.weave_laws.proofs.Sized as after
+use Rattle.weave_laws.proofs.Sized.{ChangesFile}
+
+module _ (P : ℕ) (I J : List ℕ) (i offset : ℕ) (bytes : List ℕ) (coherent : IsCoherent P I) (reached : Reached P I i) (writes : WritesInside P I J i offset bytes) (shape : SameShape P I J) where
+  stores : StoresContent P I J
+  stores = record {
+    size = writes.size;
+    others = λ a none. writes.others a (λ k j w page lt e. none (subst (IsBytesWord P I) (sym e) (IsBytesWord.bytes j w page.in_range lt page.kind)));
+  }
+
+  abbrev change : ChangesFile P I J i (λ j. ⊥)
+  change = record {
+    before = coherent;
+    after = shape.coherent;
+    file = reached;
+    names = shape.names;
+    descriptors = λ j f lt l3 none. writes.others (descriptor_word_of P j f) (λ k h w page l e. descriptor-ne_page P j f h w lt (omega (arith, l3)) e);
+    unheld = λ t none held. none;
+    unheld_after = λ t none held. none;
+    slots = λ t f held lt. quiet.slot_same P I J stores t f lt held;
+    inodes = λ x f some most lt why. quiet.inode_same P I J stores x f some most (omega (arith, lt));
+  }
+
+  page_same : (j : ℕ) → IsLitterPage P I j ↔ IsLitterPage P J j
+  page_same j = after.page_same change (λ x r. (shape.inodes x r).size) j (λ none. none)
+
+  pub left_as_it_was : (residue : Residue) → IsTidyBeside P I residue → IsTidyBeside P J residue
+  left_as_it_was residue tidy = after.tidy_after change residue.pages residue.pages residue tidy
+      (listed_same (IsLitterPage P I) (IsLitterPage P J) residue.pages page_same tidy.of_pages)
+      (λ j among. after.mark_kept change j (λ none. none) ((tidy.of_pages.each j).0 among).in_range (tidy.marks j among))
+
+pub written_inside_law : WrittenInsideLaw
+written_inside_law P I J i offset bytes residue coherent reached writes shape tidy = left_as_it_was P I J i offset bytes coherent reached writes shape residue tidy
