@@ -3,23 +3,26 @@ use Rattle.std.proofs.Common.{◌≡◌, ◌≢◌, inl, inr, ℕ, zero, suc, �
 use Rattle.std.proofs.lemmas.Option.{slice_get_within}
 use Rattle.std.proofs.lemmas.List.Sums.{sum_by-cons}
 use Rattle.pm_trait.specs.DeviceView.{DeviceView}
-use Rattle.layout.specs.Geometry.{inodes_of}
+use Rattle.layout.specs.Geometry.{inodes_of, data_pages_of}
 use Rattle.layout.specs.Fields.{inode_kind}
 use Rattle.tree_model.specs.Capacity.{free_inodes, free_pages, untaken}
 use Rattle.tree_model.specs.Step.{least_free_id}
 use Rattle.tree_model.specs.Run.{State}
 use Rattle.image_reading.specs.Counts.{IsIn, IsDistinct, Count}
+use Rattle.image_reading.specs.Residue.{Residue, no_residue}
 use Rattle.image_reading.specs.Soundness.{root}
 use Rattle.image_reading.proofs.Counts.{count_none}
 use Rattle.image_reading.proofs.Tidied.{tidied}
-use Rattle.image_counts.specs.Entries.{IsFreePage, IsFreeInode}
+use Rattle.image_counts.specs.Entries.{IsUnusedDataPage, IsFreeInode}
+use Rattle.image_counts.specs.Laws.{ReadsBeside, supply_beside}
+use Rattle.image_counts.proofs.Beside.{page_count_beside_law}
 use Rattle.image_counts.proofs.Counting.{count_alike}
-use Rattle.image_counts.proofs.Inodes.{free_inode_law}
-use Rattle.image_counts.proofs.Tidied.{page_count_law}
+use Rattle.image_counts.proofs.Inodes.{free_inode_beside_law, free_inode_law}
 use Rattle.allocators.specs.Numbers.{IsFree, IsLowest, free_in}
 use Rattle.volume.specs.Volume.{VolumeView}
 use Rattle.volume.specs.Stands.{StandsFor}
-use Rattle.volume.proofs.Places.{free_page, page_free}
+use Rattle.volume.specs.Beside.{StandsBeside}
+use Rattle.volume.proofs.Beside.{stands_beside}
 
 abbrev counted : Bool → ℕ
 counted is_free = cond is_free 1 0
@@ -115,30 +118,57 @@ one_back k = omega arith
 not_both : (kind : ℕ) → kind ≡ 2 → kind ≡ 0 → ⊥
 not_both kind two none = omega (arith, two, none)
 
-module _ (volume : VolumeView) (device : DeviceView) (state : State) (stands : StandsFor volume device state) where
-  pub free_inode : (k : ℕ) → IsFree volume.inodes k → IsFreeInode volume.size device.words (suc k)
-  free_inode k free =
+module _ (volume : VolumeView) (device : DeviceView) (state : State) (residue : Residue) (stands : StandsBeside volume device state residue) where
+  reads_beside : ReadsBeside volume.size device.words residue state
+  reads_beside = record { coherent = stands.sound.coherent; beside = stands.beside; reads = stands.reads }
+
+  free_inode_beside : (k : ℕ) → IsFree volume.inodes k → IsFreeInode volume.size device.words (suc k)
+  free_inode_beside k free =
       let inside = slice_get_within volume.inodes k true free in
       let most : suc k ≤ inodes_of volume.size = omega (arith, inside, stands.knows.each_inode) in
       (omega arith, most, (stands.knows.inodes (suc k) (omega arith) most).0 (subst (IsFree volume.inodes) (one_back k) free))
 
-  pub inode_free : (i : ℕ) → IsFreeInode volume.size device.words i → IsFree volume.inodes (i - 1)
-  inode_free i (least, most, unused) = (stands.knows.inodes i least most).1 unused
+  inode_free_beside : (i : ℕ) → IsFreeInode volume.size device.words i → IsFree volume.inodes (i - 1)
+  inode_free_beside i (least, most, unused) = (stands.knows.inodes i least most).1 unused
 
   inodes_counted : Count (IsFreeInode volume.size device.words) (free_in volume.inodes)
   inodes_counted =
       count_alike (IsOneMore (IsFree volume.inodes)) (IsFreeInode volume.size device.words) (free_in volume.inodes)
-      (λ i (k, same, free). subst (IsFreeInode volume.size device.words) (sym same) (free_inode k free))
-      (λ i unused. (i - 1, omega (arith, unused.0), inode_free i unused))
+      (λ i (k, same, free). subst (IsFreeInode volume.size device.words) (sym same) (free_inode_beside k free))
+      (λ i unused. (i - 1, omega (arith, unused.0), inode_free_beside i unused))
       (count_more (IsFree volume.inodes) (free_in volume.inodes) (count_free volume.inodes))
 
+  pub free_inodes_beside : free_inodes (supply_beside volume.size residue) state.tree ≡ free_in volume.inodes
+  free_inodes_beside = (free_inode_beside_law volume.size device.words residue state reads_beside).free (free_in volume.inodes) inodes_counted
+
+  unused_page : (j : ℕ) → IsFree volume.data_pages j → IsUnusedDataPage volume.size device.words j
+  unused_page j free =
+      let inside = slice_get_within volume.data_pages j true free in
+      let below : j < data_pages_of volume.size = omega (arith, inside, stands.knows.each_page) in
+      (below, (stands.knows.data_pages j below).0 free)
+
+  page_unused : (j : ℕ) → IsUnusedDataPage volume.size device.words j → IsFree volume.data_pages j
+  page_unused j (below, unused) = (stands.knows.data_pages j below).1 unused
+
+  pub free_pages_beside : free_pages (supply_beside volume.size residue) state.tree state.room ≡ free_in volume.data_pages
+  free_pages_beside =
+      (page_count_beside_law volume.size device.words residue state reads_beside).free (free_in volume.data_pages)
+      (count_alike (IsFree volume.data_pages) (IsUnusedDataPage volume.size device.words) (free_in volume.data_pages) unused_page page_unused (count_free volume.data_pages))
+
+-- ---- and where no call runs
+
+module _ (volume : VolumeView) (device : DeviceView) (state : State) (stands : StandsFor volume device state) where
+  free_inode : (k : ℕ) → IsFree volume.inodes k → IsFreeInode volume.size device.words (suc k)
+  free_inode = free_inode_beside volume device state no_residue (stands_beside stands)
+
+  pub inode_free : (i : ℕ) → IsFreeInode volume.size device.words i → IsFree volume.inodes (i - 1)
+  inode_free = inode_free_beside volume device state no_residue (stands_beside stands)
+
   pub free_inodes_are : free_inodes (untaken volume.size) state.tree ≡ free_in volume.inodes
-  free_inodes_are = (free_inode_law volume.size device.words state (tidied stands.tidy) stands.reads).free (free_in volume.inodes) inodes_counted
+  free_inodes_are = free_inodes_beside volume device state no_residue (stands_beside stands)
 
   pub free_pages_are : free_pages (untaken volume.size) state.tree state.room ≡ free_in volume.data_pages
-  free_pages_are =
-      (page_count_law volume.size device.words state (tidied stands.tidy) stands.reads).free (free_in volume.data_pages)
-      (count_alike (IsFree volume.data_pages) (IsFreePage volume.size device.words) (free_in volume.data_pages) (free_page volume device (state, stands)) (page_free volume device (state, stands)) (count_free volume.data_pages))
+  free_pages_are = free_pages_beside volume device state no_residue (stands_beside stands)
 
   -- the root's inode isn't free
   pub root_taken : IsFree volume.inodes 0 → ⊥

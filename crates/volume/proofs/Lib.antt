@@ -1,3 +1,5 @@
+pub mod Beside
+pub mod WalkedBeside
 pub mod Statuses
 pub mod Walked
 pub mod Ways

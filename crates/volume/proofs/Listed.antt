@@ -1,4 +1,4 @@
--- The names of a directory, in the tree and in the index.
+-- The names of a directory, in the tree and in the index, beside calls that run.
 use Rattle.std.proofs.Common.{◌≡◌, inl, inr, ℕ, zero, suc, ◌≤◌, Bool, true, false, cond, T, List, [], ◌∷◌, ◌++◌, length, map, filter, Option, Some, None, refl, sym, ap, subst, ◌∙◌, Ordering, Less, Equal, Greater, eq-eqb, eqb-true}
 use Rattle.std.specs.Prelude.{slice_get}
 use Rattle.std.proofs.lemmas.List.{length-map}
@@ -25,10 +25,10 @@ use Rattle.volatile_index.specs.Entries.{IsSorted}
 use Rattle.volatile_index.proofs.EntryLaws.{differs, turned, sorted_tail, less_than_contained}
 use Rattle.volatile_index.specs.Index.{entries_of}
 use Rattle.volatile_index.specs.declared.entry.Entry.{Entry}
-use Rattle.image_reading.proofs.Tidied.{tidied}
+use Rattle.image_reading.specs.Residue.{Residue}
 use Rattle.volume.specs.Volume.{VolumeView}
-use Rattle.volume.specs.Stands.{StandsFor}
-use Rattle.volume.proofs.Walked.{stands_tree, in_table}
+use Rattle.volume.specs.Beside.{StandsBeside}
+use Rattle.volume.proofs.WalkedBeside.{stands_tree, in_table}
 use Rattle.volume.proofs.Statuses.{among_contained, contained_among}
 use Rattle.volume.proofs.Ways.{whole_path}
 
@@ -154,13 +154,13 @@ directory_path T tree d directory = tree.named d (there (Rattle.tree_model.specs
     there None e = cc
     there (Some node) e = refl
 
-module _ (volume : VolumeView) (device : DeviceView) (state : State) (stands : StandsFor volume device state)
+module _ (volume : VolumeView) (device : DeviceView) (state : State) (residue : Residue) (stands : StandsBeside volume device state residue)
     (d : ℕ) (directory : is_directory state.tree d ≡ true) (sorted : IsSorted (entries_of volume.index d)) where
   tree : IsTree state.tree
-  tree = stands_tree volume device state stands
+  tree = stands_tree volume device state residue stands
 
   within : (1 ≤ d) × (d ≤ inodes_of volume.size)
-  within = in_table volume device d (state, stands) (((size_law volume.size device.words state (tidied stands.tidy).coherent stands.reads).directories d).0 directory).0
+  within = in_table volume device d (state, residue, stands) (((size_law volume.size device.words state stands.sound.coherent stands.reads).directories d).0 directory).0
 
   -- each entry of the tree in the directory stands below its path
   inside : (front : Route) → id_at state.tree front ≡ Some d → (e : Route × ℕ) → Among e (entries_in state.tree d) → e.0 ≡ front ++ last_name e.0 ∷ []
@@ -176,7 +176,7 @@ module _ (volume : VolumeView) (device : DeviceView) (state : State) (stands : S
       let (e, there, same) = of_map last_of (entries_in state.tree d) name among in
       let is = (some_names state.tree (λ e. Unit {0}) state.tree.names.entries (λ e. is_in state.tree d e.0) (all_names state.tree)).are e there in
       let path = inside front at_front e there ∙ ap (λ (n : List ℕ). front ++ n ∷ []) (sym same) in
-      let (slot, entry, inode) = (entry_law volume.size device.words state (tidied stands.tidy).coherent stands.reads front d e.1 name at_front).0 (ap (id_at state.tree) (sym path) ∙ is.0) in
+      let (slot, entry, inode) = (entry_law volume.size device.words state stands.sound.coherent stands.reads front d e.1 name at_front).0 (ap (id_at state.tree) (sym path) ∙ is.0) in
       let known = (stands.knows.nodes.entries d slot name within.0 within.1).1 entry in
       among_map name_of (entries_of volume.index d) (record { name = name; slot = slot }) (contained_among (record { name = name; slot = slot }) (entries_of volume.index d) known)
 
@@ -184,7 +184,7 @@ module _ (volume : VolumeView) (device : DeviceView) (state : State) (stands : S
   to_tree front at_front name among =
       let (entry, there, same) = of_map name_of (entries_of volume.index d) name among in
       let entered = (stands.knows.nodes.entries d entry.slot entry.name within.0 within.1).0 (among_contained entry (entries_of volume.index d) there) in
-      let named = (entry_law volume.size device.words state (tidied stands.tidy).coherent stands.reads front d (slot_inode volume.size device.words entry.slot) entry.name at_front).1 (entry.slot, entered, refl) in
+      let named = (entry_law volume.size device.words state stands.sound.coherent stands.reads front d (slot_inode volume.size device.words entry.slot) entry.name at_front).1 (entry.slot, entered, refl) in
       let in_it = is_in-at state.tree d (front ++ entry.name ∷ []) (not_root-below front entry.name []) ∙ ap (λ (q : Route). is_number (id_at state.tree q) d) (parent-below front entry.name) ∙ ap (λ o. is_number o d) at_front ∙ eq-eqb d d refl in
       let listed = (some_names state.tree (λ e. Unit {0}) state.tree.names.entries (λ e. is_in state.tree d e.0) (all_names state.tree)).all (front ++ entry.name ∷ []) (slot_inode volume.size device.words entry.slot) named (tt, in_it) in
       subst (λ (n : List ℕ). Among n (names_in state.tree d)) (last-below front entry.name ∙ sym same) (among_map last_of (entries_in state.tree d) (front ++ entry.name ∷ [], slot_inode volume.size device.words entry.slot) listed)

@@ -6,14 +6,17 @@ use Rattle.layout.proofs.GeometryLaws.{data_pages_below}
 use Rattle.tree_model.specs.Run.{State}
 use Rattle.tree_model.specs.declared.command.Command.{Command}
 use Rattle.image_reading.specs.Counts.{IsIn, Count}
+use Rattle.image_reading.specs.Residue.{Residue, no_residue}
 use Rattle.image_reading.specs.Soundness.{Rule}
 use Rattle.image_counts.specs.Entries.{IsPageIn}
 use Rattle.image_counts.proofs.Counting.{count_fewer, count_run}
 use Rattle.volatile_index.specs.Index.{pages_of}
 use Rattle.volume.specs.Volume.{VolumeView}
 use Rattle.volume.specs.Stands.{StandsFor, IsStanding}
+use Rattle.volume.specs.Beside.{StandsBeside, IsUntouched}
 use Rattle.volume.specs.Planned.{IsLossOf}
 use Rattle.volume.specs.declared.plan.Loss.{Loss}
+use Rattle.volume.proofs.Beside.{stands_beside, untouched_nothing}
 
 pub in_contained : (x : ℕ) (xs : List ℕ) → IsIn x xs → Contains xs x
 in_contained x [] among = absurd among
@@ -27,17 +30,29 @@ contained_in x [] (k, lt, is) = absurd (omega (arith, lt))
 contained_in x (y ∷ xs) (zero, lt, is) = inl (sym is)
 contained_in x (y ∷ xs) (suc k, lt, is) = inr (contained_in x xs (k, omega (arith, lt), is))
 
+-- ---- of an inode that no running call touches
+
+module _ (volume : VolumeView) (device : DeviceView) (state : State) (residue : Residue) (stands : StandsBeside volume device state residue) (i : ℕ)
+    (untouched : IsUntouched volume device.words residue i) (least : 1 ≤ i) (most : i ≤ inodes_of volume.size) where
+  pub listed_is_in : (page : ℕ) → Contains (pages_of volume.index i) page → IsPageIn volume.size device.words i page
+  listed_is_in page there = (stands.knows.nodes.pages i page least most (λ left. untouched.listed page left there)).0 there
+
+  pub in_is_listed : (page : ℕ) → IsPageIn volume.size device.words i page → Contains (pages_of volume.index i) page
+  in_is_listed page inside = (stands.knows.nodes.pages i page least most (λ left. untouched.apart.pages page left inside.owner)).1 inside
+
+  pub pages_counted_beside : Count (IsPageIn volume.size device.words i) (length (pages_of volume.index i))
+  pages_counted_beside = (
+    pages_of volume.index i,
+    stands.knows.nodes.once i least most,
+    (λ page. (
+      (λ among. listed_is_in page (in_contained page (pages_of volume.index i) among)),
+      (λ inside. contained_in page (pages_of volume.index i) (in_is_listed page inside)),
+    )),
+    refl,
+  )
+
 pub pages_counted : (volume : VolumeView) (device : DeviceView) (i : ℕ) → IsStanding volume device → 1 ≤ i → i ≤ inodes_of volume.size → Count (IsPageIn volume.size device.words i) (length (pages_of volume.index i))
-pages_counted volume device i (state, stands) least most =
-    let nodes = stands.knows.nodes in (
-      pages_of volume.index i,
-      nodes.once i least most,
-      (λ page. (
-        (λ among. (nodes.pages i page least most).0 (in_contained page (pages_of volume.index i) among)),
-        (λ inside. contained_in page (pages_of volume.index i) ((nodes.pages i page least most).1 inside)),
-      )),
-      refl,
-    )
+pages_counted volume device i (state, stands) least most = pages_counted_beside volume device state no_residue (stands_beside stands) i (untouched_nothing volume device.words i) least most
 
 -- ---- no more than a volume may have
 

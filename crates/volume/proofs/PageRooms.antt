@@ -10,6 +10,7 @@ use Rattle.layout.specs.Fields.{page_owner, slot_inode, slot_name}
 use Rattle.tree_model.specs.Run.{State}
 use Rattle.image_reading.specs.Counts.{Count}
 use Rattle.image_reading.specs.Reading.{HasBytes, IsDirectory, Reached, IsRoomOf}
+use Rattle.image_reading.specs.Residue.{no_residue}
 use Rattle.image_reading.proofs.Tidied.{tidied}
 use Rattle.image_counts.specs.Entries.{IsSlotOf, IsSlotIn, IsPageIn}
 use Rattle.image_counts.proofs.Links.{not_both_kinds}
@@ -23,6 +24,7 @@ use Rattle.volume.specs.Stands.{StandsFor}
 use Rattle.volume.specs.Planned.{IsVacantSlot}
 use Rattle.volume.specs.Lowest.{IsLowestOf, IsVacantAmong}
 use Rattle.volume.proofs.Places.{slots_of_page, page_is, contains_one, in_one, owner_is}
+use Rattle.volume.proofs.Beside.{stands_beside}
 use Rattle.volume.proofs.Statuses.{among_contained, contained_among, matching}
 
 some_counted : (Q : ℕ → Type 0) (n : ℕ) → 0 < n → Count Q n → (x : ℕ) × Q x
@@ -57,7 +59,7 @@ module _ (volume : VolumeView) (device : DeviceView) (state : State) (stands : S
 
   matching_in : (page : ℕ) → IsMatching HasSlot (filter (stands_in page) entries)
   matching_in page =
-      let all = matching volume device state stands d least most sorted in
+      let all = matching volume device state no_residue (stands_beside stands) d least most sorted in
       record {
         apart = filter_apart (stands_in page) entries all.apart;
         each = λ entry among. all.each entry (among_filter (stands_in page) entries entry among).0;

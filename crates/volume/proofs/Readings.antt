@@ -1,5 +1,5 @@
 -- The rows of commands that read.
-use Rattle.std.proofs.Common.{◌≡◌, ℕ, true, false, [], ◌∷◌, Option, Some, None, is_some, unwrap_or, Ok, refl, sym, ap, ◌∙◌}
+use Rattle.std.proofs.Common.{◌≡◌, ℕ, true, false, [], ◌∷◌, Option, Some, None, is_some, unwrap_or, Ok, Err, refl, sym, ap, ◌∙◌}
 use Rattle.pm_trait.specs.DeviceView.{DeviceView}
 use Rattle.tree_model.specs.PathText.{Route}
 use Rattle.tree_model.specs.Tree.{Node, Directory, File, root_id, id_at, node_at, is_directory, is_file, is_directory_node, is_file_node}
@@ -8,6 +8,7 @@ use Rattle.tree_model.proofs.WalkLaws.{id_at-from_walk}
 use Rattle.tree_model.specs.Step.{first, at, fault_of, id_of, refusal_of}
 use Rattle.tree_model.specs.Run.{State}
 use Rattle.tree_model.specs.declared.command.Command.TheVariants.{Stat as Tell, List as Show}
+use Rattle.tree_model.specs.declared.reply.Refusal.{Refusal}
 use Rattle.tree_model.specs.declared.reply.Refusal.TheVariants.{NotDir}
 use Rattle.volume.specs.Volume.{VolumeView}
 use Rattle.volume.specs.Stands.{StandsFor}
@@ -24,6 +25,12 @@ pub a_file : (o : Option Node) → is_some o ≡ true → is_directory_node o �
 a_file None there e = cc
 a_file (Some Directory) there e = cc
 a_file (Some (File bytes)) there e = refl
+
+pub told_fails : (P : ℕ) (state : State) (path : Route) (fault : Refusal) → walk state.tree path ≡ Err fault → refusal_of P state.tree state.room (Tell path) ≡ Some fault
+told_fails P state path fault e = ap (λ w. first (fault_of w ∷ [])) e
+
+pub listed_fails : (P : ℕ) (state : State) (path : Route) (fault : Refusal) → walk state.tree path ≡ Err fault → refusal_of P state.tree state.room (Show path) ≡ Some fault
+listed_fails P state path fault e = ap (λ w. first (fault_of w ∷ at NotDir (is_file state.tree (id_of state.tree path)) ∷ [])) e
 
 module _ (volume : VolumeView) (device : DeviceView) (state : State) (stands : StandsFor volume device state)
     (path : Route) (inode : ℕ) (walked : walk state.tree path ≡ Ok (record { path = path; id = inode })) where

@@ -51,7 +51,7 @@ passes_first None None rest e = refl
 pub otherwise : (b : Bool) (x y : ℕ) → b ≡ false → cond b x y ≡ y
 otherwise b x y is = ap (λ t. cond t x y) is
 
-is_some_test : (n : ℕ) → 0 < n → nat_lt 0 n ≡ true
+pub is_some_test : (n : ℕ) → 0 < n → nat_lt 0 n ≡ true
 is_some_test n some = grind (arith, nat_tests)
 
 pub is_none_test : (n : ℕ) → n ≤ 0 → nat_lt 0 n ≡ false

@@ -1,5 +1,5 @@
 -- The row of a rename, by what the volume knows.
-use Rattle.std.proofs.Common.{◌≡◌, ◌≢◌, ℕ, ◌+◌, ◌≤◌, inl, inr, Bool, true, false, cond, not, ◌&&◌, ◌||◌, ◌==◌, nat_lt, List, [], ◌∷◌, length, Contains, Option, Some, None, is_some, is_none, unwrap_or, refl, sym, ap, subst, ◌∙◌, arith, true≢false}
+use Rattle.std.proofs.Common.{◌≡◌, ◌≢◌, ℕ, ◌+◌, ◌<◌, ◌≤◌, inl, inr, Bool, true, false, cond, not, ◌&&◌, ◌||◌, ◌==◌, nat_lt, List, [], ◌∷◌, length, Contains, Option, Some, None, is_some, is_none, unwrap_or, Ok, Err, refl, sym, ap, subst, ◌∙◌, arith, true≢false}
 use Rattle.std.proofs.lemmas.List.{length-map}
 use Rattle.std.proofs.lemmas.Bool.Decides.{nat_tests}
 use Rattle.pm_trait.specs.DeviceView.{DeviceView}
@@ -9,7 +9,7 @@ use Rattle.layout.specs.declared.kinds.NodeKind.{NodeKind}
 use Rattle.layout.specs.declared.kinds.NodeKind.TheVariants.{File, Directory}
 use Rattle.tree_model.specs.PathText.{Route}
 use Rattle.tree_model.specs.Tree.{Tree, Node, IsTree, root_id, is_root, parent, is_above, is_number, id_at, node_at, is_directory, is_file, is_directory_node, is_file_node, last_name, entries_in, name_count, path_count}
-use Rattle.tree_model.specs.Walk.{walk}
+use Rattle.tree_model.specs.Walk.{Place, root_place, walk, walk_to_parent}
 use Rattle.tree_model.specs.Capacity.{free_pages, untaken}
 use Rattle.tree_model.specs.Accepted.{MayReplace}
 use Rattle.tree_model.specs.Step.{first, at, fault_of, id_of, is_same_node, names_in, page_for_name, faults_of_rename, refusal_of, least_free_id, tree_after, without_path}
@@ -38,7 +38,7 @@ use Rattle.volume.proofs.Walked.{stands_tree, reached_at}
 use Rattle.volume.proofs.Readings.{a_file, no_file}
 use Rattle.volume.proofs.Statuses.{same_state}
 use Rattle.volume.proofs.Holders.{held, named_there, named_absent, lacks_page, has_page}
-use Rattle.volume.proofs.RemovalRows.{is_none_test, otherwise, name_found, name_is, rmdir_row}
+use Rattle.volume.proofs.RemovalRows.{is_some_test, is_none_test, otherwise, name_found, name_is, rmdir_row}
 
 -- ---- how the row begins
 
@@ -51,6 +51,40 @@ or_false a b one other = λ i. one i || other i
 and_false : (b : Bool) → b && false ≡ false
 and_false true = refl
 and_false false = refl
+
+or_true : (a : Bool) → a || true ≡ true
+or_true true = refl
+or_true false = refl
+
+-- a fault of the old name's own row is the first where the new name's walk passes
+source_first : (walked : Option Refusal) (from_root to_root same : Bool) (faults : List (Option Refusal)) (fault : Refusal) → first (walked ∷ at Root from_root ∷ []) ≡ Some fault
+    → row walked None (from_root || to_root) same faults ≡ Some fault
+source_first (Some found) from_root to_root same faults fault e = e
+source_first None true to_root same faults fault e = e
+source_first None false to_root same faults fault e = cc
+
+module _ (P : ℕ) (state : State) (from to : Route) where
+  abbrev is_same : Bool
+  is_same = is_same_node state.tree from to
+
+  abbrev later : List (Option Refusal)
+  later = faults_of_rename (untaken P) state.tree state.room from to
+
+  pub rename_source_fails : (fault : Refusal) → walk state.tree from ≡ Err fault → refusal_of P state.tree state.room (Rename from to) ≡ Some fault
+  rename_source_fails fault e = ap (λ w. row (fault_of w) (fault_of (walk_to_parent state.tree to)) (is_root from || is_root to) is_same later) e
+
+  pub rename_target_fails : (place : Place) (fault : Refusal) → walk state.tree from ≡ Ok place → walk_to_parent state.tree to ≡ Err fault → refusal_of P state.tree state.room (Rename from to) ≡ Some fault
+  rename_target_fails place fault walked e = λ i. row (fault_of (walked i)) (fault_of (e i)) (is_root from || is_root to) is_same later
+
+  pub rename_to_root : (place : Place) → walk state.tree from ≡ Ok place → to ≡ [] → walk_to_parent state.tree to ≡ Ok root_place → refusal_of P state.tree state.room (Rename from to) ≡ Some Root
+  rename_to_root place walked is e =
+      let root = ap (λ (p : Route). is_root from || is_root p) is ∙ or_true (is_root from) in
+      λ i. row (fault_of (walked i)) (fault_of (e i)) (root i) is_same later
+
+  pub rename_row_fails : (place : Place) (fault : Refusal) → walk_to_parent state.tree to ≡ Ok place → name_row state.tree from ≡ Some fault → refusal_of P state.tree state.room (Rename from to) ≡ Some fault
+  rename_row_fails place fault held e =
+      ap (λ h. row (fault_of (walk state.tree from)) (fault_of h) (is_root from || is_root to) is_same later) held
+      ∙ source_first (fault_of (walk state.tree from)) (is_root from) (is_root to) is_same later fault e
 
 -- its walk passes, and it isn't the root's
 passes : (walked : Option Refusal) (b : Bool) → first (walked ∷ at Root b ∷ []) ≡ None → (walked ≡ None) × (b ≡ false)
@@ -101,6 +135,9 @@ is_file_by o false there is = a_file o there is
 pub no_names_counted : (T : Tree) (inode names : ℕ) → names ≡ length (names_in T inode) → names ≤ 0 → nat_lt 0 (name_count T inode) ≡ false
 no_names_counted T inode names is none = ap (nat_lt 0) (sym (is ∙ length-map (entries_in T inode) (λ e. last_name e.0))) ∙ is_none_test names none
 
+pub some_names_counted : (T : Tree) (inode names : ℕ) → names ≡ length (names_in T inode) → 0 < names → nat_lt 0 (name_count T inode) ≡ true
+some_names_counted T inode names is some = ap (nat_lt 0) (sym (is ∙ length-map (entries_in T inode) (λ e. last_name e.0))) ∙ is_some_test names some
+
 -- a page is given back where another condition holds too
 pub given_too : (Alone Other : Type 0) (slot : ℕ) (given : Option ℕ) → Other → IsGivenBack Alone slot given → IsGivenBack (Alone × Other) slot given
 given_too Alone Other slot None other kept = λ both. kept both.0
@@ -119,6 +156,9 @@ module _ (T : Tree) (kind : NodeKind) (inode : ℕ) (there : is_some (node_at T 
 
   pub no_file_by_directory : kind ≡ Directory → is_directory T inode ≡ false → replace_row T kind inode ≡ Some NotDir
   no_file_by_directory is onto = replaced_by true (ap is_directory_kind is) false _ onto refl
+
+  pub filled_directory : kind ≡ Directory → is_directory T inode ≡ true → nat_lt 0 (name_count T inode) ≡ true → replace_row T kind inode ≡ Some NotEmpty
+  filled_directory is onto some = replaced_by true (ap is_directory_kind is) true true onto some
 
   pub empty_directory : kind ≡ Directory → is_directory T inode ≡ true → nat_lt 0 (name_count T inode) ≡ false → replace_row T kind inode ≡ None
   empty_directory is onto none = replaced_by true (ap is_directory_kind is) true false onto none

@@ -1,4 +1,4 @@
--- What the words and the index say of a node.
+-- What the words and the index say of a node, beside calls that run.
 use Rattle.std.proofs.Common.{◌≡◌, ◌≢◌, inl, inr, ℕ, ◌≤◌, true, false, cond, List, [], ◌∷◌, length, Contains, Option, Some, None, is_some, refl, sym, ap, subst, ◌∙◌, Less}
 use Rattle.pm_trait.specs.DeviceView.{DeviceView}
 use Rattle.layout.specs.Geometry.{inodes_of}
@@ -8,12 +8,13 @@ use Rattle.tree_model.specs.Run.{State}
 use Rattle.tree_model.specs.Step.{status_of}
 use Rattle.image_reading.specs.Counts.{Count}
 use Rattle.image_reading.specs.Reading.{Reached}
+use Rattle.image_reading.specs.Residue.{Residue, no_residue}
 use Rattle.image_reading.proofs.Counts.{count_one}
 use Rattle.image_reading.proofs.Readings.{one_tree, one_room}
-use Rattle.image_reading.proofs.Tidied.{tidied}
 use Rattle.image_counts.specs.Entries.{IsEntryOf, IsSlotOf}
 use Rattle.image_counts.proofs.Counting.{Among, AreApart, IsMatching, IsMatched, count_matched, count_alike}
-use Rattle.image_counts.proofs.Links.{link_word_law}
+use Rattle.image_counts.specs.Laws.{IsApart}
+use Rattle.image_counts.proofs.Links.{link_word_beside_law}
 use Rattle.image_counts.proofs.Nodes.{size_law}
 use Rattle.image_counts.proofs.Slots.{name_count_law}
 use Rattle.volatile_index.specs.Entries.{IsSorted}
@@ -22,7 +23,9 @@ use Rattle.volatile_index.specs.Index.{entries_of}
 use Rattle.volatile_index.specs.declared.entry.Entry.{Entry}
 use Rattle.volume.specs.Volume.{VolumeView}
 use Rattle.volume.specs.Stands.{StandsFor}
-use Rattle.volume.proofs.Walked.{in_table}
+use Rattle.volume.specs.Beside.{StandsBeside}
+use Rattle.volume.proofs.Beside.{stands_beside}
+use Rattle.volume.proofs.WalkedBeside.{in_table}
 
 -- ---- entries are apart
 
@@ -46,7 +49,7 @@ sorted_apart (first ∷ entries) sorted = (
 
 -- ---- names
 
-module _ (volume : VolumeView) (device : DeviceView) (state : State) (stands : StandsFor volume device state) where
+module _ (volume : VolumeView) (device : DeviceView) (state : State) (residue : Residue) (stands : StandsBeside volume device state residue) where
   -- the entries of a directory are matched with their slots
   pub matching : (d : ℕ) → 1 ≤ d → d ≤ inodes_of volume.size → IsSorted (entries_of volume.index d) → IsMatching (λ (entry : Entry) s. entry.slot ≡ s) (entries_of volume.index d)
   matching d least most sorted = record {
@@ -82,7 +85,7 @@ module _ (volume : VolumeView) (device : DeviceView) (state : State) (stands : S
   pub names_counted : (d : ℕ) → 1 ≤ d → d ≤ inodes_of volume.size → IsSorted (entries_of volume.index d) → length (entries_of volume.index d) ≡ name_count state.tree d
   names_counted d least most sorted =
       count_one (IsSlotOf volume.size device.words d) (length (entries_of volume.index d)) (name_count state.tree d) (slots_counted d least most sorted)
-      (name_count_law volume.size device.words state (tidied stands.tidy).coherent stands.reads d)
+      (name_count_law volume.size device.words state stands.sound.coherent stands.reads d)
 
   -- ---- nodes
 
@@ -90,17 +93,17 @@ module _ (volume : VolumeView) (device : DeviceView) (state : State) (stands : S
   node_is None e = cc
   node_is (Some node) e = (node, refl)
 
-  pub node_reached : (inode : ℕ) → is_some (node_at state.tree inode) ≡ true → Reached volume.size device.words inode
-  node_reached inode there = let (node, is) = node_is (node_at state.tree inode) there in ((stands.reads.tree.nodes inode node).0 is).0
+  pub node_reached_beside : (inode : ℕ) → is_some (node_at state.tree inode) ≡ true → Reached volume.size device.words inode
+  node_reached_beside inode there = let (node, is) = node_is (node_at state.tree inode) there in ((stands.reads.tree.nodes inode node).0 is).0
 
-  pub directory_status : (inode links names : ℕ) → is_some (node_at state.tree inode) ≡ true → inode_kind device.words inode ≡ 2
+  pub directory_status : (inode links names : ℕ) → is_some (node_at state.tree inode) ≡ true → IsApart volume.size device.words residue inode → inode_kind device.words inode ≡ 2
       → links ≡ inode_links device.words inode → names ≡ length (entries_of volume.index inode) → IsSorted (entries_of volume.index inode)
       → record { dir = true; inode = inode; links = links; amount = names } ≡ status_of state.tree inode
-  directory_status inode links names there kind links_is names_is sorted =
-      let reached = node_reached inode there in
-      let directory = ((size_law volume.size device.words state (tidied stands.tidy).coherent stands.reads).directories inode).1 (reached, kind) in
-      let within = in_table volume device inode (state, stands) reached in
-      let linked = links_is ∙ sym (link_word_law volume.size device.words state (tidied stands.tidy) stands.reads inode reached) in
+  directory_status inode links names there apart kind links_is names_is sorted =
+      let reached = node_reached_beside inode there in
+      let directory = ((size_law volume.size device.words state stands.sound.coherent stands.reads).directories inode).1 (reached, kind) in
+      let within = in_table volume device inode (state, residue, stands) reached in
+      let linked = links_is ∙ sym (link_word_beside_law volume.size device.words residue state (record { coherent = stands.sound.coherent; beside = stands.beside; reads = stands.reads }) inode reached apart) in
       let named = names_is ∙ names_counted inode within.0 within.1 sorted ∙ ap (λ b. cond b (name_count state.tree inode) (length (bytes_of state.tree inode))) (sym directory) in
       λ i. record { dir = sym directory i; inode = inode; links = linked i; amount = named i }
 
@@ -110,24 +113,35 @@ module _ (volume : VolumeView) (device : DeviceView) (state : State) (stands : S
   file_size (Some Directory) there other size sizes = absurd (other refl)
   file_size (Some (File bytes)) there other size sizes = (refl, sizes bytes refl)
 
-  pub file_status : (inode links size : ℕ) → is_some (node_at state.tree inode) ≡ true → inode_kind device.words inode ≢ 2
+  pub file_status : (inode links size : ℕ) → is_some (node_at state.tree inode) ≡ true → IsApart volume.size device.words residue inode → inode_kind device.words inode ≢ 2
       → links ≡ inode_links device.words inode → size ≡ inode_size device.words inode
       → record { dir = false; inode = inode; links = links; amount = size } ≡ status_of state.tree inode
-  file_status inode links size there kind links_is size_is =
-      let reached = node_reached inode there in
-      let sizes = size_law volume.size device.words state (tidied stands.tidy).coherent stands.reads in
+  file_status inode links size there apart kind links_is size_is =
+      let reached = node_reached_beside inode there in
+      let sizes = size_law volume.size device.words state stands.sound.coherent stands.reads in
       let (other, long) = file_size (node_at state.tree inode) there (λ is. kind ((sizes.directories inode).0 is).1) (inode_size device.words inode) (sizes.sizes inode) in
-      let linked = links_is ∙ sym (link_word_law volume.size device.words state (tidied stands.tidy) stands.reads inode reached) in
+      let linked = links_is ∙ sym (link_word_beside_law volume.size device.words residue state (record { coherent = stands.sound.coherent; beside = stands.beside; reads = stands.reads }) inode reached apart) in
       let told = size_is ∙ sym long ∙ ap (λ b. cond b (name_count state.tree inode) (length (bytes_of state.tree inode))) (sym other) in
       λ i. record { dir = sym other i; inode = inode; links = linked i; amount = told i }
 
-  pub node_within : (inode : ℕ) → is_some (node_at state.tree inode) ≡ true → (1 ≤ inode) × (inode ≤ inodes_of volume.size)
-  node_within inode there = in_table volume device inode (state, stands) (node_reached inode there)
+  pub node_within_beside : (inode : ℕ) → is_some (node_at state.tree inode) ≡ true → (1 ≤ inode) × (inode ≤ inodes_of volume.size)
+  node_within_beside inode there = in_table volume device inode (state, residue, stands) (node_reached_beside inode there)
 
--- ---- a volume stands for one tree and room
+-- ---- a volume stands for one tree and room, whatever the residue
 
-pub same_state : (volume : VolumeView) (device : DeviceView) (state other : State) → StandsFor volume device state → StandsFor volume device other → state ≡ other
-same_state volume device state other stands stands_too =
+pub same_state_beside : (volume : VolumeView) (device : DeviceView) (state other : State) (residue other_residue : Residue) → StandsBeside volume device state residue → StandsBeside volume device other other_residue → state ≡ other
+same_state_beside volume device state other residue other_residue stands stands_too =
     let tree = one_tree volume.size device.words state.tree other.tree stands.reads.tree stands_too.reads.tree in
     let room = one_room volume.size device.words state.room other.room stands.reads.room stands_too.reads.room in
     λ i. record { tree = tree i; room = room i }
+
+-- ---- where no call runs
+
+pub same_state : (volume : VolumeView) (device : DeviceView) (state other : State) → StandsFor volume device state → StandsFor volume device other → state ≡ other
+same_state volume device state other stands stands_too = same_state_beside volume device state other no_residue no_residue (stands_beside stands) (stands_beside stands_too)
+
+pub node_reached : (volume : VolumeView) (device : DeviceView) (state : State) → StandsFor volume device state → (inode : ℕ) → is_some (node_at state.tree inode) ≡ true → Reached volume.size device.words inode
+node_reached volume device state stands inode there = node_reached_beside volume device state no_residue (stands_beside stands) inode there
+
+pub node_within : (volume : VolumeView) (device : DeviceView) (state : State) → StandsFor volume device state → (inode : ℕ) → is_some (node_at state.tree inode) ≡ true → (1 ≤ inode) × (inode ≤ inodes_of volume.size)
+node_within volume device state stands inode there = node_within_beside volume device state no_residue (stands_beside stands) inode there

@@ -17,6 +17,7 @@ use Rattle.tree_model.proofs.EntryLaws.{front, back, find-first, find-below}
 use Rattle.tree_model.proofs.TreeLaws.{other_id}
 use Rattle.image_reading.specs.Counts.{Count}
 use Rattle.image_reading.specs.Reading.{slot_owner, IsReachedSlot, Reads}
+use Rattle.image_reading.specs.Residue.{no_residue}
 use Rattle.image_reading.specs.Soundness.{IsCoherent}
 use Rattle.image_reading.proofs.Counts.{count_none, count_one}
 use Rattle.image_reading.proofs.Tidied.{tidied}
@@ -34,6 +35,7 @@ use Rattle.volume.specs.Volume.{VolumeView}
 use Rattle.volume.specs.Stands.{StandsFor, IsStanding}
 use Rattle.volume.specs.Totals.{below_root, node_size, bytes_in_files, totals_of}
 use Rattle.volume.specs.declared.totals.Totals.{Totals}
+use Rattle.volume.proofs.Beside.{stands_beside}
 use Rattle.volume.proofs.Statuses.{slots_counted}
 
 -- ---- names
@@ -221,7 +223,7 @@ module _ (volume : VolumeView) (device : DeviceView) (standing : IsStanding volu
   module _ (n : ℕ) (totals : Totals) (before : AreTotalsTo volume device n totals) (most : n + 1 ≤ inodes_of volume.size) where
     names_more : (names : ℕ) → IsSorted (entries_of volume.index (n + 1)) → names ≡ length (entries_of volume.index (n + 1)) → Count (IsSlotTo volume.size device.words (n + 1)) (totals.names + names)
     names_more names sorted counted =
-        let here = slots_counted volume device standing.0 standing.1 (n + 1) (omega arith) most sorted in
+        let here = slots_counted volume device standing.0 no_residue (stands_beside standing.1) (n + 1) (omega arith) most sorted in
         slots_more volume.size device.words all_fit n totals.names names before.names (subst (Count (IsSlotOf volume.size device.words (n + 1))) (sym counted) here)
 
     bytes_more : (bytes : ℕ) → ((state : State) → StandsFor volume device state → bytes ≡ size_at state.tree (n + 1)) → (state : State) → StandsFor volume device state → totals.bytes + bytes ≡ sum_to (size_at state.tree) (n + 1)

@@ -1,5 +1,6 @@
 -- How far a walk has come, and where it ends.
 use Rattle.std.proofs.Common.{◌≡◌, ℕ, Bool, true, false, cond, List, [], ◌∷◌, ◌++◌, Option, Some, None, Result, Ok, Err, refl, sym, ap, ◌∙◌, append_assoc}
+use Rattle.std.proofs.lemmas.List.{append-nil}
 use Rattle.tree_model.specs.PathText.{Route}
 use Rattle.tree_model.specs.Tree.{Tree, Node, IsTree, is_directory_node, root_id, id_at, is_directory, is_root, parent, last_name}
 use Rattle.tree_model.specs.Walk.{Place, root_place, place_at, walk, walk_on, walk_to_parent, step_into, only_directory}
@@ -34,6 +35,14 @@ way_goes_on T path names name here next way step = record {
   whole = append_assoc way.front (name ∷ []) names ∙ way.whole;
 }
 
+-- no name is left: the walk ends here
+pub way_ends : (T : Tree) (path : Route) (here : ℕ) → IsOnWay T path [] here → walk T path ≡ Ok (record { path = path; id = here })
+way_ends T path here way = way.left ∙ ap (λ (p : Route). Ok (record { path = p; id = here })) (sym (append-nil way.front) ∙ way.whole)
+
+-- from a file no name leads further
+pub step_fails : (T : Tree) (path : Route) (here : ℕ) (name : List ℕ) → is_directory T here ≡ false → step_into T (Ok (record { path = path; id = here })) name ≡ Err NotDir
+step_fails T path here name file = ap (λ t. cond t (place_at (path ++ name ∷ []) (id_at T (path ++ name ∷ []))) (Err NotDir)) file
+
 walk_on-fault : (T : Tree) (fault : Refusal) (names : Route) → walk_on T (Err fault) names ≡ Err fault
 walk_on-fault T fault [] = refl
 walk_on-fault T fault (name ∷ names) = walk_on-fault T fault names
@@ -46,6 +55,13 @@ way_fails T path names name here fault way step = way.left ∙ ap (λ r. walk_on
 
 pub parent_fails : (T : Tree) (path : Route) (fault : Refusal) → walk T (parent path) ≡ Err fault → walk_to_parent T path ≡ Err fault
 parent_fails T path fault e = ap (only_directory T) e
+
+pub file_holds_none : (T : Tree) (path : Route) (here : ℕ) → walk T (parent path) ≡ Ok (record { path = parent path; id = here }) → is_directory T here ≡ false → walk_to_parent T path ≡ Err NotDir
+file_holds_none T path here walked file = ap (only_directory T) walked ∙ ap (λ t. cond t (Ok (record { path = parent path; id = here })) (Err NotDir)) file
+
+pub directory_holds : (T : Tree) (path : Route) (here : ℕ) → walk T (parent path) ≡ Ok (record { path = parent path; id = here }) → is_directory T here ≡ true
+    → walk_to_parent T path ≡ Ok (record { path = parent path; id = here })
+directory_holds T path here walked directory = ap (only_directory T) walked ∙ ap (λ t. cond t (Ok (record { path = parent path; id = here })) (Err NotDir)) directory
 
 -- the root has no parent but itself
 pub root_holds : (T : Tree) → IsTree T → walk_to_parent T [] ≡ Ok root_place

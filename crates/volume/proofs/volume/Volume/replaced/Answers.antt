@@ -3,14 +3,16 @@ use Rattle.layout.specs.Geometry.{inodes_of}
 use Rattle.layout.specs.Fields.{inode_links}
 use Rattle.layout.specs.declared.kinds.NodeKind.{NodeKind}
 use Rattle.image_reading.specs.Counts.{Count}
+use Rattle.image_reading.specs.Residue.{no_residue}
 use Rattle.image_counts.specs.Entries.{IsPageIn}
 use Rattle.volume.specs.Volume.{VolumeView}
 use Rattle.volume.specs.Moves.{is_directory_kind}
 use Rattle.volume.specs.declared.plan.Loss.{Loss}
+use Rattle.volume.proofs.Beside.{stands_beside}
 use Rattle.volume.proofs.PageLists.{pages_counted}
 use Rattle.volume.proofs.Walked.{in_index}
 use Rattle.volume.proofs.Statuses.{node_reached, node_within}
-use Rattle.volume.proofs.RenameRows.{there_now, no_names_counted, no_file_by_directory, empty_directory, file_by_file}
+use Rattle.volume.proofs.RenameRows.{there_now, no_names_counted, no_file_by_directory, empty_directory, file_by_file, some_names_counted, filled_directory}
 use Rattle.volume.proofs.volume.Volume.replaced.Goals as goal
 
 pub count-requires-clause-from_one : goal.count-requires-clause-from_one
@@ -52,7 +54,7 @@ returns-else-count-gt0 g c = λ state stands.
     let directory = c.kind_of.ensures state stands ∙ ap is_directory_kind c.in-Directory-Directory.is-1 in
     let there = there_now c.args.self.now device c.args.inode c.requires.there state stands in
     let within = node_within c.args.self.now device state stands c.args.inode there in
-    let none = no_names_counted state.tree c.args.inode c.count.result (c.count.ensures.names device state stands directory) (omega (arith, c.if-count-gt0.false)) in
+    let none = no_names_counted state.tree c.args.inode c.count.result (c.count.ensures.names device state no_residue (stands_beside stands) directory) (omega (arith, c.if-count-gt0.false)) in
     let is = c.loss_of.ensures.is in
     let goes = ap (λ (loss : Loss). loss.goes) is in (
       empty_directory state.tree c.args.kind c.args.inode there c.in-Directory-Directory.is-0 directory none,
@@ -83,3 +85,11 @@ returns-in-File-File g c = λ state stands.
         no_pages = λ none. c.loss_of-in-File-File.ensures.no_pages (sym goes ∙ none);
       },
     )
+
+pub returns-then-count-gt0 : goal.returns-then-count-gt0
+returns-then-count-gt0 g c = λ state stands.
+    let device = (g.P.Pm.view c.args.pm.now) in
+    let directory = c.kind_of.ensures state stands ∙ ap is_directory_kind c.in-Directory-Directory.is-1 in
+    let there = there_now c.args.self.now device c.args.inode c.requires.there state stands in
+    let some = some_names_counted state.tree c.args.inode c.count.result (c.count.ensures.names device state no_residue (stands_beside stands) directory) c.if-count-gt0.true in
+    filled_directory state.tree c.args.kind c.args.inode there c.in-Directory-Directory.is-0 directory some
