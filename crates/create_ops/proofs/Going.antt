@@ -42,7 +42,7 @@ left_next P (More running) = left_of P running
 left_next P (Ended reply) = []
 
 -- how many stages may follow this one
-abbrev rank_of : Stage → ℕ
+abbrev pub rank_of : Stage → ℕ
 rank_of Begun = 2
 rank_of (Written node) = 1
 rank_of (Claimed node) = 0
@@ -220,9 +220,9 @@ module _ (old : VolumeView) (before : DeviceView) (entry : NewEntry) where
     failed {fault = fault} after (Err other) is takes =
         unfolds_failed_as other (fails (512 * P) steps before (step_at P entry running.stage) (rest_at P entry running.stage) device after fault (Err fault) refl (step_as running.stage gone.size same_entry takes) onward_at)
 
-    pub advanced : (next : Next RunningView) (new : VolumeView) (after : DeviceView) → Takes {E = PmFault} (step_at volume.size running.entry running.stage) device after (Ok next) → IsAfter running.entry running.stage next
+    pub advanced : {T : Type 0} (value : T) (next : Next RunningView) (new : VolumeView) (after : DeviceView) → Takes {E = PmFault} (step_at volume.size running.entry running.stage) device after (Ok value) → IsAfter running.entry running.stage next
         → EntersAtStage running.entry running.stage (with_kept (volume.kept - (step_at volume.size running.entry running.stage).events) volume) new → StandsNext new after next → HasGone old before entry new after next
-    advanced next new after takes is enters stands =
+    advanced value next new after takes is enters stands =
         let stage = running.stage in
         let spent = (step_at volume.size running.entry stage).events in
         let now = beside running.entry stage (with_kept (volume.kept - spent) volume) new enters in
@@ -237,7 +237,7 @@ module _ (old : VolumeView) (before : DeviceView) (entry : NewEntry) where
           stands = stands;
           come = come_on old volume new entry (volume.kept - spent) stage next gone.come.1 (subst (λ (e : NewEntry). EntersAtStage e stage (with_kept (volume.kept - spent) volume) new) same_entry enters) (subst (λ (e : NewEntry). IsAfter e stage next) same_entry is);
           onward = subst (λ (l : List Step). IsOnward (512 * P) steps before l after) (sym later)
-              (one_more (512 * P) steps before (step_at P entry stage) (rest_at P entry stage) device after next (step_as stage gone.size same_entry takes) onward_at);
+              (one_more (512 * P) steps before (step_at P entry stage) (rest_at P entry stage) device after value (step_as stage gone.size same_entry takes) onward_at);
         }
 
   -- ---- at its end

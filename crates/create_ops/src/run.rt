@@ -13,7 +13,7 @@ ghost use Rattle.entry_steps.specs.declared.place.NamePlace.TheVariants.{Page as
 ghost use Rattle.entry_steps.specs.Steps.{naming, owning};
 ghost use Rattle.create_ops.specs.declared.run.Stage.TheVariants.{Written, Claimed};
 ghost use Rattle.create_ops.specs.Making.{written_events, writing};
-ghost use Rattle.create_ops.specs.Stages.{StandsStage, StandsNext, MayBegin, IsNext, IsAfterPlace, PutsEntryName, begun, step_of, left_of, EntersAt, held_of};
+ghost use Rattle.create_ops.specs.Stages.{StandsStage, StandsNext, MayBegin, IsNext, PutsEntryName, begun, step_of, left_of, EntersAt, held_of, next_by};
 
 use crate::node::{NewNode, commit_node, write_node};
 use dentry_state::{DentryH, Named};
@@ -22,6 +22,7 @@ use fence_token::Clean;
 use inode_state::{Init, InodeH};
 use pm_trait::{Pm, PmFault};
 use std::marker::Model;
+use std::mem;
 use tree_model::Reply;
 use volume::{COMMIT_EVENTS, Held, NewEntry, Next, Plan, Volume};
 
@@ -80,6 +81,39 @@ impl Running {
             Stage::Claimed(_) => 1,
         }
     }
+
+    /// Makes the next step of the making of an entry, to its fence, and takes it into the volume: its numbers behind the first step, its
+    /// name behind the last, behind which it gives the reply. Where the fence fails, the volume is stopped, and the call is over.
+    pub fn step<P: Pm>(&mut self, volume: &mut Volume, pm: &mut P) -> Result<Option<Reply>, PmFault>
+        requires stands { StandsStage volume.old (P.view pm.old) self.old }
+        requires begins { MayFence (P.view pm.old) (512 * volume.old.size) (step_of volume.old.size self.old).events 1 }
+        ensures takes { Takes (step_of volume.old.size self.old) (P.view pm.old) (P.view pm.new) result }
+        ensures next { IfOk result (λ reply. IsNext self.old (next_by reply self.new)) }
+        ensures volume { Advances (step_of volume.old.size self.old).events (EntersAt self.old) volume.old volume.new result }
+        ensures stage { IfOk result (λ reply. StandsNext volume.new (P.view pm.new) (next_by reply self.new)) }
+    {
+        match mem::replace(&mut self.stage, Stage::Begun) {
+            Stage::Begun => {
+                self.stage = Stage::Written(write(&self.entry, volume, pm)?);
+                Ok(None)
+            }
+            Stage::Written(NewNode { inode, place }) => match place {
+                NamePlace::Slot(slot) => {
+                    commit(&self.entry, NamedNode { inode, slot }, volume, pm)?;
+                    Ok(Some(Reply::Done))
+                }
+                NamePlace::Page(page) => {
+                    let slot = claim(&self.entry, &inode, page, volume, pm)?;
+                    self.stage = Stage::Claimed(NamedNode { inode, slot });
+                    Ok(None)
+                }
+            },
+            Stage::Claimed(node) => {
+                commit(&self.entry, node, volume, pm)?;
+                Ok(Some(Reply::Done))
+            }
+        }
+    }
 }
 
 /// Begins to carry out the plan of an accepted `create` or `mkdir`: its events are kept, and nothing is stored.
@@ -97,9 +131,7 @@ pub fn begin(volume: &mut Volume, plan: Plan) -> Running
     }
 }
 
-/// Makes the next step of the making of an entry, to its fence, and takes it into the volume: its numbers behind the first step, its
-/// name behind the last. Where the fence fails, the volume is stopped.
-#[inline(always)]
+/// Makes the next step of the making of an entry, as `step` does, and gives what is left.
 pub fn advance<P: Pm>(
     running: Running,
     volume: &mut Volume,
@@ -112,14 +144,11 @@ pub fn advance<P: Pm>(
     ensures volume { Advances (step_of volume.old.size running).events (EntersAt running) volume.old volume.new result }
     ensures stage { IfOk result (λ next. StandsNext volume.new (P.view pm.new) next) }
 {
-    let Running { entry, stage } = running;
-    match stage {
-        Stage::Begun => write(entry, volume, pm),
-        Stage::Written(NewNode { inode, place }) => match place {
-            NamePlace::Slot(slot) => commit(entry, NamedNode { inode, slot }, volume, pm),
-            NamePlace::Page(page) => claim(entry, inode, page, volume, pm),
-        },
-        Stage::Claimed(node) => commit(entry, node, volume, pm),
+    let mut running = running;
+    match running.step(volume, pm) {
+        Ok(None) => Ok(Next::More(running)),
+        Ok(Some(reply)) => Ok(Next::Ended(reply)),
+        Err(fault) => Err(fault),
     }
 }
 
@@ -137,71 +166,67 @@ fn first_events(entry: &NewEntry) -> u64
 }
 
 // Writes the node, its name and the links of its directory, and takes its numbers.
-#[inline(always)]
-fn write<P: Pm>(entry: NewEntry, volume: &mut Volume, pm: &mut P) -> Result<Next<Running>, PmFault>
-    requires stands { StandsStage volume.old (P.view pm.old) (begun entry) }
-    requires begins { MayFence (P.view pm.old) (512 * volume.old.size) (written_events entry) 1 }
-    ensures takes { Takes (writing volume.old.size entry) (P.view pm.old) (P.view pm.new) result }
-    ensures next { IfOk result (λ next. IsNext (begun entry) next) }
-    ensures volume { Advances (written_events entry) (EntersAt (begun entry)) volume.old volume.new result }
-    ensures stage { IfOk result (λ next. StandsNext volume.new (P.view pm.new) next) }
+fn write<P: Pm>(entry: &NewEntry, volume: &mut Volume, pm: &mut P) -> Result<NewNode, PmFault>
+    requires stands { StandsStage volume.old (P.view pm.old) (begun entry.now) }
+    requires begins { MayFence (P.view pm.old) (512 * volume.old.size) (written_events entry.now) 1 }
+    ensures takes { Takes (writing volume.old.size entry.now) (P.view pm.old) (P.view pm.new) result }
+    ensures volume { Advances (written_events entry.now) (EntersAt (begun entry.now)) volume.old volume.new result }
+    ensures stage { IfOk result (λ node. StandsStage volume.new (P.view pm.new)
+        (record { entry = entry.now; stage = Written node })) }
 {
     let geometry = *volume.geometry();
-    let written = write_node(pm, &geometry, &entry);
-    let node = settle(volume, written, first_events(&entry))?;
+    let written = write_node(pm, &geometry, entry);
+    let node = settle(volume, written, first_events(entry))?;
     volume.take_page(entry.new_page);
     volume.take_inode(entry.inode);
-    Ok(Next::More(Running {
-        entry,
-        stage: Stage::Written(node),
-    }))
+    Ok(node)
 }
 
 // Gives the new page that the name is in to its directory.
-#[inline(always)]
 fn claim<P: Pm>(
-    entry: NewEntry,
-    inode: InodeH<Clean, Init>,
+    entry: &NewEntry,
+    inode: &InodeH<Clean, Init>,
     page: u64,
     volume: &mut Volume,
     pm: &mut P,
-) -> Result<Next<Running>, PmFault>
+) -> Result<DentryH<Clean, Named>, PmFault>
     requires stands { StandsStage volume.old (P.view pm.old) (record {
-      entry = entry;
-      stage = Written (record { inode = inode; place = InPage page });
+      entry = entry.now;
+      stage = Written (record { inode = inode.now; place = InPage page });
     }) }
     requires begins { MayFence (P.view pm.old) (512 * volume.old.size) commit_events 1 }
-    ensures takes { Takes (owning volume.old.size page entry.directory) (P.view pm.old) (P.view pm.new) result }
-    ensures next { IfOk result (λ next. IsAfterPlace entry (InPage page) next) }
+    ensures takes { Takes (owning volume.old.size page entry.now.directory) (P.view pm.old) (P.view pm.new) result }
     ensures volume { Advances commit_events (λ old new. new ≡ old) volume.old volume.new result }
-    ensures stage { IfOk result (λ next. StandsNext volume.new (P.view pm.new) next) }
+    ensures stage { IfOk result (λ slot. StandsStage volume.new (P.view pm.new) (record {
+      entry = entry.now;
+      stage = Claimed (record { inode = inode.now; slot = slot });
+    })) }
 {
     let geometry = *volume.geometry();
     let claimed = claim_page(pm, &geometry, page, entry.directory);
-    let slot = settle(volume, claimed, COMMIT_EVENTS)?;
-    Ok(Next::More(Running {
-        entry,
-        stage: Stage::Claimed(NamedNode { inode, slot }),
-    }))
+    settle(volume, claimed, COMMIT_EVENTS)
 }
 
 // Gives the slot the number of the node, and puts the name into its directory.
-#[inline(always)]
 fn commit<P: Pm>(
-    entry: NewEntry,
+    entry: &NewEntry,
     node: NamedNode,
     volume: &mut Volume,
     pm: &mut P,
-) -> Result<Next<Running>, PmFault>
-    requires stands { StandsStage volume.old (P.view pm.old) (record { entry = entry; stage = Claimed node }) }
+) -> Result<(), PmFault>
+    requires stands { StandsStage volume.old (P.view pm.old) (record { entry = entry.now; stage = Claimed node }) }
     requires begins { MayFence (P.view pm.old) (512 * volume.old.size) commit_events 1 }
-    ensures takes { Takes (naming volume.old.size entry.slot entry.inode) (P.view pm.old) (P.view pm.new) result }
-    ensures next { IfOk result (λ next. next ≡ Ended Done) }
-    ensures volume { Advances commit_events (PutsEntryName entry) volume.old volume.new result }
+    ensures takes { Takes (naming volume.old.size entry.now.slot entry.now.inode) (P.view pm.old) (P.view pm.new) result }
+    ensures volume { Advances commit_events (PutsEntryName entry.now) volume.old volume.new result }
 {
     let NamedNode { inode, slot } = node;
     let committed = commit_node(pm, slot, &inode);
     settle(volume, committed, COMMIT_EVENTS)?;
-    volume.put_name(entry.directory, entry.name, entry.slot, entry.new_page);
-    Ok(Next::Ended(Reply::Done))
+    volume.put_name(
+        entry.directory,
+        entry.name.copied(),
+        entry.slot,
+        entry.new_page,
+    );
+    Ok(())
 }

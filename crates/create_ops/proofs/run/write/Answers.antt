@@ -12,7 +12,7 @@ use Rattle.create_ops.proofs.run.write.Goals as goal
 pub returns-clause-stage : goal.returns-clause-stage
 returns-clause-stage g c =
     let volume = c.args.volume.now in
-    let entry = c.args.entry in
+    let entry = c.args.entry.now in
     let node = c.in_ok-node.node in
     let same = sym c.in_ok-node.ensures.same in
     let before = g.P.Pm.view c.args.pm.now in
