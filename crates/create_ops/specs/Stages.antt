@@ -1,11 +1,10 @@
 -- The making of an entry between two of its steps: what stands then of the device and of the volume as they are, and what the next step
 -- makes. P is the number of pages.
-use Rattle.std.specs.Prelude.{◌≡◌, ℕ, ◌-◌, ◌*◌, ◌≤◌, false, List, [], ◌∷◌, length, Option, Some, None}
+use Rattle.std.specs.Prelude.{◌≡◌, ℕ, ◌-◌, ◌*◌, ◌≤◌, false, List, [], ◌∷◌, length}
 use Rattle.pm_trait.specs.DeviceView.{DeviceView}
 use Rattle.pm_trait.specs.Unfolds.{Step, events_in}
 use Rattle.layout.specs.Geometry.{inodes_of}
 use Rattle.fence_token.specs.declared.states.Clean.{Clean}
-use Rattle.tree_model.specs.declared.reply.Reply.{Reply}
 use Rattle.tree_model.specs.declared.reply.Reply.TheVariants.{Done}
 use Rattle.allocators.specs.Numbers.{IsFree}
 use Rattle.inode_state.specs.Inode.{InodeView, InodeIsClean}
@@ -92,11 +91,6 @@ pub record StandsStage (volume : VolumeView) (device : DeviceView) (running : Ru
   pub name : MayPutName volume running.entry.directory running.entry.name
   pub place : HasNamePlace volume running.entry.directory running.entry.new_page
   pub numbers : HasNumbers volume running.entry running.stage
-
--- what is left behind a step, by the reply where it was the last
-abbrev pub next_by : {R : Type 0} → Option Reply → R → Next R
-next_by None running = More running
-next_by (Some reply) running = Ended reply
 
 abbrev pub StandsNext : VolumeView → DeviceView → Next RunningView → Type 0
 StandsNext volume device (More running) = StandsStage volume device running

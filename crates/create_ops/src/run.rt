@@ -4,7 +4,7 @@ ghost use Rattle.std.specs.Prelude.{◌≡◌, ◌*◌, ℕ, IfOk};
 ghost use Rattle.pm_trait.specs.DeviceView.{DeviceView};
 ghost use Rattle.pm_trait.specs.Unfolds.{MayFence, Takes, fences_in};
 ghost use Rattle.volume.specs.Costs.{commit_events};
-ghost use Rattle.volume.specs.Stages.{Advances, keeping};
+ghost use Rattle.volume.specs.Stages.{Advances, keeping, next_by};
 ghost use Rattle.tree_model.specs.declared.reply.Reply.TheVariants.{Done};
 ghost use Rattle.volume.specs.declared.next.Next.TheVariants.{Ended};
 ghost use Rattle.volume.specs.declared.plan.NewEntry.{NewEntry as Entry};
@@ -13,7 +13,7 @@ ghost use Rattle.entry_steps.specs.declared.place.NamePlace.TheVariants.{Page as
 ghost use Rattle.entry_steps.specs.Steps.{naming, owning};
 ghost use Rattle.create_ops.specs.declared.run.Stage.TheVariants.{Written, Claimed};
 ghost use Rattle.create_ops.specs.Making.{written_events, writing};
-ghost use Rattle.create_ops.specs.Stages.{StandsStage, StandsNext, MayBegin, IsNext, PutsEntryName, begun, step_of, left_of, EntersAt, held_of, next_by};
+ghost use Rattle.create_ops.specs.Stages.{StandsStage, StandsNext, MayBegin, IsNext, PutsEntryName, begun, step_of, left_of, EntersAt, held_of};
 
 use crate::node::{NewNode, commit_node, write_node};
 use dentry_state::{DentryH, Named};
