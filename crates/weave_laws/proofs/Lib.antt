@@ -1,4 +1,5 @@
 pub mod Listed
+pub mod FreeBeside
 pub mod Same
 pub mod Named
 pub mod Raised
@@ -22,6 +23,7 @@ pub mod PagedOwned
 pub mod PagedWritten
 pub mod PagedNode
 pub mod PagedLink
+pub mod PagedQuiet
 pub mod Sized
 pub mod SizedWords
 pub mod SizedRaised

@@ -1,7 +1,7 @@
 //! What a step of one call leaves to be repaired, beside what other calls have left.
 #![tactic(auto)]
 
-ghost use Rattle.weave_laws.specs.Paging.{PagedNodeWrittenLaw, PagedLinkWrittenLaw, PageOwnedLaw};
+ghost use Rattle.weave_laws.specs.Paging.{PagedNodeQuietLaw, PagedLinkQuietLaw, OwningQuietLaw, PagedNodeWrittenLaw, PagedLinkWrittenLaw, PageOwnedLaw};
 ghost use Rattle.weave_laws.specs.Unnaming.{UnnamedLaw};
 ghost use Rattle.weave_laws.specs.Sizing.{WrittenInsideLaw, FilledLaw, TakenLaw, RaisedLaw, LoweredLaw};
 ghost use Rattle.weave_laws.specs.Removing.{ClearedLaw, GivenLaw, FreedLaw};
@@ -23,6 +23,15 @@ pub fn written_law()
 pub fn committed_law()
     ensures node { NodeCommittedLaw }
     ensures link { LinkCommittedLaw }
+{}
+
+/// A name that is written in a new page, with a new node or with a link, and the owner that the page gets then change no meaning, whatever
+/// other calls have left: a crash in the step leaves what means the same. Of a name that is written in a page that its directory has,
+/// `stage_law` of image_laws says so.
+pub fn quiet_law()
+    ensures paged_node { PagedNodeQuietLaw }
+    ensures paged_link { PagedLinkQuietLaw }
+    ensures owned { OwningQuietLaw }
 {}
 
 /// A name that is written in a new page leaves that page in place of the slot, and the same once the page has its owner.
