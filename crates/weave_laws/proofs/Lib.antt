@@ -24,6 +24,10 @@ pub mod PagedNode
 pub mod PagedLink
 pub mod Sized
 pub mod SizedWords
+pub mod BytesInside
+pub mod BytesFilled
+pub mod PagesTaken
+pub mod Resized
 pub mod SizedRaised
 pub mod SizedLowered
 pub mod SizedTaken

@@ -3,4 +3,5 @@ pub mod Naming
 pub mod Paging
 pub mod Removing
 pub mod Unnaming
+pub mod Bytes
 pub mod Sizing
