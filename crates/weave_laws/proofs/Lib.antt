@@ -28,6 +28,7 @@ pub mod BytesInside
 pub mod BytesFilled
 pub mod PagesTaken
 pub mod Resized
+pub mod SizedSteps
 pub mod SizedRaised
 pub mod SizedLowered
 pub mod SizedTaken

@@ -5,3 +5,4 @@ pub mod Removing
 pub mod Unnaming
 pub mod Bytes
 pub mod Sizing
+pub mod Committing

@@ -4,6 +4,7 @@
 ghost use Rattle.weave_laws.specs.Paging.{PagedNodeWrittenLaw, PagedLinkWrittenLaw, PageOwnedLaw};
 ghost use Rattle.weave_laws.specs.Unnaming.{UnnamedLaw};
 ghost use Rattle.weave_laws.specs.Bytes.{InsideMeaningLaw, FilledMeaningLaw, TakenMeaningLaw, RaisedMeaningLaw, LoweredMeaningLaw};
+ghost use Rattle.weave_laws.specs.Committing.{InsideWriteLaw, RaisedWriteLaw, RaisedTruncateLaw, LoweredTruncateLaw};
 ghost use Rattle.weave_laws.specs.Sizing.{WrittenInsideLaw, FilledLaw, TakenLaw, RaisedLaw, LoweredLaw};
 ghost use Rattle.weave_laws.specs.Removing.{ClearedLaw, GivenLaw, FreedLaw};
 ghost use Rattle.weave_laws.specs.Joined.{AnyOrderLaw};
@@ -70,4 +71,12 @@ pub fn bytes_law()
 pub fn size_law()
     ensures raised { RaisedMeaningLaw }
     ensures lowered { LoweredMeaningLaw }
+{}
+
+/// What commits a write or a truncation leaves reads as a state that the accepted command leaves.
+pub fn size_step_law()
+    ensures inside { InsideWriteLaw }
+    ensures write { RaisedWriteLaw }
+    ensures longer { RaisedTruncateLaw }
+    ensures shorter { LoweredTruncateLaw }
 {}
