@@ -26,6 +26,11 @@ pub mod PagedLink
 pub mod PagedQuiet
 pub mod Sized
 pub mod SizedWords
+pub mod BytesInside
+pub mod BytesFilled
+pub mod PagesTaken
+pub mod Resized
+pub mod SizedSteps
 pub mod SizedRaised
 pub mod SizedLowered
 pub mod SizedTaken

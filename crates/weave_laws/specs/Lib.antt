@@ -3,4 +3,6 @@ pub mod Naming
 pub mod Paging
 pub mod Removing
 pub mod Unnaming
+pub mod Bytes
 pub mod Sizing
+pub mod Committing

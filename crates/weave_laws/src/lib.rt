@@ -1,8 +1,10 @@
-//! What a step of one call leaves to be repaired, beside what other calls have left.
+//! What a step of one call leaves to be repaired, beside what other calls have left, and what a step in a file means then.
 #![tactic(auto)]
 
 ghost use Rattle.weave_laws.specs.Paging.{PagedNodeQuietLaw, PagedLinkQuietLaw, OwningQuietLaw, PagedNodeWrittenLaw, PagedLinkWrittenLaw, PageOwnedLaw};
 ghost use Rattle.weave_laws.specs.Unnaming.{UnnamedLaw};
+ghost use Rattle.weave_laws.specs.Bytes.{InsideMeaningLaw, FilledMeaningLaw, TakenMeaningLaw, RaisedMeaningLaw, LoweredMeaningLaw};
+ghost use Rattle.weave_laws.specs.Committing.{InsideWriteLaw, RaisedWriteLaw, RaisedTruncateLaw, LoweredTruncateLaw};
 ghost use Rattle.weave_laws.specs.Sizing.{WrittenInsideLaw, FilledLaw, TakenLaw, RaisedLaw, LoweredLaw};
 ghost use Rattle.weave_laws.specs.Removing.{ClearedLaw, GivenLaw, FreedLaw};
 ghost use Rattle.weave_laws.specs.Joined.{AnyOrderLaw};
@@ -63,4 +65,27 @@ pub fn sized_law()
     ensures taken { TakenLaw }
     ensures raised { RaisedLaw }
     ensures lowered { LoweredLaw }
+{}
+
+/// While bytes of a file are stored a crash leaves the part of their range below the size torn, and what it leaves hangs on these bytes alone:
+/// without such a part it means the same. So it does while new pages get their owner. A range that lies below the size is the file's at the end.
+pub fn bytes_law()
+    ensures inside { InsideMeaningLaw }
+    ensures filled { FilledMeaningLaw }
+    ensures taken { TakenMeaningLaw }
+{}
+
+/// While a file's size is stored a crash leaves the words before or the new size, with which the file is longer, by its range and zeros beside it,
+/// or is cut.
+pub fn size_law()
+    ensures raised { RaisedMeaningLaw }
+    ensures lowered { LoweredMeaningLaw }
+{}
+
+/// What commits a write or a truncation leaves reads as a state that the accepted command leaves.
+pub fn size_step_law()
+    ensures inside { InsideWriteLaw }
+    ensures write { RaisedWriteLaw }
+    ensures longer { RaisedTruncateLaw }
+    ensures shorter { LoweredTruncateLaw }
 {}
