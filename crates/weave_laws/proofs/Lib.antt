@@ -30,3 +30,6 @@ pub mod SizedTaken
 pub mod SizedFilled
 mod Ordered
 mod SizedInside
+pub mod Entered
+mod Removed
+mod OneWord

@@ -4,3 +4,4 @@ pub mod Paging
 pub mod Removing
 pub mod Unnaming
 pub mod Sizing
+pub mod Entering

@@ -5,6 +5,7 @@ ghost use Rattle.weave_laws.specs.Paging.{PagedNodeWrittenLaw, PagedLinkWrittenL
 ghost use Rattle.weave_laws.specs.Unnaming.{UnnamedLaw};
 ghost use Rattle.weave_laws.specs.Sizing.{WrittenInsideLaw, FilledLaw, TakenLaw, RaisedLaw, LoweredLaw};
 ghost use Rattle.weave_laws.specs.Removing.{ClearedLaw, GivenLaw, FreedLaw};
+ghost use Rattle.weave_laws.specs.Entering.{NodeEnteredLaw, WrittenNodeLaw, LinkEnteredLaw, NodeRoomLaw, LinkedRoomLaw, RemovedEnteredLaw, RemovedRoomLaw, OneWordLaw};
 ghost use Rattle.weave_laws.specs.Joined.{AnyOrderLaw};
 ghost use Rattle.weave_laws.specs.Naming.{NodeWrittenLaw, LinkWrittenLaw, NodeCommittedLaw, LinkCommittedLaw};
 
@@ -54,4 +55,17 @@ pub fn sized_law()
     ensures taken { TakenLaw }
     ensures raised { RaisedLaw }
     ensures lowered { LoweredLaw }
+{}
+
+/// A name that takes its number, or gives it up, is entered beside anything: the words after read as the state that the command leaves, with
+/// this room. A crash leaves these words or those before.
+pub fn entered_law()
+    ensures node { NodeEnteredLaw }
+    ensures written { WrittenNodeLaw }
+    ensures link { LinkEnteredLaw }
+    ensures node_room { NodeRoomLaw }
+    ensures link_room { LinkedRoomLaw }
+    ensures removed { RemovedEnteredLaw }
+    ensures removed_room { RemovedRoomLaw }
+    ensures crash { OneWordLaw }
 {}
