@@ -33,3 +33,5 @@ mod SizedInside
 pub mod Entered
 mod Removed
 mod OneWord
+pub mod Disjoint
+pub mod OwnWords

@@ -5,3 +5,4 @@ pub mod Removing
 pub mod Unnaming
 pub mod Sizing
 pub mod Entering
+pub mod Beside
