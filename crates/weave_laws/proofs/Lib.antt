@@ -37,3 +37,8 @@ pub mod SizedTaken
 pub mod SizedFilled
 mod Ordered
 mod SizedInside
+pub mod Entered
+mod Removed
+mod OneWord
+pub mod Disjoint
+pub mod OwnWords

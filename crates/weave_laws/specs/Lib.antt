@@ -6,3 +6,5 @@ pub mod Unnaming
 pub mod Bytes
 pub mod Sizing
 pub mod Committing
+pub mod Entering
+pub mod Beside

@@ -7,6 +7,8 @@ ghost use Rattle.weave_laws.specs.Bytes.{InsideMeaningLaw, FilledMeaningLaw, Tak
 ghost use Rattle.weave_laws.specs.Committing.{InsideWriteLaw, RaisedWriteLaw, RaisedTruncateLaw, LoweredTruncateLaw};
 ghost use Rattle.weave_laws.specs.Sizing.{WrittenInsideLaw, FilledLaw, TakenLaw, RaisedLaw, LoweredLaw};
 ghost use Rattle.weave_laws.specs.Removing.{ClearedLaw, GivenLaw, FreedLaw};
+ghost use Rattle.weave_laws.specs.Entering.{NodeEnteredLaw, NewNodeLaw, LinkEnteredLaw, NodeRoomLaw, LinkedRoomLaw, RemovedEnteredLaw, RemovedRoomLaw, OneWordLaw};
+ghost use Rattle.weave_laws.specs.Beside.{WiderLaw, DisjointLaw, NodeWordsLaw, LinkWordsLaw, PagedNodeWordsLaw, PagedLinkWordsLaw, OwnedWordsLaw, CommittedWordsLaw, DroppedWordsLaw, ClearedWordsLaw, GivenWordsLaw, FreedWordsLaw, InsideWordsLaw, FilledWordsLaw, TakenWordsLaw, SizedWordsLaw};
 ghost use Rattle.weave_laws.specs.Joined.{AnyOrderLaw};
 ghost use Rattle.weave_laws.specs.Naming.{NodeWrittenLaw, LinkWrittenLaw, NodeCommittedLaw, LinkCommittedLaw};
 
@@ -88,4 +90,41 @@ pub fn size_step_law()
     ensures write { RaisedWriteLaw }
     ensures longer { RaisedTruncateLaw }
     ensures shorter { LoweredTruncateLaw }
+{}
+
+/// A name that takes its number, or gives it up, is entered beside anything: the words after read as the state that the command leaves, with
+/// this room. A crash leaves these words or those before.
+pub fn entered_law()
+    ensures node { NodeEnteredLaw }
+    ensures new_node { NewNodeLaw }
+    ensures link { LinkEnteredLaw }
+    ensures node_room { NodeRoomLaw }
+    ensures link_room { LinkedRoomLaw }
+    ensures removed { RemovedEnteredLaw }
+    ensures removed_room { RemovedRoomLaw }
+    ensures crash { OneWordLaw }
+{}
+
+/// What a call stores to is of all that it holds, and what another call holds stays, where they hold nothing together.
+pub fn beside_law()
+    ensures wider { WiderLaw }
+    ensures disjoint { DisjointLaw }
+{}
+
+/// Each step stores to words of its own slot, pages and inodes alone.
+pub fn own_words_law()
+    ensures node { NodeWordsLaw }
+    ensures link { LinkWordsLaw }
+    ensures paged_node { PagedNodeWordsLaw }
+    ensures paged_link { PagedLinkWordsLaw }
+    ensures owned { OwnedWordsLaw }
+    ensures committed { CommittedWordsLaw }
+    ensures dropped { DroppedWordsLaw }
+    ensures cleared { ClearedWordsLaw }
+    ensures given { GivenWordsLaw }
+    ensures freed { FreedWordsLaw }
+    ensures inside { InsideWordsLaw }
+    ensures filled { FilledWordsLaw }
+    ensures taken { TakenWordsLaw }
+    ensures sized { SizedWordsLaw }
 {}
