@@ -106,6 +106,11 @@ module _ {P : ℕ} {I J : List ℕ} {p : Route} {d s i : ℕ} (can : CanAdd P I 
 
   -- ---- slots and pages
 
+  -- a slot that is to be repaired stands in a page that d has a name in
+  pub slot_room : IsLitterSlot P I s → IsRoomOf P I d (page_of_slot s)
+  unfolding slot_owner
+  slot_room l = subst (λ x. IsRoomOf P I x (page_of_slot s)) can.slot.owner l.page
+
   rooms_beside : (x j : ℕ) → j ≢ page_of_slot s → IsRoomOf P I x j ↔ IsRoomOf P J x j
   rooms_beside x j other = (
     room_forward P I J p d s i can takes.only takes.stored x j,

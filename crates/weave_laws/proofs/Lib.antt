@@ -1,4 +1,5 @@
 pub mod Listed
+pub mod FreeBeside
 pub mod Same
 pub mod Named
 pub mod Raised
@@ -22,11 +23,22 @@ pub mod PagedOwned
 pub mod PagedWritten
 pub mod PagedNode
 pub mod PagedLink
+pub mod PagedQuiet
 pub mod Sized
 pub mod SizedWords
+pub mod BytesInside
+pub mod BytesFilled
+pub mod PagesTaken
+pub mod Resized
+pub mod SizedSteps
 pub mod SizedRaised
 pub mod SizedLowered
 pub mod SizedTaken
 pub mod SizedFilled
 mod Ordered
 mod SizedInside
+pub mod Entered
+mod Removed
+mod OneWord
+pub mod Disjoint
+pub mod OwnWords

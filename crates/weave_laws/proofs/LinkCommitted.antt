@@ -1,5 +1,5 @@
 -- The slot of a link takes the file's number: nothing of the call is to be repaired any more.
-use Rattle.std.proofs.Common.{inl, ℕ, List, Option, Some, None, refl, sym, subst, ◌∙◌, arith}
+use Rattle.std.proofs.Common.{inl, inr, ℕ, List, Option, Some, None, refl, sym, subst, ◌∙◌, arith}
 use Rattle.tree_model.specs.PathText.{Route}
 use Rattle.image_reading.specs.Counts.{Count, IsListOf}
 use Rattle.image_reading.specs.Reading.{IsNameOf}
@@ -14,10 +14,14 @@ use Rattle.weave_laws.proofs.Committed as after
 use Rattle.weave_laws.proofs.Committed.{TakesNumber, number_taken}
 use Rattle.weave_laws.proofs.Listed.{listed_less}
 
-module _ (P : ℕ) (I : List ℕ) (p : Route) (d s : ℕ) (new_page : Option ℕ) (i : ℕ) (others : Residue) (can : CanAdd P I p d s i) (file : IsOldFile P I i) (written : IsWrittenLink P I i)
+module _ (P : ℕ) (I : List ℕ) (p : Route) (d s : ℕ) (new_page : Option ℕ) (i : ℕ) (others : Residue) (can : CanAdd P I p d s i) (written : IsWrittenLink P I i)
     (tidy : IsTidyBeside P I (joined (link_left s new_page i) others)) where
   takes : TakesNumber P I (committed P I s i) s i
   takes = number_taken P I p d s i can
+
+  -- what is linked is reached, so it is no new node
+  file : IsOldFile P I i
+  file = elim can.node [ inl new ↦ absurd (new.unreached ((tidy.of_counts.each i).0 (inl refl)).reached) | inr old ↦ old ]
 
   no_count : ¬ IsLitterCount P (committed P I s i) i
   no_count l =
@@ -45,13 +49,14 @@ module _ (P : ℕ) (I : List ℕ) (p : Route) (d s : ℕ) (new_page : Option ℕ
   }
 
 pub link_committed_law : LinkCommittedLaw
-link_committed_law P I p d s None i others can file written place tidy =
+link_committed_law P I p d s None i others can written place tidy =
     let takes = number_taken P I p d s i can in
-    tidy_after P I p d s None i others can file written tidy
-    (after.slots_less can takes place others.slots tidy.of_slots)
-    (after.pages_same can takes place others.pages tidy.of_pages)
-link_committed_law P I p d s (Some page) i others can file written (at, (name, named)) tidy =
+    let there = after.slot_room can takes ((tidy.of_slots.each s).0 (inl refl)) in
+    tidy_after P I p d s None i others can written tidy
+    (after.slots_less can takes there others.slots tidy.of_slots)
+    (after.pages_same can takes there others.pages tidy.of_pages)
+link_committed_law P I p d s (Some page) i others can written (at, zeros) tidy =
     let takes = number_taken P I p d s i can in
-    tidy_after P I p d s (Some page) i others can file written tidy
-    (after.slots_same can takes page at named.zeros ((tidy.of_pages.each page).0 (inl refl)).free others.slots tidy.of_slots)
-    (after.pages_less can takes page at named.zeros others.pages tidy.of_pages)
+    tidy_after P I p d s (Some page) i others can written tidy
+    (after.slots_same can takes page at zeros ((tidy.of_pages.each page).0 (inl refl)).free others.slots tidy.of_slots)
+    (after.pages_less can takes page at zeros others.pages tidy.of_pages)

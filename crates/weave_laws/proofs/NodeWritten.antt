@@ -4,16 +4,15 @@ use Rattle.layout.specs.Fields.{inode_kind, inode_links}
 use Rattle.tree_model.specs.PathText.{Route}
 use Rattle.tree_model.specs.Tree.{Node, Directory, File}
 use Rattle.image_reading.specs.Counts.{IsIn, IsListOf}
-use Rattle.image_reading.specs.Litter.{IsZeroInode}
-use Rattle.image_reading.specs.Reading.{Reached, IsLinkCount}
+use Rattle.image_reading.specs.Reading.{Reached}
 use Rattle.image_reading.specs.Repairs.{IsLitterInode, IsLitterCount}
-use Rattle.image_reading.proofs.Tidying.{zero_tidy}
 use Rattle.image_laws.specs.Create.{node_words, parent_links, MakesNode}
 use Rattle.image_laws.specs.Stages.{IsReady}
 use Rattle.image_laws.proofs.AddTidy.{IsWritten}
 use Rattle.image_laws.proofs.Making as making
 use Rattle.image_reading.specs.Residue.{Residue, IsTidyBeside}
-use Rattle.weave_laws.specs.Naming.{NodeWrittenLaw, IsBlankSlot, counts_left}
+use Rattle.weave_laws.specs.Naming.{NodeWrittenLaw, IsCountedParent, counts_left}
+use Rattle.weave_laws.proofs.FreeBeside.{kindless_tidy}
 use Rattle.weave_laws.proofs.Listed.{listed_more}
 use Rattle.weave_laws.proofs.Written as after
 
@@ -21,8 +20,8 @@ pub some_kind : (node : Node) (i : ℕ) → slice_index (node_words node i) 0 �
 some_kind Directory i z = omega (arith, z)
 some_kind (File bytes) i z = omega (arith, z)
 
-module _ (P : ℕ) (I J : List ℕ) (p : Route) (node : Node) (d s i : ℕ) (name : List ℕ) (others : Residue) (ready : IsReady P I p d s i name) (blank : IsBlankSlot P I d s) (free : IsZeroInode I i)
-    (counted : IsLinkCount P I d (inode_links I d)) (makes : MakesNode P I J node d s i name) (tidy : IsTidyBeside P I others) where
+module _ (P : ℕ) (I J : List ℕ) (p : Route) (node : Node) (d s i : ℕ) (name : List ℕ) (others : Residue) (ready : IsReady P I p d s i name) (none : inode_kind I i ≡ 0)
+    (makes : MakesNode P I J node d s i name) (tidy : IsTidyBeside P I others) where
   written : IsWritten P I J s i d name
   written = record {
     named = making.named P I J p node d s i name ready makes;
@@ -48,32 +47,34 @@ module _ (P : ℕ) (I J : List ℕ) (p : Route) (node : Node) (d s i : ℕ) (nam
     nonzero = (0, omega arith, new_kind);
   }
 
+  no_inode : ¬ IsLitterInode P I i
+  no_inode = kindless_tidy P I i others tidy none
+
   inodes_after : IsListOf (IsLitterInode P J) (i ∷ others.inodes)
-  inodes_after = listed_more (IsLitterInode P I) (IsLitterInode P J) i others.inodes (zero_tidy P I i least ready.inode.most ready.inode.unreached free).inode new_inode
+  inodes_after = listed_more (IsLitterInode P I) (IsLitterInode P J) i others.inodes no_inode new_inode
       (λ x ne. after.inode_same ready.place written x (inr ne)) tidy.of_inodes
 
-  counts_after : (kind : Node) → inode_links J d ≡ parent_links kind (inode_links I d) → IsListOf (IsLitterCount P J) (counts_left kind d ++ others.counts)
-  counts_after Directory links = after.counts_more ready.place written links counted others.counts tidy.of_counts
-  counts_after (File bytes) links = after.counts_same ready.place written links others.counts tidy.of_counts
+  counts_after : (kind : Node) → inode_links J d ≡ parent_links kind (inode_links I d) → IsCountedParent P I kind d → IsListOf (IsLitterCount P J) (counts_left kind d ++ others.counts)
+  counts_after Directory links counted = after.counts_more ready.place written links counted others.counts tidy.of_counts
+  counts_after (File bytes) links counted = after.counts_same ready.place written links others.counts tidy.of_counts
 
   kind_after : (x : ℕ) → IsIn x (i ∷ others.inodes) → inode_kind J x ≢ 0
   kind_after x among = elim among [
     | inl e ↦ subst (λ z. inode_kind J z ≢ 0) (sym e) new_kind
     | inr other ↦
         let litter = (tidy.of_inodes.each x).0 other in
-        let apart : x ≢ i = λ e. (zero_tidy P I i least ready.inode.most ready.inode.unreached free).inode (subst (IsLitterInode P I) e litter) in
-        after.kind_kept ready.place written x apart litter (tidy.kinds x other)
+        after.kind_kept ready.place written x (λ e. no_inode (subst (IsLitterInode P I) e litter)) litter (tidy.kinds x other)
   ]
 
 pub node_written_law : NodeWrittenLaw
-node_written_law P I J p node d s i name others ready blank free counted empty makes tidy =
-    let written = written P I J p node d s i name others ready blank free counted makes tidy in
+node_written_law P I J p node d s i name others ready blank none counted makes tidy =
+    let written = written P I J p node d s i name others ready none makes tidy in
     record {
       of_pointer = λ t. ((λ e. (after.pointer_same ready.place written t).0 ((tidy.of_pointer t).0 e)), (λ l. (tidy.of_pointer t).1 ((after.pointer_same ready.place written t).1 l)));
       of_slots = after.slots_after ready.place written blank others.slots tidy.of_slots;
       of_pages = after.pages_after ready.place written others.pages tidy.of_pages;
-      of_inodes = inodes_after P I J p node d s i name others ready blank free counted makes tidy;
-      of_counts = counts_after P I J p node d s i name others ready blank free counted makes tidy node makes.parent;
-      kinds = kind_after P I J p node d s i name others ready blank free counted makes tidy;
+      of_inodes = inodes_after P I J p node d s i name others ready none makes tidy;
+      of_counts = counts_after P I J p node d s i name others ready none makes tidy node makes.parent counted;
+      kinds = kind_after P I J p node d s i name others ready none makes tidy;
       marks = λ j among. after.mark_kept ready.place written j ((tidy.of_pages.each j).0 among).in_range (tidy.marks j among);
     }

@@ -1,38 +1,47 @@
 -- New pages of a file are filled, and its own bytes may change: the new pages are left.
-use Rattle.std.proofs.Common.{◌≡◌, ◌≢◌, ◌⊎◌, inl, inr, ℕ, ◌<◌, List, [], ◌++◌, refl, sym, subst, ◌∙◌, arith}
+use Rattle.std.proofs.Common.{◌≡◌, ◌≢◌, ◌⊎◌, inl, inr, ℕ, suc, ◌+◌, ◌<◌, List, [], ◌∷◌, ◌++◌, Some, slice_get, refl, sym, subst, ◌∙◌, arith}
 use Rattle.std.specs.Prelude.{Contains}
-use Rattle.layout.specs.Fields.{page_owner, page_kind}
+use Rattle.layout.specs.Fields.{inode_size, page_owner, page_kind, page_offset}
 use Rattle.layout.specs.Geometry.{data_pages_of, page_of_slot, descriptor_word_of}
 use Rattle.image_reading.specs.Counts.{IsIn, IsDistinct, IsListOf}
-use Rattle.image_reading.specs.Litter.{IsZeroDescriptor}
-use Rattle.image_reading.specs.Reading.{Reached}
+use Rattle.image_reading.specs.Reading.{Reached, pages_of_size}
 use Rattle.image_reading.specs.Repairs.{IsLitterPage}
 use Rattle.image_reading.specs.Residue.{Residue, IsTidyBeside}
-use Rattle.image_reading.specs.Soundness.{IsCoherent}
 use Rattle.image_counts.proofs.Distinct.{in_either}
 use Rattle.image_laws.specs.Frame.{SameShape}
 use Rattle.image_laws.proofs.Addresses.{descriptor-ne_page, descriptor_word-one}
 use Rattle.image_laws.proofs.Paths.{reached_pos}
 use Rattle.content_laws.specs.Growth.{IsFillWord, FillsFile}
-use Rattle.content_laws.specs.Mix.{IsBytesWord, StoresContent}
+use Rattle.content_laws.specs.Mix.{StoresContent}
 use Rattle.content_laws.proofs.Lists.{place_of}
 use Rattle.content_laws.proofs.Quiet as quiet
+use Rattle.weave_laws.specs.Bytes.{MayFill}
 use Rattle.weave_laws.specs.Sizing.{FilledLaw}
+use Rattle.weave_laws.proofs.BytesFilled as filled
 use Rattle.weave_laws.proofs.Contained.{in_contained, contained_in, contained_or_not}
 use Rattle.weave_laws.proofs.Listed.{listed_after}
 use Rattle.weave_laws.proofs.PagedBeside.{zero_page}
 use Rattle.weave_laws.proofs.Sized as after
 use Rattle.weave_laws.proofs.Sized.{ChangesFile}
 
-module _ (P : ℕ) (I J : List ℕ) (i offset : ℕ) (bytes pages : List ℕ) (others : Residue) (coherent : IsCoherent P I) (reached : Reached P I i) (distinct : IsDistinct pages)
-    (zeros : (j : ℕ) → Contains pages j → (j < data_pages_of P) × IsZeroDescriptor P I j) (fills : FillsFile P I J i offset bytes pages) (shape : SameShape P I J) (tidy : IsTidyBeside P I others) where
-  content : {a : ℕ} → IsFillWord P I i pages a → IsBytesWord P I a
-  content (IsFillWord.old k j w page lt) = IsBytesWord.bytes j w page.in_range lt page.kind
-  content (IsFillWord.new j w is lt) = IsBytesWord.free j w (zeros j is).0 lt (zeros j is).1.owner
-  content (IsFillWord.descriptor j f is l m) = IsBytesWord.descriptor j f (zeros j is).0 l m (zeros j is).1.owner
+-- numbers whose offsets follow one another are distinct
+distinct_by : (xs : List ℕ) (offset : ℕ → ℕ) (n : ℕ) → ((k j : ℕ) → slice_get xs k ≡ Some j → offset j ≡ n + k) → IsDistinct xs
+distinct_by [] offset n at = tt
+distinct_by (x ∷ xs) offset n at = (
+  (λ among.
+      let (k, lt, is) = place_of xs x (in_contained x xs among) in
+      let first = at 0 x refl in
+      let later = at (suc k) x is in
+      omega (arith, first, later)),
+  distinct_by xs offset (n + 1) (λ k j is. let same = at (suc k) j is in omega (arith, same)),
+)
+
+module _ (P : ℕ) (I J : List ℕ) (i offset : ℕ) (bytes pages : List ℕ) (others : Residue) (may : MayFill P I i pages) (fills : FillsFile P I J i offset bytes pages) (tidy : IsTidyBeside P I others) where
+  shape : SameShape P I J
+  shape = filled.shape P I J i offset bytes pages may fills
 
   stores : StoresContent P I J
-  stores = record { size = fills.size; others = λ a none. fills.others a (λ is. none (content is)) }
+  stores = filled.stores P I J i offset bytes pages may fills
 
   not_filled : (j f : ℕ) → j < data_pages_of P → f < 8 → ¬ Contains pages j → {a : ℕ} → IsFillWord P I i pages a → a ≡ descriptor_word_of P j f → ⊥
   not_filled j f lt l8 none (IsFillWord.old k h w page l) e = descriptor-ne_page P j f h w lt l8 (sym e)
@@ -44,12 +53,12 @@ module _ (P : ℕ) (I J : List ℕ) (i offset : ℕ) (bytes pages : List ℕ) (o
 
   abbrev change : ChangesFile P I J i (Contains pages)
   change = record {
-    before = coherent;
+    before = may.coherent;
     after = shape.coherent;
-    file = reached;
+    file = may.reached;
     names = shape.names;
     descriptors = λ j f lt l3 none. fills.others (descriptor_word_of P j f) (λ is. not_filled j f lt (omega (arith, l3)) none is refl);
-    unheld = λ t is held. (let zero = (zeros (page_of_slot t) is).1.kind in let two = held.kind in omega (arith, zero, two));
+    unheld = λ t is held. (let zero = (may.zero (page_of_slot t) is).1.kind in let two = held.kind in omega (arith, zero, two));
     unheld_after = λ t is held. (let one = kind_after (page_of_slot t) is in let two = held.kind in omega (arith, one, two));
     slots = λ t f held lt. quiet.slot_same P I J stores t f lt held;
     inodes = λ x f some most lt why. quiet.inode_same P I J stores x f some most (omega (arith, lt));
@@ -59,7 +68,7 @@ module _ (P : ℕ) (I J : List ℕ) (i offset : ℕ) (bytes pages : List ℕ) (o
 
   unowned : (j : ℕ) → Contains pages j → page_owner P J j ≡ 0
   unfolding page_owner
-  unowned j is = quiet.descriptor_same P I J stores j 0 (zeros j is).0 (omega arith) (inr refl) ∙ (zeros j is).1.owner
+  unowned j is = quiet.descriptor_same P I J stores j 0 (may.zero j is).0 (omega arith) (inr refl) ∙ (may.zero j is).1.owner
 
   no_owner : (j : ℕ) → Contains pages j → ¬ Reached P J (page_owner P J j)
   no_owner j is r = reached_pos P J (page_owner P J j) r (unowned j is)
@@ -70,13 +79,16 @@ module _ (P : ℕ) (I J : List ℕ) (i offset : ℕ) (bytes pages : List ℕ) (o
   left_then : (j : ℕ) → Contains pages j → IsLitterPage P J j
   unfolding page_kind
   left_then j is = record {
-    in_range = (zeros j is).0;
+    in_range = (may.zero j is).0;
     free = λ kept. elim kept [ inl file ↦ no_owner j is file.owner | inr room ↦ no_owner j is room.reached ];
     nonzero = (1, omega arith, some_kind j is);
   }
 
   not_before : (j : ℕ) → Contains pages j → ¬ IsLitterPage P I j
-  not_before j is = zero_page P I j (zeros j is).1
+  not_before j is = zero_page P I j (may.zero j is).1
+
+  distinct : IsDistinct pages
+  distinct = distinct_by pages (page_offset P J) (pages_of_size (inode_size I i)) fills.offsets
 
   pages_after : IsListOf (IsLitterPage P J) (pages ++ others.pages)
   pages_after = listed_after (IsLitterPage P I) (IsLitterPage P J) [] pages others.pages distinct
@@ -102,7 +114,6 @@ module _ (P : ℕ) (I J : List ℕ) (i offset : ℕ) (bytes pages : List ℕ) (o
   ]
 
 pub filled_law : FilledLaw
-filled_law P I J i offset bytes pages others coherent reached file distinct zeros fills shape tidy =
-    after.tidy_after (change P I J i offset bytes pages others coherent reached distinct zeros fills shape tidy) others.pages (pages ++ others.pages) others tidy
-    (pages_after P I J i offset bytes pages others coherent reached distinct zeros fills shape tidy)
-    (mark_after P I J i offset bytes pages others coherent reached distinct zeros fills shape tidy)
+filled_law P I J i offset bytes pages others may fills tidy =
+    after.tidy_after (change P I J i offset bytes pages others may fills tidy) others.pages (pages ++ others.pages) others tidy
+    (pages_after P I J i offset bytes pages others may fills tidy) (mark_after P I J i offset bytes pages others may fills tidy)

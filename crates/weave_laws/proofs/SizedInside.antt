@@ -1,32 +1,32 @@
 -- Bytes of a file below its size are written: nothing is left that wasn't, and nothing goes.
-use Rattle.std.proofs.Common.{◌↔◌, ℕ, List, sym, subst, arith}
+use Rattle.std.proofs.Common.{◌↔◌, ℕ, List, arith}
 use Rattle.layout.specs.Geometry.{descriptor_word_of}
-use Rattle.image_reading.specs.Reading.{Reached}
 use Rattle.image_reading.specs.Repairs.{IsLitterPage}
 use Rattle.image_reading.specs.Residue.{Residue, IsTidyBeside}
-use Rattle.image_reading.specs.Soundness.{IsCoherent}
 use Rattle.image_laws.specs.Frame.{SameShape}
 use Rattle.image_laws.proofs.Addresses.{descriptor-ne_page}
 use Rattle.content_laws.specs.Inside.{WritesInside}
-use Rattle.content_laws.specs.Mix.{IsBytesWord, StoresContent}
+use Rattle.content_laws.specs.Mix.{StoresContent}
 use Rattle.content_laws.proofs.Quiet as quiet
+use Rattle.weave_laws.specs.Bytes.{MayWrite}
 use Rattle.weave_laws.specs.Sizing.{WrittenInsideLaw}
+use Rattle.weave_laws.proofs.BytesInside as inside
 use Rattle.weave_laws.proofs.Listed.{listed_same}
 use Rattle.weave_laws.proofs.Sized as after
 use Rattle.weave_laws.proofs.Sized.{ChangesFile}
 
-module _ (P : ℕ) (I J : List ℕ) (i offset : ℕ) (bytes : List ℕ) (coherent : IsCoherent P I) (reached : Reached P I i) (writes : WritesInside P I J i offset bytes) (shape : SameShape P I J) where
+module _ (P : ℕ) (I J : List ℕ) (i offset : ℕ) (bytes : List ℕ) (may : MayWrite P I i offset bytes) (writes : WritesInside P I J i offset bytes) where
+  shape : SameShape P I J
+  shape = inside.shape P I J i offset bytes may writes
+
   stores : StoresContent P I J
-  stores = record {
-    size = writes.size;
-    others = λ a none. writes.others a (λ k j w page lt e. none (subst (IsBytesWord P I) (sym e) (IsBytesWord.bytes j w page.in_range lt page.kind)));
-  }
+  stores = inside.stores P I J i offset bytes may writes
 
   abbrev change : ChangesFile P I J i (λ j. ⊥)
   change = record {
-    before = coherent;
+    before = may.coherent;
     after = shape.coherent;
-    file = reached;
+    file = may.reached;
     names = shape.names;
     descriptors = λ j f lt l3 none. writes.others (descriptor_word_of P j f) (λ k h w page l e. descriptor-ne_page P j f h w lt (omega (arith, l3)) e);
     unheld = λ t none held. none;
@@ -44,4 +44,4 @@ module _ (P : ℕ) (I J : List ℕ) (i offset : ℕ) (bytes : List ℕ) (coheren
       (λ j among. after.mark_kept change j (λ none. none) ((tidy.of_pages.each j).0 among).in_range (tidy.marks j among))
 
 pub written_inside_law : WrittenInsideLaw
-written_inside_law P I J i offset bytes residue coherent reached writes shape tidy = left_as_it_was P I J i offset bytes coherent reached writes shape residue tidy
+written_inside_law P I J i offset bytes residue may writes tidy = left_as_it_was P I J i offset bytes may writes residue tidy

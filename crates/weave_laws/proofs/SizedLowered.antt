@@ -3,35 +3,35 @@ use Rattle.std.proofs.Common.{◌≡◌, ◌≢◌, ◌⊎◌, inl, inr, ℕ, �
 use Rattle.std.proofs.lemmas.Bool.{cases_eq, cases_lt}
 use Rattle.layout.specs.Fields.{inode_kind, inode_size, page_owner, page_kind, page_offset}
 use Rattle.image_reading.specs.Counts.{IsIn, IsDistinct, IsListOf}
-use Rattle.image_reading.specs.Reading.{HasBytes, Reached, IsRoomOf, pages_of_size}
+use Rattle.image_reading.specs.Reading.{Reached, IsRoomOf, pages_of_size}
 use Rattle.image_reading.specs.Repairs.{IsKeptFilePage, IsLitterPage}
 use Rattle.image_reading.specs.Residue.{Residue, IsTidyBeside}
-use Rattle.image_reading.specs.Soundness.{IsCoherent}
 use Rattle.image_counts.proofs.Distinct.{in_either}
 use Rattle.image_counts.proofs.Paths.{in_range}
 use Rattle.content_laws.specs.Growth.{sized}
+use Rattle.weave_laws.specs.Bytes.{MayLower}
 use Rattle.weave_laws.specs.Sizing.{ArePagesBetween, LoweredLaw}
 use Rattle.weave_laws.proofs.Contained.{in_contained, contained_in, contained_or_not}
 use Rattle.weave_laws.proofs.Listed.{listed_after}
+use Rattle.weave_laws.proofs.Resized.{lowered_coherent}
 use Rattle.weave_laws.proofs.Sized as after
 use Rattle.weave_laws.proofs.SizedRaised.{more_pages}
 use Rattle.weave_laws.proofs.SizedWords as words
 
-module _ (P : ℕ) (I : List ℕ) (i z : ℕ) (pages : List ℕ) (others : Residue) (coherent : IsCoherent P I) (coherent_after : IsCoherent P (sized I i z)) (reached : Reached P I i) (file : HasBytes I i)
-    (smaller : z ≤ inode_size I i) (distinct : IsDistinct pages) (between : ArePagesBetween P I i pages z (inode_size I i)) (tidy : IsTidyBeside P I others) where
+module _ (P : ℕ) (I : List ℕ) (i z : ℕ) (pages : List ℕ) (others : Residue) (may : MayLower P I i z) (distinct : IsDistinct pages) (between : ArePagesBetween P I i pages z (inode_size I i)) (tidy : IsTidyBeside P I others) where
   abbrev K : List ℕ
   K = sized I i z
 
   abbrev change : after.ChangesFile P I K i (λ j. ⊥)
-  change = words.change P I i z coherent coherent_after reached
+  change = words.change P I i z may.coherent may.reached (lowered_coherent P I i z may)
 
   size_after : inode_size K i ≡ z
-  size_after = words.size_after P I i z coherent coherent_after reached
+  size_after = words.size_after P I i z may.coherent may.reached
 
   -- each size is at most what it was
   size_falls : (x : ℕ) → Reached P I x → inode_size K x ≤ inode_size I x
   size_falls x r = elim (cases_eq x i) [
-    | inl e ↦ (let old = ap (inode_size I) e in let new = ap (inode_size K) e in let size = size_after in let le = smaller in omega (arith, old, new, size, le))
+    | inl e ↦ (let old = ap (inode_size I) e in let new = ap (inode_size K) e in let size = size_after in let le = may.less in omega (arith, old, new, size, le))
     | inr ne ↦ (let same = after.size_beside change x r ne in omega (arith, same))
   ]
 
@@ -63,13 +63,13 @@ module _ (P : ℕ) (I : List ℕ) (i z : ℕ) (pages : List ℕ) (others : Resid
   kept_before j among =
       let (page, ge, lt) = (between j).0 among in
       let size = ap (λ y. pages_of_size (inode_size I y)) page.owner in
-      record { in_range = page.in_range; owner = subst (Reached P I) (sym page.owner) reached; file = ap (inode_kind I) page.owner ∙ file; below = omega (arith, size, lt) }
+      record { in_range = page.in_range; owner = subst (Reached P I) (sym page.owner) may.reached; file = ap (inode_kind I) page.owner ∙ may.file; below = omega (arith, size, lt) }
 
   owner_after : (j : ℕ) → IsIn j pages → page_owner P K j ≡ i
   owner_after j among = let page = ((between j).0 among).0 in (after.paged change).owner j page.in_range (λ none. none) ∙ page.owner
 
   owned_after : (j : ℕ) → IsIn j pages → page_owner P K j ≢ 0
-  owned_after j among z = let owner = owner_after j among in let some = (in_range P I coherent i reached).0 in omega (arith, owner, some, z)
+  owned_after j among z = let owner = owner_after j among in let some = (in_range P I may.coherent i may.reached).0 in omega (arith, owner, some, z)
 
   not_file : (j : ℕ) → IsIn j pages → ¬ IsKeptFilePage P K j
   not_file j among kept =
@@ -82,7 +82,7 @@ module _ (P : ℕ) (I : List ℕ) (i z : ℕ) (pages : List ℕ) (others : Resid
   not_room : (j : ℕ) → IsIn j pages → ¬ IsRoomOf P K (page_owner P K j) j
   not_room j among room =
       let two = room.directory in
-      let one : inode_kind K (page_owner P K j) ≡ 1 = ap (inode_kind K) (owner_after j among) ∙ after.kind_reached change i reached ∙ file in
+      let one : inode_kind K (page_owner P K j) ≡ 1 = ap (inode_kind K) (owner_after j among) ∙ after.kind_reached change i may.reached ∙ may.file in
       omega (arith, one, two)
 
   left_then : (j : ℕ) → IsIn j pages → IsLitterPage P K j
@@ -112,7 +112,6 @@ module _ (P : ℕ) (I : List ℕ) (i z : ℕ) (pages : List ℕ) (others : Resid
   ]
 
 pub lowered_law : LoweredLaw
-lowered_law P I i z pages others coherent coherent_after reached file smaller distinct between tidy =
-    after.tidy_after (words.change P I i z coherent coherent_after reached) others.pages (pages ++ others.pages) others tidy
-    (pages_after P I i z pages others coherent coherent_after reached file smaller distinct between tidy)
-    (mark_after P I i z pages others coherent coherent_after reached file smaller distinct between tidy)
+lowered_law P I i z pages others may distinct between tidy =
+    after.tidy_after (change P I i z pages others may distinct between tidy) others.pages (pages ++ others.pages) others tidy
+    (pages_after P I i z pages others may distinct between tidy) (mark_after P I i z pages others may distinct between tidy)

@@ -3,15 +3,16 @@ use Rattle.std.proofs.Common.{◌≡◌, ◌≢◌, ◌⊎◌, inl, inr, ℕ, �
 use Rattle.std.proofs.lemmas.Bool.{cases_eq, cases_lt}
 use Rattle.layout.specs.Fields.{inode_kind, inode_size, page_owner, page_kind, page_offset}
 use Rattle.image_reading.specs.Counts.{IsIn, IsListOf}
-use Rattle.image_reading.specs.Reading.{HasBytes, Reached, pages_of_size}
+use Rattle.image_reading.specs.Reading.{Reached, pages_of_size}
 use Rattle.image_reading.specs.Repairs.{IsKeptFilePage, IsLitterPage}
 use Rattle.image_reading.specs.Residue.{Residue, IsTidyBeside}
-use Rattle.image_reading.specs.Soundness.{IsCoherent}
 use Rattle.image_counts.proofs.Distinct.{in_back}
 use Rattle.content_laws.specs.Growth.{sized}
 use Rattle.weave_laws.specs.Joined.{joined}
+use Rattle.weave_laws.specs.Bytes.{MayRaise}
 use Rattle.weave_laws.specs.Sizing.{ArePagesBetween, behind_left, RaisedLaw}
 use Rattle.weave_laws.proofs.Listed.{listed_after}
+use Rattle.weave_laws.proofs.Resized.{raised_coherent}
 use Rattle.weave_laws.proofs.Sized as after
 use Rattle.weave_laws.proofs.SizedWords as words
 
@@ -20,21 +21,20 @@ pub more_pages : (small large : ℕ) → small ≤ large → pages_of_size small
 unfolding pages_of_size
 more_pages small large le = omega (arith, le)
 
-module _ (P : ℕ) (I : List ℕ) (i z : ℕ) (pages : List ℕ) (others : Residue) (coherent : IsCoherent P I) (coherent_after : IsCoherent P (sized I i z)) (reached : Reached P I i) (file : HasBytes I i)
-    (larger : inode_size I i ≤ z) (between : ArePagesBetween P I i pages (inode_size I i) z) (tidy : IsTidyBeside P I (joined (behind_left pages) others)) where
+module _ (P : ℕ) (I : List ℕ) (i z : ℕ) (pages : List ℕ) (others : Residue) (may : MayRaise P I i z) (between : ArePagesBetween P I i pages (inode_size I i) z) (tidy : IsTidyBeside P I (joined (behind_left pages) others)) where
   abbrev K : List ℕ
   K = sized I i z
 
   abbrev change : after.ChangesFile P I K i (λ j. ⊥)
-  change = words.change P I i z coherent coherent_after reached
+  change = words.change P I i z may.coherent may.reached (raised_coherent P I i z may)
 
   size_after : inode_size K i ≡ z
-  size_after = words.size_after P I i z coherent coherent_after reached
+  size_after = words.size_after P I i z may.coherent may.reached
 
   -- each size is at most what it is then
   size_grows : (x : ℕ) → Reached P I x → inode_size I x ≤ inode_size K x
   size_grows x r = elim (cases_eq x i) [
-    | inl e ↦ (let old = ap (inode_size I) e in let new = ap (inode_size K) e in let size = size_after in let le = larger in omega (arith, old, new, size, le))
+    | inl e ↦ (let old = ap (inode_size I) e in let new = ap (inode_size K) e in let size = size_after in let le = may.larger in omega (arith, old, new, size, le))
     | inr ne ↦ (let same = after.size_beside change x r ne in omega (arith, same))
   ]
 
@@ -75,8 +75,8 @@ module _ (P : ℕ) (I : List ℕ) (i z : ℕ) (pages : List ℕ) (others : Resid
       let size : pages_of_size (inode_size K (page_owner P K j)) ≡ pages_of_size z = ap (λ y. pages_of_size (inode_size K y)) owner ∙ ap pages_of_size size_after in
       record {
         in_range = page.in_range;
-        owner = subst (Reached P K) (sym owner) ((after.reached change i).0 reached);
-        file = ap (inode_kind K) owner ∙ after.kind_reached change i reached ∙ file;
+        owner = subst (Reached P K) (sym owner) ((after.reached change i).0 may.reached);
+        file = ap (inode_kind K) owner ∙ after.kind_reached change i may.reached ∙ may.file;
         below = omega (arith, same, size, lt);
       }
 
@@ -94,7 +94,6 @@ module _ (P : ℕ) (I : List ℕ) (i z : ℕ) (pages : List ℕ) (others : Resid
       after.mark_kept change j (λ none. none) ((tidy.of_pages.each j).0 before).in_range (tidy.marks j before)
 
 pub raised_law : RaisedLaw
-raised_law P I i z pages others coherent coherent_after reached file larger between tidy =
-    after.tidy_after (words.change P I i z coherent coherent_after reached) (pages ++ others.pages) others.pages others tidy
-    (pages_after P I i z pages others coherent coherent_after reached file larger between tidy)
-    (mark_after P I i z pages others coherent coherent_after reached file larger between tidy)
+raised_law P I i z pages others may between tidy =
+    after.tidy_after (change P I i z pages others may between tidy) (pages ++ others.pages) others.pages others tidy
+    (pages_after P I i z pages others may between tidy) (mark_after P I i z pages others may between tidy)

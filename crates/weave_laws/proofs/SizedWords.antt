@@ -56,7 +56,7 @@ flipped words = record {
   name = λ t. sym (words.name t);
 }
 
-module _ (P : ℕ) (I : List ℕ) (i z : ℕ) (coherent : IsCoherent P I) (after : IsCoherent P (sized I i z)) (reached : Reached P I i) where
+module _ (P : ℕ) (I : List ℕ) (i z : ℕ) (coherent : IsCoherent P I) (reached : Reached P I i) where
   i_pos : 1 ≤ i
   i_pos = (in_range P I coherent i reached).0
 
@@ -91,8 +91,8 @@ module _ (P : ℕ) (I : List ℕ) (i z : ℕ) (coherent : IsCoherent P I) (after
       let long = (coherent Rule.head 0).whole refl in
       get_or-set_same I (inode_word_of i 2) z 0 (omega (arith, within, long))
 
-  pub change : ChangesFile P I (sized I i z) i (λ j. ⊥)
-  change = record {
+  pub change : IsCoherent P (sized I i z) → ChangesFile P I (sized I i z) i (λ j. ⊥)
+  change after = record {
     before = coherent;
     after = after;
     file = reached;

@@ -3,4 +3,8 @@ pub mod Naming
 pub mod Paging
 pub mod Removing
 pub mod Unnaming
+pub mod Bytes
 pub mod Sizing
+pub mod Committing
+pub mod Entering
+pub mod Beside

@@ -1,17 +1,16 @@
 -- A name is written, and then its slot takes the number: what each step leaves to be repaired, beside other calls. P is the number of
 -- pages, I the words before a step, J those after it.
-use Rattle.std.specs.Prelude.{◌≡◌, ℕ, ◌+◌, ◌<◌, List, [], ◌∷◌, Option, Some, None, slice_index}
-use Rattle.layout.specs.Fields.{word, inode_links}
+use Rattle.std.specs.Prelude.{◌≡◌, ◌≢◌, ℕ, ◌+◌, ◌<◌, List, [], ◌∷◌, Option, Some, None, slice_index}
+use Rattle.layout.specs.Fields.{word, inode_kind, inode_links}
 use Rattle.layout.specs.Geometry.{page_of_slot, inode_word_of}
 use Rattle.tree_model.specs.PathText.{Route}
 use Rattle.tree_model.specs.Tree.{Node, Directory, File}
-use Rattle.image_reading.specs.Litter.{IsZeroInode, IsZeroSlot}
+use Rattle.image_reading.specs.Litter.{IsZeroSlot}
 use Rattle.image_reading.specs.Reading.{IsLinkCount, IsRoomOf}
-use Rattle.image_laws.specs.Add.{IsNewNode, IsOldFile, CanAdd}
-use Rattle.image_laws.specs.Create.{IsEmptyNode, node_words, parent_links, MakesNode, committed}
+use Rattle.image_laws.specs.Add.{IsOldFile, CanAdd}
+use Rattle.image_laws.specs.Create.{node_words, MakesNode, committed}
 use Rattle.image_laws.specs.Link.{MakesLink}
 use Rattle.image_laws.specs.Stages.{IsReady, IsReadySlot}
-use Rattle.image_laws.specs.Taking.{IsNamedPage}
 use Rattle.image_reading.specs.Residue.{Residue, IsTidyBeside}
 use Rattle.weave_laws.specs.Joined.{joined}
 
@@ -41,14 +40,19 @@ link_left s new_page i = record { pointer = None; slots = slots_left s new_page;
 
 -- ---- the name is written
 
+-- The directory that a directory is made in has as many links as are counted.
+abbrev pub IsCountedParent : ℕ → List ℕ → Node → ℕ → Type 0
+IsCountedParent P I Directory d = IsLinkCount P I d (inode_links I d)
+IsCountedParent P I (File bytes) d = Unit {0}
+
 -- The slot is zero, in a page of d that has a live one.
 pub record IsBlankSlot (P : ℕ) (I : List ℕ) (d s : ℕ) : Type 0 where
   pub kept : IsRoomOf P I d (page_of_slot s)
   pub zero : IsZeroSlot P I s
 
 abbrev pub NodeWrittenLaw : Type 0
-NodeWrittenLaw = (P : ℕ) (I J : List ℕ) (p : Route) (node : Node) (d s i : ℕ) (name : List ℕ) (others : Residue) → IsReady P I p d s i name → IsBlankSlot P I d s → IsZeroInode I i
-    → IsLinkCount P I d (inode_links I d) → IsEmptyNode node → MakesNode P I J node d s i name → IsTidyBeside P I others
+NodeWrittenLaw = (P : ℕ) (I J : List ℕ) (p : Route) (node : Node) (d s i : ℕ) (name : List ℕ) (others : Residue) → IsReady P I p d s i name → IsBlankSlot P I d s → inode_kind I i ≡ 0
+    → IsCountedParent P I node d → MakesNode P I J node d s i name → IsTidyBeside P I others
     → IsTidyBeside P J (joined (node_left node d s None i) others)
 
 abbrev pub LinkWrittenLaw : Type 0
@@ -58,28 +62,30 @@ LinkWrittenLaw = (P : ℕ) (I J : List ℕ) (p : Route) (d s i : ℕ) (name : Li
 
 -- ---- the slot takes the number
 
--- The words of the new inode stand, and its parent has a link more where it is a directory.
-pub record IsWrittenNode (P : ℕ) (I : List ℕ) (node : Node) (d i : ℕ) : Type 0 where
-  pub empty : IsEmptyNode node
-  pub words : (f : ℕ) → f < 4 → word I (inode_word_of i f) ≡ slice_index (node_words node i) f
-  pub parent : (n : ℕ) × IsLinkCount P I d n × (inode_links I d ≡ parent_links node n)
-
--- the file has a link more than names
+-- inode x has a link more than are counted,
 abbrev pub IsWrittenLink : ℕ → List ℕ → ℕ → Type 0
-IsWrittenLink P I i = (n : ℕ) × IsLinkCount P I i n × (inode_links I i ≡ n + 1)
+IsWrittenLink P I x = (n : ℕ) × IsLinkCount P I x n × (inode_links I x ≡ n + 1)
 
--- the slot stands in a page that is kept, or in the new page, whose other slots are zero
-abbrev pub IsWrittenPlace : ℕ → List ℕ → ℕ → ℕ → Option ℕ → Type 0
-IsWrittenPlace P I d s None = IsRoomOf P I d (page_of_slot s)
-IsWrittenPlace P I d s (Some page) = (page_of_slot s ≡ page) × ((name : List ℕ) × IsNamedPage P I page s name)
+-- and so has the directory that a directory is made in
+abbrev pub IsWrittenParent : ℕ → List ℕ → Node → ℕ → Type 0
+IsWrittenParent P I Directory d = IsWrittenLink P I d
+IsWrittenParent P I (File bytes) d = Unit {0}
+
+-- The new inode has the node's kind and links.
+pub record IsWrittenNode (P : ℕ) (I : List ℕ) (node : Node) (d i : ℕ) : Type 0 where
+  pub words : (f : ℕ) → f < 2 → word I (inode_word_of i f) ≡ slice_index (node_words node i) f
+  pub parent : IsWrittenParent P I node d
+
+-- the slot stands in the new page, whose other slots are zero
+abbrev pub IsWrittenPlace : ℕ → List ℕ → ℕ → Option ℕ → Type 0
+IsWrittenPlace P I s None = Unit {0}
+IsWrittenPlace P I s (Some page) = (page_of_slot s ≡ page) × ((t : ℕ) → page_of_slot t ≡ page → t ≢ s → IsZeroSlot P I t)
 
 -- then nothing of it is left to be repaired
 abbrev pub NodeCommittedLaw : Type 0
-NodeCommittedLaw = (P : ℕ) (I : List ℕ) (p : Route) (node : Node) (d s : ℕ) (new_page : Option ℕ) (i : ℕ) (others : Residue) → CanAdd P I p d s i → IsNewNode P I i
-    → IsWrittenNode P I node d i → IsWrittenPlace P I d s new_page → IsTidyBeside P I (joined (node_left node d s new_page i) others)
-    → IsTidyBeside P (committed P I s i) others
+NodeCommittedLaw = (P : ℕ) (I : List ℕ) (p : Route) (node : Node) (d s : ℕ) (new_page : Option ℕ) (i : ℕ) (others : Residue) → CanAdd P I p d s i → IsWrittenNode P I node d i
+    → IsWrittenPlace P I s new_page → IsTidyBeside P I (joined (node_left node d s new_page i) others) → IsTidyBeside P (committed P I s i) others
 
 abbrev pub LinkCommittedLaw : Type 0
-LinkCommittedLaw = (P : ℕ) (I : List ℕ) (p : Route) (d s : ℕ) (new_page : Option ℕ) (i : ℕ) (others : Residue) → CanAdd P I p d s i → IsOldFile P I i
-    → IsWrittenLink P I i → IsWrittenPlace P I d s new_page → IsTidyBeside P I (joined (link_left s new_page i) others)
-    → IsTidyBeside P (committed P I s i) others
+LinkCommittedLaw = (P : ℕ) (I : List ℕ) (p : Route) (d s : ℕ) (new_page : Option ℕ) (i : ℕ) (others : Residue) → CanAdd P I p d s i → IsWrittenLink P I i
+    → IsWrittenPlace P I s new_page → IsTidyBeside P I (joined (link_left s new_page i) others) → IsTidyBeside P (committed P I s i) others
