@@ -1,1 +1,3 @@
-pub mod OpenedPage
+mod Lists
+mod OpenedPage
+mod Pointed
