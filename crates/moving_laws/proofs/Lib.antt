@@ -1,3 +1,7 @@
 mod Lists
 mod OpenedPage
 mod Pointed
+mod Behind
+mod GoneWith
+mod Committed
+mod Cleared
