@@ -5,3 +5,4 @@ mod Behind
 mod GoneWith
 mod Committed
 mod Cleared
+mod Entered

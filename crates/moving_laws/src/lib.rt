@@ -1,7 +1,7 @@
 //! What a rename leaves to be repaired, cut at each of its fences.
 #![tactic(auto)]
 
-ghost use Rattle.moving_laws.specs.Moving.{PageFilledLaw, PageOwnedLaw, PointedLaw, MovedLaw, LeftLaw, MoveClearedLaw, MoveGivenLaw};
+ghost use Rattle.moving_laws.specs.Moving.{PageFilledLaw, PageOwnedLaw, PointedLaw, MovedLaw, LeftLaw, MoveClearedLaw, MoveGivenLaw, MovedStateLaw};
 
 /// A new page that is filled with the new name is left, and the same once it has its owner.
 pub fn opened_law()
@@ -9,7 +9,7 @@ pub fn opened_law()
     ensures owned { PageOwnedLaw }
 {}
 
-/// A slot that points leaves the pointer, itself where it names nothing, or its new page, and the links that have risen.
+/// A slot that points at the old name's leaves the pointer, itself where it names nothing, or its new page, and the links that have risen.
 pub fn pointed_law()
     ensures { PointedLaw }
 {}
@@ -21,9 +21,14 @@ pub fn moved_law()
     ensures left { LeftLaw }
 {}
 
-/// Once the pointer, the old name's slot and the link are cleared the pages that go are left, and a replaced node that goes; and the same
-/// once these pages have no owner.
+/// Once the pointer and the old name's slot are cleared and a link has fallen, the pages that go are left, and a replaced node that goes;
+/// and the same once these pages have no owner.
 pub fn cleared_law()
     ensures cleared { MoveClearedLaw }
     ensures given { MoveGivenLaw }
+{}
+
+/// The words that the commit leaves read as a state that the step allows.
+pub fn entered_law()
+    ensures { MovedStateLaw }
 {}
