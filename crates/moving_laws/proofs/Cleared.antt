@@ -1,23 +1,19 @@
 -- The pointer and slot s are cleared and a link falls, and then the pages that go lose their owner: what that leaves to be repaired.
-use Rattle.std.proofs.Common.{◌≡◌, ◌≢◌, ◌⊎◌, inl, inr, ℕ, ◌<◌, ◌≤◌, Bool, true, List, [], ◌++◌, Option, None, Some, refl, sym, subst, ◌∙◌, arith}
-use Rattle.std.proofs.lemmas.Bool.{cases_eq}
+use Rattle.std.proofs.Common.{◌≡◌, ◌≢◌, inl, inr, ℕ, Bool, List, ◌++◌, Option, None, Some, sym, subst, arith}
 use Rattle.std.specs.Prelude.{Contains}
 use Rattle.layout.specs.Fields.{word, page_kind, slot_inode, slot_pointer}
-use Rattle.layout.specs.Geometry.{page_of_slot, slot_word_of}
+use Rattle.layout.specs.Geometry.{slot_word_of}
 use Rattle.tree_model.specs.PathText.{Route}
-use Rattle.image_reading.specs.Counts.{IsIn}
 use Rattle.image_reading.specs.Repairs.{IsPointer, IsLitterSlot, IsLitterCount}
-use Rattle.image_reading.specs.Residue.{Residue, IsTidyBeside}
+use Rattle.image_reading.specs.Residue.{IsTidyBeside}
 use Rattle.image_laws.specs.Drop.{GivesPages}
-use Rattle.image_laws.specs.Frame.{SameMeaning}
 use Rattle.image_laws.specs.Move.{CanMove, moved}
 use Rattle.image_laws.specs.Stages.{IsNeedless, MayGive}
 use Rattle.image_laws.proofs.Stages.{same_give}
 use Rattle.rename_laws.specs.Target.{Target, old_number}
 use Rattle.rename_laws.specs.Ready.{IsMoveReady}
 use Rattle.rename_laws.specs.Intervals.{IsCleared, IsGiven}
-use Rattle.rename_laws.proofs.MovedCounts.{IsLowered, IsAlmostTidy}
-use Rattle.rename_laws.proofs.MovedWords as words
+use Rattle.rename_laws.proofs.MovedCounts.{IsAlmostTidy}
 use Rattle.rename_laws.proofs.MoveIntervals as intervals
 use Rattle.rename_laws.proofs.MoveNear as before
 use Rattle.rename_laws.proofs.MoveSpare as spares

@@ -1,7 +1,7 @@
 -- Slot d takes the number, and then slot s gives it up: what each of these words leaves to be repaired.
-use Rattle.std.proofs.Common.{◌≡◌, ◌≢◌, ◌↔◌, inl, inr, ℕ, ◌+◌, ◌<◌, ◌≤◌, Bool, List, Option, Some, sym, ap, subst, ◌∙◌, arith}
+use Rattle.std.proofs.Common.{◌≡◌, ◌≢◌, inl, inr, ℕ, ◌+◌, ◌<◌, ◌≤◌, Bool, List, Option, Some, sym, ap, subst, ◌∙◌, arith}
 use Rattle.layout.specs.Fields.{word, inode_links, slot_inode, slot_pointer, slot_words}
-use Rattle.layout.specs.Geometry.{inodes_of, data_pages_of, inode_word_of, descriptor_word_of, slot_word_of}
+use Rattle.layout.specs.Geometry.{inodes_of, inode_word_of, descriptor_word_of, slot_word_of}
 use Rattle.layout.specs.Name.{IsNameWords}
 use Rattle.tree_model.specs.PathText.{Route}
 use Rattle.image_reading.specs.Repairs.{IsPointer}

@@ -1,11 +1,10 @@
 -- What goes with the old name of a move is what is to be repaired behind its commit: pages, the replaced inode, slot s, and links that fall.
-use Rattle.std.proofs.Common.{◌≡◌, ◌≢◌, ◌↔◌, ◌⊎◌, inl, inr, ℕ, ◌<◌, ◌≤◌, Bool, true, false, ◌&&◌, ◌==◌, if◌then◌else◌, List, [], ◌∷◌, ◌++◌, Option, Some, None, refl, sym, ap, subst, ◌∙◌, arith}
+use Rattle.std.proofs.Common.{◌≡◌, ◌≢◌, ◌↔◌, ◌⊎◌, inl, inr, ℕ, ◌<◌, ◌≤◌, Bool, true, false, ◌==◌, if◌then◌else◌, List, [], ◌∷◌, ◌++◌, Option, Some, None, refl, sym, ap, subst, ◌∙◌, arith}
 use Rattle.std.proofs.lemmas.Bool.{cases_eq}
 use Rattle.layout.specs.Fields.{word, inode_kind, inode_links, page_owner, page_kind, slot_inode}
 use Rattle.layout.specs.Geometry.{inodes_of, data_pages_of, page_of_slot, slot_word_of}
 use Rattle.layout.proofs.GeometryLaws.{page_of_slot_below}
 use Rattle.tree_model.specs.PathText.{Route}
-use Rattle.tree_model.specs.Tree.{is_number}
 use Rattle.image_reading.specs.Counts.{IsIn, IsDistinct, IsListOf}
 use Rattle.image_reading.specs.Reading.{slot_owner, Reached, IsRoomOf}
 use Rattle.image_reading.specs.Repairs.{IsLitterSlot, IsLitterPage, IsLitterInode, IsLitterCount}
@@ -15,7 +14,7 @@ use Rattle.image_laws.proofs.Contents.{dec_reached}
 use Rattle.rename_laws.specs.Target.{Target, Holds, IsFalling, old_number}
 use Rattle.rename_laws.specs.Ready.{IsMoveReady}
 use Rattle.rename_laws.specs.Intervals.{IsGone, IsGivenUp}
-use Rattle.rename_laws.proofs.MovedCounts.{IsLowered, IsAlmostTidy}
+use Rattle.rename_laws.proofs.MovedCounts.{IsAlmostTidy}
 use Rattle.rename_laws.proofs.MovedNames as here
 use Rattle.rename_laws.proofs.MovedWords as words
 use Rattle.rename_laws.proofs.MoveIntervals as intervals
@@ -23,7 +22,7 @@ use Rattle.rename_laws.proofs.MoveNear as before
 use Rattle.rename_laws.proofs.MoveSpare.{IsOut, IsSpare}
 use Rattle.weave_laws.specs.Naming.{slots_left, pages_left}
 use Rattle.weave_laws.specs.Removing.{inodes_left, falling_left}
-use Rattle.moving_laws.specs.Moving.{GivesBackSource, GoesWithMove, too_many}
+use Rattle.moving_laws.specs.Moving.{GivesBackSource, GoesWithMove, still_high}
 use Rattle.moving_laws.proofs.Behind as behind_it
 use Rattle.moving_laws.proofs.Behind.{IsBehind}
 use Rattle.moving_laws.proofs.Lists.{list_none, list_one}
@@ -188,7 +187,7 @@ module _ (P : ℕ) (W I : List ℕ) (pa pb : Route) (s x d : ℕ) (target : Targ
       none_left : (y : ℕ) → IsFalling P W s x target y → goes ≡ true → y ≡ old_number target → IsListOf (IsLitterCount P Y) []
       none_left y is all e = list_none (IsLitterCount P Y) (λ z l. gone_unreached all (subst (Reached P (moved P I s d)) (one_falls z y (falls z l) is ∙ e) (behind_it.back P I Y pa pb s d c near behind z l.reached)))
 
-      counts_by : (all : Bool) (fall : Option ℕ) → all ≡ goes → Holds (IsFalling P W s x target) fall → IsListOf (IsLitterCount P Y) (falling_left (too_many all (old_number target) fall))
+      counts_by : (all : Bool) (fall : Option ℕ) → all ≡ goes → Holds (IsFalling P W s x target) fall → IsListOf (IsLitterCount P Y) (falling_left (still_high all (old_number target) fall))
       counts_by true None is holds = list_none (IsLitterCount P Y) (λ y l. holds y (falls y l))
       counts_by false None is holds = list_none (IsLitterCount P Y) (λ y l. holds y (falls y l))
       counts_by false (Some y) is holds = one_left y holds (λ all. absurd (clash (is ∙ all)))
@@ -197,5 +196,5 @@ module _ (P : ℕ) (W I : List ℕ) (pa pb : Route) (s x d : ℕ) (target : Targ
         | inr ne ↦ subst (λ b. IsListOf (IsLitterCount P Y) (falling_left (if b then None else Some y))) (sym (other_test y (old_number target) ne)) (one_left y holds (λ all. ne))
       ]
 
-      pub of_counts : IsListOf (IsLitterCount P Y) (falling_left (too_many goes (old_number target) falling))
+      pub of_counts : IsListOf (IsLitterCount P Y) (falling_left (still_high goes (old_number target) falling))
       of_counts = counts_by goes falling refl with.link

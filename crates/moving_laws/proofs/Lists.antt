@@ -1,7 +1,6 @@
 -- Lists of none and of one.
-use Rattle.std.proofs.Common.{◌≡◌, inl, inr, ℕ, List, [], ◌∷◌, Option, Some, refl, sym, subst}
-use Rattle.std.proofs.lemmas.Bool.{cases_eq}
-use Rattle.image_reading.specs.Counts.{IsIn, IsListOf}
+use Rattle.std.proofs.Common.{◌≡◌, inl, inr, ℕ, [], ◌∷◌, Some, sym, subst}
+use Rattle.image_reading.specs.Counts.{IsListOf}
 
 pub list_none : (Q : ℕ → Type 0) → ((x : ℕ) → ¬ Q x) → IsListOf Q []
 list_none Q none = record { distinct = tt; each = λ x. ((λ among. absurd among), (λ q. absurd (none x q))) }

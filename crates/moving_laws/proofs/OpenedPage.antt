@@ -1,11 +1,10 @@
 -- A new page with the new name is to be repaired, without and with its owner, and nothing else is.
-use Rattle.std.proofs.Common.{◌≡◌, ◌≢◌, ◌⊎◌, inl, inr, ℕ, ◌<◌, ◌≤◌, List, [], ◌∷◌, length-set, refl, sym, ap, subst, ◌∙◌, arith}
+use Rattle.std.proofs.Common.{◌≡◌, ◌≢◌, ◌⊎◌, inl, inr, ℕ, ◌<◌, ◌≤◌, List, [], length-set, refl, sym, ◌∙◌, arith}
 use Rattle.layout.specs.Geometry.{inodes_of, data_pages_of, page_of_slot, inode_word_of, descriptor_word_of, slot_word_of, page_word_of}
 use Rattle.layout.specs.Fields.{word, inode_kind, inode_links, page_owner}
 use Rattle.tree_model.specs.PathText.{Route}
-use Rattle.image_reading.specs.Reading.{IsDirectory, Names, Reached}
+use Rattle.image_reading.specs.Reading.{IsDirectory, Names}
 use Rattle.image_reading.specs.Repairs.{IsLitterPage, IsLitterInode}
-use Rattle.image_reading.specs.Residue.{no_residue, IsTidyBeside}
 use Rattle.image_reading.proofs.Counts.{none_counted}
 use Rattle.image_reading.proofs.Residues.{tidied_beside}
 use Rattle.image_counts.specs.Entries.{IsFreePage}

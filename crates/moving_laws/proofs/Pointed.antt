@@ -1,14 +1,14 @@
 -- Slot d points at slot s and has no number of it yet: the pointer, the slot or its new page, and the links that have risen are to be
 -- repaired, and nothing else is.
-use Rattle.std.proofs.Common.{◌≡◌, ◌≢◌, ◌↔◌, ◌⊎◌, inl, inr, ℕ, ◌+◌, ◌<◌, List, [], ◌∷◌, Option, Some, None, refl, sym, ap, subst, ◌∙◌, arith}
+use Rattle.std.proofs.Common.{◌≡◌, ◌≢◌, ◌↔◌, ◌⊎◌, inl, inr, ℕ, List, [], Option, Some, None, refl, sym, ap, subst, ◌∙◌, arith}
 use Rattle.std.proofs.lemmas.Bool.{cases_eq}
 use Rattle.layout.specs.Fields.{word, inode_kind, page_owner, page_kind, slot_inode, slot_pointer}
-use Rattle.layout.specs.Geometry.{data_pages_of, page_of_slot, slot_word_of}
+use Rattle.layout.specs.Geometry.{page_of_slot, slot_word_of}
 use Rattle.layout.proofs.GeometryLaws.{page_of_slot_below}
 use Rattle.tree_model.specs.PathText.{Route}
 use Rattle.image_reading.specs.Counts.{IsIn, IsListOf}
-use Rattle.image_reading.specs.Reading.{HasBytes, IsDirectory, slot_owner, IsLive, Reached, IsChildOf, IsRoomOf}
-use Rattle.image_reading.specs.Repairs.{IsKept, IsPointer, IsLitterSlot, IsLitterPage, IsLitterInode, IsLitterCount}
+use Rattle.image_reading.specs.Reading.{slot_owner, IsLive, Reached, IsChildOf, IsRoomOf}
+use Rattle.image_reading.specs.Repairs.{IsPointer, IsLitterSlot, IsLitterPage, IsLitterInode, IsLitterCount}
 use Rattle.image_reading.specs.Soundness.{Rule}
 use Rattle.image_reading.proofs.Counts.{count_one}
 use Rattle.image_laws.specs.Move.{CanMove}

@@ -70,13 +70,13 @@ pub record GoesWithMove (P : ℕ) (W C : List ℕ) (s x : ℕ) (target : Target)
   pub page : GivesBackSource P W C s given_back
   pub link : Holds (IsFalling P W s x target) falling
 
--- Until its link word falls an inode has a link too many: none has where the replaced inode r would, and goes.
-abbrev pub too_many : Bool → ℕ → Option ℕ → Option ℕ
-too_many goes r falling = if goes && is_number falling r then None else falling
+-- the falling inode, whose link word is too high until it falls; a replaced inode r that goes isn't reached, and has no such word
+abbrev pub still_high : Bool → ℕ → Option ℕ → Option ℕ
+still_high goes r falling = if goes && is_number falling r then None else falling
 
 -- slot d points until slot s is cleared, and the rest is as where a name was given up
 abbrev pub moved_left : ℕ → ℕ → Option ℕ → List ℕ → Bool → ℕ → Option ℕ → Residue
-moved_left s d given_back pages goes r falling = record (unnamed_left s given_back pages goes r (too_many goes r falling)) { pointer = Some d }
+moved_left s d given_back pages goes r falling = record (unnamed_left s given_back pages goes r (still_high goes r falling)) { pointer = Some d }
 
 abbrev pub MovedLaw : Type 0
 MovedLaw = (P : ℕ) (W I : List ℕ) (pa pb : Route) (s x d : ℕ) (target : Target) (rising given_back : Option ℕ) (pages : List ℕ) (goes : Bool) (falling : Option ℕ) → IsMoveReady P W I pa pb s x d target rising
