@@ -34,7 +34,7 @@ left_next P pages (More running) = left_at P running.removal pages running.stage
 left_next P pages (Ended reply) = []
 
 -- how many stages may follow this one
-abbrev rank_of : Stage → ℕ
+abbrev pub rank_of : Stage → ℕ
 rank_of Begun = 3
 rank_of Unnamed = 2
 rank_of Cleared = 1
@@ -292,9 +292,9 @@ module _ (old : VolumeView) (before : DeviceView) (removal : Removal) where
     failed_at {fault = fault} after (Err other) is takes =
         unfolds_failed_as other (fails (512 * P) steps before (step_at P removal pages stage) (rest_at P removal pages stage) device after fault (Err fault) refl (step_as takes) onward_at)
 
-    advanced_at : (next : Next RunningView) (new : VolumeView) (after : DeviceView) → Takes {E = PmFault} (step_at volume.size removal (pages_gone volume removal) stage) device after (Ok next) → next ≡ next_of removal stage
+    advanced_at : {T : Type 0} (value : T) (next : Next RunningView) (new : VolumeView) (after : DeviceView) → Takes {E = PmFault} (step_at volume.size removal (pages_gone volume removal) stage) device after (Ok value) → next ≡ next_of removal stage
         → EntersAtStage removal stage (with_kept (volume.kept - (step_at volume.size removal (pages_gone volume removal) stage).events) volume) new → StandsNext new after next → HasGone old before removal new after next
-    advanced_at next new after takes is enters stands =
+    advanced_at value next new after takes is enters stands =
         let spent = (step_at volume.size removal (pages_gone volume removal) stage).events in
         let now = beside removal stage (with_kept (volume.kept - spent) volume) new enters in
         let planned : count_cut pages removal.given_back ≡ pages_removed removal = ap (λ (l : List ℕ). count_cut l removal.given_back) (sym gone.come.1) ∙ as_planned volume removal gone.stands.losses in
@@ -306,7 +306,7 @@ module _ (old : VolumeView) (before : DeviceView) (removal : Removal) where
           kept = let had = gone.kept in let has = now.kept in let one = own in omega (arith, had, has, one, left, all);
           stands = stands;
           come = come_on old volume new removal (volume.kept - spent) device stage gone.stands gone.come.1 gone.come.2 enters;
-          onward = onward_next P removal pages planned (512 * P) steps before after stage (one_more (512 * P) steps before (step_at P removal pages stage) (rest_at P removal pages stage) device after next (step_as takes) onward_at);
+          onward = onward_next P removal pages planned (512 * P) steps before after stage (one_more (512 * P) steps before (step_at P removal pages stage) (rest_at P removal pages stage) device after value (step_as takes) onward_at);
         }) stands
 
   -- ---- of any running call that has come so
@@ -324,12 +324,12 @@ module _ (old : VolumeView) (before : DeviceView) (removal : Removal) where
     pub failed : {T U F : Type 0} {fault : PmFault} (after : DeviceView) (result : Result U F) → IsErr result → Takes {T = T} (step_at volume.size running.removal (pages_gone volume running.removal) stage) device after (Err fault) → Unfolds steps before after result
     failed {T} {U} {F} {fault} after result is takes = failed_at volume device stage as_running after result is (subst (λ (r : Removal). Takes {T = T} (step_at volume.size r (pages_gone volume r) stage) device after (Err fault)) gone.come.0 takes)
 
-    pub advanced : (next : Next RunningView) (new : VolumeView) (after : DeviceView) → Takes {E = PmFault} (step_at volume.size running.removal (pages_gone volume running.removal) stage) device after (Ok next) → next ≡ next_of running.removal stage
+    pub advanced : {T : Type 0} (value : T) (next : Next RunningView) (new : VolumeView) (after : DeviceView) → Takes {E = PmFault} (step_at volume.size running.removal (pages_gone volume running.removal) stage) device after (Ok value) → next ≡ next_of running.removal stage
         → EntersAtStage running.removal stage (with_kept (volume.kept - (step_at volume.size running.removal (pages_gone volume running.removal) stage).events) volume) new → StandsNext new after next → HasGone old before removal new after next
-    advanced next new after takes is enters stands =
+    advanced value next new after takes is enters stands =
         let same = gone.come.0 in
-        advanced_at volume device stage as_running next new after
-        (subst (λ (r : Removal). Takes {E = PmFault} (step_at volume.size r (pages_gone volume r) stage) device after (Ok next)) same takes)
+        advanced_at volume device stage as_running value next new after
+        (subst (λ (r : Removal). Takes {E = PmFault} (step_at volume.size r (pages_gone volume r) stage) device after (Ok value)) same takes)
         (subst (λ (r : Removal). next ≡ next_of r stage) same is)
         (subst (λ (r : Removal). EntersAtStage r stage (with_kept (volume.kept - (step_at volume.size r (pages_gone volume r) stage).events) volume) new) same enters) stands
 

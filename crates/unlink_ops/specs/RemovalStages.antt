@@ -175,6 +175,11 @@ next_of removal Unnamed =
 next_of removal Cleared = at_stage removal Disowned
 next_of removal Disowned = Ended Done
 
+-- the same by the stage alone, where there is one
+abbrev pub next_at : Removal → Option Stage → Next RunningView
+next_at removal None = Ended Done
+next_at removal (Some stage) = at_stage removal stage
+
 -- the page is given back, and the inode with its pages where it goes
 pub record GivesBack (old new : VolumeView) (removal : Removal) : Type 0 where
   pub given : VolumeView

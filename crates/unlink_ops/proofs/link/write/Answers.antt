@@ -10,7 +10,7 @@ use Rattle.unlink_ops.proofs.link.write.Goals as goal
 
 pub returns-clause-stage : goal.returns-clause-stage
 returns-clause-stage g c =
-    let link = c.args.link in
+    let link = c.args.link.now in
     let file = c.in_ok-file.file in
     let old = c.args.volume.now in
     let a = g.P.Pm.view c.args.pm.now in
