@@ -1,6 +1,6 @@
--- What a rename leaves is a state that the step allows.
+-- What a rename leaves is a state that the step allows: the last words, and all others that mean what the commit leaves.
 use Rattle.std.proofs.Common.{◌≡◌, ◌⊎◌, inl, inr, ℕ, Bool, true, false, cond, List, Option, Some, None, is_some, unwrap_or, refl, sym, ap, subst, ◌∙◌}
-use Rattle.layout.specs.Fields.{slot_inode}
+use Rattle.layout.specs.Fields.{inode_kind, slot_inode}
 use Rattle.layout.specs.Geometry.{page_of_slot}
 use Rattle.layout.specs.Name.{name_in_words}
 use Rattle.tree_model.specs.PathText.{Route}
@@ -16,7 +16,8 @@ use Rattle.image_counts.proofs.States.{is_room}
 use Rattle.image_laws.specs.Add.{with_page}
 use Rattle.image_laws.specs.Create.{CanName}
 use Rattle.image_laws.specs.CreateStep.{IsStepped}
-use Rattle.image_laws.specs.Move.{HasRoomMoved}
+use Rattle.image_laws.specs.Frame.{SameMeaning}
+use Rattle.image_laws.specs.Move.{HasRoomMoved, moved}
 use Rattle.image_laws.specs.Remove.{without_page}
 use Rattle.image_laws.proofs.CreateSteps.{not_full}
 use Rattle.image_laws.proofs.Ready.{held_room}
@@ -33,9 +34,8 @@ use Rattle.rename_laws.proofs.MovedRoom as rooms
 use Rattle.rename_laws.proofs.MovedRoom.{HasPagesThen, moved_room_law}
 use Rattle.rename_laws.proofs.MoveNear as before
 use Rattle.rename_laws.proofs.MoveNear.{IsOpenedPage}
-use Rattle.rename_laws.proofs.MoveReads.{ended, tidy_law, reads_law}
+use Rattle.rename_laws.proofs.MoveReads.{ended, committed_law}
 use Rattle.rename_laws.proofs.MoveTidy as ends
-use Rattle.rename_laws.proofs.MoveTidy.{HasEnded}
 
 -- the directory that gains a name
 abbrev pub gains_of : Target → ℕ → Option ℕ
@@ -49,18 +49,21 @@ room_then room x (Vacant name) = room
 room_then room x (Opened page name) = with_page room x
 room_then room x (Taken r) = room
 
-module _ (P : ℕ) (W I J G K : List ℕ) (old : State) (pa pb from to : Route) (s x d n : ℕ) (target : Target)
-    (rising falling : Option ℕ) (ready : IsMoveReady P W I pa pb s x d target rising)
-    (finishes : Finishes P W I J G K s x d target falling) (paths : ArePaths P W pa pb from to s d target)
-    (reads : ReadsAs P W old) (fills : FillsItsPages old x target) where
-  end : HasEnded P I K s d
-  end = ended P W I J G K pa pb s x d target rising falling ready finishes
+-- K means what the commit leaves, with the kinds of what is reached and the room of a move.
+pub record MeansMoved (P : ℕ) (I K : List ℕ) (s d : ℕ) : Type 0 where
+  pub means : SameMeaning P (moved P I s d) K
+  pub kinds : (y : ℕ) → Reached P (moved P I s d) y → inode_kind K y ≡ inode_kind (moved P I s d) y
+  pub room : HasRoomMoved P I K s d
 
+module _ (P : ℕ) (W I K : List ℕ) (old : State) (pa pb from to : Route) (s x d n : ℕ) (target : Target)
+    (rising : Option ℕ) (ready : IsMoveReady P W I pa pb s x d target rising)
+    (means : MeansMoved P I K s d) (paths : ArePaths P W pa pb from to s d target)
+    (reads : ReadsAs P W old) (fills : FillsItsPages old x target) where
   read : Reads P K (renamed old.tree from to)
-  read = reads_law P W I J G K pa pb from to s x d target rising falling old.tree ready finishes paths reads.tree
+  read = means.means.reads (renamed old.tree from to) (committed_law P W I pa pb from to s x d target rising old.tree ready paths reads.tree)
 
   coherent : IsCoherent P K
-  coherent = (tidy_law P W I J G K pa pb s x d target rising falling ready finishes).coherent
+  coherent = means.means.coherent
 
   w_coherent : IsCoherent P W
   w_coherent = ready.can.tidy.coherent
@@ -138,19 +141,16 @@ module _ (P : ℕ) (W I J G K : List ℕ) (old : State) (pa pb from to : Route) 
     kept : HasPage → HasRoom P K (remove after (slot_inode P I d))
     given : (HasPage → ⊥) → HasRoom P K (remove (without_page after (slot_owner P I s)) (slot_inode P I d))
 
-  moved_room : HasRoomMoved P I K s d
-  moved_room = moved_room_law P W I J G K pa pb s x d target rising falling ready finishes
-
   room_before : HasRoom P I old.room
   room_before = ready.means.room old.room reads.room
 
   same_left : HadPage → IsLeftRoom old.room
   unfolding HadPage HasPage
-  same_left had = record { kept = moved_room.kept old.room room_before had; given = moved_room.given old.room room_before had }
+  same_left had = record { kept = means.room.kept old.room room_before had; given = means.room.given old.room room_before had }
 
   more_left : (HadPage → ⊥) → IsLeftRoom (with_page old.room (slot_owner P I d))
   unfolding HadPage HasPage
-  more_left none = record { kept = moved_room.gained old.room room_before none; given = moved_room.both old.room room_before none }
+  more_left none = record { kept = means.room.gained old.room room_before none; given = means.room.both old.room room_before none }
 
   left_room : (now : Target) → CanTake P W pb s x d now → (IsOpenedPage now (page_of_slot d) → IsOpenedPage target (page_of_slot d))
       → IsLeftRoom (room_then old.room x now)
@@ -184,12 +184,12 @@ module _ (P : ℕ) (W I J G K : List ℕ) (old : State) (pa pb from to : Route) 
   was_directory : (y : ℕ) → is_directory (renamed old.tree from to) y ≡ true → is_directory old.tree y ≡ true
   was_directory y dir =
       let (r, two) = directory_is P K (renamed old.tree from to) coherent read y dir in
-      let there = ends.back P I K pa pb s d ready.can_move (before.near P W I pa pb s x d target rising ready) end y r in
+      let there : Reached P (moved P I s d) y = (r.0, (means.means.names r.0 y).1 r.1) in
       let then = here.reached_back P I pa pb s d ready.can_move y there in
       let first = before.back P W I pa pb s x d target rising ready y then in
       is_directory-reached P W old.tree w_coherent reads.tree y first (
       sym (before.kind_same P W I pa pb s x d target rising ready y first) ∙ sym (here.kind_same P I pa pb s d ready.can_move y then)
-      ∙ sym (ends.kind_after P I K pa pb s d ready.can_move (before.near P W I pa pb s x d target rising ready) end y there) ∙ two)
+      ∙ sym (means.kinds y there) ∙ two)
 
   -- a room that has the pages after
   same_after : (gives : Bool) (room : Room) → HasRoom P K (remove room (slot_inode P I d)) → HasPages old.tree (pages_after old.tree old.room (Rename from to) gives) room
@@ -229,8 +229,8 @@ module _ (P : ℕ) (W I J G K : List ℕ) (old : State) (pa pb from to : Route) 
   source_there : Reached P K (slot_owner P I s) × IsDirectory K (slot_owner P I s)
   source_there =
       let there = here.source_owner_reached P I pa pb s d ready.can_move in (
-        ends.forth P I K pa pb s d ready.can_move (before.near P W I pa pb s x d target rising ready) end (slot_owner P I s) there,
-        ends.kind_after P I K pa pb s d ready.can_move (before.near P W I pa pb s x d target rising ready) end (slot_owner P I s) there
+        (there.0, (means.means.names there.0 (slot_owner P I s)).0 there.1),
+        means.kinds (slot_owner P I s) there
             ∙ here.kind_same P I pa pb s d ready.can_move (slot_owner P I s) (pa, ready.can_move.source_path) ∙ ready.can_move.source_directory,
       )
 
@@ -252,10 +252,21 @@ module _ (P : ℕ) (W I J G K : List ℕ) (old : State) (pa pb from to : Route) 
     | no none ↦ stepped true (remove (without_page then_room (slot_owner P I s)) (slot_inode P I d)) (rooms_there.given none) (move_room_given none)
   ]
 
+-- the last words do
+means_last : (P : ℕ) (W I J G K : List ℕ) (pa pb : Route) (s x d : ℕ) (target : Target) (rising falling : Option ℕ) → IsMoveReady P W I pa pb s x d target rising
+    → Finishes P W I J G K s x d target falling → MeansMoved P I K s d
+means_last P W I J G K pa pb s x d target rising falling ready finishes =
+    let end = ended P W I J G K pa pb s x d target rising falling ready finishes in
+    record {
+      means = end.means;
+      kinds = ends.kind_after P I K pa pb s d ready.can_move (before.near P W I pa pb s x d target rising ready) end;
+      room = moved_room_law P W I J G K pa pb s x d target rising falling ready finishes;
+    }
+
 pub move_step_law : MoveStepLaw
 move_step_law P W I J G K old pa pb from to s x d n target rising falling ready finishes paths reads fills =
-    move_stepped P W I J G K old pa pb from to s x d n target rising falling ready finishes paths reads fills
+    move_stepped P W I K old pa pb from to s x d n target rising ready (means_last P W I J G K pa pb s x d target rising falling ready finishes) paths reads fills
 
 pub move_gives_law : MoveGivesLaw
 move_gives_law P W I J G K old pa pb from to s x d n target rising falling ready finishes paths reads fills =
-    step_room P W I J G K old pa pb from to s x d n target rising falling ready finishes paths reads fills
+    step_room P W I K old pa pb from to s x d n target rising ready (means_last P W I J G K pa pb s x d target rising falling ready finishes) paths reads fills

@@ -1,0 +1,125 @@
+-- A new page with the new name is to be repaired, without and with its owner, and nothing else is.
+use Rattle.std.proofs.Common.{◌≡◌, ◌≢◌, ◌⊎◌, inl, inr, ℕ, ◌<◌, ◌≤◌, List, [], length-set, refl, sym, ◌∙◌, arith}
+use Rattle.layout.specs.Geometry.{inodes_of, data_pages_of, page_of_slot, inode_word_of, descriptor_word_of, slot_word_of, page_word_of}
+use Rattle.layout.specs.Fields.{word, inode_kind, inode_links, page_owner}
+use Rattle.tree_model.specs.PathText.{Route}
+use Rattle.image_reading.specs.Reading.{IsDirectory, Names}
+use Rattle.image_reading.specs.Repairs.{IsLitterPage, IsLitterInode}
+use Rattle.image_reading.proofs.Counts.{none_counted}
+use Rattle.image_reading.proofs.Residues.{tidied_beside}
+use Rattle.image_counts.specs.Entries.{IsFreePage}
+use Rattle.image_counts.proofs.Paths.{in_range}
+use Rattle.image_laws.specs.Create.{MakesNamedPage, owned}
+use Rattle.image_laws.specs.Frame.{SameMeaning}
+use Rattle.image_laws.specs.Taking.{IsNamedPage}
+use Rattle.image_laws.proofs.Addresses.{descriptor-ne_inode, descriptor-ne_page, descriptor-ne_slot, page-ne_inode, page-ne_slot}
+use Rattle.image_laws.proofs.Free.{mix_itself}
+use Rattle.image_laws.proofs.NewPage.{not_page_made}
+use Rattle.image_laws.proofs.PageQuiet.{page_quiet_law}
+use Rattle.rename_laws.specs.Target.{Opened, CanRename}
+use Rattle.weave_laws.proofs.Listed.{listed_same}
+use Rattle.weave_laws.proofs.PagedBeside as after
+use Rattle.weave_laws.proofs.PagedBeside.{ChangesPage}
+use Rattle.weave_laws.proofs.PagedOwned as owned_page
+use Rattle.weave_laws.proofs.PagedWritten as written
+use Rattle.weave_laws.proofs.PagedWritten.{descriptor_apart}
+use Rattle.moving_laws.specs.Moving.{opened_left, PageFilledLaw, PageOwnedLaw}
+
+module _ (P : ℕ) (W A : List ℕ) (pa pb : Route) (s x d j : ℕ) (name : List ℕ) (can : CanRename P W pa pb s x d (Opened j name)) (makes : MakesNamedPage P W A j d name) where
+  free : IsFreePage P W j
+  free = can.target_slot.1
+
+  x_range : (1 ≤ x) × (x ≤ inodes_of P)
+  x_range = in_range P W can.tidy.coherent x (pb, can.target_path)
+
+  meaning : SameMeaning P W A
+  meaning = (page_quiet_law P W A pb x j can.tidy.coherent can.target_path can.target_directory free makes.empty).making A (mix_itself W A makes.size)
+
+  named : IsNamedPage P A j d name
+  named = record { kind = makes.kind; offset = makes.offset; numbers = makes.numbers; pointers = makes.pointers; name_is = makes.name_is; zeros = makes.zeros }
+
+  -- ---- which words stay
+
+  same_word : (a : ℕ) → ((w : ℕ) → w < 512 → a ≢ page_word_of P j w) → ((f : ℕ) → 1 ≤ f → f < 3 → a ≢ descriptor_word_of P j f) → word A a ≡ word W a
+  same_word a page descriptor = makes.others a (not_page_made P j a page descriptor)
+
+  descriptor_same : (k f : ℕ) → k < data_pages_of P → f < 3 → (k ≢ j) ⊎ (f ≡ 0) → word A (descriptor_word_of P k f) ≡ word W (descriptor_word_of P k f)
+  descriptor_same k f lt l3 other = same_word (descriptor_word_of P k f) (λ w l. descriptor-ne_page P k f j w lt (omega (arith, l3))) (descriptor_apart P j k f l3 other)
+
+  slot_same : (t f : ℕ) → f < 16 → page_of_slot t ≢ j → word A (slot_word_of P t f) ≡ word W (slot_word_of P t f)
+  slot_same t f lt beside = same_word (slot_word_of P t f)
+      (λ w l e. page-ne_slot P j w t f l lt (λ z. beside (sym z)) (sym e))
+      (λ g low high e. descriptor-ne_slot P j g t f free.0 (omega arith) (sym e))
+
+  inode_same : (y f : ℕ) → 1 ≤ y → y ≤ inodes_of P → f < 4 → word A (inode_word_of y f) ≡ word W (inode_word_of y f)
+  inode_same y f some most lt = same_word (inode_word_of y f)
+      (λ w l e. page-ne_inode P j w y f some most (omega (arith, lt)) (sym e))
+      (λ g low high e. descriptor-ne_inode P j g y f some most (omega (arith, lt)) (sym e))
+
+  -- inode 0 stands for none
+  change : ChangesPage P W A j 0 x
+  change = written.change {P = P} {I = W} {J = A} {j = j} {s = d} {i = 0} {y = x} {name = name} (record {
+    before = can.tidy.coherent;
+    same = meaning;
+    free = free;
+    page = named;
+    linked = (pb, can.target_path);
+    descriptors = descriptor_same;
+    slots = slot_same;
+    inodes = λ y f some most lt old links. inode_same y f some most lt;
+  })
+
+  links_same : inode_links A x ≡ inode_links W x
+  unfolding inode_links
+  links_same = inode_same x 1 x_range.0 x_range.1 (omega arith)
+
+  no_page : ¬ IsLitterPage P W j
+  no_page = none_counted (IsLitterPage P W) can.tidy.repaired.of_pages j
+
+  inode_kept : (y : ℕ) → IsLitterInode P W y → IsLitterInode P A y
+  inode_kept y l = (after.inode_same change y (inr (λ e. (let some = l.least in omega (arith, some, e))))).0 l
+
+  inode_was : (y : ℕ) → IsLitterInode P A y → IsLitterInode P W y
+  inode_was y l = (after.inode_same change y (inr (λ e. (let some = l.least in omega (arith, some, e))))).1 l
+
+  -- ---- then it gets its owner
+
+  path : Names P A pb x
+  path = (meaning.names pb x).0 can.target_path
+
+  directory : IsDirectory A x
+  unfolding inode_kind
+  directory = inode_same x 0 x_range.0 x_range.1 (omega arith) ∙ can.target_directory
+
+  free_then : IsFreePage P A j
+  unfolding page_owner
+  free_then = (free.0, descriptor_same j 0 free.0 (omega arith) (inr refl) ∙ free.1)
+
+  owning : SameMeaning P A (owned P A j x)
+  owning = (page_quiet_law P A A pb x j meaning.coherent path directory free_then (record {
+    size = refl;
+    numbers = makes.numbers;
+    pointers = makes.pointers;
+    kind = makes.kind;
+    offset = makes.offset;
+    others = λ a other. refl;
+  })).owning (owned P A j x) (mix_itself A (owned P A j x) (length-set A (descriptor_word_of P j 0) x))
+
+pub page_filled_law : PageFilledLaw
+page_filled_law P W A pa pb s x d j name can makes =
+    let tidy = tidied_beside can.tidy in
+    let change = change P W A pa pb s x d j name can makes in
+    record {
+      of_pointer = λ t. ((λ e. (after.pointer_same change t).0 ((tidy.of_pointer t).0 e)), (λ l. (tidy.of_pointer t).1 ((after.pointer_same change t).1 l)));
+      of_slots = after.slots_after change [] tidy.of_slots;
+      of_pages = after.pages_more change (no_page P W A pa pb s x d j name can makes) [] tidy.of_pages;
+      of_inodes = listed_same (IsLitterInode P W) (IsLitterInode P A) [] (λ y. (inode_kept P W A pa pb s x d j name can makes y, inode_was P W A pa pb s x d j name can makes y)) tidy.of_inodes;
+      of_counts = after.counts_same change (links_same P W A pa pb s x d j name can makes) [] tidy.of_counts;
+      kinds = λ y none. absurd none;
+      marks = after.marks_more change [] tidy.of_pages tidy.marks;
+    }
+
+pub page_owned_law : PageOwnedLaw
+page_owned_law P W A pa pb s x d j name can makes =
+    owned_page.page_owned_law P A pb x j d name (opened_left j) (meaning P W A pa pb s x d j name can makes).coherent (path P W A pa pb s x d j name can makes) (directory P W A pa pb s x d j name can makes)
+    (free_then P W A pa pb s x d j name can makes) (named P W A pa pb s x d j name can makes) (owning P W A pa pb s x d j name can makes) (inl refl) (page_filled_law P W A pa pb s x d j name can makes)
