@@ -103,8 +103,8 @@ module _ (P : ℕ) (W I : List ℕ) (pa pb : Route) (s x d : ℕ) (target : Targ
       let owner : slot_owner P (moved P I s d) s ≡ old_number target = ap (page_owner P (moved P I s d)) (sym at) ∙ page.owner in
       other_owner (sym (here.owner_same P I pa pb s d c s c.source.held.in_range) ∙ owner ∙ sym ready.number))
 
-  gone_or_not : IsGone P (moved P I s d) target ↔ IsOut P I (moved P I s d) d
-  gone_or_not = intervals.out_gone P W I pa pb s x d target rising ready
+  gone_out : IsGone P (moved P I s d) target ↔ IsOut P I (moved P I s d) d
+  gone_out = intervals.out_gone P W I pa pb s x d target rising ready
 
   module _ (Y : List ℕ) (behind : IsBehind P I Y s d) where
     pub of_pages : IsListOf (IsLitterPage P Y) (pages ++ pages_left given_back)
@@ -123,11 +123,11 @@ module _ (P : ℕ) (W I : List ℕ) (pa pb : Route) (s x d : ℕ) (target : Targ
 
     inodes_by : (all : Bool) → all ≡ goes → IsListOf (IsLitterInode P Y) (inodes_left all (old_number target))
     inodes_by true is =
-        let out = gone_or_not.0 (with.node.0 (sym is)) in
+        let out = gone_out.0 (with.node.0 (sym is)) in
         list_one (IsLitterInode P Y) (old_number target) (subst (IsLitterInode P Y) ready.number (behind_it.out_inode P I Y pa pb s d c near behind out))
         (λ y l. (behind_it.inode_out P I Y pa pb s d c near behind y l).0 ∙ ready.number)
     inodes_by false is = list_none (IsLitterInode P Y) (λ y l.
-        let all = with.node.1 (gone_or_not.1 (behind_it.inode_out P I Y pa pb s d c near behind y l).1) in
+        let all = with.node.1 (gone_out.1 (behind_it.inode_out P I Y pa pb s d c near behind y l).1) in
         clash (is ∙ all))
 
     pub of_inodes : IsListOf (IsLitterInode P Y) (inodes_left goes (old_number target))
@@ -168,7 +168,7 @@ module _ (P : ℕ) (W I : List ℕ) (pa pb : Route) (s x d : ℕ) (target : Targ
           | yes r ↦ r
           | no none ↦
               let out : IsOut P I (moved P I s d) d = (file.1, λ r. none (subst (Reached P (moved P I s d)) (sym file.2) r)) in
-              absurd (other (with.node.1 (gone_or_not.1 out)) (file.2 ∙ ready.number))
+              absurd (other (with.node.1 (gone_out.1 out)) (file.2 ∙ ready.number))
         ]
       ]
 
@@ -179,7 +179,7 @@ module _ (P : ℕ) (W I : List ℕ) (pa pb : Route) (s x d : ℕ) (target : Targ
           words.one_falls P I pa pb s d c y z ((low y).0 is) ((low z).0 also)
 
       gone_unreached : goes ≡ true → ¬ Reached P (moved P I s d) (old_number target)
-      gone_unreached all r = let out = gone_or_not.0 (with.node.0 all) in out.1 (subst (Reached P (moved P I s d)) (sym ready.number) r)
+      gone_unreached all r = let out = gone_out.0 (with.node.0 all) in out.1 (subst (Reached P (moved P I s d)) (sym ready.number) r)
 
       one_left : (y : ℕ) → IsFalling P W s x target y → (goes ≡ true → y ≢ old_number target) → IsListOf (IsLitterCount P Y) (y ∷ [])
       one_left y is other = list_one (IsLitterCount P Y) y (left_reached y is (still_reached y is other)) (λ z l. one_falls z y (falls z l) is)

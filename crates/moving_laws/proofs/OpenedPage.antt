@@ -1,5 +1,5 @@
 -- A new page with the new name is to be repaired, without and with its owner, and nothing else is.
-use Rattle.std.proofs.Common.{◌≡◌, ◌≢◌, ◌⊎◌, inl, inr, ℕ, ◌<◌, ◌≤◌, List, [], length-set, refl, sym, ◌∙◌, arith}
+use Rattle.std.proofs.Common.{◌≡◌, ◌≢◌, ◌⊎◌, inl, inr, ℕ, ◌<◌, ◌≤◌, List, [], refl, sym, subst, ◌∙◌, arith}
 use Rattle.layout.specs.Geometry.{inodes_of, data_pages_of, page_of_slot, inode_word_of, descriptor_word_of, slot_word_of, page_word_of}
 use Rattle.layout.specs.Fields.{word, inode_kind, inode_links, page_owner}
 use Rattle.tree_model.specs.PathText.{Route}
@@ -9,7 +9,7 @@ use Rattle.image_reading.proofs.Counts.{none_counted}
 use Rattle.image_reading.proofs.Residues.{tidied_beside}
 use Rattle.image_counts.specs.Entries.{IsFreePage}
 use Rattle.image_counts.proofs.Paths.{in_range}
-use Rattle.image_laws.specs.Create.{MakesNamedPage, owned}
+use Rattle.image_laws.specs.Create.{MakesNamedPage}
 use Rattle.image_laws.specs.Frame.{SameMeaning}
 use Rattle.image_laws.specs.Taking.{IsNamedPage}
 use Rattle.image_laws.proofs.Addresses.{descriptor-ne_inode, descriptor-ne_page, descriptor-ne_slot, page-ne_inode, page-ne_slot}
@@ -17,6 +17,9 @@ use Rattle.image_laws.proofs.Free.{mix_itself}
 use Rattle.image_laws.proofs.NewPage.{not_page_made}
 use Rattle.image_laws.proofs.PageQuiet.{page_quiet_law}
 use Rattle.rename_laws.specs.Target.{Opened, CanRename}
+use Rattle.image_reading.specs.Soundness.{Rule, HasLinks}
+use Rattle.image_laws.specs.Stages.{IsEmptyPage}
+use Rattle.image_laws.proofs.Paths.{reached_pos}
 use Rattle.weave_laws.proofs.Listed.{listed_same}
 use Rattle.weave_laws.proofs.PagedBeside as after
 use Rattle.weave_laws.proofs.PagedBeside.{ChangesPage}
@@ -56,22 +59,24 @@ module _ (P : ℕ) (W A : List ℕ) (pa pb : Route) (s x d j : ℕ) (name : List
       (λ w l e. page-ne_inode P j w y f some most (omega (arith, lt)) (sym e))
       (λ g low high e. descriptor-ne_inode P j g y f some most (omega (arith, lt)) (sym e))
 
+  links_same : inode_links A x ≡ inode_links W x
+  unfolding inode_links
+  links_same = inode_same x 1 x_range.0 x_range.1 (omega arith)
+
   -- inode 0 stands for none
   change : ChangesPage P W A j 0 x
   change = written.change {P = P} {I = W} {J = A} {j = j} {s = d} {i = 0} {y = x} {name = name} (record {
     before = can.tidy.coherent;
-    same = meaning;
     free = free;
+    size = makes.size;
     page = named;
+    words = λ a other. inl (makes.others a other);
     linked = (pb, can.target_path);
+    links = subst (HasLinks P W x) (sym links_same) (can.tidy.coherent Rule.links x (pb, can.target_path));
     descriptors = descriptor_same;
     slots = slot_same;
     inodes = λ y f some most lt old links. inode_same y f some most lt;
   })
-
-  links_same : inode_links A x ≡ inode_links W x
-  unfolding inode_links
-  links_same = inode_same x 1 x_range.0 x_range.1 (omega arith)
 
   no_page : ¬ IsLitterPage P W j
   no_page = none_counted (IsLitterPage P W) can.tidy.repaired.of_pages j
@@ -95,15 +100,8 @@ module _ (P : ℕ) (W A : List ℕ) (pa pb : Route) (s x d j : ℕ) (name : List
   unfolding page_owner
   free_then = (free.0, descriptor_same j 0 free.0 (omega arith) (inr refl) ∙ free.1)
 
-  owning : SameMeaning P A (owned P A j x)
-  owning = (page_quiet_law P A A pb x j meaning.coherent path directory free_then (record {
-    size = refl;
-    numbers = makes.numbers;
-    pointers = makes.pointers;
-    kind = makes.kind;
-    offset = makes.offset;
-    others = λ a other. refl;
-  })).owning (owned P A j x) (mix_itself A (owned P A j x) (length-set A (descriptor_word_of P j 0) x))
+  empty : IsEmptyPage P A j
+  empty = record { kind = makes.kind; directory = λ r. absurd (reached_pos P A (page_owner P A j) r free_then.1); numbers = makes.numbers; pointers = makes.pointers }
 
 pub page_filled_law : PageFilledLaw
 page_filled_law P W A pa pb s x d j name can makes =
@@ -121,5 +119,5 @@ page_filled_law P W A pa pb s x d j name can makes =
 
 pub page_owned_law : PageOwnedLaw
 page_owned_law P W A pa pb s x d j name can makes =
-    owned_page.page_owned_law P A pb x j d name (opened_left j) (meaning P W A pa pb s x d j name can makes).coherent (path P W A pa pb s x d j name can makes) (directory P W A pa pb s x d j name can makes)
-    (free_then P W A pa pb s x d j name can makes) (named P W A pa pb s x d j name can makes) (owning P W A pa pb s x d j name can makes) (inl refl) (page_filled_law P W A pa pb s x d j name can makes)
+    owned_page.page_owned_law P A x j (opened_left j) (meaning P W A pa pb s x d j name can makes).coherent (pb, path P W A pa pb s x d j name can makes) (directory P W A pa pb s x d j name can makes)
+    (free_then P W A pa pb s x d j name can makes) (empty P W A pa pb s x d j name can makes) (page_filled_law P W A pa pb s x d j name can makes)

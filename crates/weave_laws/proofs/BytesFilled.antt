@@ -22,8 +22,8 @@ use Rattle.weave_laws.specs.Bytes.{MayFill, FilledMeaningLaw}
 module _ (P : ℕ) (I J : List ℕ) (i offset : ℕ) (bytes pages : List ℕ) (may : MayFill P I i pages) (fills : FillsFile P I J i offset bytes pages) where
   content : {a : ℕ} → IsFillWord P I i pages a → IsBytesWord P I a
   content (IsFillWord.old k j w page lt) = IsBytesWord.bytes j w page.in_range lt page.kind
-  content (IsFillWord.new j w is lt) = IsBytesWord.free j w (may.zero j is).0 lt (may.zero j is).1.owner
-  content (IsFillWord.descriptor j f is l m) = IsBytesWord.descriptor j f (may.zero j is).0 l m (may.zero j is).1.owner
+  content (IsFillWord.new j w is lt) = IsBytesWord.free j w (may.unused j is).0 lt (may.unused j is).1.0
+  content (IsFillWord.descriptor j f is l m) = IsBytesWord.descriptor j f (may.unused j is).0 l m (may.unused j is).1.0
 
   pub stores : StoresContent P I J
   stores = record { size = fills.size; others = λ a none. fills.others a (λ is. none (content is)) }
@@ -33,8 +33,8 @@ module _ (P : ℕ) (I J : List ℕ) (i offset : ℕ) (bytes pages : List ℕ) (m
   foreign k n j w lt r ne page (IsFillWord.old m h v own l) e =
       let (same, x) = page_word-one P h v j w l lt e in ne (sym page.owner ∙ ap (page_owner P I) (sym same) ∙ own.owner)
   foreign k n j w lt r ne page (IsFillWord.new h v is l) e =
-      let (same, x) = page_word-one P h v j w l lt e in reached_pos P I k r (sym page.owner ∙ ap (page_owner P I) (sym same) ∙ (may.zero h is).1.owner)
-  foreign k n j w lt r ne page (IsFillWord.descriptor h f is l m) e = descriptor-ne_page P h f j w (may.zero h is).0 (omega (arith, m)) e
+      let (same, x) = page_word-one P h v j w l lt e in reached_pos P I k r (sym page.owner ∙ ap (page_owner P I) (sym same) ∙ (may.unused h is).1.0)
+  foreign k n j w lt r ne page (IsFillWord.descriptor h f is l m) e = descriptor-ne_page P h f j w (may.unused h is).0 (omega (arith, m)) e
 
   other_bytes : (k : ℕ) → Reached P I k → HasBytes I k → k ≢ i → SameBytes P I J k
   unfolding page_byte

@@ -9,12 +9,12 @@ use Rattle.image_laws.specs.Add.{IsOldFile, CanAdd}
 use Rattle.image_laws.specs.Create.{committed}
 use Rattle.image_reading.specs.Residue.{Residue, IsTidyBeside}
 use Rattle.weave_laws.specs.Joined.{joined}
-use Rattle.weave_laws.specs.Naming.{LinkCommittedLaw, IsWrittenLink, pages_left, link_left}
+use Rattle.weave_laws.specs.Naming.{LinkCommittedLaw, HasSpareLink, pages_left, link_left}
 use Rattle.weave_laws.proofs.Committed as after
 use Rattle.weave_laws.proofs.Committed.{TakesNumber, number_taken}
 use Rattle.weave_laws.proofs.Listed.{listed_less}
 
-module _ (P : ℕ) (I : List ℕ) (p : Route) (d s : ℕ) (new_page : Option ℕ) (i : ℕ) (others : Residue) (can : CanAdd P I p d s i) (written : IsWrittenLink P I i)
+module _ (P : ℕ) (I : List ℕ) (p : Route) (d s : ℕ) (new_page : Option ℕ) (i : ℕ) (others : Residue) (can : CanAdd P I p d s i) (written : HasSpareLink P I i)
     (tidy : IsTidyBeside P I (joined (link_left s new_page i) others)) where
   takes : TakesNumber P I (committed P I s i) s i
   takes = number_taken P I p d s i can

@@ -15,7 +15,7 @@ use Rattle.image_laws.specs.Add.{CanAdd}
 use Rattle.image_laws.specs.Create.{node_words, committed}
 use Rattle.image_laws.proofs.Paths.{reach, reached-le}
 use Rattle.weave_laws.specs.Joined.{joined}
-use Rattle.weave_laws.specs.Naming.{NodeCommittedLaw, IsWrittenLink, IsWrittenParent, IsWrittenNode, counts_left, pages_left, node_left}
+use Rattle.weave_laws.specs.Naming.{NodeCommittedLaw, HasSpareLink, IsWrittenParent, IsWrittenNode, counts_left, pages_left, node_left}
 use Rattle.weave_laws.proofs.Committed as after
 use Rattle.weave_laws.proofs.Committed.{TakesNumber, number_taken}
 use Rattle.weave_laws.proofs.Listed.{listed_same, listed_less}
@@ -64,7 +64,7 @@ module _ {P : ℕ} {I J : List ℕ} {p : Route} {node : Node} {d s i : ℕ} (can
   d_links : inode_links J d ≡ inode_links I d
   d_links = takes.only.links d (reached-le P I can.coherent d (after.d_reached can takes))
 
-  no_parent_count : inode_kind I i ≡ 2 → IsWrittenLink P I d → ¬ IsLitterCount P J d
+  no_parent_count : inode_kind I i ≡ 2 → HasSpareLink P I d → ¬ IsLitterCount P J d
   no_parent_count two (n, counted, links) l = l.other (record {
     file = λ one. (let kind = after.kind_same can takes d (after.d_reached can takes) in let directory = can.slot.directory in absurd (omega (arith, one, kind, directory)));
     directory = λ here.

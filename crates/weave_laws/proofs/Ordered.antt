@@ -1,9 +1,9 @@
 -- The order of places doesn't matter.
 use Rattle.std.proofs.Common.{ℕ, List, sym, ◌∙◌}
-use Rattle.image_reading.specs.Counts.{IsListOf}
-use Rattle.weave_laws.specs.Joined.{HasSameNumbers, AnyOrderLaw}
+use Rattle.image_reading.specs.Counts.{IsIn, IsListOf}
+use Rattle.weave_laws.specs.Joined.{AnyOrderLaw}
 
-listed_same : (Q : ℕ → Type 0) (xs ys : List ℕ) → HasSameNumbers xs ys → IsListOf Q xs → IsListOf Q ys
+listed_same : (Q : ℕ → Type 0) (xs ys : List ℕ) → IsListOf (λ x. IsIn x xs) ys → IsListOf Q xs → IsListOf Q ys
 listed_same Q xs ys same listed = record {
   distinct = same.distinct;
   each = λ x. ((λ here. (listed.each x).0 ((same.each x).0 here)), (λ q. (same.each x).1 ((listed.each x).1 q)));

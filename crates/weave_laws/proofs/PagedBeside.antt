@@ -4,11 +4,9 @@ use Rattle.std.proofs.lemmas.Bool.{cases_eq}
 use Rattle.layout.specs.Geometry.{inodes_of, data_pages_of, page_of_slot, inode_word_of, slot_word_of}
 use Rattle.layout.specs.Fields.{word, inode_kind, inode_links, page_owner, page_kind, slot_inode, slot_pointer}
 use Rattle.image_reading.specs.Counts.{IsIn, IsListOf}
-use Rattle.image_reading.specs.Litter.{IsZeroDescriptor}
 use Rattle.image_reading.specs.Reading.{slot_owner, IsHeld, Reached, IsRoomOf, IsLinkCount}
 use Rattle.image_reading.specs.Repairs.{IsKeptFilePage, IsPointer, IsLitterSlot, IsLitterPage, IsLitterInode, IsLitterCount}
 use Rattle.image_reading.specs.Soundness.{IsCoherent}
-use Rattle.image_reading.proofs.Tidying.{zero_page_tidy}
 use Rattle.image_counts.specs.Entries.{IsFreePage}
 use Rattle.image_counts.proofs.Decided.{room_owner}
 use Rattle.image_counts.proofs.Paths.{in_range}
@@ -158,7 +156,3 @@ module _ {P : ℕ} {A K : List ℕ} {j i y : ℕ} (change : ChangesPage P A K j 
 
   pub counts_same : inode_links K y ≡ inode_links A y → (rest : List ℕ) → IsListOf (IsLitterCount P A) rest → IsListOf (IsLitterCount P K) rest
   counts_same = raises.counts_same raised
-
--- a page whose descriptor is zero isn't to be repaired
-pub zero_page : (P : ℕ) (A : List ℕ) (j : ℕ) → IsZeroDescriptor P A j → ¬ IsLitterPage P A j
-zero_page P A j zeros l = (zero_page_tidy P A j l.in_range l.free zeros).page l

@@ -19,8 +19,8 @@ use Rattle.weave_laws.specs.Bytes.{MayFill}
 use Rattle.weave_laws.specs.Sizing.{FilledLaw}
 use Rattle.weave_laws.proofs.BytesFilled as filled
 use Rattle.weave_laws.proofs.Contained.{in_contained, contained_in, contained_or_not}
+use Rattle.weave_laws.proofs.FreeBeside.{unused_tidy}
 use Rattle.weave_laws.proofs.Listed.{listed_after}
-use Rattle.weave_laws.proofs.PagedBeside.{zero_page}
 use Rattle.weave_laws.proofs.Sized as after
 use Rattle.weave_laws.proofs.Sized.{ChangesFile}
 
@@ -58,7 +58,7 @@ module _ (P : ℕ) (I J : List ℕ) (i offset : ℕ) (bytes pages : List ℕ) (o
     file = may.reached;
     names = shape.names;
     descriptors = λ j f lt l3 none. fills.others (descriptor_word_of P j f) (λ is. not_filled j f lt (omega (arith, l3)) none is refl);
-    unheld = λ t is held. (let zero = (may.zero (page_of_slot t) is).1.kind in let two = held.kind in omega (arith, zero, two));
+    unheld = λ t is held. (let zero = (may.unused (page_of_slot t) is).1.1 in let two = held.kind in omega (arith, zero, two));
     unheld_after = λ t is held. (let one = kind_after (page_of_slot t) is in let two = held.kind in omega (arith, one, two));
     slots = λ t f held lt. quiet.slot_same P I J stores t f lt held;
     inodes = λ x f some most lt why. quiet.inode_same P I J stores x f some most (omega (arith, lt));
@@ -68,7 +68,7 @@ module _ (P : ℕ) (I J : List ℕ) (i offset : ℕ) (bytes pages : List ℕ) (o
 
   unowned : (j : ℕ) → Contains pages j → page_owner P J j ≡ 0
   unfolding page_owner
-  unowned j is = quiet.descriptor_same P I J stores j 0 (may.zero j is).0 (omega arith) (inr refl) ∙ (may.zero j is).1.owner
+  unowned j is = quiet.descriptor_same P I J stores j 0 (may.unused j is).0 (omega arith) (inr refl) ∙ (may.unused j is).1.0
 
   no_owner : (j : ℕ) → Contains pages j → ¬ Reached P J (page_owner P J j)
   no_owner j is r = reached_pos P J (page_owner P J j) r (unowned j is)
@@ -79,13 +79,13 @@ module _ (P : ℕ) (I J : List ℕ) (i offset : ℕ) (bytes pages : List ℕ) (o
   left_then : (j : ℕ) → Contains pages j → IsLitterPage P J j
   unfolding page_kind
   left_then j is = record {
-    in_range = (may.zero j is).0;
+    in_range = (may.unused j is).0;
     free = λ kept. elim kept [ inl file ↦ no_owner j is file.owner | inr room ↦ no_owner j is room.reached ];
     nonzero = (1, omega arith, some_kind j is);
   }
 
   not_before : (j : ℕ) → Contains pages j → ¬ IsLitterPage P I j
-  not_before j is = zero_page P I j (may.zero j is).1
+  not_before j is = unused_tidy P I j others tidy (may.unused j is).1
 
   distinct : IsDistinct pages
   distinct = distinct_by pages (page_offset P J) (pages_of_size (inode_size I i)) fills.offsets

@@ -1,5 +1,5 @@
 -- The size of a file rises over pages behind its end: nothing of them is left.
-use Rattle.std.proofs.Common.{◌≡◌, ◌≢◌, ◌⊎◌, inl, inr, ℕ, ◌<◌, ◌≤◌, List, [], ◌++◌, sym, ap, subst, ◌∙◌, arith}
+use Rattle.std.proofs.Common.{◌≡◌, ◌≢◌, ◌⊎◌, inl, inr, ℕ, ◌<◌, ◌≤◌, false, List, [], ◌++◌, sym, ap, subst, ◌∙◌, arith}
 use Rattle.std.proofs.lemmas.Bool.{cases_eq, cases_lt}
 use Rattle.layout.specs.Fields.{inode_kind, inode_size, page_owner, page_kind, page_offset}
 use Rattle.image_reading.specs.Counts.{IsIn, IsListOf}
@@ -9,8 +9,9 @@ use Rattle.image_reading.specs.Residue.{Residue, IsTidyBeside}
 use Rattle.image_counts.proofs.Distinct.{in_back}
 use Rattle.content_laws.specs.Growth.{sized}
 use Rattle.weave_laws.specs.Joined.{joined}
+use Rattle.weave_laws.specs.Removing.{cleared_left}
 use Rattle.weave_laws.specs.Bytes.{MayRaise}
-use Rattle.weave_laws.specs.Sizing.{ArePagesBetween, behind_left, RaisedLaw}
+use Rattle.weave_laws.specs.Sizing.{ArePagesBetween, RaisedLaw}
 use Rattle.weave_laws.proofs.Listed.{listed_after}
 use Rattle.weave_laws.proofs.Resized.{raised_coherent}
 use Rattle.weave_laws.proofs.Sized as after
@@ -21,7 +22,7 @@ pub more_pages : (small large : ℕ) → small ≤ large → pages_of_size small
 unfolding pages_of_size
 more_pages small large le = omega (arith, le)
 
-module _ (P : ℕ) (I : List ℕ) (i z : ℕ) (pages : List ℕ) (others : Residue) (may : MayRaise P I i z) (between : ArePagesBetween P I i pages (inode_size I i) z) (tidy : IsTidyBeside P I (joined (behind_left pages) others)) where
+module _ (P : ℕ) (I : List ℕ) (i z : ℕ) (pages : List ℕ) (others : Residue) (may : MayRaise P I i z) (between : ArePagesBetween P I i pages (inode_size I i) z) (tidy : IsTidyBeside P I (joined (cleared_left pages false i) others)) where
   abbrev K : List ℕ
   K = sized I i z
 

@@ -17,15 +17,16 @@ use Rattle.image_laws.proofs.KeptPages.{litter_page}
 use Rattle.image_laws.proofs.Contents.{dec_reached}
 use Rattle.image_laws.proofs.Paths.{reached_pos, reached-le}
 use Rattle.image_laws.proofs.RemoveFacts as facts
+use Rattle.weave_laws.specs.Entering.{IsNamelessPage}
 use Rattle.weave_laws.specs.Naming.{pages_left}
-use Rattle.weave_laws.specs.Unnaming.{GivesBackPage, GoesWith}
+use Rattle.weave_laws.specs.Unnaming.{GoesWith}
 use Rattle.weave_laws.proofs.UnnamedSlots.{listed_added, only, coherent, descriptors, room_before, owner_after}
 
 distinct_left : (given_back : Option ℕ) → IsDistinct (pages_left given_back)
 distinct_left None = tt
 distinct_left (Some page) = ((λ none. none), tt)
 
-given_is : (P : ℕ) (I : List ℕ) (s : ℕ) (given_back : Option ℕ) → GivesBackPage P I s given_back → (j : ℕ) → IsIn j (pages_left given_back)
+given_is : (P : ℕ) (I : List ℕ) (s : ℕ) (given_back : Option ℕ) → IsNamelessPage P (dropped P I s) (slot_owner P I s) s given_back → (j : ℕ) → IsIn j (pages_left given_back)
     → (j ≡ page_of_slot s) × ¬ IsRoomOf P (dropped P I s) (slot_owner P I s) (page_of_slot s)
 given_is P I s None there j among = absurd among
 given_is P I s (Some page) (at, none) j among = elim among [
@@ -33,7 +34,7 @@ given_is P I s (Some page) (at, none) j among = elim among [
   | inr none ↦ absurd none
 ]
 
-room_or_given : (P : ℕ) (I : List ℕ) (s : ℕ) (given_back : Option ℕ) → GivesBackPage P I s given_back
+room_or_given : (P : ℕ) (I : List ℕ) (s : ℕ) (given_back : Option ℕ) → IsNamelessPage P (dropped P I s) (slot_owner P I s) s given_back
     → IsRoomOf P (dropped P I s) (slot_owner P I s) (page_of_slot s) ⊎ IsIn (page_of_slot s) (pages_left given_back)
 room_or_given P I s None there = inl there
 room_or_given P I s (Some page) (at, none) = inr (inl at)

@@ -18,8 +18,8 @@ use Rattle.image_laws.proofs.OnlySlot.{OnlySlot, same_owner}
 use Rattle.image_laws.proofs.RemoveFacts as facts
 use Rattle.image_laws.proofs.Removes.{removes, remove_law}
 use Rattle.image_laws.proofs.Words.{other_word}
+use Rattle.weave_laws.specs.Entering.{IsNamelessPage}
 use Rattle.weave_laws.specs.Naming.{slots_left}
-use Rattle.weave_laws.specs.Unnaming.{GivesBackPage}
 use Rattle.weave_laws.proofs.Contained.{in_or_not}
 use Rattle.weave_laws.proofs.Listed.{listed_after, listed_same, listed_more}
 use Rattle.weave_laws.proofs.Named.{name_nonzero}
@@ -106,7 +106,7 @@ module _ {P : ℕ} {I : List ℕ} {p : Route} {s : ℕ} (can : CanRemove P I p s
       let page = subst (λ j. IsRoomOf P (dropped P I s) (page_owner P (dropped P I s) j) j) at l.page in
       none (subst (λ x. IsRoomOf P (dropped P I s) x (page_of_slot s)) owner_after page)
 
-  pub slots_after : (given_back : Option ℕ) → GivesBackPage P I s given_back → (rest : List ℕ) → ((t : ℕ) → IsIn t rest → ¬ (slot_owner P I t ≡ slot_owner P I s))
+  pub slots_after : (given_back : Option ℕ) → IsNamelessPage P (dropped P I s) (slot_owner P I s) s given_back → (rest : List ℕ) → ((t : ℕ) → IsIn t rest → ¬ (slot_owner P I t ≡ slot_owner P I s))
       → IsListOf (IsLitterSlot P I) rest → IsListOf (IsLitterSlot P (dropped P I s)) (slots_left s given_back ++ rest)
   unfolding slot_owner
   slots_after None there rest alone listed = listed_more (IsLitterSlot P I) (IsLitterSlot P (dropped P I s)) s rest (λ l. l.dead can.live) (slot_left there) (λ t ne. slot_same t ne (λ at. there)) listed

@@ -3,13 +3,11 @@
 -- call names is named by no other.
 use Rattle.std.specs.Prelude.{◌≡◌, ◌⊎◌, ℕ, ◌+◌, ◌-◌, ◌/◌, ◌%◌, ◌^◌, ◌<◌, ◌≤◌, List, length, slice_index, Contains}
 use Rattle.layout.specs.Fields.{inode_size, page_kind, page_offset, page_byte}
-use Rattle.layout.specs.Geometry.{data_pages_of}
 use Rattle.tree_model.specs.Step.{with_bytes, overwritten, resized}
 use Rattle.tree_model.specs.Tree.{Tree, Room, bytes_of}
-use Rattle.image_reading.specs.Litter.{IsZeroDescriptor}
 use Rattle.image_reading.specs.Reading.{HasBytes, Reached, IsPageOf, pages_of_size, Reads, HasRoom}
 use Rattle.image_reading.specs.Soundness.{IsCoherent}
-use Rattle.image_counts.specs.Entries.{IsFreePage}
+use Rattle.image_counts.specs.Entries.{IsFreePage, IsUnusedDataPage}
 use Rattle.image_laws.specs.Frame.{SameMeaning}
 use Rattle.image_laws.specs.Quiet.{IsMix}
 use Rattle.content_laws.specs.Cut.{LeavesLowered}
@@ -41,12 +39,12 @@ InsideMeaningLaw = (P : ℕ) (I J : List ℕ) (i offset : ℕ) (bytes : List ℕ
 
 -- ---- new pages are filled, with bytes behind the size, and the file's own bytes may change
 
--- i is a file, and the descriptors of the pages are zero.
+-- i is a file, and the pages have neither an owner nor a kind.
 pub record MayFill (P : ℕ) (I : List ℕ) (i : ℕ) (pages : List ℕ) : Type 0 where
   pub coherent : IsCoherent P I
   pub reached : Reached P I i
   pub file : HasBytes I i
-  pub zero : (j : ℕ) → Contains pages j → (j < data_pages_of P) × IsZeroDescriptor P I j
+  pub unused : (j : ℕ) → Contains pages j → IsUnusedDataPage P I j
 
 abbrev pub FilledMeaningLaw : Type 0
 FilledMeaningLaw = (P : ℕ) (I J : List ℕ) (i offset : ℕ) (bytes pages : List ℕ) → MayFill P I i pages → FillsFile P I J i offset bytes pages → LeavesFilled P I J i offset bytes

@@ -63,12 +63,12 @@ LinkWrittenLaw = (P : ℕ) (I J : List ℕ) (p : Route) (d s i : ℕ) (name : Li
 -- ---- the slot takes the number
 
 -- inode x has a link more than are counted,
-abbrev pub IsWrittenLink : ℕ → List ℕ → ℕ → Type 0
-IsWrittenLink P I x = (n : ℕ) × IsLinkCount P I x n × (inode_links I x ≡ n + 1)
+abbrev pub HasSpareLink : ℕ → List ℕ → ℕ → Type 0
+HasSpareLink P I x = (n : ℕ) × IsLinkCount P I x n × (inode_links I x ≡ n + 1)
 
 -- and so has the directory that a directory is made in
 abbrev pub IsWrittenParent : ℕ → List ℕ → Node → ℕ → Type 0
-IsWrittenParent P I Directory d = IsWrittenLink P I d
+IsWrittenParent P I Directory d = HasSpareLink P I d
 IsWrittenParent P I (File bytes) d = Unit {0}
 
 -- The new inode has the node's kind and links.
@@ -87,5 +87,5 @@ NodeCommittedLaw = (P : ℕ) (I : List ℕ) (p : Route) (node : Node) (d s : ℕ
     → IsWrittenPlace P I s new_page → IsTidyBeside P I (joined (node_left node d s new_page i) others) → IsTidyBeside P (committed P I s i) others
 
 abbrev pub LinkCommittedLaw : Type 0
-LinkCommittedLaw = (P : ℕ) (I : List ℕ) (p : Route) (d s : ℕ) (new_page : Option ℕ) (i : ℕ) (others : Residue) → CanAdd P I p d s i → IsWrittenLink P I i
+LinkCommittedLaw = (P : ℕ) (I : List ℕ) (p : Route) (d s : ℕ) (new_page : Option ℕ) (i : ℕ) (others : Residue) → CanAdd P I p d s i → HasSpareLink P I i
     → IsWrittenPlace P I s new_page → IsTidyBeside P I (joined (link_left s new_page i) others) → IsTidyBeside P (committed P I s i) others

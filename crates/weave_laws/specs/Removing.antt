@@ -1,16 +1,16 @@
 -- A slot that names nothing any more is cleared, pages lose their owner, and what is left of them and of an inode is cleared: what each
 -- step leaves to be repaired, beside other calls. P is the number of pages, I the words before a step, J those after it.
-use Rattle.std.specs.Prelude.{◌≡◌, ◌≢◌, ℕ, ◌+◌, Bool, true, false, List, [], ◌∷◌, ◌++◌, Option, Some, None, Contains}
-use Rattle.layout.specs.Fields.{inode_links, page_kind, slot_pointer}
+use Rattle.std.specs.Prelude.{◌≡◌, ◌≢◌, ℕ, Bool, true, false, List, [], ◌∷◌, ◌++◌, Option, Some, None, Contains}
+use Rattle.layout.specs.Fields.{page_kind, slot_pointer}
 use Rattle.layout.specs.Geometry.{page_of_slot}
 use Rattle.image_reading.specs.Counts.{IsIn}
-use Rattle.image_reading.specs.Reading.{IsHeld, Reached, IsLinkCount}
+use Rattle.image_reading.specs.Reading.{IsHeld, Reached}
 use Rattle.image_laws.specs.Drop.{ClearsName, GivesPages, ClearsRest}
 use Rattle.image_laws.specs.Frame.{SameMeaning}
 use Rattle.image_laws.specs.Stages.{MayClearName, MayFree}
 use Rattle.image_reading.specs.Residue.{Residue, IsTidyBeside}
 use Rattle.weave_laws.specs.Joined.{joined}
-use Rattle.weave_laws.specs.Naming.{slots_left, pages_left}
+use Rattle.weave_laws.specs.Naming.{slots_left, pages_left, HasSpareLink}
 
 abbrev pub inodes_left : Bool → ℕ → List ℕ
 inodes_left true i = i ∷ []
@@ -31,14 +31,15 @@ unnamed_left s given_back pages goes i falling = record {
   counts = falling_left falling;
 }
 
--- behind the clearing of the slot, and once the pages have no owner
+-- Pages, and with them an inode where it goes: behind the clearing of the slot, and once the pages have no owner. Pages alone: those that a
+-- file doesn't reach, new ones before its size rises and those behind its end once it fell.
 abbrev pub cleared_left : List ℕ → Bool → ℕ → Residue
 cleared_left pages goes i = record { pointer = None; slots = []; pages = pages; inodes = inodes_left goes i; counts = [] }
 
 -- The inode that has a link less is reached, and has a link more than is counted; or it isn't, and nothing is said.
 abbrev pub IsFallingLink : ℕ → List ℕ → ℕ → Option ℕ → Type 0
 IsFallingLink P I y None = ¬ Reached P I y
-IsFallingLink P I y (Some falling) = (y ≡ falling) × Reached P I y × ((n : ℕ) × IsLinkCount P I y n × (inode_links I y ≡ n + 1))
+IsFallingLink P I y (Some falling) = (y ≡ falling) × Reached P I y × HasSpareLink P I y
 
 -- the page that is given back is the slot's
 abbrev pub IsPageOfName : ℕ → Option ℕ → Type 0

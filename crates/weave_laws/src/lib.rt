@@ -1,4 +1,5 @@
-//! What a step of one call leaves to be repaired, beside what other calls have left, and what a step in a file means then.
+//! What a step of one call does beside other calls: what a crash in it leaves, what its end leaves to be repaired and reads as, and to which words
+//! it stores.
 #![tactic(auto)]
 
 ghost use Rattle.weave_laws.specs.Paging.{PagedNodeQuietLaw, PagedLinkQuietLaw, OwningQuietLaw, PagedNodeWrittenLaw, PagedLinkWrittenLaw, PageOwnedLaw};
