@@ -1,3 +1,4 @@
+mod FilePagesBeside
 mod FilePages
 mod Sizes
 mod Pages

@@ -9,15 +9,15 @@ use Rattle.layout.specs.Fields.{inode_size, page_byte}
 use Rattle.tree_model.specs.Tree.{Node, File, Directory, node_at, is_file, is_file_node, bytes_of, bytes_of_node}
 use Rattle.tree_model.specs.Run.{State}
 use Rattle.image_reading.specs.Reading.{HasBytes, Reached, IsPageOf, IsContent, pages_of_size}
+use Rattle.image_reading.specs.Residue.{Residue}
 use Rattle.image_reading.specs.Soundness.{Rule}
-use Rattle.image_reading.proofs.Tidied.{tidied}
 use Rattle.image_counts.proofs.Nodes.{size_law}
 use Rattle.volatile_index.specs.Index.{pages_of}
 use Rattle.volume.specs.Volume.{VolumeView}
-use Rattle.volume.specs.Stands.{StandsFor}
+use Rattle.volume.specs.Beside.{StandsBeside, IsUntouched}
 use Rattle.data_ops.specs.Files.{HasPages}
 use Rattle.data_ops.specs.Reading.{IsRead}
-use Rattle.data_ops.proofs.FilePages.{has_pages}
+use Rattle.data_ops.proofs.FilePagesBeside.{has_pages_beside}
 
 -- what a buffer holds whose first bytes were read
 pub bytes_read : (before after part bytes : List ℕ) (offset count : ℕ) → count ≡ min (length before) (length bytes - offset) → after ≡ part ++ drop count before → length part ≡ count
@@ -37,7 +37,8 @@ file_is Option.None is = cc
 file_is (Some Directory) is = cc
 file_is (Some (File bytes)) is = refl
 
-module _ (volume : VolumeView) (device : DeviceView) (state : State) (stands : StandsFor volume device state) (i : ℕ) (there : is_file state.tree i ≡ true) where
+module _ (volume : VolumeView) (device : DeviceView) (state : State) (residue : Residue) (stands : StandsBeside volume device state residue) (i : ℕ) (there : is_file state.tree i ≡ true)
+    (untouched : IsUntouched volume device.words residue i) where
   abbrev P : ℕ
   P = volume.size
 
@@ -45,16 +46,16 @@ module _ (volume : VolumeView) (device : DeviceView) (state : State) (stands : S
   W = device.words
 
   pub reached : Reached P W i × HasBytes W i
-  reached = ((size_law P W state (tidied stands.tidy).coherent stands.reads).files i).0 there
+  reached = ((size_law P W state stands.sound.coherent stands.reads).files i).0 there
 
   pub held : HasPages P W i (pages_of volume.index i)
-  held = has_pages volume device state stands i reached.0 reached.1
+  held = has_pages_beside volume device state residue stands i untouched reached.0 reached.1
 
   node : node_at state.tree i ≡ Some (File (bytes_of state.tree i))
   node = file_is (node_at state.tree i) there
 
   pub long : length (bytes_of state.tree i) ≡ inode_size W i
-  long = (size_law P W state (tidied stands.tidy).coherent stands.reads).sizes i (bytes_of state.tree i) node
+  long = (size_law P W state stands.sound.coherent stands.reads).sizes i (bytes_of state.tree i) node
 
   content : IsContent P W i (bytes_of state.tree i)
   content = ((stands.reads.tree.nodes i (File (bytes_of state.tree i))).0 node).1.1
@@ -80,4 +81,4 @@ module _ (volume : VolumeView) (device : DeviceView) (state : State) (stands : S
 
   -- a file isn't too big
   pub small : inode_size W i ≤ 2 ^ 40
-  small = (tidied stands.tidy).coherent Rule.sizes i reached.0 reached.1
+  small = stands.sound.coherent Rule.sizes i reached.0 reached.1

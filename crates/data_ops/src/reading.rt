@@ -4,7 +4,8 @@ ghost use Rattle.layout.specs.Fields.{page_byte};
 ghost use Rattle.layout.specs.Name.{bytes_of_word};
 ghost use Rattle.tree_model.specs.Tree.{bytes_of};
 ghost use Rattle.tree_model.specs.Run.{State};
-ghost use Rattle.volume.specs.Stands.{StandsFor};
+ghost use Rattle.image_reading.specs.Residue.{Residue};
+ghost use Rattle.volume.specs.Beside.{StandsBeside};
 ghost use Rattle.page_state.specs.Page.{EachPage};
 ghost use Rattle.data_ops.specs.Reading.{HasFile, IsRead, file_byte, AreFileBytes};
 
@@ -106,7 +107,7 @@ fn read_pages<P: Pm>(pm: &P, geometry: &Geometry, pages: &[u64], offset: u64, bu
 pub fn read<P: Pm>(volume: &Volume, inode: u64, offset: u64, buf: &mut [u8], pm: &P) -> u64
     requires going { volume.now.stopped ≡ false }
     requires file { HasFile volume.now (P.view pm.now) inode }
-    ensures { (state : State) → StandsFor volume.now (P.view pm.now) state
+    ensures { (state : State) (residue : Residue) → StandsBeside volume.now (P.view pm.now) state residue
         → IsRead (bytes_of state.tree inode) offset buf.old buf.new result }
 {
     let geometry = volume.geometry();
