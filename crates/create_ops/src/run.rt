@@ -84,6 +84,7 @@ impl Running {
 
     /// Makes the next step of the making of an entry, to its fence, and takes it into the volume: its numbers behind the first step, its
     /// name behind the last, behind which it gives the reply. Where the fence fails, the volume is stopped, and the call is over.
+    #[inline(always)]
     pub fn step<P: Pm>(&mut self, volume: &mut Volume, pm: &mut P) -> Result<Option<Reply>, PmFault>
         requires stands { StandsStage volume.old (P.view pm.old) self.old }
         requires begins { MayFence (P.view pm.old) (512 * volume.old.size) (step_of volume.old.size self.old).events 1 }
@@ -166,6 +167,7 @@ fn first_events(entry: &NewEntry) -> u64
 }
 
 // Writes the node, its name and the links of its directory, and takes its numbers.
+#[inline(always)]
 fn write<P: Pm>(entry: &NewEntry, volume: &mut Volume, pm: &mut P) -> Result<NewNode, PmFault>
     requires stands { StandsStage volume.old (P.view pm.old) (begun entry.now) }
     requires begins { MayFence (P.view pm.old) (512 * volume.old.size) (written_events entry.now) 1 }
@@ -183,6 +185,7 @@ fn write<P: Pm>(entry: &NewEntry, volume: &mut Volume, pm: &mut P) -> Result<New
 }
 
 // Gives the new page that the name is in to its directory.
+#[inline(always)]
 fn claim<P: Pm>(
     entry: &NewEntry,
     inode: &InodeH<Clean, Init>,
@@ -208,6 +211,7 @@ fn claim<P: Pm>(
 }
 
 // Gives the slot the number of the node, and puts the name into its directory.
+#[inline(always)]
 fn commit<P: Pm>(
     entry: &NewEntry,
     node: NamedNode,
