@@ -42,3 +42,5 @@ mod Removed
 mod OneWord
 pub mod Disjoint
 pub mod OwnWords
+pub mod WaitingPlaces
+mod WaitingNames
