@@ -43,4 +43,5 @@ mod OneWord
 pub mod Disjoint
 pub mod OwnWords
 pub mod WaitingPlaces
-mod WaitingNames
+pub mod WaitingNames
+mod WaitingRemovals

@@ -8,7 +8,7 @@ use Rattle.tree_model.specs.PathText.{Route}
 use Rattle.tree_model.specs.Run.{State}
 use Rattle.tree_model.specs.Tree.{Node, Directory, File, Tree, is_root, parent, last_name, id_at}
 use Rattle.image_reading.specs.Counts.{IsIn, AtMost}
-use Rattle.image_reading.specs.Reading.{HasBytes, IsDirectory, IsFile, slot_owner, Names, Reached, IsReachedSlot, IsRoomOf, IsNameOf, IsChildOf}
+use Rattle.image_reading.specs.Reading.{HasBytes, IsDirectory, IsFile, slot_owner, Names, Reached, IsReachedSlot, IsRoomOf, IsNameOf, IsChildOf, ReadsAs}
 use Rattle.image_reading.specs.Repairs.{IsLitterInode}
 use Rattle.image_reading.specs.Residue.{Residue}
 use Rattle.image_reading.specs.Soundness.{Rule, IsCoherent}
@@ -26,11 +26,11 @@ use Rattle.weave_laws.specs.Entering.{IsNamelessPage}
 use Rattle.weave_laws.specs.Joined.{joined}
 use Rattle.weave_laws.specs.Naming.{slots_left, pages_left, counts_left, node_left, link_left}
 use Rattle.weave_laws.specs.Removing.{IsPageOfName}
-use Rattle.weave_laws.specs.Waiting.{WaitsBeside, HasNoPageOf, IsWaitingName, MayCommit, HasNodeWords, MayCommitNode, WaitingNodeLaw, WaitingFileLaw}
+use Rattle.weave_laws.specs.Waiting.{WaitsBeside, HasNoPageOf, IsPathSlot, IsWaitingName, MayCommit, HasNodeWords, MayCommitNode, WaitingNodeLaw, WaitingFileLaw}
 use Rattle.weave_laws.proofs.Entered.{new_node_law}
 use Rattle.weave_laws.proofs.WaitingPlaces.{no_pointer, more_names, more_children, count_reached, unreached_page}
 
-root_or_not : (path : Route) → (path ≡ []) ⊎ (is_root path ≡ false)
+pub root_or_not : (path : Route) → (path ≡ []) ⊎ (is_root path ≡ false)
 root_or_not [] = inl refl
 root_or_not (name ∷ names) = inr refl
 
@@ -38,6 +38,16 @@ some_none : (o : Option ℕ) (i : ℕ) → o ≡ None → o ≡ Some i → ⊥
 some_none o i none some = cc
 
 -- ---- the name
+
+module _ (P : ℕ) (I : List ℕ) (state : State) (coherent : IsCoherent P I) (reads : ReadsAs P I state) (path : Route) (d s : ℕ) (slot : IsPathSlot P I state.tree path d s) where
+  pub names_above : Names P I (reverse (parent path)) d
+  names_above = (reads.tree.names (parent path) d).0 slot.above
+
+  pub directory_above : IsDirectory I d
+  directory_above = (((has_sizes P I state.tree coherent reads.tree).directories d).0 slot.directory).1
+
+  pub whole_path : is_root path ≡ false → reverse path ≡ slot_name P I s ∷ reverse (parent path)
+  whole_path below = reverse_below path below ∙ ap (λ n. n ∷ reverse (parent path)) (sym slot.name)
 
 module _ (P : ℕ) (I : List ℕ) (own others : Residue) (state : State) (path : Route) (d s : ℕ) (waits : WaitsBeside P I own others state) (name : IsWaitingName P I state.tree path d s) where
   abbrev T : Tree
@@ -53,16 +63,16 @@ module _ (P : ℕ) (I : List ℕ) (own others : Residue) (state : State) (path :
   ]
 
   pub path_is : reverse path ≡ slot_name P I s ∷ reverse (parent path)
-  path_is = reverse_below path below ∙ ap (λ n. n ∷ reverse (parent path)) (sym name.name)
+  path_is = whole_path P I state coherent waits.holds.reads path d s name.slot below
 
   whole : path ≡ parent path ++ last_name path ∷ []
   whole = sym (reverse-reverse path) ∙ ap reverse (reverse_below path below) ∙ reverse-append (last_name path ∷ []) (reverse (parent path)) ∙ ap (λ q. q ++ last_name path ∷ []) (reverse-reverse (parent path))
 
   pub names_d : Names P I (reverse (parent path)) d
-  names_d = (waits.holds.reads.tree.names (parent path) d).0 name.above
+  names_d = names_above P I state coherent waits.holds.reads path d s name.slot
 
   pub is_directory_d : IsDirectory I d
-  is_directory_d = (((has_sizes P I T coherent waits.holds.reads.tree).directories d).0 name.directory).1
+  is_directory_d = directory_above P I state coherent waits.holds.reads path d s name.slot
 
   is_new : (t : ℕ) → IsReachedSlot P I t → slot_owner P I t ≡ d → slot_name P I t ≢ slot_name P I s
   is_new t reached owner same =
