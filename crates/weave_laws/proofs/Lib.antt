@@ -45,3 +45,4 @@ pub mod OwnWords
 pub mod WaitingPlaces
 pub mod WaitingNames
 mod WaitingRemovals
+mod WaitingFiles

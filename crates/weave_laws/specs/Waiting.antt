@@ -1,25 +1,29 @@
 -- What a call that waits between two fences has, and that its next step may be made. It has its own words, facts of the tree that its command still
 -- needs, and what it has left, beside what the others have left. P is the number of pages, I the words before the step.
-use Rattle.std.specs.Prelude.{◌≡◌, ◌≢◌, ◌⊎◌, ℕ, ◌+◌, ◌<◌, Bool, true, List, ◌∷◌, reverse, Option, Some, None, slice_index, Contains}
-use Rattle.layout.specs.Fields.{word, inode_links, page_owner, page_kind, slot_inode, slot_pointer, slot_name, slot_words}
+use Rattle.std.specs.Prelude.{◌≡◌, ◌≢◌, ◌⊎◌, ℕ, ◌+◌, ◌^◌, ◌<◌, ◌≤◌, Bool, true, List, ◌∷◌, length, reverse, Option, Some, None, slice_get, slice_index, Contains}
+use Rattle.layout.specs.Fields.{word, inode_links, inode_size, page_owner, page_kind, page_offset, slot_inode, slot_pointer, slot_name, slot_words}
 use Rattle.layout.specs.Geometry.{page_of_slot, inode_word_of}
 use Rattle.layout.specs.Name.{IsNameWords}
 use Rattle.tree_model.specs.PathText.{Route}
-use Rattle.tree_model.specs.Tree.{Node, Tree, parent, last_name, id_at, is_directory, name_count, link_count}
+use Rattle.tree_model.specs.Tree.{Node, Tree, parent, last_name, id_at, is_directory, is_file, name_count, link_count}
 use Rattle.tree_model.specs.Run.{State}
-use Rattle.image_reading.specs.Counts.{IsIn}
+use Rattle.image_reading.specs.Counts.{IsIn, IsDistinct}
 use Rattle.image_reading.specs.Litter.{IsInode}
-use Rattle.image_reading.specs.Reading.{IsFile, slot_owner, IsHeld, IsNode}
+use Rattle.image_reading.specs.Reading.{IsFile, slot_owner, IsHeld, IsNode, pages_of_size}
 use Rattle.image_reading.specs.Residue.{Residue, no_residue}
+use Rattle.image_counts.specs.Entries.{IsPageIn, IsUnusedDataPage}
 use Rattle.image_counts.specs.Laws.{ReadsBeside}
 use Rattle.image_laws.specs.Add.{IsNewNode, IsOldFile, CanAdd}
 use Rattle.image_laws.specs.Create.{IsEmptyNode, node_words}
 use Rattle.image_laws.specs.Remove.{CanRemove}
 use Rattle.image_laws.specs.Stages.{MayClearName, MayGive, MayFree}
+use Rattle.content_laws.specs.Cut.{MayTrim}
+use Rattle.weave_laws.specs.Bytes.{MayWrite, MayFill, MayOwn, MayRaise, MayLower}
 use Rattle.weave_laws.specs.Entering.{IsNamelessPage}
 use Rattle.weave_laws.specs.Joined.{joined}
 use Rattle.weave_laws.specs.Naming.{IsWrittenLink, node_left, link_left}
 use Rattle.weave_laws.specs.Removing.{unnamed_left, cleared_left, IsPageOfName, IsLeftPage}
+use Rattle.weave_laws.specs.Sizing.{behind_left, ArePagesBetween}
 
 -- ---- beside others
 
@@ -131,3 +135,42 @@ WaitingGivingLaw = (P : ℕ) (I : List ℕ) (state : State) (pages : List ℕ) (
 abbrev pub WaitingFreeingLaw : Type 0
 WaitingFreeingLaw = (P : ℕ) (I : List ℕ) (state : State) (pages : List ℕ) (goes : Bool) (i : ℕ) (others : Residue) → WaitsBeside P I (cleared_left pages goes i) others state
     → IsInode P i → ((j : ℕ) → Contains pages j → page_owner P I j ≡ 0) → MayFree P I (Contains pages) (goes ≡ true) i
+
+-- ---- the bytes, pages and size of a file
+
+-- The call has left nothing, and the range ends not past the size: it may be written.
+abbrev pub WaitingWritingLaw : Type 0
+WaitingWritingLaw = (P : ℕ) (I : List ℕ) (state : State) (i offset : ℕ) (bytes : List ℕ) (others : Residue) → WaitsBeside P I no_residue others state → is_file state.tree i ≡ true
+    → offset + length bytes ≤ inode_size I i → MayWrite P I i offset bytes
+
+-- Pages that have neither an owner nor a kind may be filled for the file.
+abbrev pub WaitingFillingLaw : Type 0
+WaitingFillingLaw = (P : ℕ) (I : List ℕ) (state : State) (i : ℕ) (pages : List ℕ) (others : Residue) → WaitsBeside P I no_residue others state → is_file state.tree i ≡ true
+    → ((j : ℕ) → Contains pages j → IsUnusedDataPage P I j) → MayFill P I i pages
+
+-- Pages stand in the order of their offsets, from the end of one size to that of another.
+pub record AreInOrder (P : ℕ) (I pages : List ℕ) (from to : ℕ) : Type 0 where
+  pub offsets : (k j : ℕ) → slice_get pages k ≡ Some j → page_offset P I j ≡ pages_of_size from + k
+  pub count : length pages + pages_of_size from ≡ pages_of_size to
+
+-- Filled behind the end they may become the file's.
+abbrev pub WaitingOwningLaw : Type 0
+WaitingOwningLaw = (P : ℕ) (I : List ℕ) (state : State) (i z : ℕ) (pages : List ℕ) (others : Residue) → WaitsBeside P I (behind_left pages) others state → is_file state.tree i ≡ true
+    → AreInOrder P I pages (inode_size I i) z → ((j : ℕ) → Contains pages j → (page_owner P I j ≡ 0) × (page_kind P I j ≡ 1)) → MayOwn P I i pages
+
+-- Then the size may rise, and reaches these pages alone.
+abbrev pub WaitingRaisingLaw : Type 0
+WaitingRaisingLaw = (P : ℕ) (I : List ℕ) (state : State) (i z : ℕ) (pages : List ℕ) (others : Residue) → WaitsBeside P I (behind_left pages) others state → is_file state.tree i ≡ true
+    → AreInOrder P I pages (inode_size I i) z → ((j : ℕ) → Contains pages j → page_owner P I j ≡ i) → HasNoPageOf P I others i → inode_size I i < z → z ≤ 2 ^ 40
+    → MayRaise P I i z × ArePagesBetween P I i pages (inode_size I i) z
+
+-- The call has left nothing, and the size may fall: these are the pages behind it.
+abbrev pub WaitingLoweringLaw : Type 0
+WaitingLoweringLaw = (P : ℕ) (I : List ℕ) (state : State) (i z : ℕ) (pages : List ℕ) (others : Residue) → WaitsBeside P I no_residue others state → is_file state.tree i ≡ true
+    → AreInOrder P I pages z (inode_size I i) → ((j : ℕ) → Contains pages j → IsPageIn P I i j) → z < inode_size I i
+    → MayLower P I i z × IsDistinct pages × ArePagesBetween P I i pages z (inode_size I i)
+
+-- Then they may lose their owner.
+abbrev pub WaitingTrimmingLaw : Type 0
+WaitingTrimmingLaw = (P : ℕ) (I : List ℕ) (state : State) (i : ℕ) (pages : List ℕ) (others : Residue) → WaitsBeside P I (behind_left pages) others state → is_file state.tree i ≡ true
+    → ((j : ℕ) → Contains pages j → page_owner P I j ≡ i) → MayTrim P I i (Contains pages) × ((j : ℕ) → Contains pages j → IsLeftPage P I (joined (behind_left pages) others) j)

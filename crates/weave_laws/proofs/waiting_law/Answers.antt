@@ -2,6 +2,7 @@ use Rattle.weave_laws.proofs.waiting_law.Goals as goal
 use Rattle.weave_laws.proofs.WaitingPlaces.{waiting_link_law}
 use Rattle.weave_laws.proofs.WaitingNames as names
 use Rattle.weave_laws.proofs.WaitingRemovals as removals
+use Rattle.weave_laws.proofs.WaitingFiles as files
 
 pub returns-clause-links : goal.returns-clause-links
 returns-clause-links c = waiting_link_law
@@ -23,3 +24,21 @@ returns-clause-giving c = removals.waiting_giving_law
 
 pub returns-clause-freeing : goal.returns-clause-freeing
 returns-clause-freeing c = removals.waiting_freeing_law
+
+pub returns-clause-writing : goal.returns-clause-writing
+returns-clause-writing c = files.waiting_writing_law
+
+pub returns-clause-filling : goal.returns-clause-filling
+returns-clause-filling c = files.waiting_filling_law
+
+pub returns-clause-owning : goal.returns-clause-owning
+returns-clause-owning c = files.waiting_owning_law
+
+pub returns-clause-raising : goal.returns-clause-raising
+returns-clause-raising c = files.waiting_raising_law
+
+pub returns-clause-lowering : goal.returns-clause-lowering
+returns-clause-lowering c = files.waiting_lowering_law
+
+pub returns-clause-trimming : goal.returns-clause-trimming
+returns-clause-trimming c = files.waiting_trimming_law
