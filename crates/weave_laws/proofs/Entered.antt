@@ -1,7 +1,7 @@
 -- A name that gets its number is entered: the tree and the room are those that the command leaves.
-use Rattle.std.proofs.Common.{◌≡◌, inl, inr, ℕ, ◌*◌, ◌<◌, ◌==◌, Bool, true, false, List, ◌∷◌, length, reverse, slice_index, Option, Some, None, unwrap_or, refl, sym, ap, subst, ◌∙◌, arith}
+use Rattle.std.proofs.Common.{◌≡◌, inl, inr, ℕ, ◌*◌, ◌<◌, ◌==◌, Bool, true, false, List, ◌∷◌, length, reverse, Option, Some, None, unwrap_or, refl, sym, ap, subst, ◌∙◌, arith}
 use Rattle.std.proofs.lemmas.Bool.Decides.{nat_tests}
-use Rattle.layout.specs.Fields.{inode_kind, inode_size, slot_name}
+use Rattle.layout.specs.Fields.{slot_name}
 use Rattle.layout.specs.Geometry.{page_of_slot}
 use Rattle.tree_model.specs.PathText.{Route}
 use Rattle.tree_model.specs.Run.{State}
@@ -19,7 +19,7 @@ use Rattle.image_counts.proofs.PageSlots.{count_slots_of}
 use Rattle.image_counts.proofs.Slots.{count_names}
 use Rattle.image_counts.proofs.States.{is_tree, is_room}
 use Rattle.image_laws.specs.Add.{IsNewNode, IsOldFile, CanAdd, with_node}
-use Rattle.image_laws.specs.Create.{IsEmptyNode, node_words, committed}
+use Rattle.image_laws.specs.Create.{IsEmptyNode, committed}
 use Rattle.image_laws.specs.CreateStep.{making, CanBeMade, IsStepped}
 use Rattle.image_laws.specs.LinkStep.{HasRoomLinked}
 use Rattle.image_laws.proofs.Adds.{add_law, add_tree_law, add_room_law}

@@ -42,3 +42,4 @@ mod Removed
 mod OneWord
 pub mod Disjoint
 pub mod OwnWords
+pub mod Counterexamples
