@@ -46,3 +46,4 @@ pub mod WaitingPlaces
 pub mod WaitingNames
 mod WaitingRemovals
 mod WaitingFiles
+pub mod Counterexamples

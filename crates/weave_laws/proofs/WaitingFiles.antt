@@ -1,19 +1,18 @@
 -- A file that a call names may get pages and a size, or be cut.
-use Rattle.std.proofs.Common.{◌≡◌, ◌≢◌, ◌⊎◌, inl, inr, ℕ, zero, suc, ◌+◌, ◌-◌, ◌^◌, ◌<◌, ◌≤◌, true, List, [], ◌∷◌, ◌++◌, length, get_or, slice_get, Some, None, refl, sym, ap, subst, ◌∙◌, arith}
+use Rattle.std.proofs.Common.{◌≡◌, inl, inr, ℕ, suc, ◌-◌, ◌^◌, ◌<◌, ◌≤◌, true, false, List, [], ◌∷◌, ◌++◌, get_or, slice_get, Some, refl, sym, ap, subst, ◌∙◌, arith}
 use Rattle.std.specs.Prelude.{Contains}
-use Rattle.std.proofs.lemmas.Bool.{cases_eq, cases_lt}
+use Rattle.std.proofs.lemmas.Bool.{cases_lt}
 use Rattle.std.proofs.lemmas.Option.{slice_get-get_or}
 use Rattle.layout.specs.Fields.{inode_size, page_owner, page_kind, page_offset}
 use Rattle.layout.specs.Geometry.{data_pages_of}
 use Rattle.tree_model.specs.Run.{State}
 use Rattle.tree_model.specs.Tree.{is_file}
 use Rattle.image_reading.specs.Counts.{IsIn, IsDistinct}
-use Rattle.image_reading.specs.Litter.{IsZeroDescriptor}
 use Rattle.image_reading.specs.Reading.{IsFile, Reached, IsPageOf, pages_of_size}
-use Rattle.image_reading.specs.Repairs.{IsKept, IsKeptFilePage, IsLitterPage}
+use Rattle.image_reading.specs.Repairs.{IsKept, IsLitterPage}
 use Rattle.image_reading.specs.Residue.{Residue, no_residue}
 use Rattle.image_reading.specs.Soundness.{Rule}
-use Rattle.image_counts.specs.Entries.{IsPageIn, IsUnusedDataPage}
+use Rattle.image_counts.specs.Entries.{IsPageIn}
 use Rattle.image_counts.specs.Laws.{ReadsBeside}
 use Rattle.image_counts.proofs.Beside.{has_pages_beside}
 use Rattle.image_counts.proofs.Distinct.{in_front, in_either}
@@ -24,8 +23,8 @@ use Rattle.content_laws.specs.Cut.{MayTrim}
 use Rattle.content_laws.proofs.Lists.{contains_at, place_of}
 use Rattle.weave_laws.specs.Bytes.{IsFilledPage, MayRaise}
 use Rattle.weave_laws.specs.Joined.{joined}
-use Rattle.weave_laws.specs.Removing.{IsLeftPage}
-use Rattle.weave_laws.specs.Sizing.{behind_left, ArePagesBetween}
+use Rattle.weave_laws.specs.Removing.{cleared_left, IsLeftPage}
+use Rattle.weave_laws.specs.Sizing.{ArePagesBetween}
 use Rattle.weave_laws.specs.Waiting.{WaitsBeside, HasNoPageOf, AreInOrder, WaitingWritingLaw, WaitingFillingLaw, WaitingOwningLaw, WaitingRaisingLaw, WaitingLoweringLaw, WaitingTrimmingLaw}
 use Rattle.weave_laws.proofs.Contained.{in_contained, contained_in, contained_or_not}
 use Rattle.weave_laws.proofs.WaitingPlaces.{no_pointer}
@@ -114,19 +113,6 @@ waiting_writing_law P I state i offset bytes others waits is inside =
 
 -- ---- new pages
 
-unused_zero : (P : ℕ) (I : List ℕ) (residue : Residue) (state : State) → ReadsBeside P I residue state → (j : ℕ) → IsUnusedDataPage P I j → IsZeroDescriptor P I j
-unfolding page_offset
-unused_zero P I residue state holds j (within, unused) = record {
-  owner = unused.0;
-  kind = unused.1;
-  offset = elim (cases_eq (page_offset P I j) 0) [
-    | inl none ↦ none
-    | inr nonzero ↦
-        let left = (holds.beside.of_pages.each j).1 (record { in_range = within; free = λ kept. (has_pages_beside P I residue state holds).owned j kept unused.0; nonzero = (2, omega arith, nonzero) }) in
-        absurd (elim (holds.beside.marks j left) [ inl owned ↦ owned unused.0 | inr kind ↦ kind unused.1 ])
-  ];
-}
-
 pub waiting_filling_law : WaitingFillingLaw
 waiting_filling_law P I state i pages others waits is unused =
     let (reached, file) = there P I (joined no_residue others) state waits.holds i is in
@@ -134,15 +120,15 @@ waiting_filling_law P I state i pages others waits is unused =
       coherent = waits.holds.coherent;
       reached = reached;
       file = file;
-      zero = λ j given. ((unused j given).0, unused_zero P I (joined no_residue others) state waits.holds j (unused j given));
+      unused = unused;
     }
 
-module _ (P : ℕ) (I : List ℕ) (state : State) (i : ℕ) (pages : List ℕ) (others : Residue) (waits : WaitsBeside P I (behind_left pages) others state) (is : is_file state.tree i ≡ true) where
+module _ (P : ℕ) (I : List ℕ) (state : State) (i : ℕ) (pages : List ℕ) (others : Residue) (waits : WaitsBeside P I (cleared_left pages false i) others state) (is : is_file state.tree i ≡ true) where
   reached : Reached P I i
-  reached = (there P I (joined (behind_left pages) others) state waits.holds i is).0
+  reached = (there P I (joined (cleared_left pages false i) others) state waits.holds i is).0
 
   file : IsFile I i
-  file = (there P I (joined (behind_left pages) others) state waits.holds i is).1
+  file = (there P I (joined (cleared_left pages false i) others) state waits.holds i is).1
 
   left : (j : ℕ) → Contains pages j → IsIn j (pages ++ others.pages)
   left j given = in_front j pages others.pages (contained_in j pages given)
@@ -151,7 +137,7 @@ module _ (P : ℕ) (I : List ℕ) (state : State) (i : ℕ) (pages : List ℕ) (
   litter j given = (waits.holds.beside.of_pages.each j).0 (left j given)
 
   kind_is : (j : ℕ) → Contains pages j → page_owner P I j ≡ i → page_kind P I j ≡ 1
-  kind_is j given owner = page_kind_is P I (joined (behind_left pages) others) state waits.holds i is j (litter j given).in_range owner
+  kind_is j given owner = page_kind_is P I (joined (cleared_left pages false i) others) state waits.holds i is j (litter j given).in_range owner
 
   module _ (z : ℕ) (order : AreInOrder P I pages (inode_size I i) z) where
     filled : (j : ℕ) → Contains pages j → (page_owner P I j ≡ 0) × (page_kind P I j ≡ 1) → IsFilledPage P I i j
@@ -159,7 +145,7 @@ module _ (P : ℕ) (I : List ℕ) (state : State) (i : ℕ) (pages : List ℕ) (
 
     module _ (owners : (j : ℕ) → Contains pages j → page_owner P I j ≡ i) (apart : HasNoPageOf P I others i) where
       mine : (j : ℕ) → IsPageIn P I i j → pages_of_size (inode_size I i) ≤ page_offset P I j → Contains pages j
-      mine j page past = elim (in_either j pages others.pages (left_behind P I (joined (behind_left pages) others) state waits.holds i is j page past)) [
+      mine j page past = elim (in_either j pages others.pages (left_behind P I (joined (cleared_left pages false i) others) state waits.holds i is j page past)) [
         | inl own ↦ in_contained j pages own
         | inr theirs ↦ absurd (apart j theirs page.owner)
       ]
@@ -196,15 +182,15 @@ module _ (P : ℕ) (I : List ℕ) (state : State) (i : ℕ) (pages : List ℕ) (
     past = λ j given. record {
       in_range = (litter j given).in_range;
       owner = owners j given;
-      past = litter_behind P I (joined (behind_left pages) others) state waits.holds i is j (litter j given) (owners j given);
+      past = litter_behind P I (joined (cleared_left pages false i) others) state waits.holds i is j (litter j given) (owners j given);
     };
   }
 
-  pub are_left : ((j : ℕ) → Contains pages j → page_owner P I j ≡ i) → (j : ℕ) → Contains pages j → IsLeftPage P I (joined (behind_left pages) others) j
+  pub are_left : ((j : ℕ) → Contains pages j → page_owner P I j ≡ i) → (j : ℕ) → Contains pages j → IsLeftPage P I (joined (cleared_left pages false i) others) j
   are_left owners j given = record {
     left = left j given;
     kind = λ none. (let one = kind_is j given (owners j given) in omega (arith, one, none));
-    pointers = λ t at held. no_pointer P I (joined (behind_left pages) others) waits.holds.beside waits.no_pointer t held;
+    pointers = λ t at held. no_pointer P I (joined (cleared_left pages false i) others) waits.holds.beside waits.no_pointer t held;
   }
 
 pub waiting_owning_law : WaitingOwningLaw

@@ -1,6 +1,6 @@
 -- What a call that waits between two fences has, and that its next step may be made. It has its own words, facts of the tree that its command still
 -- needs, and what it has left, beside what the others have left. P is the number of pages, I the words before the step.
-use Rattle.std.specs.Prelude.{◌≡◌, ◌≢◌, ◌⊎◌, ℕ, ◌+◌, ◌^◌, ◌<◌, ◌≤◌, Bool, true, List, ◌∷◌, length, reverse, Option, Some, None, slice_get, slice_index, Contains}
+use Rattle.std.specs.Prelude.{◌≡◌, ◌≢◌, ◌⊎◌, ℕ, ◌+◌, ◌^◌, ◌<◌, ◌≤◌, Bool, true, false, List, ◌∷◌, length, reverse, Option, Some, None, slice_get, slice_index, Contains}
 use Rattle.layout.specs.Fields.{word, inode_links, inode_size, page_owner, page_kind, page_offset, slot_inode, slot_pointer, slot_name, slot_words}
 use Rattle.layout.specs.Geometry.{page_of_slot, inode_word_of}
 use Rattle.layout.specs.Name.{IsNameWords}
@@ -21,9 +21,9 @@ use Rattle.content_laws.specs.Cut.{MayTrim}
 use Rattle.weave_laws.specs.Bytes.{MayWrite, MayFill, MayOwn, MayRaise, MayLower}
 use Rattle.weave_laws.specs.Entering.{IsNamelessPage}
 use Rattle.weave_laws.specs.Joined.{joined}
-use Rattle.weave_laws.specs.Naming.{IsWrittenLink, node_left, link_left}
+use Rattle.weave_laws.specs.Naming.{HasSpareLink, node_left, link_left}
 use Rattle.weave_laws.specs.Removing.{unnamed_left, cleared_left, IsPageOfName, IsLeftPage}
-use Rattle.weave_laws.specs.Sizing.{behind_left, ArePagesBetween}
+use Rattle.weave_laws.specs.Sizing.{ArePagesBetween}
 
 -- ---- beside others
 
@@ -39,7 +39,7 @@ HasNoPageOf P I others i = (j : ℕ) → IsIn j others.pages → page_owner P I 
 -- An inode whose links a call has raised, or is to lower, has one link more than is counted, where its link word is one more than the tree's number.
 abbrev pub WaitingLinkLaw : Type 0
 WaitingLinkLaw = (P : ℕ) (I : List ℕ) (residue : Residue) (state : State) (x : ℕ) → ReadsBeside P I residue state → IsIn x residue.counts → inode_links I x ≡ link_count state.tree x + 1
-    → IsWrittenLink P I x
+    → HasSpareLink P I x
 
 -- ---- a name
 
@@ -155,12 +155,12 @@ pub record AreInOrder (P : ℕ) (I pages : List ℕ) (from to : ℕ) : Type 0 wh
 
 -- Filled behind the end they may become the file's.
 abbrev pub WaitingOwningLaw : Type 0
-WaitingOwningLaw = (P : ℕ) (I : List ℕ) (state : State) (i z : ℕ) (pages : List ℕ) (others : Residue) → WaitsBeside P I (behind_left pages) others state → is_file state.tree i ≡ true
+WaitingOwningLaw = (P : ℕ) (I : List ℕ) (state : State) (i z : ℕ) (pages : List ℕ) (others : Residue) → WaitsBeside P I (cleared_left pages false i) others state → is_file state.tree i ≡ true
     → AreInOrder P I pages (inode_size I i) z → ((j : ℕ) → Contains pages j → (page_owner P I j ≡ 0) × (page_kind P I j ≡ 1)) → MayOwn P I i pages
 
 -- Then the size may rise, and reaches these pages alone.
 abbrev pub WaitingRaisingLaw : Type 0
-WaitingRaisingLaw = (P : ℕ) (I : List ℕ) (state : State) (i z : ℕ) (pages : List ℕ) (others : Residue) → WaitsBeside P I (behind_left pages) others state → is_file state.tree i ≡ true
+WaitingRaisingLaw = (P : ℕ) (I : List ℕ) (state : State) (i z : ℕ) (pages : List ℕ) (others : Residue) → WaitsBeside P I (cleared_left pages false i) others state → is_file state.tree i ≡ true
     → AreInOrder P I pages (inode_size I i) z → ((j : ℕ) → Contains pages j → page_owner P I j ≡ i) → HasNoPageOf P I others i → inode_size I i < z → z ≤ 2 ^ 40
     → MayRaise P I i z × ArePagesBetween P I i pages (inode_size I i) z
 
@@ -172,5 +172,5 @@ WaitingLoweringLaw = (P : ℕ) (I : List ℕ) (state : State) (i z : ℕ) (pages
 
 -- Then they may lose their owner.
 abbrev pub WaitingTrimmingLaw : Type 0
-WaitingTrimmingLaw = (P : ℕ) (I : List ℕ) (state : State) (i : ℕ) (pages : List ℕ) (others : Residue) → WaitsBeside P I (behind_left pages) others state → is_file state.tree i ≡ true
-    → ((j : ℕ) → Contains pages j → page_owner P I j ≡ i) → MayTrim P I i (Contains pages) × ((j : ℕ) → Contains pages j → IsLeftPage P I (joined (behind_left pages) others) j)
+WaitingTrimmingLaw = (P : ℕ) (I : List ℕ) (state : State) (i : ℕ) (pages : List ℕ) (others : Residue) → WaitsBeside P I (cleared_left pages false i) others state → is_file state.tree i ≡ true
+    → ((j : ℕ) → Contains pages j → page_owner P I j ≡ i) → MayTrim P I i (Contains pages) × ((j : ℕ) → Contains pages j → IsLeftPage P I (joined (cleared_left pages false i) others) j)
