@@ -42,3 +42,8 @@ mod Removed
 mod OneWord
 pub mod Disjoint
 pub mod OwnWords
+pub mod WaitingPlaces
+pub mod WaitingNames
+mod WaitingRemovals
+mod WaitingFiles
+pub mod Counterexamples

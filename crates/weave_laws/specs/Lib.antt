@@ -8,3 +8,4 @@ pub mod Sizing
 pub mod Committing
 pub mod Entering
 pub mod Beside
+pub mod Waiting

@@ -10,6 +10,7 @@ ghost use Rattle.weave_laws.specs.Sizing.{WrittenInsideLaw, FilledLaw, TakenLaw,
 ghost use Rattle.weave_laws.specs.Removing.{ClearedLaw, GivenLaw, FreedLaw};
 ghost use Rattle.weave_laws.specs.Entering.{NodeEnteredLaw, NewNodeLaw, LinkEnteredLaw, NodeRoomLaw, LinkedRoomLaw, RemovedEnteredLaw, RemovedRoomLaw, OneWordLaw};
 ghost use Rattle.weave_laws.specs.Beside.{WiderLaw, DisjointLaw, NodeWordsLaw, LinkWordsLaw, PagedNodeWordsLaw, PagedLinkWordsLaw, OwnedWordsLaw, CommittedWordsLaw, DroppedWordsLaw, ClearedWordsLaw, GivenWordsLaw, FreedWordsLaw, InsideWordsLaw, FilledWordsLaw, TakenWordsLaw, SizedWordsLaw};
+ghost use Rattle.weave_laws.specs.Waiting.{WaitingLinkLaw, WaitingNodeLaw, WaitingFileLaw, WaitingRemovalLaw, WaitingClearingLaw, WaitingGivingLaw, WaitingFreeingLaw, WaitingWritingLaw, WaitingFillingLaw, WaitingOwningLaw, WaitingRaisingLaw, WaitingLoweringLaw, WaitingTrimmingLaw};
 ghost use Rattle.weave_laws.specs.Joined.{AnyOrderLaw};
 ghost use Rattle.weave_laws.specs.Naming.{NodeWrittenLaw, LinkWrittenLaw, NodeCommittedLaw, LinkCommittedLaw};
 
@@ -128,4 +129,21 @@ pub fn own_words_law()
     ensures filled { FilledWordsLaw }
     ensures taken { TakenWordsLaw }
     ensures sized { SizedWordsLaw }
+{}
+
+/// What a waiting call has is enough for its next step, whatever steps other calls have made.
+pub fn waiting_law()
+    ensures links { WaitingLinkLaw }
+    ensures node { WaitingNodeLaw }
+    ensures file { WaitingFileLaw }
+    ensures removal { WaitingRemovalLaw }
+    ensures clearing { WaitingClearingLaw }
+    ensures giving { WaitingGivingLaw }
+    ensures freeing { WaitingFreeingLaw }
+    ensures writing { WaitingWritingLaw }
+    ensures filling { WaitingFillingLaw }
+    ensures owning { WaitingOwningLaw }
+    ensures raising { WaitingRaisingLaw }
+    ensures lowering { WaitingLoweringLaw }
+    ensures trimming { WaitingTrimmingLaw }
 {}

@@ -1,0 +1,253 @@
+-- A written name may get its number.
+use Rattle.std.proofs.Common.{◌≡◌, ◌≢◌, ◌⊎◌, inl, inr, ℕ, ◌<◌, ◌≤◌, false, List, [], ◌∷◌, ◌++◌, reverse, slice_index, Option, Some, None, refl, sym, ap, subst, ◌∙◌, arith}
+use Rattle.std.proofs.lemmas.Bool.{cases_eq}
+use Rattle.std.proofs.lemmas.List.{reverse-append, reverse-reverse}
+use Rattle.layout.specs.Fields.{inode_kind, inode_links, inode_size, inode_own, page_owner, slot_name}
+use Rattle.layout.specs.Geometry.{data_pages_of, page_of_slot, inodes_of}
+use Rattle.tree_model.specs.PathText.{Route}
+use Rattle.tree_model.specs.Run.{State}
+use Rattle.tree_model.specs.Tree.{Node, Directory, File, Tree, is_root, parent, last_name, id_at}
+use Rattle.image_reading.specs.Counts.{IsIn, AtMost}
+use Rattle.image_reading.specs.Reading.{HasBytes, IsDirectory, IsFile, slot_owner, Names, Reached, IsReachedSlot, IsRoomOf, IsNameOf, IsChildOf, ReadsAs}
+use Rattle.image_reading.specs.Repairs.{IsLitterInode}
+use Rattle.image_reading.specs.Residue.{Residue}
+use Rattle.image_reading.specs.Soundness.{Rule, IsCoherent}
+use Rattle.image_counts.proofs.Decided.{room_owner}
+use Rattle.image_counts.proofs.Distinct.{in_front, in_either}
+use Rattle.image_counts.proofs.Links.{not_both_kinds}
+use Rattle.image_counts.proofs.Nodes.{has_sizes}
+use Rattle.image_counts.proofs.Paths.{root_reached, in_range, inode_reached}
+use Rattle.image_counts.proofs.Slots.{has_absences}
+use Rattle.image_laws.specs.Add.{IsNewNode, IsOldFile, IsFreeSlot, CanAdd}
+use Rattle.image_laws.specs.Create.{node_words}
+use Rattle.image_reading.proofs.Counts.{at_most_none}
+use Rattle.image_laws.proofs.MoveTree.{reverse_below}
+use Rattle.weave_laws.specs.Entering.{IsNamelessPage}
+use Rattle.weave_laws.specs.Joined.{joined}
+use Rattle.weave_laws.specs.Naming.{slots_left, pages_left, counts_left, node_left, link_left}
+use Rattle.weave_laws.specs.Removing.{IsPageOfName}
+use Rattle.weave_laws.specs.Waiting.{WaitsBeside, HasNoPageOf, IsPathSlot, IsWaitingName, MayCommit, HasNodeWords, MayCommitNode, WaitingNodeLaw, WaitingFileLaw}
+use Rattle.weave_laws.proofs.Entered.{new_node_law}
+use Rattle.weave_laws.proofs.WaitingPlaces.{no_pointer, more_names, more_children, count_reached, unreached_page}
+
+pub root_or_not : (path : Route) → (path ≡ []) ⊎ (is_root path ≡ false)
+root_or_not [] = inl refl
+root_or_not (name ∷ names) = inr refl
+
+some_none : (o : Option ℕ) (i : ℕ) → o ≡ None → o ≡ Some i → ⊥
+some_none o i none some = cc
+
+-- ---- the name
+
+module _ (P : ℕ) (I : List ℕ) (state : State) (coherent : IsCoherent P I) (reads : ReadsAs P I state) (path : Route) (d s : ℕ) (slot : IsPathSlot P I state.tree path d s) where
+  pub names_above : Names P I (reverse (parent path)) d
+  names_above = (reads.tree.names (parent path) d).0 slot.above
+
+  pub directory_above : IsDirectory I d
+  directory_above = (((has_sizes P I state.tree coherent reads.tree).directories d).0 slot.directory).1
+
+  pub whole_path : is_root path ≡ false → reverse path ≡ slot_name P I s ∷ reverse (parent path)
+  whole_path below = reverse_below path below ∙ ap (λ n. n ∷ reverse (parent path)) (sym slot.name)
+
+module _ (P : ℕ) (I : List ℕ) (own others : Residue) (state : State) (path : Route) (d s : ℕ) (waits : WaitsBeside P I own others state) (name : IsWaitingName P I state.tree path d s) where
+  abbrev T : Tree
+  T = state.tree
+
+  coherent : IsCoherent P I
+  coherent = waits.holds.coherent
+
+  below : is_root path ≡ false
+  below = elim (root_or_not path) [
+    | inl root ↦ absurd (some_none (id_at T path) 1 name.absent (ap (id_at T) root ∙ (waits.holds.reads.tree.names [] 1).1 refl))
+    | inr other ↦ other
+  ]
+
+  pub path_is : reverse path ≡ slot_name P I s ∷ reverse (parent path)
+  path_is = whole_path P I state coherent waits.holds.reads path d s name.slot below
+
+  whole : path ≡ parent path ++ last_name path ∷ []
+  whole = sym (reverse-reverse path) ∙ ap reverse (reverse_below path below) ∙ reverse-append (last_name path ∷ []) (reverse (parent path)) ∙ ap (λ q. q ++ last_name path ∷ []) (reverse-reverse (parent path))
+
+  pub names_d : Names P I (reverse (parent path)) d
+  names_d = names_above P I state coherent waits.holds.reads path d s name.slot
+
+  pub is_directory_d : IsDirectory I d
+  is_directory_d = directory_above P I state coherent waits.holds.reads path d s name.slot
+
+  is_new : (t : ℕ) → IsReachedSlot P I t → slot_owner P I t ≡ d → slot_name P I t ≢ slot_name P I s
+  is_new t reached owner same =
+      ((has_absences P I T coherent waits.holds.reads.tree).absent (parent path) d (last_name path) name.above).0 (ap (id_at T) (sym whole) ∙ name.absent) t
+      (record { slot = reached; owner = owner; name = same ∙ name.name })
+
+  free_slot : IsFreeSlot P I (reverse (parent path)) d s
+  free_slot = record {
+    path = names_d;
+    directory = is_directory_d;
+    held = name.held;
+    owner = name.owner;
+    free = name.number;
+    no_pointer = no_pointer P I (joined own others) waits.holds.beside waits.no_pointer s name.held;
+    no_target = λ t held points. (let zero = no_pointer P I (joined own others) waits.holds.beside waits.no_pointer t held in omega (arith, zero, points));
+  }
+
+  pub can_add : (i : ℕ) → 2 ≤ i → i ≤ inodes_of P → IsNewNode P I i ⊎ IsOldFile P I i → (HasBytes I i → AtMost 1 (IsNameOf P I i) (inode_links I i))
+      → (IsDirectory I i → AtMost 3 (IsChildOf P I d) (inode_links I d)) → CanAdd P I (reverse (parent path)) d s i
+  can_add i least most node names children = record {
+    coherent = coherent;
+    slot = free_slot;
+    name = name.words;
+    new = is_new;
+    least = least;
+    most = most;
+    node = node;
+    name_link = names;
+    child_link = children;
+  }
+
+  -- ---- its page
+
+  room_here : IsIn s (joined own others).slots → IsRoomOf P I d (page_of_slot s)
+  unfolding slot_owner
+  room_here left = subst (λ x. IsRoomOf P I x (page_of_slot s)) name.owner ((waits.holds.beside.of_slots.each s).0 left).page
+
+  no_room : (page : ℕ) → IsIn page (joined own others).pages → ¬ IsRoomOf P I d page
+  no_room page left room = ((waits.holds.beside.of_pages.each page).0 left).free (inr (subst (λ x. IsRoomOf P I x page) (sym (room_owner P I d page room)) room))
+
+  pub nameless : (new_page : Option ℕ) → IsPageOfName s new_page → ((t : ℕ) → IsIn t (slots_left s new_page) → IsIn t (joined own others).slots)
+      → ((j : ℕ) → IsIn j (pages_left new_page) → IsIn j (joined own others).pages) → IsNamelessPage P I d s new_page
+  nameless None at slots pages = room_here (slots s (inl refl))
+  nameless (Some page) at slots pages = (at, no_room page (pages page (inl refl)))
+
+  pub new_page_owner : (new_page : Option ℕ) → IsPageOfName s new_page → (j : ℕ) → IsIn j (pages_left new_page) → page_owner P I j ≡ d
+  unfolding slot_owner
+  new_page_owner None at j none = absurd none
+  new_page_owner (Some page) at j among = elim among [ inl is ↦ ap (page_owner P I) (is ∙ sym at) ∙ name.owner | inr none ↦ absurd none ]
+
+-- ---- the words of an empty node
+
+module _ (I : List ℕ) (node : Node) (i : ℕ) (has : HasNodeWords I node i) where
+  kind_is : inode_kind I i ≡ slice_index (node_words node i) 0
+  unfolding inode_kind
+  kind_is = has.words 0 (omega arith)
+
+  links_are : inode_links I i ≡ slice_index (node_words node i) 1
+  unfolding inode_links
+  links_are = has.words 1 (omega arith)
+
+  size_is : inode_size I i ≡ slice_index (node_words node i) 2
+  unfolding inode_size
+  size_is = has.words 2 (omega arith)
+
+  own_is : inode_own I i ≡ slice_index (node_words node i) 3
+  unfolding inode_own
+  own_is = has.words 3 (omega arith)
+
+kind_of : (node : Node) (i : ℕ) → (slice_index (node_words node i) 0 ≡ 1) ⊎ (slice_index (node_words node i) 0 ≡ 2)
+kind_of Directory i = inr refl
+kind_of (File bytes) i = inl refl
+
+one_link : (node : Node) (i : ℕ) → 1 ≤ slice_index (node_words node i) 1
+one_link Directory i = omega arith
+one_link (File bytes) i = omega arith
+
+two_links : (node : Node) (i : ℕ) → slice_index (node_words node i) 0 ≡ 2 → 2 ≤ slice_index (node_words node i) 1
+two_links Directory i is = omega arith
+two_links (File bytes) i is = omega (arith, is)
+
+no_size : (node : Node) (i : ℕ) → slice_index (node_words node i) 2 ≡ 0
+no_size Directory i = refl
+no_size (File bytes) i = refl
+
+own_number : (node : Node) (i : ℕ) → slice_index (node_words node i) 3 ≡ i
+own_number Directory i = refl
+own_number (File bytes) i = refl
+
+-- ---- a new node
+
+parent_left : (node : Node) (d i : ℕ) (rest : List ℕ) → slice_index (node_words node i) 0 ≡ 2 → IsIn d (counts_left node d ++ rest)
+parent_left Directory d i rest is = inl refl
+parent_left (File bytes) d i rest is = absurd (omega (arith, is))
+
+module _ (P : ℕ) (I : List ℕ) (state : State) (path : Route) (node : Node) (d s : ℕ) (new_page : Option ℕ) (i : ℕ) (others : Residue)
+    (waits : WaitsBeside P I (node_left node d s new_page i) others state) (name : IsWaitingName P I state.tree path d s) (at : IsPageOfName s new_page)
+    (has : HasNodeWords I node i) (apart : HasNoPageOf P I others i) where
+  litter : IsLitterInode P I i
+  litter = (waits.holds.beside.of_inodes.each i).0 (inl refl)
+
+  least : 2 ≤ i
+  least = elim (cases_eq i 1) [
+    | inl root ↦ absurd (litter.unreached (subst (Reached P I) (sym root) (root_reached P I waits.holds.coherent)))
+    | inr other ↦ (let some = litter.least in omega (arith, some, other))
+  ]
+
+  no_page : (j : ℕ) → j < data_pages_of P → page_owner P I j ≢ i
+  no_page j within owner =
+      elim (in_either j (pages_left new_page) others.pages (unreached_page P I (joined (node_left node d s new_page i) others) state i j waits.holds litter.unreached (omega (arith, least)) within owner)) [
+        | inl mine ↦ litter.unreached
+            (subst (Reached P I) (sym (new_page_owner P I (node_left node d s new_page i) others state path d s waits name new_page at j mine) ∙ owner)
+            (reverse (parent path), names_d P I (node_left node d s new_page i) others state path d s waits name))
+        | inr theirs ↦ apart j theirs owner
+      ]
+
+  new_node : IsNewNode P I i
+  new_node = record {
+    unreached = litter.unreached;
+    no_pages = no_page;
+    kind = elim (kind_of node i) [ inl one ↦ inl (kind_is I node i has ∙ one) | inr two ↦ inr (kind_is I node i has ∙ two) ];
+    own = own_is I node i has ∙ own_number node i;
+    empty = λ file. size_is I node i has ∙ no_size node i;
+    no_children = λ two. (let links = links_are I node i has in let enough = two_links node i (sym (kind_is I node i has) ∙ two) in omega (arith, links, enough));
+  }
+
+  few_names : AtMost 1 (IsNameOf P I i) (inode_links I i)
+  few_names = at_most_none 1 (inode_links I i) (IsNameOf P I i) (λ t n. litter.unreached (subst (Reached P I) n.inode (inode_reached P I waits.holds.coherent t n.slot)))
+      (let links = links_are I node i has in let one = one_link node i in omega (arith, links, one))
+
+  pub may_commit_node : MayCommitNode P I path node d s new_page i
+  may_commit_node = record {
+    named = record {
+      can = can_add P I (node_left node d s new_page i) others state path d s waits name i least litter.most (inl new_node) (λ file. few_names)
+          (λ two. more_children P I (joined (node_left node d s new_page i) others) state waits.holds d (parent_left node d i others.counts (sym (kind_is I node i has) ∙ two))
+          (is_directory_d P I (node_left node d s new_page i) others state path d s waits name));
+      place = nameless P I (node_left node d s new_page i) others state path d s waits name new_page at (λ t. in_front t (slots_left s new_page) others.slots)
+          (λ j. in_front j (pages_left new_page) others.pages);
+      path_is = path_is P I (node_left node d s new_page i) others state path d s waits name;
+    };
+    new = new_node;
+    is_node = new_node_law P I node i new_node (kind_is I node i has) has.empty;
+  }
+
+pub waiting_node_law : WaitingNodeLaw
+waiting_node_law P I state path node d s new_page i others waits name at has apart = may_commit_node P I state path node d s new_page i others waits name at has apart
+
+-- ---- a link
+
+module _ (P : ℕ) (I : List ℕ) (state : State) (path : Route) (d s : ℕ) (new_page : Option ℕ) (i : ℕ) (others : Residue)
+    (waits : WaitsBeside P I (link_left s new_page i) others state) (name : IsWaitingName P I state.tree path d s) (file : IsFile I i) where
+  reached : Reached P I i
+  reached = count_reached P I (joined (link_left s new_page i) others) state waits.holds i (inl refl)
+
+  old_file : IsOldFile P I i
+  old_file = record { reached = reached; file = file }
+
+  -- the root is a directory
+  above_root : 2 ≤ i
+  above_root = elim (cases_eq i 1) [
+    | inl root ↦ absurd (not_both_kinds I 1 (subst (IsFile I) root file) ((waits.holds.coherent Rule.root 1).directory refl))
+    | inr other ↦ (let some = (in_range P I waits.holds.coherent i reached).0 in omega (arith, some, other))
+  ]
+
+  pub may_commit_file : IsPageOfName s new_page → MayCommit P I path d s new_page i × IsOldFile P I i
+  may_commit_file at = (
+    record {
+      can = can_add P I (link_left s new_page i) others state path d s waits name i above_root (in_range P I waits.holds.coherent i reached).1 (inr old_file)
+          (more_names P I (joined (link_left s new_page i) others) state waits.holds i (inl refl)) (λ two. absurd (not_both_kinds I i file two));
+      place = nameless P I (link_left s new_page i) others state path d s waits name new_page at (λ t. in_front t (slots_left s new_page) others.slots)
+          (λ j. in_front j (pages_left new_page) others.pages);
+      path_is = path_is P I (link_left s new_page i) others state path d s waits name;
+    },
+    old_file,
+  )
+
+pub waiting_file_law : WaitingFileLaw
+waiting_file_law P I state path d s new_page i others waits name at file = may_commit_file P I state path d s new_page i others waits name file at

@@ -1,0 +1,44 @@
+use Rattle.weave_laws.proofs.waiting_law.Goals as goal
+use Rattle.weave_laws.proofs.WaitingPlaces.{waiting_link_law}
+use Rattle.weave_laws.proofs.WaitingNames as names
+use Rattle.weave_laws.proofs.WaitingRemovals as removals
+use Rattle.weave_laws.proofs.WaitingFiles as files
+
+pub returns-clause-links : goal.returns-clause-links
+returns-clause-links c = waiting_link_law
+
+pub returns-clause-node : goal.returns-clause-node
+returns-clause-node c = names.waiting_node_law
+
+pub returns-clause-file : goal.returns-clause-file
+returns-clause-file c = names.waiting_file_law
+
+pub returns-clause-removal : goal.returns-clause-removal
+returns-clause-removal c = removals.waiting_removal_law
+
+pub returns-clause-clearing : goal.returns-clause-clearing
+returns-clause-clearing c = removals.waiting_clearing_law
+
+pub returns-clause-giving : goal.returns-clause-giving
+returns-clause-giving c = removals.waiting_giving_law
+
+pub returns-clause-freeing : goal.returns-clause-freeing
+returns-clause-freeing c = removals.waiting_freeing_law
+
+pub returns-clause-writing : goal.returns-clause-writing
+returns-clause-writing c = files.waiting_writing_law
+
+pub returns-clause-filling : goal.returns-clause-filling
+returns-clause-filling c = files.waiting_filling_law
+
+pub returns-clause-owning : goal.returns-clause-owning
+returns-clause-owning c = files.waiting_owning_law
+
+pub returns-clause-raising : goal.returns-clause-raising
+returns-clause-raising c = files.waiting_raising_law
+
+pub returns-clause-lowering : goal.returns-clause-lowering
+returns-clause-lowering c = files.waiting_lowering_law
+
+pub returns-clause-trimming : goal.returns-clause-trimming
+returns-clause-trimming c = files.waiting_trimming_law

@@ -1,0 +1,176 @@
+-- What a call that waits between two fences has, and that its next step may be made. It has its own words, facts of the tree that its command still
+-- needs, and what it has left, beside what the others have left. P is the number of pages, I the words before the step.
+use Rattle.std.specs.Prelude.{◌≡◌, ◌≢◌, ◌⊎◌, ℕ, ◌+◌, ◌^◌, ◌<◌, ◌≤◌, Bool, true, false, List, ◌∷◌, length, reverse, Option, Some, None, slice_get, slice_index, Contains}
+use Rattle.layout.specs.Fields.{word, inode_links, inode_size, page_owner, page_kind, page_offset, slot_inode, slot_pointer, slot_name, slot_words}
+use Rattle.layout.specs.Geometry.{page_of_slot, inode_word_of}
+use Rattle.layout.specs.Name.{IsNameWords}
+use Rattle.tree_model.specs.PathText.{Route}
+use Rattle.tree_model.specs.Tree.{Node, Tree, parent, last_name, id_at, is_directory, is_file, name_count, link_count}
+use Rattle.tree_model.specs.Run.{State}
+use Rattle.image_reading.specs.Counts.{IsIn, IsDistinct}
+use Rattle.image_reading.specs.Litter.{IsInode}
+use Rattle.image_reading.specs.Reading.{IsFile, slot_owner, IsHeld, IsNode, pages_of_size}
+use Rattle.image_reading.specs.Residue.{Residue, no_residue}
+use Rattle.image_counts.specs.Entries.{IsPageIn, IsUnusedDataPage}
+use Rattle.image_counts.specs.Laws.{ReadsBeside}
+use Rattle.image_laws.specs.Add.{IsNewNode, IsOldFile, CanAdd}
+use Rattle.image_laws.specs.Create.{IsEmptyNode, node_words}
+use Rattle.image_laws.specs.Remove.{CanRemove}
+use Rattle.image_laws.specs.Stages.{MayClearName, MayGive, MayFree}
+use Rattle.content_laws.specs.Cut.{MayTrim}
+use Rattle.weave_laws.specs.Bytes.{MayWrite, MayFill, MayOwn, MayRaise, MayLower}
+use Rattle.weave_laws.specs.Entering.{IsNamelessPage}
+use Rattle.weave_laws.specs.Joined.{joined}
+use Rattle.weave_laws.specs.Naming.{HasSpareLink, node_left, link_left}
+use Rattle.weave_laws.specs.Removing.{unnamed_left, cleared_left, IsPageOfName, IsLeftPage}
+use Rattle.weave_laws.specs.Sizing.{ArePagesBetween}
+
+-- ---- beside others
+
+-- The words read as the state, and the call and the others have left these places. No slot points, since a rename runs alone.
+pub record WaitsBeside (P : ℕ) (I : List ℕ) (own others : Residue) (state : State) : Type 0 where
+  pub holds : ReadsBeside P I (joined own others) state
+  pub no_pointer : (joined own others).pointer ≡ None
+
+-- no page that the others have left is one of inode i
+abbrev pub HasNoPageOf : ℕ → List ℕ → Residue → ℕ → Type 0
+HasNoPageOf P I others i = (j : ℕ) → IsIn j others.pages → page_owner P I j ≢ i
+
+-- An inode whose links a call has raised, or is to lower, has one link more than is counted, where its link word is one more than the tree's number.
+abbrev pub WaitingLinkLaw : Type 0
+WaitingLinkLaw = (P : ℕ) (I : List ℕ) (residue : Residue) (state : State) (x : ℕ) → ReadsBeside P I residue state → IsIn x residue.counts → inode_links I x ≡ link_count state.tree x + 1
+    → HasSpareLink P I x
+
+-- ---- a name
+
+-- Slot s, in a page of the path's directory d, has the path's last name.
+pub record IsPathSlot (P : ℕ) (I : List ℕ) (T : Tree) (path : Route) (d s : ℕ) : Type 0 where
+  pub above : id_at T (parent path) ≡ Some d
+  pub directory : is_directory T d ≡ true
+  pub held : IsHeld P I s
+  pub owner : slot_owner P I s ≡ d
+  pub name : slot_name P I s ≡ last_name path
+
+-- ---- it is written
+
+-- It has no number yet, and nothing is at the path.
+pub record IsWaitingName (P : ℕ) (I : List ℕ) (T : Tree) (path : Route) (d s : ℕ) : Type 0 where
+  pub slot : IsPathSlot P I T path d s
+  pub open slot use *
+  pub absent : id_at T path ≡ None
+  pub number : slot_inode P I s ≡ 0
+  pub words : IsNameWords (slot_words P I s)
+
+-- The slot may take number i, where its page has a name, or is the new page.
+pub record MayCommit (P : ℕ) (I : List ℕ) (path : Route) (d s : ℕ) (new_page : Option ℕ) (i : ℕ) : Type 0 where
+  pub can : CanAdd P I (reverse (parent path)) d s i
+  pub place : IsNamelessPage P I d s new_page
+  pub path_is : reverse path ≡ slot_name P I s ∷ reverse (parent path)
+
+-- Inode i has the words of the empty node.
+pub record HasNodeWords (I : List ℕ) (node : Node) (i : ℕ) : Type 0 where
+  pub empty : IsEmptyNode node
+  pub words : (f : ℕ) → f < 4 → word I (inode_word_of i f) ≡ slice_index (node_words node i) f
+
+pub record MayCommitNode (P : ℕ) (I : List ℕ) (path : Route) (node : Node) (d s : ℕ) (new_page : Option ℕ) (i : ℕ) : Type 0 where
+  pub named : MayCommit P I path d s new_page i
+  pub new : IsNewNode P I i
+  pub is_node : IsNode P I i node
+
+-- with a new node,
+abbrev pub WaitingNodeLaw : Type 0
+WaitingNodeLaw = (P : ℕ) (I : List ℕ) (state : State) (path : Route) (node : Node) (d s : ℕ) (new_page : Option ℕ) (i : ℕ) (others : Residue)
+    → WaitsBeside P I (node_left node d s new_page i) others state → IsWaitingName P I state.tree path d s → IsPageOfName s new_page → HasNodeWords I node i → HasNoPageOf P I others i
+    → MayCommitNode P I path node d s new_page i
+
+-- or with a link
+abbrev pub WaitingFileLaw : Type 0
+WaitingFileLaw = (P : ℕ) (I : List ℕ) (state : State) (path : Route) (d s : ℕ) (new_page : Option ℕ) (i : ℕ) (others : Residue)
+    → WaitsBeside P I (link_left s new_page i) others state → IsWaitingName P I state.tree path d s → IsPageOfName s new_page → IsFile I i
+    → MayCommit P I path d s new_page i × IsOldFile P I i
+
+-- ---- it goes
+
+-- It has a number, and a directory that it names is empty.
+pub record IsLeavingName (P : ℕ) (I : List ℕ) (T : Tree) (path : Route) (d s : ℕ) : Type 0 where
+  pub slot : IsPathSlot P I T path d s
+  pub open slot use *
+  pub number : slot_inode P I s ≢ 0
+  pub empty : is_directory T (slot_inode P I s) ≡ true → name_count T (slot_inode P I s) ≡ 0
+
+-- The call has left nothing, and the slot may give up its number.
+abbrev pub WaitingRemovalLaw : Type 0
+WaitingRemovalLaw = (P : ℕ) (I : List ℕ) (state : State) (path : Route) (d s : ℕ) (others : Residue) → WaitsBeside P I no_residue others state → IsLeavingName P I state.tree path d s
+    → CanRemove P I (reverse (parent path)) s × (reverse path ≡ slot_name P I s ∷ reverse (parent path))
+
+-- y is the inode that has a link less, or the file that goes
+abbrev pub IsClearedLink : Bool → ℕ → Option ℕ → ℕ → Type 0
+IsClearedLink goes i None y = (goes ≡ true) × (y ≡ i)
+IsClearedLink goes i (Some falling) y = y ≡ falling
+
+-- Once the slot has none it may be cleared.
+abbrev pub WaitingClearingLaw : Type 0
+WaitingClearingLaw = (P : ℕ) (I : List ℕ) (state : State) (s : ℕ) (given_back : Option ℕ) (pages : List ℕ) (goes : Bool) (i : ℕ) (falling : Option ℕ) (y : ℕ) (others : Residue)
+    → WaitsBeside P I (unnamed_left s given_back pages goes i falling) others state → IsHeld P I s → slot_inode P I s ≡ 0 → IsClearedLink goes i falling y → MayClearName P I s y
+
+-- ---- pages and an inode go
+
+-- Page j is a directory page, and no slot of it names anything or points.
+pub record IsBarePage (P : ℕ) (I : List ℕ) (j : ℕ) : Type 0 where
+  pub kind : page_kind P I j ≡ 2
+  pub numbers : (t : ℕ) → page_of_slot t ≡ j → slot_inode P I t ≡ 0
+  pub pointers : (t : ℕ) → page_of_slot t ≡ j → slot_pointer P I t ≡ 0
+
+-- It is such a page, or one of the file that goes.
+abbrev pub IsGoingPage : ℕ → List ℕ → Bool → ℕ → ℕ → Type 0
+IsGoingPage P I goes i j = ((goes ≡ true) × (page_owner P I j ≡ i) × (page_kind P I j ≡ 1)) ⊎ IsBarePage P I j
+
+-- Such pages may lose their owner.
+abbrev pub WaitingGivingLaw : Type 0
+WaitingGivingLaw = (P : ℕ) (I : List ℕ) (state : State) (pages : List ℕ) (goes : Bool) (i : ℕ) (others : Residue) → WaitsBeside P I (cleared_left pages goes i) others state
+    → ((j : ℕ) → Contains pages j → IsGoingPage P I goes i j)
+    → MayGive P I (Contains pages) × ((j : ℕ) → Contains pages j → IsLeftPage P I (joined (cleared_left pages goes i) others) j)
+
+-- Once they have none the rest may be cleared.
+abbrev pub WaitingFreeingLaw : Type 0
+WaitingFreeingLaw = (P : ℕ) (I : List ℕ) (state : State) (pages : List ℕ) (goes : Bool) (i : ℕ) (others : Residue) → WaitsBeside P I (cleared_left pages goes i) others state
+    → IsInode P i → ((j : ℕ) → Contains pages j → page_owner P I j ≡ 0) → MayFree P I (Contains pages) (goes ≡ true) i
+
+-- ---- the bytes, pages and size of a file
+
+-- The call has left nothing, and the range ends not past the size: it may be written.
+abbrev pub WaitingWritingLaw : Type 0
+WaitingWritingLaw = (P : ℕ) (I : List ℕ) (state : State) (i offset : ℕ) (bytes : List ℕ) (others : Residue) → WaitsBeside P I no_residue others state → is_file state.tree i ≡ true
+    → offset + length bytes ≤ inode_size I i → MayWrite P I i offset bytes
+
+-- Pages that have neither an owner nor a kind may be filled for the file.
+abbrev pub WaitingFillingLaw : Type 0
+WaitingFillingLaw = (P : ℕ) (I : List ℕ) (state : State) (i : ℕ) (pages : List ℕ) (others : Residue) → WaitsBeside P I no_residue others state → is_file state.tree i ≡ true
+    → ((j : ℕ) → Contains pages j → IsUnusedDataPage P I j) → MayFill P I i pages
+
+-- Pages stand in the order of their offsets, from the end of one size to that of another.
+pub record AreInOrder (P : ℕ) (I pages : List ℕ) (from to : ℕ) : Type 0 where
+  pub offsets : (k j : ℕ) → slice_get pages k ≡ Some j → page_offset P I j ≡ pages_of_size from + k
+  pub count : length pages + pages_of_size from ≡ pages_of_size to
+
+-- Filled behind the end they may become the file's.
+abbrev pub WaitingOwningLaw : Type 0
+WaitingOwningLaw = (P : ℕ) (I : List ℕ) (state : State) (i z : ℕ) (pages : List ℕ) (others : Residue) → WaitsBeside P I (cleared_left pages false i) others state → is_file state.tree i ≡ true
+    → AreInOrder P I pages (inode_size I i) z → ((j : ℕ) → Contains pages j → (page_owner P I j ≡ 0) × (page_kind P I j ≡ 1)) → MayOwn P I i pages
+
+-- Then the size may rise, and reaches these pages alone.
+abbrev pub WaitingRaisingLaw : Type 0
+WaitingRaisingLaw = (P : ℕ) (I : List ℕ) (state : State) (i z : ℕ) (pages : List ℕ) (others : Residue) → WaitsBeside P I (cleared_left pages false i) others state → is_file state.tree i ≡ true
+    → AreInOrder P I pages (inode_size I i) z → ((j : ℕ) → Contains pages j → page_owner P I j ≡ i) → HasNoPageOf P I others i → inode_size I i < z → z ≤ 2 ^ 40
+    → MayRaise P I i z × ArePagesBetween P I i pages (inode_size I i) z
+
+-- The call has left nothing, and the size may fall: these are the pages behind it.
+abbrev pub WaitingLoweringLaw : Type 0
+WaitingLoweringLaw = (P : ℕ) (I : List ℕ) (state : State) (i z : ℕ) (pages : List ℕ) (others : Residue) → WaitsBeside P I no_residue others state → is_file state.tree i ≡ true
+    → AreInOrder P I pages z (inode_size I i) → ((j : ℕ) → Contains pages j → IsPageIn P I i j) → z < inode_size I i
+    → MayLower P I i z × IsDistinct pages × ArePagesBetween P I i pages z (inode_size I i)
+
+-- Then they may lose their owner.
+abbrev pub WaitingTrimmingLaw : Type 0
+WaitingTrimmingLaw = (P : ℕ) (I : List ℕ) (state : State) (i : ℕ) (pages : List ℕ) (others : Residue) → WaitsBeside P I (cleared_left pages false i) others state → is_file state.tree i ≡ true
+    → ((j : ℕ) → Contains pages j → page_owner P I j ≡ i) → MayTrim P I i (Contains pages) × ((j : ℕ) → Contains pages j → IsLeftPage P I (joined (cleared_left pages false i) others) j)
