@@ -157,7 +157,7 @@ module _ (old : VolumeView) (before : DeviceView) (plan : Action) (bytes : List 
         subst (λ (l : List Step). IsOnward (512 * P) steps before l after) (sym (growing_left P bytes writing (next_of_growth progress writing.new_pages)))
         (growth_onward P (growth_of writing) bytes (512 * P) steps before device writing.new_pages progress after takes onward)
 
-    pub advanced : {T E : Type 0} {value : T} (stage : Stage) (new : VolumeView) (after : DeviceView) → Takes {E = E} (step_of P bytes stage) device after (Ok value)
+    advanced : {T E : Type 0} {value : T} (stage : Stage) (new : VolumeView) (after : DeviceView) → Takes {E = E} (step_of P bytes stage) device after (Ok value)
         → EntersAt stage (with_kept (volume.kept - (step_of P bytes stage).events) volume) new → StandsNext new after bytes (next_of stage) → HasGone old before plan bytes volume device (More stage)
         → HasGone old before plan bytes new after (next_of stage)
     advanced stage new after takes enters stands gone =
@@ -172,6 +172,13 @@ module _ (old : VolumeView) (before : DeviceView) (plan : Action) (bytes : List 
           come = come_on old before device after plan bytes volume new (volume.kept - (step_of P bytes stage).events) stage gone.stands gone.come enters;
           onward = subst (λ (p : ℕ). IsOnward (512 * p) steps before (left_next p bytes (next_of stage)) after) size (onward_behind stage after takes gone.onward);
         }
+
+    -- and this is left, as the step says
+    pub gone_on : {T E : Type 0} {value : T} (stage : Stage) (new : VolumeView) (after : DeviceView) (next : Next Stage) → Takes {E = E} (step_of P bytes stage) device after (Ok value)
+        → EntersAt stage (with_kept (volume.kept - (step_of P bytes stage).events) volume) new → next ≡ next_of stage → StandsNext new after bytes next → HasGone old before plan bytes volume device (More stage) → HasGone old before plan bytes new after next
+    gone_on {T} {E} {value} stage new after next takes enters is stands gone =
+        subst (λ (n : Next Stage). HasGone old before plan bytes new after n) (sym is)
+        (advanced {T = T} {E = E} {value = value} stage new after takes enters (subst (λ (n : Next Stage). StandsNext new after bytes n) is stands) gone)
 
     -- where its fence fails
     fails_at : {T : Type 0} {fault : PmFault} (stage : Stage) (after : DeviceView) → Takes {T = T} (step_of P bytes stage) device after (Err fault) → HasGone old before plan bytes volume device (More stage) → Unfolds {T = Unit {0}} steps before after (Err fault)

@@ -9,7 +9,7 @@ ghost use Rattle.volatile_index.specs.Index.{pages_of};
 ghost use Rattle.volume.specs.Carried.{IsPlanFor, MayCarry, Carries};
 ghost use Rattle.volume.specs.Costs.{where_true};
 ghost use Rattle.volume.specs.Entered.{MayLosePages};
-ghost use Rattle.volume.specs.Stages.{Advances, keeping};
+ghost use Rattle.volume.specs.Stages.{Advances, keeping, next_by};
 ghost use Rattle.volume.specs.Volume.{VolumeView};
 ghost use Rattle.volume.specs.declared.plan.Resizing.{Resizing as Resized};
 ghost use Rattle.volume.specs.declared.plan.Action.TheVariants.{Resize as Resizes};
@@ -147,6 +147,24 @@ impl Running {
             },
         }
     }
+
+    /// Makes the next step of a truncation, to its fence, and takes it into the volume: new pages are taken behind the first step and are
+    /// the file's behind the last, and pages that a cut gives back are free behind its last. Behind the last step it gives the reply.
+    /// Where the fence fails, the volume is stopped, and the call is over. It takes no memory.
+    pub fn step<P: Pm>(&mut self, volume: &mut Volume, pm: &mut P) -> Result<Option<Reply>, PmFault>
+        requires stands { StandsStage volume.old (P.view pm.old) self.old }
+        requires begins { MayFence (P.view pm.old) (512 * volume.old.size) (step_of volume.old self.old).events 1 }
+        ensures takes { Takes (step_of volume.old self.old) (P.view pm.old) (P.view pm.new) result }
+        ensures next { IfOk result (λ reply. next_by reply self.new ≡ next_of self.old) }
+        ensures volume { Advances (step_of volume.old self.old).events (EntersAt self.old) volume.old volume.new result }
+        ensures stage { IfOk result (λ reply. StandsNext volume.new (P.view pm.new) (next_by reply self.new)) }
+    {
+        match &mut self.stage {
+            Stage::Nothing => Ok(Some(Reply::Done)),
+            Stage::Growing(resizing, progress) => grow(resizing, progress, volume, pm),
+            Stage::Cutting(resizing, progress) => cut(resizing, progress, volume, pm),
+        }
+    }
 }
 
 // Where a file begins to get its new size.
@@ -227,63 +245,61 @@ fn enter_cut(volume: &mut Volume, resizing: &Resizing, progress: CutProgress)
     }
 }
 
-// What is left of a cut behind that step.
-fn next_cut(resizing: Resizing, progress: CutProgress) -> Next<Running>
-    ensures { result ≡ next_cutting resizing progress }
+// What of a cut is settled behind that step, and the reply where it was the last.
+fn next_cut(resizing: &Resizing, progress: &mut CutProgress) -> Option<Reply>
+    ensures { next_by result (Cuts resizing.now progress.new) ≡ next_cutting resizing.now progress.old }
 {
-    let next = match progress {
+    *progress = match *progress {
         CutProgress::Begun => {
             if resizing.cut == 0 {
-                return Next::Ended(Reply::Done);
+                return Some(Reply::Done);
             }
             CutProgress::Lowered
         }
         CutProgress::Lowered => CutProgress::Trimmed,
-        CutProgress::Trimmed => return Next::Ended(Reply::Done),
+        CutProgress::Trimmed => return Some(Reply::Done),
     };
-    Next::More(Running {
-        stage: Stage::Cutting(resizing, next),
-    })
+    None
 }
 
-// Makes the next step of a cut and takes it in.
+// Makes the next step of a cut, takes it in, and gives the reply behind the last.
 fn cut<P: Pm>(
-    resizing: Resizing,
-    progress: CutProgress,
+    resizing: &Resizing,
+    progress: &mut CutProgress,
     volume: &mut Volume,
     pm: &mut P,
-) -> Result<Next<Running>, PmFault>
-    requires stands { StandsStage volume.old (P.view pm.old) (Cuts resizing progress) }
-    requires begins { MayFence (P.view pm.old) (512 * volume.old.size) (step_of volume.old (Cuts resizing progress)).events 1 }
-    ensures takes { Takes (step_of volume.old (Cuts resizing progress)) (P.view pm.old) (P.view pm.new) result }
-    ensures next { IfOk result (λ next. next ≡ next_cutting resizing progress) }
-    ensures volume { Advances (step_of volume.old (Cuts resizing progress)).events (EntersCut resizing progress)
+) -> Result<Option<Reply>, PmFault>
+    requires stands { StandsStage volume.old (P.view pm.old) (Cuts resizing.now progress.old) }
+    requires begins { MayFence (P.view pm.old) (512 * volume.old.size) (step_of volume.old (Cuts resizing.now progress.old)).events 1 }
+    ensures takes { Takes (step_of volume.old (Cuts resizing.now progress.old)) (P.view pm.old) (P.view pm.new) result }
+    ensures next { IfOk result (λ reply. next_by reply (Cuts resizing.now progress.new) ≡ next_cutting resizing.now progress.old) }
+    ensures volume { Advances (step_of volume.old (Cuts resizing.now progress.old)).events (EntersCut resizing.now progress.old)
         volume.old volume.new result }
-    ensures stage { IfOk result (λ next. StandsNext volume.new (P.view pm.new) next) }
+    ensures stage { IfOk result (λ reply. StandsNext volume.new (P.view pm.new) (next_by reply (Cuts resizing.now progress.new))) }
 {
     let geometry = *volume.geometry();
-    let events = cut_events(&resizing, progress);
+    let events = cut_events(resizing, *progress);
     let pages = volume.pages(resizing.inode);
-    let made = cut_step(pm, &geometry, &resizing, progress, pages);
+    let made = cut_step(pm, &geometry, resizing, *progress, pages);
     settle(volume, made, events)?;
-    enter_cut(volume, &resizing, progress);
+    enter_cut(volume, resizing, *progress);
     Ok(next_cut(resizing, progress))
 }
 
-// Makes the next step of a growth, in which no byte is written, and takes it in.
+// Makes the next step of a growth, in which no byte is written, takes it in, and gives the reply behind the last.
 fn grow<P: Pm>(
-    resizing: Resizing,
-    progress: Progress,
+    resizing: &Resizing,
+    progress: &mut Progress,
     volume: &mut Volume,
     pm: &mut P,
-) -> Result<Next<Running>, PmFault>
-    requires stands { StandsStage volume.old (P.view pm.old) (Grows resizing progress) }
-    requires begins { MayFence (P.view pm.old) (512 * volume.old.size) (step_of volume.old (Grows resizing progress)).events 1 }
-    ensures takes { Takes (step_of volume.old (Grows resizing progress)) (P.view pm.old) (P.view pm.new) result }
-    ensures next { IfOk result (λ next. next ≡ next_of (Grows resizing progress)) }
-    ensures volume { Advances (step_of volume.old (Grows resizing progress)).events (EntersAt (Grows resizing progress)) volume.old
-        volume.new result }
-    ensures stage { IfOk result (λ next. StandsNext volume.new (P.view pm.new) next) }
+) -> Result<Option<Reply>, PmFault>
+    requires stands { StandsStage volume.old (P.view pm.old) (Grows resizing.now progress.old) }
+    requires begins { MayFence (P.view pm.old) (512 * volume.old.size) (step_of volume.old (Grows resizing.now progress.old)).events 1 }
+    ensures takes { Takes (step_of volume.old (Grows resizing.now progress.old)) (P.view pm.old) (P.view pm.new) result }
+    ensures next { IfOk result (λ reply. next_by reply (Grows resizing.now progress.new) ≡ next_of (Grows resizing.now progress.old)) }
+    ensures volume { Advances (step_of volume.old (Grows resizing.now progress.old)).events (EntersAt (Grows resizing.now progress.old))
+        volume.old volume.new result }
+    ensures stage { IfOk result (λ reply. StandsNext volume.new (P.view pm.new) (next_by reply (Grows resizing.now progress.new))) }
 {
     let growth = Growth {
         inode: resizing.inode,
@@ -291,18 +307,16 @@ fn grow<P: Pm>(
         new_size: resizing.new_size,
         offset: resizing.old_size,
     };
-    let pages = &resizing.new_pages;
-    match advance_growth(&growth, progress, pages, &[], volume, pm)? {
-        Some(progress) => Ok(Next::More(Running {
-            stage: Stage::Growing(resizing, progress),
-        })),
-        None => Ok(Next::Ended(Reply::Done)),
+    match advance_growth(&growth, *progress, &resizing.new_pages, &[], volume, pm)? {
+        Some(next) => {
+            *progress = next;
+            Ok(None)
+        }
+        None => Ok(Some(Reply::Done)),
     }
 }
 
-/// Makes the next step of a truncation, to its fence, and takes it into the volume: new pages are taken behind the first step and are the
-/// file's behind the last, and pages that a cut gives back are free behind its last. Where the fence fails, the volume is stopped. It
-/// takes no memory.
+/// Makes the next step of a truncation, as `step` does, and gives what is left.
 pub fn advance<P: Pm>(
     running: Running,
     volume: &mut Volume,
@@ -315,10 +329,11 @@ pub fn advance<P: Pm>(
     ensures volume { Advances (step_of volume.old running).events (EntersAt running) volume.old volume.new result }
     ensures stage { IfOk result (λ next. StandsNext volume.new (P.view pm.new) next) }
 {
-    match running.stage {
-        Stage::Nothing => Ok(Next::Ended(Reply::Done)),
-        Stage::Growing(resizing, progress) => grow(resizing, progress, volume, pm),
-        Stage::Cutting(resizing, progress) => cut(resizing, progress, volume, pm),
+    let mut running = running;
+    match running.step(volume, pm) {
+        Ok(None) => Ok(Next::More(running)),
+        Ok(Some(reply)) => Ok(Next::Ended(reply)),
+        Err(fault) => Err(fault),
     }
 }
 
@@ -335,11 +350,11 @@ pub fn apply_truncate<P: Pm>(volume: &mut Volume, plan: Plan, pm: &mut P) -> Res
     ensures stored { (resizing : Resized) → plan ≡ Resizes resizing → HasStoredSize volume.old.size (P.view pm.old)
         (P.view pm.new) resizing (pages_of volume.old.index resizing.inode) result }
 {
-    let mut next = Next::More(begin(volume, plan));
+    let mut running = begin(volume, plan);
     loop {
-        match next {
-            Next::More(running) => next = advance(running, volume, pm)?,
-            Next::Ended(reply) => return Ok(reply),
+        match running.step(volume, pm)? {
+            None => {}
+            Some(reply) => return Ok(reply),
         }
     }
 }

@@ -7,7 +7,7 @@ ghost use Rattle.tree_model.specs.Step.{Count};
 ghost use Rattle.tree_model.specs.declared.command.Command.TheVariants.{Write};
 ghost use Rattle.volume.specs.Carried.{IsPlanFor, MayCarry, Carries};
 ghost use Rattle.volume.specs.Costs.{span_events as events_of_span, fence_events};
-ghost use Rattle.volume.specs.Stages.{Advances, keeping};
+ghost use Rattle.volume.specs.Stages.{Advances, keeping, next_by};
 ghost use Rattle.volume.specs.declared.plan.Writing.{Writing as Written};
 ghost use Rattle.volume.specs.declared.plan.Action.TheVariants.{Write as Writes};
 ghost use Rattle.pm_trait.specs.Unfolds.{MayFence, Takes, fences_in};
@@ -95,6 +95,30 @@ impl Running {
             Stage::Growing(writing, progress) => progress.fences_left(&writing.new_pages),
         }
     }
+
+    /// Makes the next step of a write, to its fence, and takes it into the volume: new pages are taken behind the first step, and are the
+    /// file's behind the last, behind which it gives the reply. Where the fence fails, the volume is stopped, and the call is over. It
+    /// takes no memory.
+    pub fn step<P: Pm>(
+        &mut self,
+        volume: &mut Volume,
+        bytes: &[u8],
+        pm: &mut P,
+    ) -> Result<Option<Reply>, PmFault>
+        requires stands { StandsStage volume.old (P.view pm.old) bytes.now self.old }
+        requires begins { MayFence (P.view pm.old) (512 * volume.old.size) (step_of volume.old.size bytes.now self.old).events 1 }
+        ensures takes { Takes (step_of volume.old.size bytes.now self.old) (P.view pm.old) (P.view pm.new) result }
+        ensures next { IfOk result (λ reply. next_by reply self.new ≡ next_of self.old) }
+        ensures volume { Advances (step_of volume.old.size bytes.now self.old).events (EntersAt self.old) volume.old
+            volume.new result }
+        ensures stage { IfOk result (λ reply. StandsNext volume.new (P.view pm.new) bytes.now (next_by reply self.new)) }
+    {
+        match &mut self.stage {
+            Stage::Nothing => Ok(Some(Reply::Count(0))),
+            Stage::Inside(writing) => overwrite(writing, volume, bytes, pm),
+            Stage::Growing(writing, progress) => grow(writing, progress, volume, bytes, pm),
+        }
+    }
 }
 
 // Where a write begins: inside the size, or with a growth.
@@ -122,52 +146,54 @@ fn growth_of(writing: &Writing) -> Growth
     }
 }
 
-// Makes the one step of a write inside the size.
+// Makes the one step of a write inside the size, and gives the reply.
 fn overwrite<P: Pm>(
-    writing: Writing,
+    writing: &Writing,
     volume: &mut Volume,
     bytes: &[u8],
     pm: &mut P,
-) -> Result<Next<Running>, PmFault>
-    requires stands { StandsStage volume.old (P.view pm.old) bytes.now (Insides writing) }
-    requires begins { MayFence (P.view pm.old) (512 * volume.old.size) (step_of volume.old.size bytes.now (Insides writing)).events 1 }
-    ensures takes { Takes (step_of volume.old.size bytes.now (Insides writing)) (P.view pm.old) (P.view pm.new) result }
-    ensures next { IfOk result (λ next. next ≡ next_of (Insides writing)) }
-    ensures volume { Advances (step_of volume.old.size bytes.now (Insides writing)).events (EntersAt (Insides writing)) volume.old
-        volume.new result }
+) -> Result<Option<Reply>, PmFault>
+    requires stands { StandsStage volume.old (P.view pm.old) bytes.now (Insides writing.now) }
+    requires begins { MayFence (P.view pm.old) (512 * volume.old.size)
+        (step_of volume.old.size bytes.now (Insides writing.now)).events 1 }
+    ensures takes { Takes (step_of volume.old.size bytes.now (Insides writing.now)) (P.view pm.old) (P.view pm.new) result }
+    ensures next { IfOk result (λ reply. next_by reply (Insides writing.now) ≡ next_of (Insides writing.now)) }
+    ensures volume { Advances (step_of volume.old.size bytes.now (Insides writing.now)).events (EntersAt (Insides writing.now))
+        volume.old volume.new result }
 {
     let geometry = *volume.geometry();
     let events = span_events(writing.offset, writing.offset + writing.count) + FENCE_EVENTS;
     let pages = volume.pages(writing.inode);
-    let made = write_inside(pm, &geometry, &writing, pages, bytes);
+    let made = write_inside(pm, &geometry, writing, pages, bytes);
     settle(volume, made, events)?;
-    Ok(Next::Ended(Reply::Count(writing.count)))
+    Ok(Some(Reply::Count(writing.count)))
 }
 
-// Makes the next step of a write past the size.
+// Makes the next step of a write past the size, and gives the reply behind the last.
 fn grow<P: Pm>(
-    writing: Writing,
-    progress: Progress,
+    writing: &Writing,
+    progress: &mut Progress,
     volume: &mut Volume,
     bytes: &[u8],
     pm: &mut P,
-) -> Result<Next<Running>, PmFault>
-    requires stands { StandsStage volume.old (P.view pm.old) bytes.now (Grows writing progress) }
+) -> Result<Option<Reply>, PmFault>
+    requires stands { StandsStage volume.old (P.view pm.old) bytes.now (Grows writing.now progress.old) }
     requires begins { MayFence (P.view pm.old) (512 * volume.old.size)
-        (step_of volume.old.size bytes.now (Grows writing progress)).events 1 }
-    ensures takes { Takes (step_of volume.old.size bytes.now (Grows writing progress)) (P.view pm.old) (P.view pm.new) result }
-    ensures next { IfOk result (λ next. next ≡ next_of (Grows writing progress)) }
-    ensures volume { Advances (step_of volume.old.size bytes.now (Grows writing progress)).events (EntersAt (Grows writing progress))
-        volume.old volume.new result }
-    ensures stage { IfOk result (λ next. StandsNext volume.new (P.view pm.new) bytes.now next) }
+        (step_of volume.old.size bytes.now (Grows writing.now progress.old)).events 1 }
+    ensures takes { Takes (step_of volume.old.size bytes.now (Grows writing.now progress.old)) (P.view pm.old) (P.view pm.new) result }
+    ensures next { IfOk result (λ reply. next_by reply (Grows writing.now progress.new) ≡ next_of (Grows writing.now progress.old)) }
+    ensures volume { Advances (step_of volume.old.size bytes.now (Grows writing.now progress.old)).events
+        (EntersAt (Grows writing.now progress.old)) volume.old volume.new result }
+    ensures stage { IfOk result (λ reply. StandsNext volume.new (P.view pm.new) bytes.now
+        (next_by reply (Grows writing.now progress.new))) }
 {
-    let growth = growth_of(&writing);
-    let pages = &writing.new_pages;
-    match advance_growth(&growth, progress, pages, bytes, volume, pm)? {
-        Some(progress) => Ok(Next::More(Running {
-            stage: Stage::Growing(writing, progress),
-        })),
-        None => Ok(Next::Ended(Reply::Count(writing.count))),
+    let growth = growth_of(writing);
+    match advance_growth(&growth, *progress, &writing.new_pages, bytes, volume, pm)? {
+        Some(next) => {
+            *progress = next;
+            Ok(None)
+        }
+        None => Ok(Some(Reply::Count(writing.count))),
     }
 }
 
@@ -190,8 +216,7 @@ pub fn begin(volume: &mut Volume, plan: Plan) -> Running
     }
 }
 
-/// Makes the next step of a write, to its fence, and takes it into the volume: new pages are taken behind the first step, and are the
-/// file's behind the last. Where the fence fails, the volume is stopped. It takes no memory.
+/// Makes the next step of a write, as `step` does, and gives what is left.
 pub fn advance<P: Pm>(
     running: Running,
     volume: &mut Volume,
@@ -206,10 +231,11 @@ pub fn advance<P: Pm>(
         volume.new result }
     ensures stage { IfOk result (λ next. StandsNext volume.new (P.view pm.new) bytes.now next) }
 {
-    match running.stage {
-        Stage::Nothing => Ok(Next::Ended(Reply::Count(0))),
-        Stage::Inside(writing) => overwrite(writing, volume, bytes, pm),
-        Stage::Growing(writing, progress) => grow(writing, progress, volume, bytes, pm),
+    let mut running = running;
+    match running.step(volume, bytes, pm) {
+        Ok(None) => Ok(Next::More(running)),
+        Ok(Some(reply)) => Ok(Next::Ended(reply)),
+        Err(fault) => Err(fault),
     }
 }
 
@@ -232,11 +258,11 @@ pub fn apply_write<P: Pm>(
     ensures stored { (writing : Written) → plan ≡ Writes writing → HasStoredBytes volume.old.size (P.view pm.old)
         (P.view pm.new) writing bytes.now result }
 {
-    let mut next = Next::More(begin(volume, plan));
+    let mut running = begin(volume, plan);
     loop {
-        match next {
-            Next::More(running) => next = advance(running, volume, bytes, pm)?,
-            Next::Ended(reply) => return Ok(reply),
+        match running.step(volume, bytes, pm)? {
+            None => {}
+            Some(reply) => return Ok(reply),
         }
     }
 }

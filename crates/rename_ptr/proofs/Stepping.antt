@@ -1,8 +1,9 @@
 -- A step of a move was made and taken in: what its volume keeps, and that the next stage stands on the volume and the device behind it.
-use Rattle.std.proofs.Common.{◌≡◌, ℕ, ◌+◌, ◌-◌, ◌*◌, ◌≤◌, Bool, true, if◌then◌else◌, List, length, sym, ap, subst, ◌∙◌}
-use Rattle.std.specs.Prelude.{Some, Result, Ok, OnOk}
+use Rattle.std.proofs.Common.{◌≡◌, inl, inr, ℕ, ◌+◌, ◌-◌, ◌*◌, ◌≤◌, Bool, true, false, if◌then◌else◌, List, [], length, refl, sym, ap, subst, ◌∙◌}
+use Rattle.std.specs.Prelude.{Some, Result, Ok, Err, OnOk, IsErr}
 use Rattle.pm_trait.specs.DeviceView.{DeviceView, StoresAndFences}
 use Rattle.pm_trait.specs.Unfolds.{Fenced, MayFence, Step, Takes, events_in}
+use Rattle.pm_trait.proofs.Unfolding.{failed}
 use Rattle.volatile_index.specs.Index.{inodes_of_index}
 use Rattle.volume.specs.Volume.{VolumeView}
 use Rattle.volume.specs.Costs.{pages_of_loss}
@@ -21,6 +22,15 @@ use Rattle.rename_ptr.proofs.Known.{enters_beside, knows_kept}
 
 stored_so : {T E : Type 0} {a b : DeviceView} {result : Result T E} (stores : Bool) (events : ℕ) → stores ≡ true → Fenced stores events a b result → StoresAndFences a b events result
 stored_so {a = a} {b = b} {result = result} stores events is fenced = subst (λ (t : Bool). Fenced t events a b result) is fenced
+
+-- a step whose fence failed, whatever the call would have given
+pub failed_as : {T E U F : Type 0} {step : Step} {a b : DeviceView} {fault : E} (result : Result U F) → IsErr result → Takes {T = T} step a b (Err fault) → Takes step a b result
+failed_as (Ok value) is takes = absurd (let none : false ≡ true = is in cc)
+failed_as {T = T} {U = U} (Err other) is takes =
+    elim (failed {T = U} {U = T} {later = []} (Err other) refl takes).in_turn [
+      | inl (same, err) ↦ same
+      | inr (between, made, rest) ↦ absurd (let none : false ≡ true = rest.1 in cc)
+    ]
 
 module _ (old : VolumeView) (before : DeviceView) (moving : Moving) (progress : Progress) (stands : StandsStage old before (Moves moving progress)) where
   abbrev P : ℕ

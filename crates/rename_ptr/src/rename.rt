@@ -1,5 +1,5 @@
 // A name moves, in place of another node's name or to a new place, each interval settled by its fence.
-ghost use Rattle.std.specs.Prelude.{◌≡◌, ◌*◌, ◌<◌, ◌^◌, IfOk};
+ghost use Rattle.std.specs.Prelude.{◌≡◌, ◌*◌, IfOk, OnOk};
 ghost use Rattle.pm_trait.specs.DeviceView.{DeviceView};
 ghost use Rattle.tree_model.specs.PathText.{Route};
 ghost use Rattle.tree_model.specs.Run.{State};
@@ -8,11 +8,9 @@ ghost use Rattle.tree_model.specs.declared.command.Command.TheVariants.{Rename};
 ghost use Rattle.volume.specs.Carried.{IsPlanFor, MayCarry, Carries};
 ghost use Rattle.volume.specs.declared.plan.Moving.{Moving as Moved};
 ghost use Rattle.volume.specs.declared.plan.Action.TheVariants.{Move};
-ghost use Rattle.volume.specs.declared.next.Next.TheVariants.{More};
 ghost use Rattle.layout.specs.Name.{IsName, IsBytes};
-ghost use Rattle.volume.specs.Costs.{pages_of_loss};
 ghost use Rattle.pm_trait.specs.Unfolds.{MayFence, Takes, fences_in};
-ghost use Rattle.volume.specs.Stages.{Advances, keeping};
+ghost use Rattle.volume.specs.Stages.{Advances, keeping, next_by};
 ghost use Rattle.volume.specs.Volume.{VolumeView};
 ghost use Rattle.removal_steps.specs.Steps.{gone_pages as pages_that_go};
 ghost use Rattle.rename_ptr.specs.Renaming.{HasRenamed};
@@ -102,10 +100,29 @@ impl Running {
             Stage::Moving(moving, progress) => fences_left_at(moving, *progress),
         }
     }
+
+    /// Makes the next step of a move, to its fence, and takes it into the volume: a new page is taken behind the first step, the names
+    /// are moved behind the one that commits, and what is given back is free behind the last, behind which it gives the reply. Where the
+    /// fence fails, the volume is stopped, and the call is over. It takes no memory. No other call may run beside it.
+    pub fn step<P: Pm>(&mut self, volume: &mut Volume, pm: &mut P) -> Result<Option<Reply>, PmFault>
+        requires stands { StandsStage volume.old (P.view pm.old) self.old }
+        requires begins { MayFence (P.view pm.old) (512 * volume.old.size) (step_of volume.old self.old).events 1 }
+        ensures takes { Takes (step_of volume.old self.old) (P.view pm.old) (P.view pm.new) result }
+        ensures next { IfOk result (λ reply. next_by reply self.new ≡ next_of self.old) }
+        ensures volume { Advances (step_of volume.old self.old).events (EntersAt self.old) volume.old volume.new result }
+        ensures stage { IfOk result (λ reply. StandsNext volume.new (P.view pm.new) (next_by reply self.new)) }
+    {
+        match &mut self.stage {
+            Stage::Nothing => Ok(Some(Reply::Done)),
+            Stage::Moving(moving, progress) => {
+                move_on(moving, *progress, volume, pm)?;
+                Ok(go_over(moving, progress))
+            }
+        }
+    }
 }
 
 /// Begins to carry out the plan of an accepted `rename`: its events are kept, and nothing is stored.
-#[inline(always)]
 pub fn begin(volume: &mut Volume, plan: Plan) -> Running
     requires stands { (device : DeviceView) × MayBegin volume.old device plan }
     ensures running { result ≡ begun plan }
@@ -122,10 +139,7 @@ pub fn begin(volume: &mut Volume, plan: Plan) -> Running
     }
 }
 
-/// Makes the next step of a move, to its fence, and takes it into the volume: a new page is taken behind the first step, the names are
-/// moved behind the one that commits, and what is given back is free behind the last. Where the fence fails, the volume is stopped. It
-/// takes no memory. No other call may run beside it.
-#[inline(always)]
+/// Makes the next step of a move, as `step` does, and gives what is left.
 pub fn advance<P: Pm>(
     running: Running,
     volume: &mut Volume,
@@ -138,14 +152,15 @@ pub fn advance<P: Pm>(
     ensures volume { Advances (step_of volume.old running).events (EntersAt running) volume.old volume.new result }
     ensures stage { IfOk result (λ next. StandsNext volume.new (P.view pm.new) next) }
 {
-    match running.stage {
-        Stage::Nothing => Ok(Next::Ended(Reply::Done)),
-        Stage::Moving(moving, progress) => move_on(moving, progress, volume, pm),
+    let mut running = running;
+    match running.step(volume, pm) {
+        Ok(None) => Ok(Next::More(running)),
+        Ok(Some(reply)) => Ok(Next::Ended(reply)),
+        Err(fault) => Err(fault),
     }
 }
 
 // Makes the next step of a move on the device.
-#[inline(always)]
 fn make_step<P: Pm>(
     moving: &Moving,
     progress: Progress,
@@ -162,67 +177,53 @@ fn make_step<P: Pm>(
     take_step(pm, geometry, moving, pages, progress)
 }
 
-// The move, so far.
-#[inline(always)]
-fn more(moving: Moving, progress: Progress) -> Next<Running>
-    requires bounded { pages_of_loss moving.replaced < 2 ^ 16 }
-    ensures { result ≡ More (Moves moving progress) }
-{
-    Next::More(Running {
-        stage: Stage::Moving(moving, progress),
-    })
-}
-
-// What is left of a move behind a step.
-#[inline(always)]
-fn after_step(moving: Moving, progress: Progress) -> Next<Running>
-    requires bounded { pages_of_loss moving.replaced < 2 ^ 16 }
-    ensures { result ≡ next_moving moving progress }
-{
-    match progress {
-        Progress::Begun => match moving.new_page {
-            None => more(moving, Progress::Pointed),
-            Some(_) => more(moving, Progress::Filled),
-        },
-        Progress::Filled => more(moving, Progress::Opened),
-        Progress::Opened => more(moving, Progress::Pointed),
-        Progress::Pointed => more(moving, Progress::Moved),
-        Progress::Moved => more(moving, Progress::Left),
-        Progress::Left => {
-            if gives_pages(&moving) {
-                more(moving, Progress::Cleared)
-            } else if node_goes(&moving) {
-                more(moving, Progress::Disowned)
-            } else {
-                Next::Ended(Reply::Done)
-            }
-        }
-        Progress::Cleared => more(moving, Progress::Disowned),
-        Progress::Disowned => Next::Ended(Reply::Done),
-    }
-}
-
 // Makes the next step of a move, and takes it in.
-#[inline(always)]
 fn move_on<P: Pm>(
-    moving: Moving,
+    moving: &Moving,
     progress: Progress,
     volume: &mut Volume,
     pm: &mut P,
-) -> Result<Next<Running>, PmFault>
-    requires stands { StandsStage volume.old (P.view pm.old) (Moves moving progress) }
+) -> Result<(), PmFault>
+    requires stands { StandsStage volume.old (P.view pm.old) (Moves moving.now progress) }
     requires begins { MayFence (P.view pm.old) (512 * volume.old.size)
-        (step_of volume.old (Moves moving progress)).events 1 }
-    ensures takes { Takes (step_of volume.old (Moves moving progress)) (P.view pm.old) (P.view pm.new) result }
-    ensures next { IfOk result (λ next. next ≡ next_moving moving progress) }
-    ensures volume { Advances (step_of volume.old (Moves moving progress)).events (EntersMoving moving progress)
-        volume.old volume.new result }
-    ensures stage { IfOk result (λ next. StandsNext volume.new (P.view pm.new) next) }
+        (step_of volume.old (Moves moving.now progress)).events 1 }
+    ensures takes { Takes (step_of volume.old (Moves moving.now progress)) (P.view pm.old) (P.view pm.new) result }
+    ensures volume { Advances (step_of volume.old (Moves moving.now progress)).events
+        (EntersMoving moving.now progress) volume.old volume.new result }
+    ensures stage { OnOk result (StandsNext volume.new (P.view pm.new) (next_moving moving.now progress)) }
 {
-    let made = make_step(&moving, progress, volume, pm);
-    settle(volume, made, step_events(&moving, progress))?;
-    take_in(volume, &moving, progress);
-    Ok(after_step(moving, progress))
+    let made = make_step(moving, progress, volume, pm);
+    settle(volume, made, step_events(moving, progress))?;
+    take_in(volume, moving, progress);
+    Ok(())
+}
+
+// Goes over to the next step that has a store, and gives the reply where there is none.
+fn go_over(moving: &Moving, progress: &mut Progress) -> Option<Reply>
+    ensures { next_by result (Moves moving.now progress.new) ≡ next_moving moving.now progress.old }
+{
+    *progress = match *progress {
+        Progress::Begun => match moving.new_page {
+            None => Progress::Pointed,
+            Some(_) => Progress::Filled,
+        },
+        Progress::Filled => Progress::Opened,
+        Progress::Opened => Progress::Pointed,
+        Progress::Pointed => Progress::Moved,
+        Progress::Moved => Progress::Left,
+        Progress::Left => {
+            if gives_pages(moving) {
+                Progress::Cleared
+            } else if node_goes(moving) {
+                Progress::Disowned
+            } else {
+                return Some(Reply::Done);
+            }
+        }
+        Progress::Cleared => Progress::Disowned,
+        Progress::Disowned => return Some(Reply::Done),
+    };
+    None
 }
 
 // The new name of a plan that moves one is a name.
@@ -250,11 +251,11 @@ pub fn apply_rename<P: Pm>(volume: &mut Volume, plan: Plan, pm: &mut P) -> Resul
         (P.view pm.new) moving (pages_that_go volume.old moving.replaced) result }
 {
     name_of_plan(&plan);
-    let mut next = Next::More(begin(volume, plan));
+    let mut running = begin(volume, plan);
     loop {
-        match next {
-            Next::More(running) => next = advance(running, volume, pm)?,
-            Next::Ended(reply) => return Ok(reply),
+        match running.step(volume, pm)? {
+            None => {}
+            Some(reply) => return Ok(reply),
         }
     }
 }

@@ -1,8 +1,9 @@
+use Rattle.volume.specs.declared.next.Next.TheVariants.{More}
 use Rattle.data_ops.proofs.ResizeGoing.{HasGone, rank}
 use Rattle.data_ops.proofs.truncate.apply_truncate.Given as goal
 
-abbrev pub invariant-loop-next : goal.invariant-loop-next
-invariant-loop-next g l = record { gone : HasGone l.fn.volume (g.P.Pm.view l.fn.pm) l.fn.plan l.volume (g.P.Pm.view l.pm) l.next }
+abbrev pub invariant-loop-running : goal.invariant-loop-running
+invariant-loop-running g l = record { gone : HasGone l.fn.volume (g.P.Pm.view l.fn.pm) l.fn.plan l.volume (g.P.Pm.view l.pm) (More l.running) }
 
-abbrev pub decreases-loop-next : goal.decreases-loop-next
-decreases-loop-next g l = rank l.next
+abbrev pub decreases-loop-running : goal.decreases-loop-running
+decreases-loop-running g l = rank (More l.running)
