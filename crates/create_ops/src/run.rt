@@ -118,7 +118,6 @@ impl Running {
 }
 
 /// Begins to carry out the plan of an accepted `create` or `mkdir`: its events are kept, and nothing is stored.
-#[inline(always)]
 pub fn begin(volume: &mut Volume, plan: Plan) -> Running
     requires stands { (device : DeviceView) × MayBegin volume.old device plan }
     ensures running { (entry : Entry) → plan ≡ Make entry → result ≡ begun entry }
@@ -154,7 +153,6 @@ pub fn advance<P: Pm>(
 }
 
 // The events of its first step: all but those of the owner of its new page, where there is one, and of its number.
-#[inline(always)]
 fn first_events(entry: &NewEntry) -> u64
     ensures { result ≡ written_events entry.now }
 {
