@@ -11,9 +11,12 @@ use Rattle.layout.specs.Geometry.{inodes_of}
 use Rattle.tree_model.specs.Tree.{Tree, Node, Directory, File, IsTree, node_at, is_directory, is_file, is_directory_node, is_file_node}
 use Rattle.tree_model.specs.Run.{State}
 use Rattle.tree_model.specs.Step.{names_in}
+use Rattle.image_reading.specs.Residue.{no_residue, Residue}
 use Rattle.volatile_index.specs.Index.{NodeView, entries_of, inodes_of_index}
 use Rattle.volume.specs.Volume.{VolumeView}
 use Rattle.volume.specs.Stands.{StandsFor, HasNode}
+use Rattle.volume.specs.Beside.{StandsBeside}
+use Rattle.volume.proofs.Beside.{stands_beside}
 use Rattle.engine.specs.declared.places.Place.{Place}
 use Rattle.engine.specs.Places.{place_at, route_through, IsPlaceAt, IsWayFrom, IsWay, LeadsTo, AreWithin, IsPassed, IsLeft, IsSameOrEntered}
 use Rattle.engine.proofs.PlaceLaws.{way_but_one}
@@ -54,9 +57,9 @@ module _ (places : Vec Place Global) {len : ℕ} {place : Place} (some : 1 ≤ v
     pub in_index : (1 ≤ place.directory) × (place.directory ≤ inodes_of_index volume.index)
     in_index = directory_within volume device place.directory way.1 (deepest way.2).directory
 
-    pub has_next : {count : ℕ} → ((device : DeviceView) (state : State) → StandsFor volume device state → is_directory state.tree place.directory ≡ true → count ≡ length (names_in state.tree place.directory))
+    pub has_next : {count : ℕ} → ((device : DeviceView) (state : State) (residue : Residue) → StandsBeside volume device state residue → is_directory state.tree place.directory ≡ true → count ≡ length (names_in state.tree place.directory))
         → (place.next ≡ count → ⊥) → place.next < count
-    has_next {count} names differ = less place.next count (deepest way.2).within (names device way.0 way.1 (deepest way.2).directory) differ
+    has_next {count} names differ = less place.next count (deepest way.2).within (names device way.0 no_residue (stands_beside way.1) (deepest way.2).directory) differ
       where
         less : (a b : ℕ) {c : ℕ} → a ≤ c → b ≡ c → (a ≡ b → ⊥) → a < b
         less a b within same differ = omega (arith, within, same, differ)

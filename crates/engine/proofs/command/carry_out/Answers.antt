@@ -1,5 +1,7 @@
 use Rattle.std.proofs.Common.{refl, sym, ◌∙◌}
+use Rattle.image_reading.specs.Residue.{no_residue}
 use Rattle.volume.specs.declared.plan.Action.TheVariants.{Move, Write, Resize}
+use Rattle.volume.proofs.Beside.{stands_beside, untouched_nothing, has_node_beside}
 use Rattle.engine.proofs.Asked.{writes, truncates, either_changes, for_making, for_linking, for_removing, for_renaming, for_writing, for_truncating}
 use Rattle.engine.proofs.Carried.{does_carried}
 use Rattle.engine.proofs.Commands.{does_told}
@@ -73,7 +75,13 @@ returns-in-Resize-clause-does g c =
 -- ---- bytes are read
 
 pub fill-requires-clause-file : goal.fill-requires-clause-file
-fill-requires-clause-file g c = (c.requires.planned.0, c.requires.planned.1.stands, (file_read c.requires.planned.1 (sym c.action.ensures ∙ c.in-Read.is)).0)
+fill-requires-clause-file g c = (
+  c.requires.planned.0,
+  no_residue,
+  stands_beside c.requires.planned.1.stands,
+  (file_read c.requires.planned.1 (sym c.action.ensures ∙ c.in-Read.is)).0,
+  untouched_nothing c.args.volume.now (g.P.Pm.view c.args.pm.now).words _,
+)
 
 pub fill-requires-clause-short : goal.fill-requires-clause-short
 fill-requires-clause-short g c = (file_read c.requires.planned.1 (sym c.action.ensures ∙ c.in-Read.is)).1
@@ -89,12 +97,12 @@ returns-in-Read-clause-bytes g c not = absurd (not _ refl)
 -- ---- what is told
 
 pub stat-requires-clause-there : goal.stat-requires-clause-there
-stat-requires-clause-there g c = node_told c.requires.planned.1 (sym c.action.ensures ∙ c.in-Status.is)
+stat-requires-clause-there g c = has_node_beside c.args.volume.now (g.P.Pm.view c.args.pm.now) _ (node_told c.requires.planned.1 (sym c.action.ensures ∙ c.in-Status.is))
 
 pub returns-in-Status-clause-does : goal.returns-in-Status-clause-does
 returns-in-Status-clause-does g c = λ state plan_for.
     let is = sym c.action.ensures ∙ c.in-Status.is in
-    does_told plan_for (changes_as plan_for is) (status_replied plan_for c.args.last.now is (c.stat.ensures state plan_for.stands))
+    does_told plan_for (changes_as plan_for is) (status_replied plan_for c.args.last.now is (c.stat.ensures state no_residue (stands_beside plan_for.stands)))
 
 pub count-requires-clause-from_one : goal.count-requires-clause-from_one
 count-requires-clause-from_one g c =
@@ -107,13 +115,16 @@ count-requires-clause-in_range g c =
 pub returns-in-Names-clause-does : goal.returns-in-Names-clause-does
 returns-in-Names-clause-does g c = λ state plan_for.
     let is = sym c.action.ensures ∙ c.in-Names.is in
-    let names = c.count.ensures.names (g.P.Pm.view c.args.pm.now) state plan_for.stands (directory_listed plan_for is) in
+    let names = c.count.ensures.names (g.P.Pm.view c.args.pm.now) state no_residue (stands_beside plan_for.stands) (directory_listed plan_for is) in
     does_told plan_for (changes_as plan_for is) (names_replied plan_for c.args.last.now is c.requires.ready.going c.count.ensures.entries names)
+
+pub free-requires-clause-stands : goal.free-requires-clause-stands
+free-requires-clause-stands g c = (c.requires.planned.0, no_residue, stands_beside c.requires.planned.1.stands)
 
 pub returns-in-Space-clause-does : goal.returns-in-Space-clause-does
 returns-in-Space-clause-does g c = λ state plan_for.
     let is = sym c.action.ensures ∙ c.in-Space.is in
-    does_told plan_for (changes_as plan_for is) (space_replied plan_for c.args.last.now is (c.free.ensures state plan_for.stands))
+    does_told plan_for (changes_as plan_for is) (space_replied plan_for c.args.last.now is (c.free.ensures state no_residue (stands_beside plan_for.stands)))
 
 pub returns-in-File-clause-device : goal.returns-in-File-clause-device
 returns-in-File-clause-device g c = c.apply_create.ensures.carries.device

@@ -1,6 +1,8 @@
 use Rattle.std.proofs.Common.{◌<◌, ◌≤◌, ◌+◌, ◌++◌, ℕ, List, take, drop, Ok, sym, ap, ◌∙◌, arith, take_all}
 use Rattle.std.specs.Prelude.{slice_get}
 use Rattle.io_edge.proofs.BytesLaws.{writes_none, writes_then, writes_as, writes_broken}
+use Rattle.image_reading.specs.Residue.{no_residue}
+use Rattle.volume.proofs.Beside.{stands_beside}
 use Rattle.engine.specs.Listing.{entry_text, entries_text}
 use Rattle.engine.proofs.ListingLaws.{entries_more, entries_split}
 use Rattle.engine.proofs.Told.{directory_within}
@@ -24,7 +26,7 @@ nth-requires-clause-place g c =
 
 pub returns-in_err-write_entry : goal.returns-in_err-write_entry
 returns-in_err-write_entry g c = λ device names lists counted.
-    let name = ap (λ (ns : List (List ℕ)). slice_get ns c.loop-k.k) lists.names_are ∙ c.nth.ensures.name device lists.state lists.stands lists.directory in
+    let name = ap (λ (ns : List (List ℕ)). slice_get ns c.loop-k.k) lists.names_are ∙ c.nth.ensures.name device lists.state no_residue (stands_beside lists.stands) lists.directory in
     let first = entries_text (take c.loop-k.k names) in
     let one = entry_text c.nth.result.now.name in
     writes_as _ _ _ _ ((first ++ one) ++ entries_text (drop (c.loop-k.k + 1) names)) (entries_text names) c.from_residual.result (sym (entries_split names c.loop-k.k c.nth.result.now.name name))
@@ -34,7 +36,7 @@ returns-in_err-write_entry g c = λ device names lists counted.
 pub loop-k-preserved : goal.loop-k-preserved
 loop-k-preserved g c = record {
   writes = λ device names lists counted.
-      let name = ap (λ (ns : List (List ℕ)). slice_get ns c.loop-k.k) lists.names_are ∙ c.nth.ensures.name device lists.state lists.stands lists.directory in
+      let name = ap (λ (ns : List (List ℕ)). slice_get ns c.loop-k.k) lists.names_are ∙ c.nth.ensures.name device lists.state no_residue (stands_beside lists.stands) lists.directory in
       let first = entries_text (take c.loop-k.k names) in
       let one = entry_text c.nth.result.now.name in
       writes_as _ _ _ _ (first ++ one) (entries_text (take (c.loop-k.k + 1) names)) _ (sym (entries_more names c.loop-k.k c.nth.result.now.name name))

@@ -1,8 +1,10 @@
 use Rattle.std.proofs.Common.{◌+◌, ◌-◌, ◌<◌, [], ◌∷◌, ◌++◌, ℕ, List, take, Some, sym, ap, subst, ◌∙◌, arith}
 use Rattle.layout.specs.Geometry.{slots_of}
 use Rattle.layout.specs.Fields.{slot_inode}
+use Rattle.image_reading.specs.Residue.{no_residue}
 use Rattle.volatile_index.specs.Index.{entries_of}
 use Rattle.volume.proofs.Walked.{reached_at, slot_there, below_there}
+use Rattle.volume.proofs.Beside.{stands_beside}
 use Rattle.engine.specs.declared.places.Place.{Place}
 use Rattle.engine.specs.Places.{IsWay, StepsOnto, StepsUp, place_at, route_through}
 use Rattle.engine.proofs.NextPlaces.{contains_got, split_last, set_last, deepest, in_index, has_next}
@@ -21,7 +23,7 @@ returns-then-place-count-clause-steps g c = λ state stands way.
     let front = take (c.len-last.result - 1) items in
     let split = split_last c.args.places.now c.requires.some c.len-last.ensures c.index-place.ensures in
     let here = deepest c.args.places.now c.requires.some c.len-last.ensures c.index-place.ensures way in
-    let counted = c.count.ensures.names (g.P.Pm.view c.args.pm.now) state stands here.directory in
+    let counted = c.count.ensures.names (g.P.Pm.view c.args.pm.now) state no_residue (stands_beside stands) here.directory in
     subst (λ (new : List Place). StepsUp state.tree items new) (ap (λ (n : ℕ). take (n - 1) items) c.len-last.ensures ∙ sym c.pop.ensures.rest)
     (subst (λ (old : List Place). StepsUp state.tree old front) (sym split)
     (steps_up state.tree front c.index-place.result.now (subst (λ (old : List Place). IsWay state.tree old) split way) (omega (arith, counted, c.if-place-count.true))))
@@ -70,7 +72,7 @@ returns-clause-steps g c = λ state stands way.
     let place = c.index-place.result.now in
     let device = g.P.Pm.view c.args.pm.now in
     let here = deepest c.args.places.now c.requires.some c.len-last.ensures c.index-place.ensures way in
-    let counted = c.count.ensures.names device state stands here.directory in
+    let counted = c.count.ensures.names device state no_residue (stands_beside stands) here.directory in
     let low = has_next c.args.places.now c.requires.some c.len-last.ensures c.index-place.ensures c.requires.way c.count.ensures.names c.if-place-count.false in
     let split = split_last c.args.places.now c.requires.some c.len-last.ensures c.index-place.ensures in
     let new = set_last c.args.places.now c.requires.some c.len-last.ensures c.index-place.ensures c.index_mut.ensures.value in
@@ -82,5 +84,5 @@ returns-clause-steps g c = λ state stands way.
     (subst (λ (ps : List Place). StepsOnto state.tree ps (front ++ place_at place.directory (place.next + 1) ∷ []) c.slot_at.result.inode) (sym split)
     (steps_onto state.tree front place.directory place.next c.slot_at.result.inode entry.name
     (subst (λ (ps : List Place). IsWay state.tree ps) split way)
-    (omega (arith, low, counted)) (c.nth.ensures.name device state stands here.directory)
+    (omega (arith, low, counted)) (c.nth.ensures.name device state no_residue (stands_beside stands) here.directory)
     (named ∙ ap Some (sym inode))))

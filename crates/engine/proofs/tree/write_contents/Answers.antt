@@ -4,6 +4,8 @@ use Rattle.script.specs.Lines.{space}
 use Rattle.script.specs.Texts.{bytes_text}
 use Rattle.tree_model.specs.Tree.{bytes_of, is_directory, name_count}
 use Rattle.tree_model.specs.declared.reply.Stat.{Stat}
+use Rattle.image_reading.specs.Residue.{no_residue}
+use Rattle.volume.proofs.Beside.{stands_beside, untouched_nothing}
 use Rattle.engine.specs.Places.{contents_text}
 use Rattle.engine.proofs.NextPlaces.{file_or_directory}
 use Rattle.engine.proofs.tree.write_contents.Goals as goal
@@ -11,8 +13,13 @@ use Rattle.engine.proofs.tree.write_contents.Goals as goal
 pub write_bytes-requires-clause-file : goal.write_bytes-requires-clause-file
 write_bytes-requires-clause-file g c =
     let (state, stands, there) = c.requires.there in
-    let dir = ap (λ (s : Stat). s.dir) (c.requires.told state stands) in
-    (state, stands, file_or_directory state.tree c.args.stat.now.inode there (sym dir ∙ c.if-stat.false))
+    let dir = ap (λ (s : Stat). s.dir) (c.requires.told state stands) in (
+      state,
+      no_residue,
+      stands_beside stands,
+      file_or_directory state.tree c.args.stat.now.inode there (sym dir ∙ c.if-stat.false),
+      untouched_nothing c.args.volume.now (g.P.Pm.view c.args.pm.now).words c.args.stat.now.inode,
+    )
 
 pub returns : goal.returns
 returns g c = λ state stands.

@@ -3,6 +3,8 @@ use Rattle.std.specs.Prelude.{flat_map, slice_index_or}
 use Rattle.io_edge.proofs.BytesLaws.{writes_then, writes_as, writes_broken}
 use Rattle.script.specs.Entries.{below_text}
 use Rattle.script.specs.Texts.{path_text}
+use Rattle.image_reading.specs.Residue.{no_residue}
+use Rattle.volume.proofs.Beside.{stands_beside}
 use Rattle.engine.specs.Places.{route_through}
 use Rattle.engine.proofs.NextPlaces.{within_at}
 use Rattle.engine.proofs.PathTexts.{element, path_more, path_split}
@@ -43,7 +45,7 @@ returns-in_err-write_below g c = λ device state stands way passed.
     let place = slice_index_or places k (record { directory = 0; next = 0 }) in
     let got = element places k (record { directory = 0; next = 0 }) c.loop-place-test.true in
     let at = way_at state.tree [] places k place way got in
-    let name = c.nth.ensures.name device state stands at.directory in
+    let name = c.nth.ensures.name device state no_residue (stands_beside stands) at.directory in
     let written = flat_map below_text (route_through state.tree (take k places)) in
     let (rest, split) = path_split state.tree places k place c.nth.result.now.name got name in
     writes_as _ _ _ _ ((written ++ below_text c.nth.result.now.name) ++ rest) (path_text (route_through state.tree places)) c.from_residual.result (sym split)
@@ -58,7 +60,7 @@ loop-place-preserved g c = record {
       let place = slice_index_or places k (record { directory = 0; next = 0 }) in
       let got = element places k (record { directory = 0; next = 0 }) c.loop-place-test.true in
       let at = way_at state.tree [] places k place way got in
-      let name = c.nth.ensures.name device state stands at.directory in
+      let name = c.nth.ensures.name device state no_residue (stands_beside stands) at.directory in
       let written = flat_map below_text (route_through state.tree (take k places)) in
       writes_as _ _ _ _ (written ++ below_text c.nth.result.now.name) (flat_map below_text (route_through state.tree (take (k + 1) places))) _ (sym (path_more state.tree places k place c.nth.result.now.name got name))
       (writes_then (g.K.Sink.took c.args.sink.now) (g.K.Sink.took c.loop-place.sink) (g.K.Sink.took c.write_below.new.sink) _ _ _ written (below_text c.nth.result.now.name) tt _ (c.loop-place.invariant.writes device state stands way passed) c.in_ok-write_below.ensures);
