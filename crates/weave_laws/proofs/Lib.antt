@@ -44,5 +44,6 @@ pub mod Disjoint
 pub mod OwnWords
 pub mod WaitingPlaces
 pub mod WaitingNames
+mod WaitingPlans
 mod WaitingRemovals
 mod WaitingFiles

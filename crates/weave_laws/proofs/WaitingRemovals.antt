@@ -25,7 +25,7 @@ use Rattle.weave_laws.specs.Joined.{joined}
 use Rattle.weave_laws.specs.Removing.{inodes_left, unnamed_left, cleared_left, IsLeftPage}
 use Rattle.weave_laws.specs.Waiting.{WaitsBeside, IsLeavingName, WaitingRemovalLaw, IsClearedLink, WaitingClearingLaw, IsGoingPage, WaitingGivingLaw, WaitingFreeingLaw}
 use Rattle.weave_laws.proofs.Contained.{contained_in, contained_or_not}
-use Rattle.weave_laws.proofs.WaitingNames.{root_or_not, names_above, directory_above, whole_path}
+use Rattle.weave_laws.proofs.WaitingNames.{root_or_not, names_above, directory_above, path_with}
 use Rattle.weave_laws.proofs.WaitingPlaces.{no_pointer, live, more_names, more_children, count_reached}
 
 -- ---- the number
@@ -38,10 +38,10 @@ module _ (P : ℕ) (I : List ℕ) (state : State) (path : Route) (d s : ℕ) (ot
   coherent = waits.holds.coherent
 
   above : Names P I (reverse (parent path)) (slot_owner P I s)
-  above = subst (Names P I (reverse (parent path))) (sym name.owner) (names_above P I state coherent waits.holds.reads path d s name.slot)
+  above = subst (Names P I (reverse (parent path))) (sym name.owner) (names_above P I state coherent waits.holds.reads path d s name.place)
 
   directory : IsDirectory I (slot_owner P I s)
-  directory = subst (IsDirectory I) (sym name.owner) (directory_above P I state coherent waits.holds.reads path d s name.slot)
+  directory = subst (IsDirectory I) (sym name.owner) (directory_above P I state coherent waits.holds.reads path d s name.place)
 
   is_live : IsLive P I s
   is_live = live P I (joined no_residue others) waits.holds.beside waits.no_pointer s name.held name.number
@@ -53,7 +53,7 @@ module _ (P : ℕ) (I : List ℕ) (state : State) (path : Route) (d s : ℕ) (ot
   below : is_root path ≡ false
   unfolding slot_name
   below = elim (root_or_not path) [
-    | inl root ↦ absurd (empty_name (subst IsName (name.name ∙ ap last_name root) (coherent Rule.names s reached).is_name))
+    | inl root ↦ absurd (empty_name (subst IsName (name.name_is ∙ ap last_name root) (coherent Rule.names s reached).is_name))
     | inr other ↦ other
   ]
 
@@ -74,7 +74,7 @@ module _ (P : ℕ) (I : List ℕ) (state : State) (path : Route) (d s : ℕ) (ot
       no_pointer = no_pointer P I (joined no_residue others) waits.holds.beside waits.no_pointer s name.held;
       leaf = leaf;
     },
-    whole_path P I state coherent waits.holds.reads path d s name.slot below,
+    path_with path (slot_name P I s) below name.name_is,
   )
 
 pub waiting_removal_law : WaitingRemovalLaw

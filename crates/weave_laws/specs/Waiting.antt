@@ -3,25 +3,26 @@
 use Rattle.std.specs.Prelude.{◌≡◌, ◌≢◌, ◌⊎◌, ℕ, ◌+◌, ◌^◌, ◌<◌, ◌≤◌, Bool, true, List, ◌∷◌, length, reverse, Option, Some, None, slice_get, slice_index, Contains}
 use Rattle.layout.specs.Fields.{word, inode_links, inode_size, page_owner, page_kind, page_offset, slot_inode, slot_pointer, slot_name, slot_words}
 use Rattle.layout.specs.Geometry.{page_of_slot, inode_word_of}
-use Rattle.layout.specs.Name.{IsNameWords}
+use Rattle.layout.specs.Name.{IsNameWords, name_in_words}
 use Rattle.tree_model.specs.PathText.{Route}
 use Rattle.tree_model.specs.Tree.{Node, Tree, parent, last_name, id_at, is_directory, is_file, name_count, link_count}
 use Rattle.tree_model.specs.Run.{State}
 use Rattle.image_reading.specs.Counts.{IsIn, IsDistinct}
-use Rattle.image_reading.specs.Litter.{IsInode}
-use Rattle.image_reading.specs.Reading.{IsFile, slot_owner, IsHeld, IsNode, pages_of_size}
+use Rattle.image_reading.specs.Litter.{IsInode, IsZeroSlot}
+use Rattle.image_reading.specs.Reading.{IsFile, IsDirectory, slot_owner, IsHeld, Reached, IsNode, pages_of_size}
 use Rattle.image_reading.specs.Residue.{Residue, no_residue}
+use Rattle.image_counts.specs.Entries as entries
 use Rattle.image_counts.specs.Entries.{IsPageIn, IsUnusedDataPage}
 use Rattle.image_counts.specs.Laws.{ReadsBeside}
 use Rattle.image_laws.specs.Add.{IsNewNode, IsOldFile, CanAdd}
 use Rattle.image_laws.specs.Create.{IsEmptyNode, node_words}
 use Rattle.image_laws.specs.Remove.{CanRemove}
-use Rattle.image_laws.specs.Stages.{MayClearName, MayGive, MayFree}
+use Rattle.image_laws.specs.Stages.{IsFreeInode, IsReadySlot, IsEmptyPage, MayClearName, MayGive, MayFree}
 use Rattle.content_laws.specs.Cut.{MayTrim}
 use Rattle.weave_laws.specs.Bytes.{MayWrite, MayFill, MayOwn, MayRaise, MayLower}
 use Rattle.weave_laws.specs.Entering.{IsNamelessPage}
 use Rattle.weave_laws.specs.Joined.{joined}
-use Rattle.weave_laws.specs.Naming.{IsWrittenLink, node_left, link_left}
+use Rattle.weave_laws.specs.Naming.{IsBlankSlot, IsWrittenLink, node_left, link_left}
 use Rattle.weave_laws.specs.Removing.{unnamed_left, cleared_left, IsPageOfName, IsLeftPage}
 use Rattle.weave_laws.specs.Sizing.{behind_left, ArePagesBetween}
 
@@ -41,25 +42,56 @@ abbrev pub WaitingLinkLaw : Type 0
 WaitingLinkLaw = (P : ℕ) (I : List ℕ) (residue : Residue) (state : State) (x : ℕ) → ReadsBeside P I residue state → IsIn x residue.counts → inode_links I x ≡ link_count state.tree x + 1
     → IsWrittenLink P I x
 
+-- no slot of directory page j names anything or points
+pub record IsBarePage (P : ℕ) (I : List ℕ) (j : ℕ) : Type 0 where
+  pub kind : page_kind P I j ≡ 2
+  pub numbers : (t : ℕ) → page_of_slot t ≡ j → slot_inode P I t ≡ 0
+  pub pointers : (t : ℕ) → page_of_slot t ≡ j → slot_pointer P I t ≡ 0
+
 -- ---- a name
 
--- Slot s, in a page of the path's directory d, has the path's last name.
-pub record IsPathSlot (P : ℕ) (I : List ℕ) (T : Tree) (path : Route) (d s : ℕ) : Type 0 where
+-- Slot s is in a page of the path's directory d.
+pub record IsPlaceOf (P : ℕ) (I : List ℕ) (T : Tree) (path : Route) (d s : ℕ) : Type 0 where
   pub above : id_at T (parent path) ≡ Some d
   pub directory : is_directory T d ≡ true
   pub held : IsHeld P I s
   pub owner : slot_owner P I s ≡ d
-  pub name : slot_name P I s ≡ last_name path
+
+-- ---- it isn't written yet
+
+-- The slot is zero, nothing is at the path, and these are the words of its last name.
+pub record IsVacantPlace (P : ℕ) (I : List ℕ) (T : Tree) (path : Route) (d s : ℕ) (name : List ℕ) : Type 0 where
+  pub place : IsPlaceOf P I T path d s
+  pub open place use *
+  pub absent : id_at T path ≡ None
+  pub zero : IsZeroSlot P I s
+  pub words : IsNameWords name
+  pub name_is : name_in_words name ≡ last_name path
+
+-- The call has left nothing, and the name may be written: the page has another one, where the others have left no page of d.
+abbrev pub WaitingPlaceLaw : Type 0
+WaitingPlaceLaw = (P : ℕ) (I : List ℕ) (state : State) (path : Route) (d s : ℕ) (name : List ℕ) (others : Residue) → WaitsBeside P I no_residue others state
+    → IsVacantPlace P I state.tree path d s name → HasNoPageOf P I others d → IsReadySlot P I (reverse (parent path)) d s name × IsBlankSlot P I d s
+
+-- An inode without a kind may be taken.
+abbrev pub WaitingInodeLaw : Type 0
+WaitingInodeLaw = (P : ℕ) (I : List ℕ) (state : State) (i : ℕ) (others : Residue) → WaitsBeside P I no_residue others state → entries.IsFreeInode P I i → HasNoPageOf P I others i → IsFreeInode P I i
+
+-- A new page, which has no owner, may get one.
+abbrev pub WaitingClaimingLaw : Type 0
+WaitingClaimingLaw = (P : ℕ) (I : List ℕ) (state : State) (d j : ℕ) (own others : Residue) → WaitsBeside P I own others state → is_directory state.tree d ≡ true → page_owner P I j ≡ 0
+    → IsBarePage P I j → Reached P I d × IsDirectory I d × IsEmptyPage P I j
 
 -- ---- it is written
 
--- It has no number yet, and nothing is at the path.
+-- The slot has the path's last name and no number yet, and nothing is at the path.
 pub record IsWaitingName (P : ℕ) (I : List ℕ) (T : Tree) (path : Route) (d s : ℕ) : Type 0 where
-  pub slot : IsPathSlot P I T path d s
-  pub open slot use *
+  pub place : IsPlaceOf P I T path d s
+  pub open place use *
   pub absent : id_at T path ≡ None
   pub number : slot_inode P I s ≡ 0
   pub words : IsNameWords (slot_words P I s)
+  pub name_is : slot_name P I s ≡ last_name path
 
 -- The slot may take number i, where its page has a name, or is the new page.
 pub record MayCommit (P : ℕ) (I : List ℕ) (path : Route) (d s : ℕ) (new_page : Option ℕ) (i : ℕ) : Type 0 where
@@ -91,11 +123,12 @@ WaitingFileLaw = (P : ℕ) (I : List ℕ) (state : State) (path : Route) (d s : 
 
 -- ---- it goes
 
--- It has a number, and a directory that it names is empty.
+-- The slot has the path's last name and a number, and a directory that it names is empty.
 pub record IsLeavingName (P : ℕ) (I : List ℕ) (T : Tree) (path : Route) (d s : ℕ) : Type 0 where
-  pub slot : IsPathSlot P I T path d s
-  pub open slot use *
+  pub place : IsPlaceOf P I T path d s
+  pub open place use *
   pub number : slot_inode P I s ≢ 0
+  pub name_is : slot_name P I s ≡ last_name path
   pub empty : is_directory T (slot_inode P I s) ≡ true → name_count T (slot_inode P I s) ≡ 0
 
 -- The call has left nothing, and the slot may give up its number.
@@ -115,13 +148,7 @@ WaitingClearingLaw = (P : ℕ) (I : List ℕ) (state : State) (s : ℕ) (given_b
 
 -- ---- pages and an inode go
 
--- Page j is a directory page, and no slot of it names anything or points.
-pub record IsBarePage (P : ℕ) (I : List ℕ) (j : ℕ) : Type 0 where
-  pub kind : page_kind P I j ≡ 2
-  pub numbers : (t : ℕ) → page_of_slot t ≡ j → slot_inode P I t ≡ 0
-  pub pointers : (t : ℕ) → page_of_slot t ≡ j → slot_pointer P I t ≡ 0
-
--- It is such a page, or one of the file that goes.
+-- Page j has no name any more, or it is one of the file that goes.
 abbrev pub IsGoingPage : ℕ → List ℕ → Bool → ℕ → ℕ → Type 0
 IsGoingPage P I goes i j = ((goes ≡ true) × (page_owner P I j ≡ i) × (page_kind P I j ≡ 1)) ⊎ IsBarePage P I j
 
