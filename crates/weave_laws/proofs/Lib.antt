@@ -45,5 +45,6 @@ pub mod OwnWords
 pub mod WaitingPlaces
 pub mod WaitingNames
 mod WaitingPlans
-mod WaitingRemovals
-mod WaitingFiles
+pub mod WaitingRemovals
+pub mod WaitingFiles
+mod WaitingLosses

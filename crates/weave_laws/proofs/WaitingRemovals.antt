@@ -46,7 +46,7 @@ module _ (P : ℕ) (I : List ℕ) (state : State) (path : Route) (d s : ℕ) (ot
   is_live : IsLive P I s
   is_live = live P I (joined no_residue others) waits.holds.beside waits.no_pointer s name.held name.number
 
-  reached : IsReachedSlot P I s
+  pub reached : IsReachedSlot P I s
   reached = record { owner = (reverse (parent path), above); directory = directory; live = is_live }
 
   -- a reached slot has a name's words, which say no empty name

@@ -1,11 +1,11 @@
 -- What a call that waits between two fences has, and that its next step may be made. It has its own words, facts of the tree that its command still
 -- needs, and what it has left, beside what the others have left. P is the number of pages, I the words before the step.
-use Rattle.std.specs.Prelude.{◌≡◌, ◌≢◌, ◌⊎◌, ℕ, ◌+◌, ◌^◌, ◌<◌, ◌≤◌, Bool, true, List, ◌∷◌, length, reverse, Option, Some, None, slice_get, slice_index, Contains}
+use Rattle.std.specs.Prelude.{◌≡◌, ◌≢◌, ◌↔◌, ◌⊎◌, ℕ, ◌+◌, ◌^◌, ◌<◌, ◌≤◌, Bool, true, false, List, [], ◌∷◌, length, reverse, Option, Some, None, slice_get, slice_index, Contains}
 use Rattle.layout.specs.Fields.{word, inode_links, inode_size, page_owner, page_kind, page_offset, slot_inode, slot_pointer, slot_name, slot_words}
 use Rattle.layout.specs.Geometry.{page_of_slot, inode_word_of}
 use Rattle.layout.specs.Name.{IsNameWords, name_in_words}
 use Rattle.tree_model.specs.PathText.{Route}
-use Rattle.tree_model.specs.Tree.{Node, Tree, parent, last_name, id_at, is_directory, is_file, name_count, link_count}
+use Rattle.tree_model.specs.Tree.{Node, Tree, parent, last_name, id_at, is_directory, is_file, name_count, path_count, link_count}
 use Rattle.tree_model.specs.Run.{State}
 use Rattle.image_reading.specs.Counts.{IsIn, IsDistinct}
 use Rattle.image_reading.specs.Litter.{IsInode, IsZeroSlot}
@@ -25,6 +25,7 @@ use Rattle.weave_laws.specs.Joined.{joined}
 use Rattle.weave_laws.specs.Naming.{IsBlankSlot, IsWrittenLink, node_left, link_left}
 use Rattle.weave_laws.specs.Removing.{unnamed_left, cleared_left, IsPageOfName, IsLeftPage}
 use Rattle.weave_laws.specs.Sizing.{behind_left, ArePagesBetween}
+use Rattle.weave_laws.specs.Unnaming.{IsFallen, GoesWith}
 
 -- ---- beside others
 
@@ -41,6 +42,13 @@ HasNoPageOf P I others i = (j : ℕ) → IsIn j others.pages → page_owner P I 
 abbrev pub WaitingLinkLaw : Type 0
 WaitingLinkLaw = (P : ℕ) (I : List ℕ) (residue : Residue) (state : State) (x : ℕ) → ReadsBeside P I residue state → IsIn x residue.counts → inode_links I x ≡ link_count state.tree x + 1
     → IsWrittenLink P I x
+
+-- ---- pages
+
+-- Pages stand in the order of their offsets, from the end of one size to that of another.
+pub record AreInOrder (P : ℕ) (I pages : List ℕ) (from to : ℕ) : Type 0 where
+  pub offsets : (k j : ℕ) → slice_get pages k ≡ Some j → page_offset P I j ≡ pages_of_size from + k
+  pub count : length pages + pages_of_size from ≡ pages_of_size to
 
 -- no slot of directory page j names anything or points
 pub record IsBarePage (P : ℕ) (I : List ℕ) (j : ℕ) : Type 0 where
@@ -136,6 +144,27 @@ abbrev pub WaitingRemovalLaw : Type 0
 WaitingRemovalLaw = (P : ℕ) (I : List ℕ) (state : State) (path : Route) (d s : ℕ) (others : Residue) → WaitsBeside P I no_residue others state → IsLeavingName P I state.tree path d s
     → CanRemove P I (reverse (parent path)) s × (reverse path ≡ slot_name P I s ∷ reverse (parent path))
 
+-- where the page isn't given back it has another name, and where it is it has none
+abbrev pub HasOtherName : ℕ → List ℕ → ℕ → Option ℕ → Type 0
+HasOtherName P I s None = (t : ℕ) × (t ≢ s) × (page_of_slot t ≡ page_of_slot s) × (slot_inode P I t ≢ 0)
+HasOtherName P I s (Some page) = (page_of_slot s ≡ page) × ((t : ℕ) → page_of_slot t ≡ page → t ≢ s → slot_inode P I t ≡ 0)
+
+-- With the name goes a directory, or a file that has no other, and then the file's pages, which are these.
+pub record TakesAlong (P : ℕ) (I : List ℕ) (T : Tree) (s : ℕ) (given_back : Option ℕ) (pages : List ℕ) (goes : Bool) (falling : Option ℕ) : Type 0 where
+  pub file : IsFile I (slot_inode P I s) → (goes ≡ true) ↔ (path_count T (slot_inode P I s) ≡ 1)
+  pub directory : IsDirectory I (slot_inode P I s) → goes ≡ true
+  pub of_node : (j : ℕ) → Contains pages j → IsPageIn P I (slot_inode P I s) j
+  pub all_pages : IsFile I (slot_inode P I s) → goes ≡ true → AreInOrder P I pages 0 (inode_size I (slot_inode P I s))
+  pub no_pages : IsDirectory I (slot_inode P I s) ⊎ (goes ≡ false) → pages ≡ []
+  pub page : HasOtherName P I s given_back
+  pub link : IsFallen P I s goes falling
+
+-- That is what goes.
+abbrev pub WaitingLossLaw : Type 0
+WaitingLossLaw = (P : ℕ) (I : List ℕ) (state : State) (path : Route) (d s : ℕ) (given_back : Option ℕ) (pages : List ℕ) (goes : Bool) (falling : Option ℕ) (others : Residue)
+    → WaitsBeside P I no_residue others state → IsLeavingName P I state.tree path d s → HasNoPageOf P I others (slot_inode P I s) → TakesAlong P I state.tree s given_back pages goes falling
+    → GoesWith P I s given_back pages goes falling
+
 -- y is the inode that has a link less, or the file that goes
 abbrev pub IsClearedLink : Bool → ℕ → Option ℕ → ℕ → Type 0
 IsClearedLink goes i None y = (goes ≡ true) × (y ≡ i)
@@ -174,11 +203,6 @@ WaitingWritingLaw = (P : ℕ) (I : List ℕ) (state : State) (i offset : ℕ) (b
 abbrev pub WaitingFillingLaw : Type 0
 WaitingFillingLaw = (P : ℕ) (I : List ℕ) (state : State) (i : ℕ) (pages : List ℕ) (others : Residue) → WaitsBeside P I no_residue others state → is_file state.tree i ≡ true
     → ((j : ℕ) → Contains pages j → IsUnusedDataPage P I j) → MayFill P I i pages
-
--- Pages stand in the order of their offsets, from the end of one size to that of another.
-pub record AreInOrder (P : ℕ) (I pages : List ℕ) (from to : ℕ) : Type 0 where
-  pub offsets : (k j : ℕ) → slice_get pages k ≡ Some j → page_offset P I j ≡ pages_of_size from + k
-  pub count : length pages + pages_of_size from ≡ pages_of_size to
 
 -- Filled behind the end they may become the file's.
 abbrev pub WaitingOwningLaw : Type 0

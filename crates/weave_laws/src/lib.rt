@@ -9,7 +9,7 @@ ghost use Rattle.weave_laws.specs.Sizing.{WrittenInsideLaw, FilledLaw, TakenLaw,
 ghost use Rattle.weave_laws.specs.Removing.{ClearedLaw, GivenLaw, FreedLaw};
 ghost use Rattle.weave_laws.specs.Entering.{NodeEnteredLaw, NewNodeLaw, LinkEnteredLaw, NodeRoomLaw, LinkedRoomLaw, RemovedEnteredLaw, RemovedRoomLaw, OneWordLaw};
 ghost use Rattle.weave_laws.specs.Beside.{WiderLaw, DisjointLaw, NodeWordsLaw, LinkWordsLaw, PagedNodeWordsLaw, PagedLinkWordsLaw, OwnedWordsLaw, CommittedWordsLaw, DroppedWordsLaw, ClearedWordsLaw, GivenWordsLaw, FreedWordsLaw, InsideWordsLaw, FilledWordsLaw, TakenWordsLaw, SizedWordsLaw};
-ghost use Rattle.weave_laws.specs.Waiting.{WaitingLinkLaw, WaitingPlaceLaw, WaitingInodeLaw, WaitingClaimingLaw, WaitingNodeLaw, WaitingFileLaw, WaitingRemovalLaw, WaitingClearingLaw, WaitingGivingLaw, WaitingFreeingLaw, WaitingWritingLaw, WaitingFillingLaw, WaitingOwningLaw, WaitingRaisingLaw, WaitingLoweringLaw, WaitingTrimmingLaw};
+ghost use Rattle.weave_laws.specs.Waiting.{WaitingLinkLaw, WaitingPlaceLaw, WaitingInodeLaw, WaitingClaimingLaw, WaitingNodeLaw, WaitingFileLaw, WaitingRemovalLaw, WaitingLossLaw, WaitingClearingLaw, WaitingGivingLaw, WaitingFreeingLaw, WaitingWritingLaw, WaitingFillingLaw, WaitingOwningLaw, WaitingRaisingLaw, WaitingLoweringLaw, WaitingTrimmingLaw};
 ghost use Rattle.weave_laws.specs.Joined.{AnyOrderLaw};
 ghost use Rattle.weave_laws.specs.Naming.{NodeWrittenLaw, LinkWrittenLaw, NodeCommittedLaw, LinkCommittedLaw};
 
@@ -139,6 +139,7 @@ pub fn waiting_law()
     ensures node { WaitingNodeLaw }
     ensures file { WaitingFileLaw }
     ensures removal { WaitingRemovalLaw }
+    ensures loss { WaitingLossLaw }
     ensures clearing { WaitingClearingLaw }
     ensures giving { WaitingGivingLaw }
     ensures freeing { WaitingFreeingLaw }

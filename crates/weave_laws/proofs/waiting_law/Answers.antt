@@ -4,6 +4,7 @@ use Rattle.weave_laws.proofs.WaitingNames as names
 use Rattle.weave_laws.proofs.WaitingPlans as plans
 use Rattle.weave_laws.proofs.WaitingRemovals as removals
 use Rattle.weave_laws.proofs.WaitingFiles as files
+use Rattle.weave_laws.proofs.WaitingLosses.{waiting_loss_law}
 
 pub returns-clause-links : goal.returns-clause-links
 returns-clause-links c = waiting_link_law
@@ -52,3 +53,6 @@ returns-clause-inode c = plans.waiting_inode_law
 
 pub returns-clause-claiming : goal.returns-clause-claiming
 returns-clause-claiming c = plans.waiting_claiming_law
+
+pub returns-clause-loss : goal.returns-clause-loss
+returns-clause-loss c = waiting_loss_law
