@@ -25,11 +25,11 @@ use Rattle.image_reading.proofs.Counts.{at_most_none}
 use Rattle.image_laws.proofs.MoveTree.{reverse_below}
 use Rattle.weave_laws.specs.Entering.{IsNamelessPage}
 use Rattle.weave_laws.specs.Joined.{joined}
-use Rattle.weave_laws.specs.Naming.{slots_left, pages_left, counts_left, node_left, link_left}
+use Rattle.weave_laws.specs.Naming.{slots_left, pages_left, counts_left, IsWrittenParent, node_left, link_left}
 use Rattle.weave_laws.specs.Removing.{IsPageOfName}
-use Rattle.weave_laws.specs.Waiting.{WaitsBeside, HasNoPageOf, IsPlaceOf, IsWaitingName, MayCommit, HasNodeWords, MayCommitNode, WaitingNodeLaw, WaitingFileLaw}
+use Rattle.weave_laws.specs.Waiting.{WaitsBeside, HasNoPageOf, IsPlaceOf, IsWaitingName, MayCommit, HasNodeWords, MayCommitNode, HasRaisedLinks, WaitingWordsLaw, WaitingNodeLaw, WaitingFileLaw}
 use Rattle.weave_laws.proofs.Entered.{new_node_law}
-use Rattle.weave_laws.proofs.WaitingPlaces.{no_pointer, more_names, more_children, count_reached, unreached_page}
+use Rattle.weave_laws.proofs.WaitingPlaces.{waiting_link_law, no_pointer, more_names, more_children, count_reached, unreached_page}
 
 pub root_or_not : (path : Route) → (path ≡ []) ⊎ (is_root path ≡ false)
 root_or_not [] = inl refl
@@ -222,6 +222,13 @@ module _ (P : ℕ) (I : List ℕ) (state : State) (path : Route) (node : Node) (
 
 pub waiting_node_law : WaitingNodeLaw
 waiting_node_law P I state path node d s new_page i others waits name at has apart = may_commit_node P I state path node d s new_page i others waits name at has apart
+
+pub waiting_words_law : WaitingWordsLaw
+waiting_words_law P I state node d s new_page i others waits has raised = record { words = λ f lt. has.words f (omega (arith, lt)); parent = parent_has (joined (node_left node d s new_page i) others) node others.counts waits.holds refl raised }
+  where
+    parent_has : (residue : Residue) (kind : Node) (rest : List ℕ) → ReadsBeside P I residue state → residue.counts ≡ counts_left kind d ++ rest → HasRaisedLinks I state.tree kind d → IsWrittenParent P I kind d
+    parent_has residue Directory rest holds is links = waiting_link_law P I residue state d holds (subst (IsIn d) (sym is) (inl refl)) links
+    parent_has residue (File bytes) rest holds is links = tt
 
 -- ---- a link
 

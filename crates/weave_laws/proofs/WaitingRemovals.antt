@@ -6,7 +6,7 @@ use Rattle.layout.specs.Geometry.{inodes_of, data_pages_of, page_of_slot}
 use Rattle.layout.specs.Name.{IsName, name_in_words}
 use Rattle.tree_model.specs.PathText.{Route}
 use Rattle.tree_model.specs.Run.{State}
-use Rattle.tree_model.specs.Tree.{is_root, parent, last_name, is_directory}
+use Rattle.tree_model.specs.Tree.{is_root, parent, last_name, is_directory, link_count}
 use Rattle.image_reading.specs.Counts.{IsIn}
 use Rattle.image_reading.specs.Litter.{IsInode}
 use Rattle.image_reading.specs.Reading.{IsDirectory, slot_owner, IsHeld, IsLive, Names, Reached, IsReachedSlot}
@@ -23,10 +23,10 @@ use Rattle.image_laws.specs.Remove.{CanRemove}
 use Rattle.image_laws.specs.Stages.{MayClearName, IsEmptyPage, IsNeedless, MayGive, MayFree}
 use Rattle.weave_laws.specs.Joined.{joined}
 use Rattle.weave_laws.specs.Removing.{inodes_left, unnamed_left, cleared_left, IsLeftPage}
-use Rattle.weave_laws.specs.Waiting.{WaitsBeside, IsLeavingName, WaitingRemovalLaw, IsClearedLink, WaitingClearingLaw, IsGoingPage, WaitingGivingLaw, WaitingFreeingLaw}
+use Rattle.weave_laws.specs.Waiting.{WaitsBeside, IsLeavingName, WaitingRemovalLaw, IsClearedLink, WaitingClearingLaw, WaitingFallingLaw, IsGoingPage, WaitingGivingLaw, WaitingFreeingLaw}
 use Rattle.weave_laws.proofs.Contained.{contained_in, contained_or_not}
 use Rattle.weave_laws.proofs.WaitingNames.{root_or_not, names_above, directory_above, path_with}
-use Rattle.weave_laws.proofs.WaitingPlaces.{no_pointer, live, more_names, more_children, count_reached}
+use Rattle.weave_laws.proofs.WaitingPlaces.{no_pointer, live, more_names, more_children, count_reached, waiting_link_law}
 
 -- ---- the number
 
@@ -116,6 +116,17 @@ waiting_clearing_law P I state s given_back pages goes i (Some x) y others waits
     let range = in_range P I waits.holds.coherent y (count_reached P I residue state waits.holds y left) in
     may_clear P I state s given_back pages goes i (Some x) others waits held number y range.0 range.1
     (λ n links reached. links_needed P I residue state waits.holds y n left links)
+
+pub waiting_falling_law : WaitingFallingLaw
+waiting_falling_law P I state s given_back pages goes i None y others waits (all, is) links =
+    λ there. ((waits.holds.beside.of_inodes.each i).0 (gone P I i others.inodes goes all)).unreached (subst (Reached P I) is there)
+waiting_falling_law P I state s given_back pages goes i (Some x) y others waits is links =
+    let residue = joined (unnamed_left s given_back pages goes i (Some x)) others in
+    let left : IsIn y residue.counts = inl is in (
+      is,
+      count_reached P I residue state waits.holds y left,
+      waiting_link_law P I residue state y waits.holds left (subst (λ z. inode_links I z ≡ link_count state.tree z + 1) (sym is) links),
+    )
 
 -- ---- pages
 

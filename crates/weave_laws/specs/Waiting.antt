@@ -5,7 +5,7 @@ use Rattle.layout.specs.Fields.{word, inode_links, inode_size, page_owner, page_
 use Rattle.layout.specs.Geometry.{page_of_slot, inode_word_of}
 use Rattle.layout.specs.Name.{IsNameWords, name_in_words}
 use Rattle.tree_model.specs.PathText.{Route}
-use Rattle.tree_model.specs.Tree.{Node, Tree, parent, last_name, id_at, is_directory, is_file, name_count, path_count, link_count}
+use Rattle.tree_model.specs.Tree.{Node, Directory, File, Tree, parent, last_name, id_at, is_directory, is_file, name_count, path_count, link_count}
 use Rattle.tree_model.specs.Run.{State}
 use Rattle.image_reading.specs.Counts.{IsIn, IsDistinct}
 use Rattle.image_reading.specs.Litter.{IsInode, IsZeroSlot}
@@ -22,8 +22,8 @@ use Rattle.content_laws.specs.Cut.{MayTrim}
 use Rattle.weave_laws.specs.Bytes.{MayWrite, MayFill, MayOwn, MayRaise, MayLower}
 use Rattle.weave_laws.specs.Entering.{IsNamelessPage}
 use Rattle.weave_laws.specs.Joined.{joined}
-use Rattle.weave_laws.specs.Naming.{IsBlankSlot, IsWrittenLink, node_left, link_left}
-use Rattle.weave_laws.specs.Removing.{unnamed_left, cleared_left, IsPageOfName, IsLeftPage}
+use Rattle.weave_laws.specs.Naming.{IsBlankSlot, IsWrittenLink, IsWrittenNode, node_left, link_left}
+use Rattle.weave_laws.specs.Removing.{unnamed_left, cleared_left, IsPageOfName, IsFallingLink, IsLeftPage}
 use Rattle.weave_laws.specs.Sizing.{behind_left, ArePagesBetween}
 use Rattle.weave_laws.specs.Unnaming.{IsFallen, GoesWith}
 
@@ -117,13 +117,23 @@ pub record MayCommitNode (P : ℕ) (I : List ℕ) (path : Route) (node : Node) (
   pub new : IsNewNode P I i
   pub is_node : IsNode P I i node
 
--- with a new node,
+-- a link more than the tree counts has the directory that a directory is made in
+abbrev pub HasRaisedLinks : List ℕ → Tree → Node → ℕ → Type 0
+HasRaisedLinks I T Directory d = inode_links I d ≡ link_count T d + 1
+HasRaisedLinks I T (File bytes) d = Unit {0}
+
+-- What waits is such a node and its links,
+abbrev pub WaitingWordsLaw : Type 0
+WaitingWordsLaw = (P : ℕ) (I : List ℕ) (state : State) (node : Node) (d s : ℕ) (new_page : Option ℕ) (i : ℕ) (others : Residue) → WaitsBeside P I (node_left node d s new_page i) others state
+    → HasNodeWords I node i → HasRaisedLinks I state.tree node d → IsWrittenNode P I node d i
+
+-- and its name may get the number,
 abbrev pub WaitingNodeLaw : Type 0
 WaitingNodeLaw = (P : ℕ) (I : List ℕ) (state : State) (path : Route) (node : Node) (d s : ℕ) (new_page : Option ℕ) (i : ℕ) (others : Residue)
     → WaitsBeside P I (node_left node d s new_page i) others state → IsWaitingName P I state.tree path d s → IsPageOfName s new_page → HasNodeWords I node i → HasNoPageOf P I others i
     → MayCommitNode P I path node d s new_page i
 
--- or with a link
+-- or that of a file with a link more
 abbrev pub WaitingFileLaw : Type 0
 WaitingFileLaw = (P : ℕ) (I : List ℕ) (state : State) (path : Route) (d s : ℕ) (new_page : Option ℕ) (i : ℕ) (others : Residue)
     → WaitsBeside P I (link_left s new_page i) others state → IsWaitingName P I state.tree path d s → IsPageOfName s new_page → IsFile I i
@@ -174,6 +184,15 @@ IsClearedLink goes i (Some falling) y = y ≡ falling
 abbrev pub WaitingClearingLaw : Type 0
 WaitingClearingLaw = (P : ℕ) (I : List ℕ) (state : State) (s : ℕ) (given_back : Option ℕ) (pages : List ℕ) (goes : Bool) (i : ℕ) (falling : Option ℕ) (y : ℕ) (others : Residue)
     → WaitsBeside P I (unnamed_left s given_back pages goes i falling) others state → IsHeld P I s → slot_inode P I s ≡ 0 → IsClearedLink goes i falling y → MayClearName P I s y
+
+-- and the link word of y may fall
+abbrev pub HasFallingLinks : List ℕ → Tree → Option ℕ → Type 0
+HasFallingLinks I T None = Unit {0}
+HasFallingLinks I T (Some falling) = inode_links I falling ≡ link_count T falling + 1
+
+abbrev pub WaitingFallingLaw : Type 0
+WaitingFallingLaw = (P : ℕ) (I : List ℕ) (state : State) (s : ℕ) (given_back : Option ℕ) (pages : List ℕ) (goes : Bool) (i : ℕ) (falling : Option ℕ) (y : ℕ) (others : Residue)
+    → WaitsBeside P I (unnamed_left s given_back pages goes i falling) others state → IsClearedLink goes i falling y → HasFallingLinks I state.tree falling → IsFallingLink P I y falling
 
 -- ---- pages and an inode go
 

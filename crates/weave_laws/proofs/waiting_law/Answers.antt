@@ -56,3 +56,9 @@ returns-clause-claiming c = plans.waiting_claiming_law
 
 pub returns-clause-loss : goal.returns-clause-loss
 returns-clause-loss c = waiting_loss_law
+
+pub returns-clause-words : goal.returns-clause-words
+returns-clause-words c = names.waiting_words_law
+
+pub returns-clause-falling : goal.returns-clause-falling
+returns-clause-falling c = removals.waiting_falling_law
