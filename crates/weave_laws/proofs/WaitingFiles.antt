@@ -1,5 +1,5 @@
 -- A file that a call names may get pages and a size, or be cut.
-use Rattle.std.proofs.Common.{◌≡◌, ◌≢◌, ◌⊎◌, inl, inr, ℕ, zero, suc, ◌+◌, ◌-◌, ◌^◌, ◌<◌, ◌≤◌, true, List, [], ◌∷◌, ◌++◌, length, get_or, slice_get, Some, None, refl, sym, ap, subst, ◌∙◌, arith}
+use Rattle.std.proofs.Common.{◌≡◌, inl, inr, ℕ, suc, ◌-◌, ◌^◌, ◌<◌, ◌≤◌, true, List, [], ◌∷◌, ◌++◌, get_or, slice_get, Some, refl, sym, ap, subst, ◌∙◌, arith}
 use Rattle.std.specs.Prelude.{Contains}
 use Rattle.std.proofs.lemmas.Bool.{cases_eq, cases_lt}
 use Rattle.std.proofs.lemmas.Option.{slice_get-get_or}
@@ -10,7 +10,7 @@ use Rattle.tree_model.specs.Tree.{is_file}
 use Rattle.image_reading.specs.Counts.{IsIn, IsDistinct}
 use Rattle.image_reading.specs.Litter.{IsZeroDescriptor}
 use Rattle.image_reading.specs.Reading.{IsFile, Reached, IsPageOf, pages_of_size}
-use Rattle.image_reading.specs.Repairs.{IsKept, IsKeptFilePage, IsLitterPage}
+use Rattle.image_reading.specs.Repairs.{IsKept, IsLitterPage}
 use Rattle.image_reading.specs.Residue.{Residue, no_residue}
 use Rattle.image_reading.specs.Soundness.{Rule}
 use Rattle.image_counts.specs.Entries.{IsPageIn, IsUnusedDataPage}

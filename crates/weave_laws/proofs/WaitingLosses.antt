@@ -1,15 +1,15 @@
 -- What goes with a name is told by the tree and by what the call found.
-use Rattle.std.proofs.Common.{◌≡◌, ◌≢◌, ◌↔◌, ◌⊎◌, inl, inr, ℕ, ◌+◌, ◌<◌, ◌≤◌, Bool, true, false, cond, List, [], ◌∷◌, length, reverse, count_by, Option, Some, None, refl, sym, ap, subst, ◌∙◌, arith}
+use Rattle.std.proofs.Common.{◌≡◌, ◌≢◌, ◌↔◌, ◌⊎◌, inl, inr, ℕ, ◌+◌, ◌<◌, Bool, true, false, cond, List, [], ◌∷◌, length, reverse, count_by, Option, Some, None, refl, sym, ap, subst, ◌∙◌, arith}
 use Rattle.std.proofs.lemmas.Bool.{cases_eq, cases_lt}
 use Rattle.layout.specs.Fields.{inode_kind, inode_size, page_owner, page_kind, page_offset, slot_inode}
-use Rattle.layout.specs.Geometry.{data_pages_of, page_of_slot, slots_of}
+use Rattle.layout.specs.Geometry.{data_pages_of, page_of_slot}
 use Rattle.layout.proofs.GeometryLaws.{page_of_slot_below, slot_below}
 use Rattle.tree_model.specs.PathText.{Route}
 use Rattle.tree_model.specs.Run.{State}
 use Rattle.tree_model.specs.Tree.{Tree, parent, is_directory, entries_in, path_count, link_count}
 use Rattle.tree_model.proofs.TreeLaws.{not_true}
 use Rattle.image_reading.specs.Counts.{IsIn, IsDistinct, Count}
-use Rattle.image_reading.specs.Reading.{IsFile, IsDirectory, slot_owner, IsHeld, Names, Reached, IsReachedSlot, IsNameOf, IsRoomOf, pages_of_size}
+use Rattle.image_reading.specs.Reading.{IsFile, IsDirectory, slot_owner, IsHeld, Names, Reached, IsReachedSlot, IsNameOf, pages_of_size}
 use Rattle.image_reading.specs.Residue.{Residue, no_residue}
 use Rattle.image_reading.specs.Soundness.{Rule, IsCoherent}
 use Rattle.image_reading.proofs.Counts.{count_one}

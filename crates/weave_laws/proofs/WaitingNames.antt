@@ -6,7 +6,7 @@ use Rattle.layout.specs.Fields.{inode_kind, inode_links, inode_size, inode_own, 
 use Rattle.layout.specs.Geometry.{data_pages_of, page_of_slot, inodes_of}
 use Rattle.tree_model.specs.PathText.{Route}
 use Rattle.tree_model.specs.Run.{State}
-use Rattle.tree_model.specs.Tree.{Node, Directory, File, Tree, is_root, parent, last_name, id_at}
+use Rattle.tree_model.specs.Tree.{Node, Directory, File, is_root, parent, last_name, id_at}
 use Rattle.image_reading.specs.Counts.{IsIn, AtMost}
 use Rattle.image_reading.specs.Reading.{HasBytes, IsDirectory, IsFile, slot_owner, Names, Reached, IsReachedSlot, IsRoomOf, IsNameOf, IsChildOf, ReadsAs}
 use Rattle.image_reading.specs.Repairs.{IsLitterInode}

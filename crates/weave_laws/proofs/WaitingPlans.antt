@@ -1,5 +1,5 @@
 -- A name may be written: its slot and its inode are as they were when the call began, and a new page may get its owner.
-use Rattle.std.proofs.Common.{◌≡◌, inl, inr, ℕ, ◌≤◌, List, reverse, refl, sym, subst, ◌∙◌, arith}
+use Rattle.std.proofs.Common.{◌≡◌, inl, inr, ℕ, ◌≤◌, List, reverse, refl, sym, subst, arith}
 use Rattle.std.proofs.lemmas.Bool.{cases_eq}
 use Rattle.layout.specs.Fields.{inode_kind, page_owner, slot_inode}
 use Rattle.layout.specs.Geometry.{page_of_slot}

@@ -1,29 +1,28 @@
 -- A name may give up its number, and what goes with it may be cleared.
 use Rattle.std.proofs.Common.{◌≡◌, ◌≢◌, ◌⊎◌, inl, inr, ℕ, ◌+◌, ◌<◌, ◌≤◌, Bool, true, false, List, [], ◌∷◌, ◌++◌, reverse, Option, Some, None, refl, sym, ap, subst, ◌∙◌, arith}
 use Rattle.std.specs.Prelude.{Contains}
-use Rattle.layout.specs.Fields.{inode_kind, inode_links, page_owner, page_kind, slot_inode, slot_pointer, slot_name, slot_words}
-use Rattle.layout.specs.Geometry.{inodes_of, data_pages_of, page_of_slot}
-use Rattle.layout.specs.Name.{IsName, name_in_words}
+use Rattle.layout.specs.Fields.{inode_links, page_owner, page_kind, slot_inode, slot_pointer, slot_name}
+use Rattle.layout.specs.Geometry.{inodes_of, data_pages_of}
+use Rattle.layout.specs.Name.{IsName}
 use Rattle.tree_model.specs.PathText.{Route}
 use Rattle.tree_model.specs.Run.{State}
-use Rattle.tree_model.specs.Tree.{is_root, parent, last_name, is_directory, link_count}
+use Rattle.tree_model.specs.Tree.{is_root, parent, last_name, link_count}
 use Rattle.image_reading.specs.Counts.{IsIn}
 use Rattle.image_reading.specs.Litter.{IsInode}
 use Rattle.image_reading.specs.Reading.{IsDirectory, slot_owner, IsHeld, IsLive, Names, Reached, IsReachedSlot}
-use Rattle.image_reading.specs.Repairs.{IsLitterInode, IsLitterPage}
+use Rattle.image_reading.specs.Repairs.{IsLitterPage}
 use Rattle.image_reading.specs.Residue.{Residue, no_residue}
 use Rattle.image_reading.specs.Soundness.{Rule, IsCoherent, HasLinks}
 use Rattle.image_counts.specs.Laws.{ReadsBeside}
 use Rattle.image_counts.proofs.Distinct.{in_front}
-use Rattle.image_counts.proofs.Links.{not_both_kinds}
 use Rattle.image_counts.proofs.Nodes.{has_sizes}
 use Rattle.image_counts.proofs.Paths.{in_range, inode_reached}
 use Rattle.image_counts.proofs.Slots.{has_absences}
 use Rattle.image_laws.specs.Remove.{CanRemove}
-use Rattle.image_laws.specs.Stages.{MayClearName, IsEmptyPage, IsNeedless, MayGive, MayFree}
+use Rattle.image_laws.specs.Stages.{MayClearName, IsNeedless, MayGive, MayFree}
 use Rattle.weave_laws.specs.Joined.{joined}
 use Rattle.weave_laws.specs.Removing.{inodes_left, unnamed_left, cleared_left, IsLeftPage}
-use Rattle.weave_laws.specs.Waiting.{WaitsBeside, IsLeavingName, WaitingRemovalLaw, IsClearedLink, WaitingClearingLaw, WaitingFallingLaw, IsGoingPage, WaitingGivingLaw, WaitingFreeingLaw}
+use Rattle.weave_laws.specs.Waiting.{WaitsBeside, IsLeavingName, WaitingRemovalLaw, WaitingClearingLaw, WaitingFallingLaw, IsGoingPage, WaitingGivingLaw, WaitingFreeingLaw}
 use Rattle.weave_laws.proofs.Contained.{contained_in, contained_or_not}
 use Rattle.weave_laws.proofs.WaitingNames.{root_or_not, names_above, directory_above, path_with}
 use Rattle.weave_laws.proofs.WaitingPlaces.{no_pointer, live, more_names, more_children, count_reached, waiting_link_law}

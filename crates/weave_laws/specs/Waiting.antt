@@ -38,7 +38,7 @@ pub record WaitsBeside (P : ℕ) (I : List ℕ) (own others : Residue) (state : 
 abbrev pub HasNoPageOf : ℕ → List ℕ → Residue → ℕ → Type 0
 HasNoPageOf P I others i = (j : ℕ) → IsIn j others.pages → page_owner P I j ≢ i
 
--- An inode whose links a call has raised, or is to lower, has one link more than is counted, where its link word is one more than the tree's number.
+-- An inode whose links a call has raised, or is to lower, has one link more than is counted in the words, where it has one more than the tree counts.
 abbrev pub WaitingLinkLaw : Type 0
 WaitingLinkLaw = (P : ℕ) (I : List ℕ) (residue : Residue) (state : State) (x : ℕ) → ReadsBeside P I residue state → IsIn x residue.counts → inode_links I x ≡ link_count state.tree x + 1
     → IsWrittenLink P I x
@@ -76,7 +76,7 @@ pub record IsVacantPlace (P : ℕ) (I : List ℕ) (T : Tree) (path : Route) (d s
   pub words : IsNameWords name
   pub name_is : name_in_words name ≡ last_name path
 
--- The call has left nothing, and the name may be written: the page has another one, where the others have left no page of d.
+-- The call has left nothing, and the name may be written. Where the others have left no page of d, the page has another name.
 abbrev pub WaitingPlaceLaw : Type 0
 WaitingPlaceLaw = (P : ℕ) (I : List ℕ) (state : State) (path : Route) (d s : ℕ) (name : List ℕ) (others : Residue) → WaitsBeside P I no_residue others state
     → IsVacantPlace P I state.tree path d s name → HasNoPageOf P I others d → IsReadySlot P I (reverse (parent path)) d s name × IsBlankSlot P I d s
@@ -101,7 +101,7 @@ pub record IsWaitingName (P : ℕ) (I : List ℕ) (T : Tree) (path : Route) (d s
   pub words : IsNameWords (slot_words P I s)
   pub name_is : slot_name P I s ≡ last_name path
 
--- The slot may take number i, where its page has a name, or is the new page.
+-- The slot may take number i. Its page has another name, or is new.
 pub record MayCommit (P : ℕ) (I : List ℕ) (path : Route) (d s : ℕ) (new_page : Option ℕ) (i : ℕ) : Type 0 where
   pub can : CanAdd P I (reverse (parent path)) d s i
   pub place : IsNamelessPage P I d s new_page
@@ -117,12 +117,12 @@ pub record MayCommitNode (P : ℕ) (I : List ℕ) (path : Route) (node : Node) (
   pub new : IsNewNode P I i
   pub is_node : IsNode P I i node
 
--- a link more than the tree counts has the directory that a directory is made in
+-- the directory that a directory is made in has one link more than the tree counts
 abbrev pub HasRaisedLinks : List ℕ → Tree → Node → ℕ → Type 0
 HasRaisedLinks I T Directory d = inode_links I d ≡ link_count T d + 1
 HasRaisedLinks I T (File bytes) d = Unit {0}
 
--- What waits is such a node and its links,
+-- The node is written, with the links of its directory,
 abbrev pub WaitingWordsLaw : Type 0
 WaitingWordsLaw = (P : ℕ) (I : List ℕ) (state : State) (node : Node) (d s : ℕ) (new_page : Option ℕ) (i : ℕ) (others : Residue) → WaitsBeside P I (node_left node d s new_page i) others state
     → HasNodeWords I node i → HasRaisedLinks I state.tree node d → IsWrittenNode P I node d i
@@ -185,7 +185,7 @@ abbrev pub WaitingClearingLaw : Type 0
 WaitingClearingLaw = (P : ℕ) (I : List ℕ) (state : State) (s : ℕ) (given_back : Option ℕ) (pages : List ℕ) (goes : Bool) (i : ℕ) (falling : Option ℕ) (y : ℕ) (others : Residue)
     → WaitsBeside P I (unnamed_left s given_back pages goes i falling) others state → IsHeld P I s → slot_inode P I s ≡ 0 → IsClearedLink goes i falling y → MayClearName P I s y
 
--- and the link word of y may fall
+-- and the link word of y, which has one link more than the tree counts, may fall
 abbrev pub HasFallingLinks : List ℕ → Tree → Option ℕ → Type 0
 HasFallingLinks I T None = Unit {0}
 HasFallingLinks I T (Some falling) = inode_links I falling ≡ link_count T falling + 1
