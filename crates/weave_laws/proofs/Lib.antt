@@ -44,6 +44,8 @@ pub mod Disjoint
 pub mod OwnWords
 pub mod WaitingPlaces
 pub mod WaitingNames
-mod WaitingRemovals
-mod WaitingFiles
+mod WaitingPlans
+pub mod WaitingRemovals
+pub mod WaitingFiles
+mod WaitingLosses
 pub mod Counterexamples

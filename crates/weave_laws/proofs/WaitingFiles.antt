@@ -74,7 +74,7 @@ module _ (P : ℕ) (I pages : List ℕ) (from to : ℕ) (order : AreInOrder P I 
 -- ---- a file of the tree
 
 module _ (P : ℕ) (I : List ℕ) (residue : Residue) (state : State) (holds : ReadsBeside P I residue state) (i : ℕ) (is : is_file state.tree i ≡ true) where
-  there : Reached P I i × IsFile I i
+  pub there : Reached P I i × IsFile I i
   there = ((has_sizes P I state.tree holds.coherent holds.reads.tree).files i).0 is
 
   page_kind_is : (j : ℕ) → j < data_pages_of P → page_owner P I j ≡ i → page_kind P I j ≡ 1
@@ -87,7 +87,7 @@ module _ (P : ℕ) (I : List ℕ) (residue : Residue) (state : State) (holds : R
     | inr room ↦ absurd (not_both_kinds I (page_owner P I j) (subst (IsFile I) (sym owner) there.1) room.directory)
   ]
 
-  left_behind : (j : ℕ) → IsPageIn P I i j → pages_of_size (inode_size I i) ≤ page_offset P I j → IsIn j residue.pages
+  pub left_behind : (j : ℕ) → IsPageIn P I i j → pages_of_size (inode_size I i) ≤ page_offset P I j → IsIn j residue.pages
   left_behind j page past =
       elim (((has_pages_beside P I residue state holds).used j page.in_range).1 (λ unused.
       let least = (in_range P I holds.coherent i there.0).0 in let owner = page.owner in let none = unused.0 in omega (arith, least, owner, none))) [
@@ -216,7 +216,7 @@ module _ (P : ℕ) (I : List ℕ) (residue : Residue) (state : State) (holds : R
   page_of j page = record { in_range = page.in_range; owner = page.owner; kind = page_kind_is P I residue state holds i is j page.in_range page.owner; offset = refl }
 
   -- below its end a file has one page at each offset
-  listed : (j : ℕ) → IsPageIn P I i j → pages_of_size z ≤ page_offset P I j → page_offset P I j < pages_of_size (inode_size I i) → Contains pages j
+  pub listed : (j : ℕ) → IsPageIn P I i j → pages_of_size z ≤ page_offset P I j → page_offset P I j < pages_of_size (inode_size I i) → Contains pages j
   listed j page least lt =
       let (h, given, at) = page_at P I pages z (inode_size I i) order (page_offset P I j) least lt in
       let (reached_i, file_i) = there P I residue state holds i is in

@@ -2,16 +2,17 @@
 use Rattle.std.proofs.Common.{◌≡◌, ◌≢◌, ◌⊎◌, inl, inr, ℕ, ◌<◌, ◌≤◌, false, List, [], ◌∷◌, ◌++◌, reverse, slice_index, Option, Some, None, refl, sym, ap, subst, ◌∙◌, arith}
 use Rattle.std.proofs.lemmas.Bool.{cases_eq}
 use Rattle.std.proofs.lemmas.List.{reverse-append, reverse-reverse}
-use Rattle.layout.specs.Fields.{inode_kind, inode_links, inode_size, inode_own, page_owner, slot_name}
+use Rattle.layout.specs.Fields.{inode_kind, inode_links, inode_size, inode_own, page_owner, slot_inode, slot_name}
 use Rattle.layout.specs.Geometry.{data_pages_of, page_of_slot, inodes_of}
 use Rattle.tree_model.specs.PathText.{Route}
 use Rattle.tree_model.specs.Run.{State}
-use Rattle.tree_model.specs.Tree.{Node, Directory, File, Tree, is_root, parent, last_name, id_at}
+use Rattle.tree_model.specs.Tree.{Node, Directory, File, is_root, parent, last_name, id_at}
 use Rattle.image_reading.specs.Counts.{IsIn, AtMost}
 use Rattle.image_reading.specs.Reading.{HasBytes, IsDirectory, IsFile, slot_owner, Names, Reached, IsReachedSlot, IsRoomOf, IsNameOf, IsChildOf, ReadsAs}
 use Rattle.image_reading.specs.Repairs.{IsLitterInode}
 use Rattle.image_reading.specs.Residue.{Residue}
 use Rattle.image_reading.specs.Soundness.{Rule, IsCoherent}
+use Rattle.image_counts.specs.Laws.{ReadsBeside}
 use Rattle.image_counts.proofs.Decided.{room_owner}
 use Rattle.image_counts.proofs.Distinct.{in_front, in_either}
 use Rattle.image_counts.proofs.Links.{not_both_kinds}
@@ -24,11 +25,11 @@ use Rattle.image_reading.proofs.Counts.{at_most_none}
 use Rattle.image_laws.proofs.MoveTree.{reverse_below}
 use Rattle.weave_laws.specs.Entering.{IsNamelessPage}
 use Rattle.weave_laws.specs.Joined.{joined}
-use Rattle.weave_laws.specs.Naming.{slots_left, pages_left, counts_left, node_left, link_left}
+use Rattle.weave_laws.specs.Naming.{slots_left, pages_left, counts_left, IsWrittenParent, node_left, link_left}
 use Rattle.weave_laws.specs.Removing.{IsPageOfName}
-use Rattle.weave_laws.specs.Waiting.{WaitsBeside, HasNoPageOf, IsPathSlot, IsWaitingName, MayCommit, HasNodeWords, MayCommitNode, WaitingNodeLaw, WaitingFileLaw}
+use Rattle.weave_laws.specs.Waiting.{WaitsBeside, HasNoPageOf, IsPlaceOf, IsWaitingName, MayCommit, HasNodeWords, MayCommitNode, HasRaisedLinks, WaitingWordsLaw, WaitingNodeLaw, WaitingFileLaw}
 use Rattle.weave_laws.proofs.Entered.{new_node_law}
-use Rattle.weave_laws.proofs.WaitingPlaces.{no_pointer, more_names, more_children, count_reached, unreached_page}
+use Rattle.weave_laws.proofs.WaitingPlaces.{waiting_link_law, no_pointer, more_names, more_children, count_reached, unreached_page}
 
 pub root_or_not : (path : Route) → (path ≡ []) ⊎ (is_root path ≡ false)
 root_or_not [] = inl refl
@@ -39,64 +40,66 @@ some_none o i none some = cc
 
 -- ---- the name
 
-module _ (P : ℕ) (I : List ℕ) (state : State) (coherent : IsCoherent P I) (reads : ReadsAs P I state) (path : Route) (d s : ℕ) (slot : IsPathSlot P I state.tree path d s) where
+module _ (P : ℕ) (I : List ℕ) (state : State) (coherent : IsCoherent P I) (reads : ReadsAs P I state) (path : Route) (d s : ℕ) (place : IsPlaceOf P I state.tree path d s) where
   pub names_above : Names P I (reverse (parent path)) d
-  names_above = (reads.tree.names (parent path) d).0 slot.above
+  names_above = (reads.tree.names (parent path) d).0 place.above
 
   pub directory_above : IsDirectory I d
-  directory_above = (((has_sizes P I state.tree coherent reads.tree).directories d).0 slot.directory).1
+  directory_above = (((has_sizes P I state.tree coherent reads.tree).directories d).0 place.directory).1
 
-  pub whole_path : is_root path ≡ false → reverse path ≡ slot_name P I s ∷ reverse (parent path)
-  whole_path below = reverse_below path below ∙ ap (λ n. n ∷ reverse (parent path)) (sym slot.name)
+  module _ (absent : id_at state.tree path ≡ None) where
+    pub below : is_root path ≡ false
+    below = elim (root_or_not path) [
+      | inl root ↦ absurd (some_none (id_at state.tree path) 1 absent (ap (id_at state.tree) root ∙ (reads.tree.names [] 1).1 refl))
+      | inr other ↦ other
+    ]
+
+    whole : path ≡ parent path ++ last_name path ∷ []
+    whole = sym (reverse-reverse path) ∙ ap reverse (reverse_below path below) ∙ reverse-append (last_name path ∷ []) (reverse (parent path)) ∙ ap (λ q. q ++ last_name path ∷ []) (reverse-reverse (parent path))
+
+    pub is_new : (name : List ℕ) → name ≡ last_name path → (t : ℕ) → IsReachedSlot P I t → slot_owner P I t ≡ d → slot_name P I t ≢ name
+    is_new name is t reached owner same =
+        ((has_absences P I state.tree coherent reads.tree).absent (parent path) d (last_name path) place.above).0 (ap (id_at state.tree) (sym whole) ∙ absent) t
+        (record { slot = reached; owner = owner; name = same ∙ is })
+
+pub path_with : (path : Route) (name : List ℕ) → is_root path ≡ false → name ≡ last_name path → reverse path ≡ name ∷ reverse (parent path)
+path_with path name below is = reverse_below path below ∙ ap (λ n. n ∷ reverse (parent path)) (sym is)
+
+-- the slot may be taken
+pub free_slot : (P : ℕ) (I : List ℕ) (residue : Residue) (state : State) (path : Route) (d s : ℕ) → ReadsBeside P I residue state → residue.pointer ≡ None → IsPlaceOf P I state.tree path d s
+    → slot_inode P I s ≡ 0 → IsFreeSlot P I (reverse (parent path)) d s
+free_slot P I residue state path d s holds none place number = record {
+  path = names_above P I state holds.coherent holds.reads path d s place;
+  directory = directory_above P I state holds.coherent holds.reads path d s place;
+  held = place.held;
+  owner = place.owner;
+  free = number;
+  no_pointer = no_pointer P I residue holds.beside none s place.held;
+  no_target = λ t held points. (let zero = no_pointer P I residue holds.beside none t held in omega (arith, zero, points));
+}
+
+-- ---- it has the name
 
 module _ (P : ℕ) (I : List ℕ) (own others : Residue) (state : State) (path : Route) (d s : ℕ) (waits : WaitsBeside P I own others state) (name : IsWaitingName P I state.tree path d s) where
-  abbrev T : Tree
-  T = state.tree
-
   coherent : IsCoherent P I
   coherent = waits.holds.coherent
 
-  below : is_root path ≡ false
-  below = elim (root_or_not path) [
-    | inl root ↦ absurd (some_none (id_at T path) 1 name.absent (ap (id_at T) root ∙ (waits.holds.reads.tree.names [] 1).1 refl))
-    | inr other ↦ other
-  ]
-
   pub path_is : reverse path ≡ slot_name P I s ∷ reverse (parent path)
-  path_is = whole_path P I state coherent waits.holds.reads path d s name.slot below
-
-  whole : path ≡ parent path ++ last_name path ∷ []
-  whole = sym (reverse-reverse path) ∙ ap reverse (reverse_below path below) ∙ reverse-append (last_name path ∷ []) (reverse (parent path)) ∙ ap (λ q. q ++ last_name path ∷ []) (reverse-reverse (parent path))
+  path_is = path_with path (slot_name P I s) (below P I state coherent waits.holds.reads path d s name.place name.absent) name.name_is
 
   pub names_d : Names P I (reverse (parent path)) d
-  names_d = names_above P I state coherent waits.holds.reads path d s name.slot
+  names_d = names_above P I state coherent waits.holds.reads path d s name.place
 
   pub is_directory_d : IsDirectory I d
-  is_directory_d = directory_above P I state coherent waits.holds.reads path d s name.slot
-
-  is_new : (t : ℕ) → IsReachedSlot P I t → slot_owner P I t ≡ d → slot_name P I t ≢ slot_name P I s
-  is_new t reached owner same =
-      ((has_absences P I T coherent waits.holds.reads.tree).absent (parent path) d (last_name path) name.above).0 (ap (id_at T) (sym whole) ∙ name.absent) t
-      (record { slot = reached; owner = owner; name = same ∙ name.name })
-
-  free_slot : IsFreeSlot P I (reverse (parent path)) d s
-  free_slot = record {
-    path = names_d;
-    directory = is_directory_d;
-    held = name.held;
-    owner = name.owner;
-    free = name.number;
-    no_pointer = no_pointer P I (joined own others) waits.holds.beside waits.no_pointer s name.held;
-    no_target = λ t held points. (let zero = no_pointer P I (joined own others) waits.holds.beside waits.no_pointer t held in omega (arith, zero, points));
-  }
+  is_directory_d = directory_above P I state coherent waits.holds.reads path d s name.place
 
   pub can_add : (i : ℕ) → 2 ≤ i → i ≤ inodes_of P → IsNewNode P I i ⊎ IsOldFile P I i → (HasBytes I i → AtMost 1 (IsNameOf P I i) (inode_links I i))
       → (IsDirectory I i → AtMost 3 (IsChildOf P I d) (inode_links I d)) → CanAdd P I (reverse (parent path)) d s i
   can_add i least most node names children = record {
     coherent = coherent;
-    slot = free_slot;
+    slot = free_slot P I (joined own others) state path d s waits.holds waits.no_pointer name.place name.number;
     name = name.words;
-    new = is_new;
+    new = is_new P I state coherent waits.holds.reads path d s name.place name.absent (slot_name P I s) name.name_is;
     least = least;
     most = most;
     node = node;
@@ -219,6 +222,13 @@ module _ (P : ℕ) (I : List ℕ) (state : State) (path : Route) (node : Node) (
 
 pub waiting_node_law : WaitingNodeLaw
 waiting_node_law P I state path node d s new_page i others waits name at has apart = may_commit_node P I state path node d s new_page i others waits name at has apart
+
+pub waiting_words_law : WaitingWordsLaw
+waiting_words_law P I state node d s new_page i others waits has raised = record { words = λ f lt. has.words f (omega (arith, lt)); parent = parent_has (joined (node_left node d s new_page i) others) node others.counts waits.holds refl raised }
+  where
+    parent_has : (residue : Residue) (kind : Node) (rest : List ℕ) → ReadsBeside P I residue state → residue.counts ≡ counts_left kind d ++ rest → HasRaisedLinks I state.tree kind d → IsWrittenParent P I kind d
+    parent_has residue Directory rest holds is links = waiting_link_law P I residue state d holds (subst (IsIn d) (sym is) (inl refl)) links
+    parent_has residue (File bytes) rest holds is links = tt
 
 -- ---- a link
 

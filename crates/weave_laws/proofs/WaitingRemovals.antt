@@ -6,7 +6,7 @@ use Rattle.layout.specs.Geometry.{inodes_of, data_pages_of}
 use Rattle.layout.specs.Name.{IsName}
 use Rattle.tree_model.specs.PathText.{Route}
 use Rattle.tree_model.specs.Run.{State}
-use Rattle.tree_model.specs.Tree.{is_root, parent, last_name}
+use Rattle.tree_model.specs.Tree.{is_root, parent, last_name, link_count}
 use Rattle.image_reading.specs.Counts.{IsIn}
 use Rattle.image_reading.specs.Litter.{IsInode}
 use Rattle.image_reading.specs.Reading.{IsDirectory, slot_owner, IsHeld, IsLive, Names, Reached, IsReachedSlot}
@@ -22,10 +22,10 @@ use Rattle.image_laws.specs.Remove.{CanRemove}
 use Rattle.image_laws.specs.Stages.{MayClearName, IsNeedless, MayGive, MayFree}
 use Rattle.weave_laws.specs.Joined.{joined}
 use Rattle.weave_laws.specs.Removing.{inodes_left, unnamed_left, cleared_left, IsLeftPage}
-use Rattle.weave_laws.specs.Waiting.{WaitsBeside, IsLeavingName, WaitingRemovalLaw, WaitingClearingLaw, IsGoingPage, WaitingGivingLaw, WaitingFreeingLaw}
+use Rattle.weave_laws.specs.Waiting.{WaitsBeside, IsLeavingName, WaitingRemovalLaw, WaitingClearingLaw, WaitingFallingLaw, IsGoingPage, WaitingGivingLaw, WaitingFreeingLaw}
 use Rattle.weave_laws.proofs.Contained.{contained_in, contained_or_not}
-use Rattle.weave_laws.proofs.WaitingNames.{root_or_not, names_above, directory_above, whole_path}
-use Rattle.weave_laws.proofs.WaitingPlaces.{no_pointer, live, more_names, more_children, count_reached}
+use Rattle.weave_laws.proofs.WaitingNames.{root_or_not, names_above, directory_above, path_with}
+use Rattle.weave_laws.proofs.WaitingPlaces.{no_pointer, live, more_names, more_children, count_reached, waiting_link_law}
 
 -- ---- the number
 
@@ -37,22 +37,22 @@ module _ (P : ℕ) (I : List ℕ) (state : State) (path : Route) (d s : ℕ) (ot
   coherent = waits.holds.coherent
 
   above : Names P I (reverse (parent path)) (slot_owner P I s)
-  above = subst (Names P I (reverse (parent path))) (sym name.owner) (names_above P I state coherent waits.holds.reads path d s name.slot)
+  above = subst (Names P I (reverse (parent path))) (sym name.owner) (names_above P I state coherent waits.holds.reads path d s name.place)
 
   directory : IsDirectory I (slot_owner P I s)
-  directory = subst (IsDirectory I) (sym name.owner) (directory_above P I state coherent waits.holds.reads path d s name.slot)
+  directory = subst (IsDirectory I) (sym name.owner) (directory_above P I state coherent waits.holds.reads path d s name.place)
 
   is_live : IsLive P I s
   is_live = live P I (joined no_residue others) waits.holds.beside waits.no_pointer s name.held name.number
 
-  reached : IsReachedSlot P I s
+  pub reached : IsReachedSlot P I s
   reached = record { owner = (reverse (parent path), above); directory = directory; live = is_live }
 
   -- a reached slot has a name's words, which say no empty name
   below : is_root path ≡ false
   unfolding slot_name
   below = elim (root_or_not path) [
-    | inl root ↦ absurd (empty_name (subst IsName (name.name ∙ ap last_name root) (coherent Rule.names s reached).is_name))
+    | inl root ↦ absurd (empty_name (subst IsName (name.name_is ∙ ap last_name root) (coherent Rule.names s reached).is_name))
     | inr other ↦ other
   ]
 
@@ -73,7 +73,7 @@ module _ (P : ℕ) (I : List ℕ) (state : State) (path : Route) (d s : ℕ) (ot
       no_pointer = no_pointer P I (joined no_residue others) waits.holds.beside waits.no_pointer s name.held;
       leaf = leaf;
     },
-    whole_path P I state coherent waits.holds.reads path d s name.slot below,
+    path_with path (slot_name P I s) below name.name_is,
   )
 
 pub waiting_removal_law : WaitingRemovalLaw
@@ -115,6 +115,17 @@ waiting_clearing_law P I state s given_back pages goes i (Some x) y others waits
     let range = in_range P I waits.holds.coherent y (count_reached P I residue state waits.holds y left) in
     may_clear P I state s given_back pages goes i (Some x) others waits held number y range.0 range.1
     (λ n links reached. links_needed P I residue state waits.holds y n left links)
+
+pub waiting_falling_law : WaitingFallingLaw
+waiting_falling_law P I state s given_back pages goes i None y others waits (all, is) links =
+    λ there. ((waits.holds.beside.of_inodes.each i).0 (gone P I i others.inodes goes all)).unreached (subst (Reached P I) is there)
+waiting_falling_law P I state s given_back pages goes i (Some x) y others waits is links =
+    let residue = joined (unnamed_left s given_back pages goes i (Some x)) others in
+    let left : IsIn y residue.counts = inl is in (
+      is,
+      count_reached P I residue state waits.holds y left,
+      waiting_link_law P I residue state y waits.holds left (subst (λ z. inode_links I z ≡ link_count state.tree z + 1) (sym is) links),
+    )
 
 -- ---- pages
 

@@ -1,29 +1,31 @@
 -- What a call that waits between two fences has, and that its next step may be made. It has its own words, facts of the tree that its command still
 -- needs, and what it has left, beside what the others have left. P is the number of pages, I the words before the step.
-use Rattle.std.specs.Prelude.{◌≡◌, ◌≢◌, ◌⊎◌, ℕ, ◌+◌, ◌^◌, ◌<◌, ◌≤◌, Bool, true, false, List, ◌∷◌, length, reverse, Option, Some, None, slice_get, slice_index, Contains}
+use Rattle.std.specs.Prelude.{◌≡◌, ◌≢◌, ◌↔◌, ◌⊎◌, ℕ, ◌+◌, ◌^◌, ◌<◌, ◌≤◌, Bool, true, false, List, [], ◌∷◌, length, reverse, Option, Some, None, slice_get, slice_index, Contains}
 use Rattle.layout.specs.Fields.{word, inode_links, inode_size, page_owner, page_kind, page_offset, slot_inode, slot_pointer, slot_name, slot_words}
 use Rattle.layout.specs.Geometry.{page_of_slot, inode_word_of}
-use Rattle.layout.specs.Name.{IsNameWords}
+use Rattle.layout.specs.Name.{IsNameWords, name_in_words}
 use Rattle.tree_model.specs.PathText.{Route}
-use Rattle.tree_model.specs.Tree.{Node, Tree, parent, last_name, id_at, is_directory, is_file, name_count, link_count}
+use Rattle.tree_model.specs.Tree.{Node, Directory, File, Tree, parent, last_name, id_at, is_directory, is_file, name_count, path_count, link_count}
 use Rattle.tree_model.specs.Run.{State}
 use Rattle.image_reading.specs.Counts.{IsIn, IsDistinct}
-use Rattle.image_reading.specs.Litter.{IsInode}
-use Rattle.image_reading.specs.Reading.{IsFile, slot_owner, IsHeld, IsNode, pages_of_size}
+use Rattle.image_reading.specs.Litter.{IsInode, IsZeroSlot}
+use Rattle.image_reading.specs.Reading.{IsFile, IsDirectory, slot_owner, IsHeld, Reached, IsNode, pages_of_size}
 use Rattle.image_reading.specs.Residue.{Residue, no_residue}
+use Rattle.image_counts.specs.Entries as entries
 use Rattle.image_counts.specs.Entries.{IsPageIn, IsUnusedDataPage}
 use Rattle.image_counts.specs.Laws.{ReadsBeside}
 use Rattle.image_laws.specs.Add.{IsNewNode, IsOldFile, CanAdd}
 use Rattle.image_laws.specs.Create.{IsEmptyNode, node_words}
 use Rattle.image_laws.specs.Remove.{CanRemove}
-use Rattle.image_laws.specs.Stages.{MayClearName, MayGive, MayFree}
+use Rattle.image_laws.specs.Stages.{IsFreeInode, IsReadySlot, IsEmptyPage, MayClearName, MayGive, MayFree}
 use Rattle.content_laws.specs.Cut.{MayTrim}
 use Rattle.weave_laws.specs.Bytes.{MayWrite, MayFill, MayOwn, MayRaise, MayLower}
 use Rattle.weave_laws.specs.Entering.{IsNamelessPage}
 use Rattle.weave_laws.specs.Joined.{joined}
-use Rattle.weave_laws.specs.Naming.{HasSpareLink, node_left, link_left}
-use Rattle.weave_laws.specs.Removing.{unnamed_left, cleared_left, IsPageOfName, IsLeftPage}
+use Rattle.weave_laws.specs.Naming.{IsBlankSlot, HasSpareLink, IsWrittenNode, node_left, link_left}
+use Rattle.weave_laws.specs.Removing.{unnamed_left, cleared_left, IsPageOfName, IsFallingLink, IsLeftPage}
 use Rattle.weave_laws.specs.Sizing.{ArePagesBetween}
+use Rattle.weave_laws.specs.Unnaming.{IsFallen, GoesWith}
 
 -- ---- beside others
 
@@ -36,32 +38,70 @@ pub record WaitsBeside (P : ℕ) (I : List ℕ) (own others : Residue) (state : 
 abbrev pub HasNoPageOf : ℕ → List ℕ → Residue → ℕ → Type 0
 HasNoPageOf P I others i = (j : ℕ) → IsIn j others.pages → page_owner P I j ≢ i
 
--- An inode whose links a call has raised, or is to lower, has one link more than is counted, where its link word is one more than the tree's number.
+-- An inode whose links a call has raised, or is to lower, has one link more than is counted in the words, where it has one more than the tree counts.
 abbrev pub WaitingLinkLaw : Type 0
 WaitingLinkLaw = (P : ℕ) (I : List ℕ) (residue : Residue) (state : State) (x : ℕ) → ReadsBeside P I residue state → IsIn x residue.counts → inode_links I x ≡ link_count state.tree x + 1
     → HasSpareLink P I x
 
+-- ---- pages
+
+-- Pages stand in the order of their offsets, from the end of one size to that of another.
+pub record AreInOrder (P : ℕ) (I pages : List ℕ) (from to : ℕ) : Type 0 where
+  pub offsets : (k j : ℕ) → slice_get pages k ≡ Some j → page_offset P I j ≡ pages_of_size from + k
+  pub count : length pages + pages_of_size from ≡ pages_of_size to
+
+-- no slot of directory page j names anything or points
+pub record IsBarePage (P : ℕ) (I : List ℕ) (j : ℕ) : Type 0 where
+  pub kind : page_kind P I j ≡ 2
+  pub numbers : (t : ℕ) → page_of_slot t ≡ j → slot_inode P I t ≡ 0
+  pub pointers : (t : ℕ) → page_of_slot t ≡ j → slot_pointer P I t ≡ 0
+
 -- ---- a name
 
--- Slot s, in a page of the path's directory d, has the path's last name.
-pub record IsPathSlot (P : ℕ) (I : List ℕ) (T : Tree) (path : Route) (d s : ℕ) : Type 0 where
+-- Slot s is in a page of the path's directory d.
+pub record IsPlaceOf (P : ℕ) (I : List ℕ) (T : Tree) (path : Route) (d s : ℕ) : Type 0 where
   pub above : id_at T (parent path) ≡ Some d
   pub directory : is_directory T d ≡ true
   pub held : IsHeld P I s
   pub owner : slot_owner P I s ≡ d
-  pub name : slot_name P I s ≡ last_name path
+
+-- ---- it isn't written yet
+
+-- The slot is zero, nothing is at the path, and these are the words of its last name.
+pub record IsVacantPlace (P : ℕ) (I : List ℕ) (T : Tree) (path : Route) (d s : ℕ) (name : List ℕ) : Type 0 where
+  pub place : IsPlaceOf P I T path d s
+  pub open place use *
+  pub absent : id_at T path ≡ None
+  pub zero : IsZeroSlot P I s
+  pub words : IsNameWords name
+  pub name_is : name_in_words name ≡ last_name path
+
+-- The call has left nothing, and the name may be written. Where the others have left no page of d, the page has another name.
+abbrev pub WaitingPlaceLaw : Type 0
+WaitingPlaceLaw = (P : ℕ) (I : List ℕ) (state : State) (path : Route) (d s : ℕ) (name : List ℕ) (others : Residue) → WaitsBeside P I no_residue others state
+    → IsVacantPlace P I state.tree path d s name → HasNoPageOf P I others d → IsReadySlot P I (reverse (parent path)) d s name × IsBlankSlot P I d s
+
+-- An inode without a kind may be taken.
+abbrev pub WaitingInodeLaw : Type 0
+WaitingInodeLaw = (P : ℕ) (I : List ℕ) (state : State) (i : ℕ) (others : Residue) → WaitsBeside P I no_residue others state → entries.IsFreeInode P I i → HasNoPageOf P I others i → IsFreeInode P I i
+
+-- A new page, which has no owner, may get one.
+abbrev pub WaitingClaimingLaw : Type 0
+WaitingClaimingLaw = (P : ℕ) (I : List ℕ) (state : State) (d j : ℕ) (own others : Residue) → WaitsBeside P I own others state → is_directory state.tree d ≡ true → page_owner P I j ≡ 0
+    → IsBarePage P I j → Reached P I d × IsDirectory I d × IsEmptyPage P I j
 
 -- ---- it is written
 
--- It has no number yet, and nothing is at the path.
+-- The slot has the path's last name and no number yet, and nothing is at the path.
 pub record IsWaitingName (P : ℕ) (I : List ℕ) (T : Tree) (path : Route) (d s : ℕ) : Type 0 where
-  pub slot : IsPathSlot P I T path d s
-  pub open slot use *
+  pub place : IsPlaceOf P I T path d s
+  pub open place use *
   pub absent : id_at T path ≡ None
   pub number : slot_inode P I s ≡ 0
   pub words : IsNameWords (slot_words P I s)
+  pub name_is : slot_name P I s ≡ last_name path
 
--- The slot may take number i, where its page has a name, or is the new page.
+-- The slot may take number i. Its page has another name, or is new.
 pub record MayCommit (P : ℕ) (I : List ℕ) (path : Route) (d s : ℕ) (new_page : Option ℕ) (i : ℕ) : Type 0 where
   pub can : CanAdd P I (reverse (parent path)) d s i
   pub place : IsNamelessPage P I d s new_page
@@ -77,13 +117,23 @@ pub record MayCommitNode (P : ℕ) (I : List ℕ) (path : Route) (node : Node) (
   pub new : IsNewNode P I i
   pub is_node : IsNode P I i node
 
--- with a new node,
+-- the directory that a directory is made in has one link more than the tree counts
+abbrev pub HasRaisedLinks : List ℕ → Tree → Node → ℕ → Type 0
+HasRaisedLinks I T Directory d = inode_links I d ≡ link_count T d + 1
+HasRaisedLinks I T (File bytes) d = Unit {0}
+
+-- The node is written, with the links of its directory,
+abbrev pub WaitingWordsLaw : Type 0
+WaitingWordsLaw = (P : ℕ) (I : List ℕ) (state : State) (node : Node) (d s : ℕ) (new_page : Option ℕ) (i : ℕ) (others : Residue) → WaitsBeside P I (node_left node d s new_page i) others state
+    → HasNodeWords I node i → HasRaisedLinks I state.tree node d → IsWrittenNode P I node d i
+
+-- and its name may get the number,
 abbrev pub WaitingNodeLaw : Type 0
 WaitingNodeLaw = (P : ℕ) (I : List ℕ) (state : State) (path : Route) (node : Node) (d s : ℕ) (new_page : Option ℕ) (i : ℕ) (others : Residue)
     → WaitsBeside P I (node_left node d s new_page i) others state → IsWaitingName P I state.tree path d s → IsPageOfName s new_page → HasNodeWords I node i → HasNoPageOf P I others i
     → MayCommitNode P I path node d s new_page i
 
--- or with a link
+-- or that of a file with a link more
 abbrev pub WaitingFileLaw : Type 0
 WaitingFileLaw = (P : ℕ) (I : List ℕ) (state : State) (path : Route) (d s : ℕ) (new_page : Option ℕ) (i : ℕ) (others : Residue)
     → WaitsBeside P I (link_left s new_page i) others state → IsWaitingName P I state.tree path d s → IsPageOfName s new_page → IsFile I i
@@ -91,17 +141,39 @@ WaitingFileLaw = (P : ℕ) (I : List ℕ) (state : State) (path : Route) (d s : 
 
 -- ---- it goes
 
--- It has a number, and a directory that it names is empty.
+-- The slot has the path's last name and a number, and a directory that it names is empty.
 pub record IsLeavingName (P : ℕ) (I : List ℕ) (T : Tree) (path : Route) (d s : ℕ) : Type 0 where
-  pub slot : IsPathSlot P I T path d s
-  pub open slot use *
+  pub place : IsPlaceOf P I T path d s
+  pub open place use *
   pub number : slot_inode P I s ≢ 0
+  pub name_is : slot_name P I s ≡ last_name path
   pub empty : is_directory T (slot_inode P I s) ≡ true → name_count T (slot_inode P I s) ≡ 0
 
 -- The call has left nothing, and the slot may give up its number.
 abbrev pub WaitingRemovalLaw : Type 0
 WaitingRemovalLaw = (P : ℕ) (I : List ℕ) (state : State) (path : Route) (d s : ℕ) (others : Residue) → WaitsBeside P I no_residue others state → IsLeavingName P I state.tree path d s
     → CanRemove P I (reverse (parent path)) s × (reverse path ≡ slot_name P I s ∷ reverse (parent path))
+
+-- where the page isn't given back it has another name, and where it is it has none
+abbrev pub HasOtherName : ℕ → List ℕ → ℕ → Option ℕ → Type 0
+HasOtherName P I s None = (t : ℕ) × (t ≢ s) × (page_of_slot t ≡ page_of_slot s) × (slot_inode P I t ≢ 0)
+HasOtherName P I s (Some page) = (page_of_slot s ≡ page) × ((t : ℕ) → page_of_slot t ≡ page → t ≢ s → slot_inode P I t ≡ 0)
+
+-- With the name goes a directory, or a file that has no other, and then the file's pages, which are these.
+pub record TakesAlong (P : ℕ) (I : List ℕ) (T : Tree) (s : ℕ) (given_back : Option ℕ) (pages : List ℕ) (goes : Bool) (falling : Option ℕ) : Type 0 where
+  pub file : IsFile I (slot_inode P I s) → (goes ≡ true) ↔ (path_count T (slot_inode P I s) ≡ 1)
+  pub directory : IsDirectory I (slot_inode P I s) → goes ≡ true
+  pub of_node : (j : ℕ) → Contains pages j → IsPageIn P I (slot_inode P I s) j
+  pub all_pages : IsFile I (slot_inode P I s) → goes ≡ true → AreInOrder P I pages 0 (inode_size I (slot_inode P I s))
+  pub no_pages : IsDirectory I (slot_inode P I s) ⊎ (goes ≡ false) → pages ≡ []
+  pub page : HasOtherName P I s given_back
+  pub link : IsFallen P I s goes falling
+
+-- That is what goes.
+abbrev pub WaitingLossLaw : Type 0
+WaitingLossLaw = (P : ℕ) (I : List ℕ) (state : State) (path : Route) (d s : ℕ) (given_back : Option ℕ) (pages : List ℕ) (goes : Bool) (falling : Option ℕ) (others : Residue)
+    → WaitsBeside P I no_residue others state → IsLeavingName P I state.tree path d s → HasNoPageOf P I others (slot_inode P I s) → TakesAlong P I state.tree s given_back pages goes falling
+    → GoesWith P I s given_back pages goes falling
 
 -- y is the inode that has a link less, or the file that goes
 abbrev pub IsClearedLink : Bool → ℕ → Option ℕ → ℕ → Type 0
@@ -113,15 +185,18 @@ abbrev pub WaitingClearingLaw : Type 0
 WaitingClearingLaw = (P : ℕ) (I : List ℕ) (state : State) (s : ℕ) (given_back : Option ℕ) (pages : List ℕ) (goes : Bool) (i : ℕ) (falling : Option ℕ) (y : ℕ) (others : Residue)
     → WaitsBeside P I (unnamed_left s given_back pages goes i falling) others state → IsHeld P I s → slot_inode P I s ≡ 0 → IsClearedLink goes i falling y → MayClearName P I s y
 
+-- and the link word of y, which has one link more than the tree counts, may fall
+abbrev pub HasFallingLinks : List ℕ → Tree → Option ℕ → Type 0
+HasFallingLinks I T None = Unit {0}
+HasFallingLinks I T (Some falling) = inode_links I falling ≡ link_count T falling + 1
+
+abbrev pub WaitingFallingLaw : Type 0
+WaitingFallingLaw = (P : ℕ) (I : List ℕ) (state : State) (s : ℕ) (given_back : Option ℕ) (pages : List ℕ) (goes : Bool) (i : ℕ) (falling : Option ℕ) (y : ℕ) (others : Residue)
+    → WaitsBeside P I (unnamed_left s given_back pages goes i falling) others state → IsClearedLink goes i falling y → HasFallingLinks I state.tree falling → IsFallingLink P I y falling
+
 -- ---- pages and an inode go
 
--- Page j is a directory page, and no slot of it names anything or points.
-pub record IsBarePage (P : ℕ) (I : List ℕ) (j : ℕ) : Type 0 where
-  pub kind : page_kind P I j ≡ 2
-  pub numbers : (t : ℕ) → page_of_slot t ≡ j → slot_inode P I t ≡ 0
-  pub pointers : (t : ℕ) → page_of_slot t ≡ j → slot_pointer P I t ≡ 0
-
--- It is such a page, or one of the file that goes.
+-- Page j has no name any more, or it is one of the file that goes.
 abbrev pub IsGoingPage : ℕ → List ℕ → Bool → ℕ → ℕ → Type 0
 IsGoingPage P I goes i j = ((goes ≡ true) × (page_owner P I j ≡ i) × (page_kind P I j ≡ 1)) ⊎ IsBarePage P I j
 
@@ -147,11 +222,6 @@ WaitingWritingLaw = (P : ℕ) (I : List ℕ) (state : State) (i offset : ℕ) (b
 abbrev pub WaitingFillingLaw : Type 0
 WaitingFillingLaw = (P : ℕ) (I : List ℕ) (state : State) (i : ℕ) (pages : List ℕ) (others : Residue) → WaitsBeside P I no_residue others state → is_file state.tree i ≡ true
     → ((j : ℕ) → Contains pages j → IsUnusedDataPage P I j) → MayFill P I i pages
-
--- Pages stand in the order of their offsets, from the end of one size to that of another.
-pub record AreInOrder (P : ℕ) (I pages : List ℕ) (from to : ℕ) : Type 0 where
-  pub offsets : (k j : ℕ) → slice_get pages k ≡ Some j → page_offset P I j ≡ pages_of_size from + k
-  pub count : length pages + pages_of_size from ≡ pages_of_size to
 
 -- Filled behind the end they may become the file's.
 abbrev pub WaitingOwningLaw : Type 0

@@ -10,7 +10,7 @@ ghost use Rattle.weave_laws.specs.Sizing.{WrittenInsideLaw, FilledLaw, TakenLaw,
 ghost use Rattle.weave_laws.specs.Removing.{ClearedLaw, GivenLaw, FreedLaw};
 ghost use Rattle.weave_laws.specs.Entering.{NodeEnteredLaw, NewNodeLaw, LinkEnteredLaw, NodeRoomLaw, LinkedRoomLaw, RemovedEnteredLaw, RemovedRoomLaw, OneWordLaw};
 ghost use Rattle.weave_laws.specs.Beside.{WiderLaw, DisjointLaw, NodeWordsLaw, LinkWordsLaw, PagedNodeWordsLaw, PagedLinkWordsLaw, OwnedWordsLaw, CommittedWordsLaw, DroppedWordsLaw, ClearedWordsLaw, GivenWordsLaw, FreedWordsLaw, InsideWordsLaw, FilledWordsLaw, TakenWordsLaw, SizedWordsLaw};
-ghost use Rattle.weave_laws.specs.Waiting.{WaitingLinkLaw, WaitingNodeLaw, WaitingFileLaw, WaitingRemovalLaw, WaitingClearingLaw, WaitingGivingLaw, WaitingFreeingLaw, WaitingWritingLaw, WaitingFillingLaw, WaitingOwningLaw, WaitingRaisingLaw, WaitingLoweringLaw, WaitingTrimmingLaw};
+ghost use Rattle.weave_laws.specs.Waiting.{WaitingLinkLaw, WaitingPlaceLaw, WaitingInodeLaw, WaitingClaimingLaw, WaitingWordsLaw, WaitingNodeLaw, WaitingFileLaw, WaitingRemovalLaw, WaitingLossLaw, WaitingClearingLaw, WaitingFallingLaw, WaitingGivingLaw, WaitingFreeingLaw, WaitingWritingLaw, WaitingFillingLaw, WaitingOwningLaw, WaitingRaisingLaw, WaitingLoweringLaw, WaitingTrimmingLaw};
 ghost use Rattle.weave_laws.specs.Joined.{AnyOrderLaw};
 ghost use Rattle.weave_laws.specs.Naming.{NodeWrittenLaw, LinkWrittenLaw, NodeCommittedLaw, LinkCommittedLaw};
 
@@ -134,10 +134,16 @@ pub fn own_words_law()
 /// What a waiting call has is enough for its next step, whatever steps other calls have made.
 pub fn waiting_law()
     ensures links { WaitingLinkLaw }
+    ensures place { WaitingPlaceLaw }
+    ensures inode { WaitingInodeLaw }
+    ensures claiming { WaitingClaimingLaw }
+    ensures words { WaitingWordsLaw }
     ensures node { WaitingNodeLaw }
     ensures file { WaitingFileLaw }
     ensures removal { WaitingRemovalLaw }
+    ensures loss { WaitingLossLaw }
     ensures clearing { WaitingClearingLaw }
+    ensures falling { WaitingFallingLaw }
     ensures giving { WaitingGivingLaw }
     ensures freeing { WaitingFreeingLaw }
     ensures writing { WaitingWritingLaw }

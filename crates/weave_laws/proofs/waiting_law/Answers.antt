@@ -1,8 +1,10 @@
 use Rattle.weave_laws.proofs.waiting_law.Goals as goal
 use Rattle.weave_laws.proofs.WaitingPlaces.{waiting_link_law}
 use Rattle.weave_laws.proofs.WaitingNames as names
+use Rattle.weave_laws.proofs.WaitingPlans as plans
 use Rattle.weave_laws.proofs.WaitingRemovals as removals
 use Rattle.weave_laws.proofs.WaitingFiles as files
+use Rattle.weave_laws.proofs.WaitingLosses.{waiting_loss_law}
 
 pub returns-clause-links : goal.returns-clause-links
 returns-clause-links c = waiting_link_law
@@ -42,3 +44,21 @@ returns-clause-lowering c = files.waiting_lowering_law
 
 pub returns-clause-trimming : goal.returns-clause-trimming
 returns-clause-trimming c = files.waiting_trimming_law
+
+pub returns-clause-place : goal.returns-clause-place
+returns-clause-place c = plans.waiting_place_law
+
+pub returns-clause-inode : goal.returns-clause-inode
+returns-clause-inode c = plans.waiting_inode_law
+
+pub returns-clause-claiming : goal.returns-clause-claiming
+returns-clause-claiming c = plans.waiting_claiming_law
+
+pub returns-clause-loss : goal.returns-clause-loss
+returns-clause-loss c = waiting_loss_law
+
+pub returns-clause-words : goal.returns-clause-words
+returns-clause-words c = names.waiting_words_law
+
+pub returns-clause-falling : goal.returns-clause-falling
+returns-clause-falling c = removals.waiting_falling_law
