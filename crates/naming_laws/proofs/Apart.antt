@@ -5,14 +5,15 @@ use Rattle.tree_model.specs.PathText.{Route}
 use Rattle.tree_model.specs.Tree.{Tree, Room, IsTree, parent, id_at, node_at, is_directory_node, is_number}
 use Rattle.tree_model.specs.Capacity.{Supply}
 use Rattle.tree_model.specs.Step.{refusal_with, tree_after}
-use Rattle.tree_model.specs.Run.{State, IsVolumeState}
+use Rattle.tree_model.specs.Run.{State}
 use Rattle.tree_model.specs.declared.command.Command.{Command}
 use Rattle.tree_model.specs.declared.command.Command.TheVariants.{Create, Mkdir, Link, Unlink, Rmdir, Rename, Write, Truncate, Read, Stat as Tell, List as Show, Df}
 use Rattle.tree_model.proofs.AcceptedLaws.{Accepted-from_row}
 use Rattle.naming_laws.specs.Naming.{paths_of, names_all, is_at_one_of, names_inode, AreApart}
-use Rattle.naming_laws.specs.Still.{Enters, FindsSame, ApartLaw}
+use Rattle.naming_laws.specs.Still.{Enters, FindsSame, KeepsNode, KeepsOthers, ApartLaw}
 use Rattle.naming_laws.proofs.Named.{IsFound, at_first, names_at, present_named, found_at}
-use Rattle.naming_laws.proofs.Stays.{Stays, stays_by}
+use Rattle.naming_laws.proofs.Edits.{other_id}
+use Rattle.naming_laws.proofs.Stays.{tree_stays, untouched_law}
 use Rattle.naming_laws.proofs.Walks.{same_walks}
 
 -- paths that name the same, name the same ids
@@ -22,37 +23,39 @@ same_ones T U (q ∷ qs) same i =
     ap (λ o. is_number o i || is_at_one_of U qs i) (same q (at_first q qs))
     ∙ ap (λ b. is_number (id_at T q) i || b) (same_ones T U qs (λ p at. same p (suc at.0, omega (arith, at.1), at.2)) i)
 
--- ---- what stays is found again
+-- ---- what is kept is found again
 
-module _ (supply : Supply) (T U : Tree) (room new : Room) (c other : Command) (t : IsTree T) (accepted : refusal_with supply T room c ≡ None) (stays : Stays T U room new other)
-    (apart : AreApart T c other) where
-  same_ids : (q : Route) → Contains (paths_of c) q → id_at U q ≡ id_at T q
+module _ (supply : Supply) (given : ℕ) (old new : State) (c other : Command) (t : IsTree old.tree) (u : IsTree new.tree) (accepted : refusal_with supply old.tree old.room c ≡ None)
+    (unused : node_at old.tree given ≡ None) (kept : KeepsOthers given old new other) (apart : AreApart old.tree c other) where
+  same_ids : (q : Route) → Contains (paths_of c) q → id_at new.tree q ≡ id_at old.tree q
   same_ids q at =
-      elim (found_at T t supply room c accepted q at) [
-        | inl there ↦ stays.leaves.ids q there.0 there.1 (apart there.0 there.2) ∙ sym there.1
-        | inr absent ↦ stays.leaves.absent q absent.0 absent.1 absent.2 (apart absent.0 absent.3) ∙ sym absent.1
+      elim (found_at old.tree t supply old.room c accepted q at) [
+        | inl there ↦ kept.paths q there.0 there.1 (apart there.0 there.2) ∙ sym there.1
+        | inr absent ↦ kept.names q absent.0 absent.2 (apart absent.0 absent.3)
       ]
 
-  same_named : names_all c ≡ false → (i : ℕ) → names_inode U c i ≡ names_inode T c i
+  same_named : names_all c ≡ false → (i : ℕ) → names_inode new.tree c i ≡ names_inode old.tree c i
   same_named one i =
-      ap (λ b. cond b (is_some (node_at U i)) (is_at_one_of U (paths_of c) i)) one ∙ same_ones T U (paths_of c) same_ids i
-      ∙ sym (ap (λ b. cond b (is_some (node_at T i)) (is_at_one_of T (paths_of c) i)) one)
+      ap (λ b. cond b (is_some (node_at new.tree i)) (is_at_one_of new.tree (paths_of c) i)) one ∙ same_ones old.tree new.tree (paths_of c) same_ids i
+      ∙ sym (ap (λ b. cond b (is_some (node_at old.tree i)) (is_at_one_of old.tree (paths_of c) i)) one)
 
-  same_nodes : (i : ℕ) → names_inode T c i ≡ true → node_at U i ≡ node_at T i
-  same_nodes i named = stays.leaves.nodes i (present_named T t c i named) (apart i named)
+  keeps : (i : ℕ) → names_inode old.tree c i ≡ true → KeepsNode i old new
+  keeps i named = kept.nodes i (apart i named) (other_id old.tree given i unused (present_named old.tree t c i named))
 
-  finds : ((i : ℕ) → names_inode U c i ≡ names_inode T c i) → FindsSame c (record { tree = T; room = room }) (record { tree = U; room = new })
+  finds : ((i : ℕ) → names_inode new.tree c i ≡ names_inode old.tree c i) → FindsSame c old new
   finds named = record {
-    walks = same_walks supply T U room t stays.tree c (Accepted-from_row supply T room c t accepted) same_ids (λ q i at e. ap is_directory_node (same_nodes i (names_at T t c q i at e)));
+    walks = same_walks supply old.tree new.tree old.room t u c (Accepted-from_row supply old.tree old.room c t accepted) same_ids
+        (λ q i at e. ap is_directory_node (keeps i (names_at old.tree t c q i at e)).node);
     ids = same_ids;
     named = named;
-    nodes = same_nodes;
-    names = λ i n. stays.names i (present_named T t c i n) (apart i n);
-    paths = λ i n. stays.leaves.paths i (present_named T t c i n) (apart i n);
-    pages = λ i n. stays.pages i (present_named T t c i n) (apart i n);
+    nodes = λ i n. (keeps i n).node;
+    names = λ i n. (keeps i n).names;
+    links = λ i n. (keeps i n).links;
+    paths = λ i n. (keeps i n).paths;
+    pages = λ i n. (keeps i n).pages;
   }
 
--- ---- where one of them names all
+-- ---- where it names all
 
 abbrev NamesSome : Tree → Command → Type 0
 NamesSome T c = (i : ℕ) × (names_inode T c i ≡ true)
@@ -80,49 +83,24 @@ names_some supply T room Df t e = inl refl
 named_by_all : (T : Tree) (all c : Command) (i : ℕ) → IsTree T → names_all all ≡ true → names_inode T c i ≡ true → names_inode T all i ≡ true
 named_by_all T all c i t is n = ap (λ b. cond b (is_some (node_at T i)) (is_at_one_of T (paths_of all) i)) is ∙ present_named T t c i n
 
-finds_nothing : (old new : State) → FindsSame Df old new
-finds_nothing old new = record {
-  walks = refl;
-  ids = λ q at. absurd (omega (arith, at.1));
-  named = λ i. refl;
-  nodes = λ i n. absurd (true≢false (sym n));
-  names = λ i n. absurd (true≢false (sym n));
-  paths = λ i n. absurd (true≢false (sym n));
-  pages = λ i n. absurd (true≢false (sym n));
-}
-
 -- ---- the law
 
-module _ (volume : ℕ) (supply others : Supply) (id : ℕ) (old new : State) (c : Command) (v : IsVolumeState volume old) (accepted : refusal_with supply old.tree old.room c ≡ None) where
-  moved : (other : Command) → Enters others id old new other → FindsSame c old (record { tree = tree_after id old.tree other; room = new.room }) → FindsSame c old new
-  moved other enters finds = subst (λ (U : Tree). FindsSame c old (record { tree = U; room = new.room })) (sym enters.tree) finds
-
-  stays_after : (other : Command) → Enters others id old new other → names_all other ≡ false → Stays old.tree (tree_after id old.tree other) old.room new.room other
-  stays_after other enters one = stays_by others old.tree old.room new.room id other v.tree v.room enters.accepted enters.unused enters.room one
-
-  after_df : Enters others id old new Df → FindsSame c old new
-  after_df enters =
-      moved Df enters (finds supply old.tree old.tree old.room new.room c Df v.tree accepted (stays_after Df enters refl) (λ i n. refl) (λ i. refl))
-
-  after_some : (other : Command) → Enters others id old new other → AreApart old.tree c other → names_all c ≡ false → names_all other ≡ false → FindsSame c old new
-  after_some other enters apart one single =
-      let U = tree_after id old.tree other in
-      let stays = stays_after other enters single in
-      moved other enters (finds supply old.tree U old.room new.room c other v.tree accepted stays apart
-      (same_named supply old.tree U old.room new.room c other v.tree accepted stays apart one))
+module _ (old new : State) (c other : Command) (t : IsTree old.tree) (apart : AreApart old.tree c other) (supply : Supply) (id : ℕ) (enters : Enters supply id old new other) where
+  -- beside a command that names all there is only df
+  all_named : names_all c ≡ true → (i : ℕ) → names_inode new.tree c i ≡ names_inode old.tree c i
+  all_named all i =
+      elim (names_some supply old.tree old.room other t enters.accepted) [
+        | inl df ↦ ap (λ (T : Tree). names_inode T c i) (enters.tree ∙ ap (tree_after id old.tree) df)
+        | inr some ↦ absurd (true≢false (sym some.1 ∙ apart some.0 (named_by_all old.tree c other some.0 t all some.1)))
+      ]
 
 pub apart_law : ApartLaw
 apart_law volume supply others id old new c other v accepted enters apart =
-    elim (names_all c) as (λ b. names_all c ≡ b → FindsSame c old new) [
-      | true ↦ λ all. elim (names_some others old.tree old.room other v.tree enters.accepted) [
-        | inl df ↦ after_df volume supply others id old new c v accepted (subst (λ (x : Command). Enters others id old new x) df enters)
-        | inr some ↦ absurd (true≢false (sym some.1 ∙ apart some.0 (named_by_all old.tree c other some.0 v.tree all some.1)))
-      ]
-      | false ↦ λ one. elim (names_all other) as (λ b. names_all other ≡ b → FindsSame c old new) [
-        | true ↦ λ all. elim (names_some supply old.tree old.room c v.tree accepted) [
-          | inl df ↦ subst (λ (x : Command). FindsSame x old new) (sym df) (finds_nothing old new)
-          | inr some ↦ absurd (true≢false (sym (named_by_all old.tree other c some.0 v.tree all some.1) ∙ apart some.0 some.1))
-        ]
-        | false ↦ λ single. after_some volume supply others id old new c v accepted other enters apart one single
-      ] refl
-    ] refl
+    let t = v.tree in
+    let u : IsTree new.tree = subst IsTree (sym enters.tree) (tree_stays others old.tree old.room id other t enters.accepted enters.unused) in
+    let kept = untouched_law volume others id old new other v enters in
+    finds supply id old new c other t u accepted enters.unused kept apart
+    (elim (names_all c) as (λ b. names_all c ≡ b → (i : ℕ) → names_inode new.tree c i ≡ names_inode old.tree c i) [
+      | true ↦ all_named old new c other t apart others id enters
+      | false ↦ same_named supply id old new c other t u accepted enters.unused kept apart
+    ] refl)

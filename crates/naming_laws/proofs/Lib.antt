@@ -1,6 +1,8 @@
 pub mod Named
 pub mod Edits
 pub mod Unused
+pub mod Counts
+pub mod Entries
 pub mod Stays
 pub mod Walks
 pub mod Apart

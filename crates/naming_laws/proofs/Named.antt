@@ -22,13 +22,13 @@ or_true : (x y : Bool) → y ≡ true → x || y ≡ true
 or_true true y h = refl
 or_true false y h = h
 
-equal_test : (a b : ℕ) → a ≡ b → a == b ≡ true
+pub equal_test : (a b : ℕ) → a ≡ b → a == b ≡ true
 equal_test a b e = grind (arith, nat_tests)
 
 equal_from : (a b : ℕ) → a == b ≡ true → a ≡ b
 equal_from a b e = grind (arith, nat_tests)
 
-number_is : (o : Option ℕ) (i : ℕ) → is_number o i ≡ true → o ≡ Some i
+pub number_is : (o : Option ℕ) (i : ℕ) → is_number o i ≡ true → o ≡ Some i
 number_is None i e = cc
 number_is (Some j) i e = ap Some (equal_from j i e)
 

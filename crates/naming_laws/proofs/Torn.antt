@@ -23,7 +23,7 @@ use Rattle.tree_model.proofs.FitsLaws.{need-le-free}
 use Rattle.naming_laws.specs.Naming.{paths_of, names_all, is_at_one_of, names_inode, inode_need}
 use Rattle.naming_laws.specs.Still.{FindsSame, HasEnough, DifferInBytes, DoesSame, TornLaw}
 use Rattle.naming_laws.proofs.Named.{at_first, names_at}
-use Rattle.naming_laws.proofs.Edits.{kept_at, leaves_by}
+use Rattle.naming_laws.proofs.Edits.{same_kind, kept_at, leaves_by}
 use Rattle.naming_laws.proofs.Walks.{same_walks}
 use Rattle.naming_laws.proofs.Still.{same_gaining, same_losing, inodes_enough, still_in_tree}
 
@@ -58,12 +58,8 @@ module _ (T : Tree) (t : IsTree T) (file : ℕ) (bytes torn : List ℕ) (is : no
   tree_torn : IsTree V
   tree_torn = IsTree-with_bytes T file torn t (ap is_directory_node is) (ap is_some is)
 
-  same_kind : (i : ℕ) → is_directory V i ≡ is_directory T i
-  same_kind i = ap is_directory_node (node_at-with_bytes T file torn i) ∙ either (eq_by_cmp nat_cmp i file) refl
-    where
-      either : (b : Bool) → eq_by_cmp nat_cmp i file ≡ b → is_directory_node (cond b (Some (File torn)) (node_at T i)) ≡ is_directory T i
-      either true same = sym (ap (is_directory T) (same_id i file same) ∙ ap is_directory_node is)
-      either false other = refl
+  same_kinds : (i : ℕ) → is_directory V i ≡ is_directory T i
+  same_kinds = same_kind T file torn (ap is_directory_node is)
 
   same_inodes : inodes_in_use V ≡ inodes_in_use T
   same_inodes =
@@ -108,11 +104,12 @@ module _ (T : Tree) (t : IsTree T) (file : ℕ) (bytes torn : List ℕ) (is : no
 
     finds_beside : FindsSame c (record { tree = T; room = room }) (record { tree = V; room = room })
     finds_beside = record {
-      walks = same_walks supply T V room t tree_torn c (Accepted-from_row supply T room c t accepted) (λ q at. refl) (λ q i at e. same_kind i);
+      walks = same_walks supply T V room t tree_torn c (Accepted-from_row supply T room c t accepted) (λ q at. refl) (λ q i at e. same_kinds i);
       ids = λ q at. refl;
       named = same_named;
       nodes = λ i named. other_node i (other_id i named);
       names = λ i named. refl;
+      links = λ i named k. cond (same_kinds i k) (2 + count_by (λ e. same_kinds e.1 k) (entries_in T i)) (path_count T i);
       paths = λ i named. refl;
       pages = λ i named. refl;
     }
@@ -151,7 +148,7 @@ module _ (T : Tree) (t : IsTree T) (file : ℕ) (bytes torn : List ℕ) (is : no
       λ k. Status (record {
         dir = is_directory_node (node k);
         inode = i;
-        links = cond (is_directory_node (node k)) (2 + count_by (λ e. same_kind e.1 k) (entries_in T i)) (path_count T i);
+        links = cond (is_directory_node (node k)) (2 + count_by (λ e. same_kinds e.1 k) (entries_in T i)) (path_count T i);
         amount = cond (is_directory_node (node k)) (name_count T i) (length (bytes_of_node (node k)));
       })
   answer_same supply room (Show path) e apart a = refl
@@ -234,8 +231,8 @@ module _ (T : Tree) (t : IsTree T) (file : ℕ) (bytes torn : List ℕ) (is : no
       others = others_same supply room id c accepted apart (Accepted-from_row supply T room c t accepted) few;
       bytes = bytes;
       torn = torn;
-      is = (leaves_by T t id unused supply room c accepted few).nodes file (ap is_some is) apart ∙ is;
-      is_torn = (leaves_by V tree_torn id unused_beside supply room c (accepted_beside supply room c accepted apart) few).nodes file (ap is_some is_torn)
+      is = (leaves_by T t id unused supply room c accepted).nodes file (ap is_some is) apart ∙ is;
+      is_torn = (leaves_by V tree_torn id unused_beside supply room c (accepted_beside supply room c accepted apart)).nodes file (ap is_some is_torn)
           (same_named supply room c accepted apart file ∙ apart) ∙ is_torn;
       size = size;
     }

@@ -33,7 +33,7 @@ module _ (T : Tree) (free : ℕ) (none : node_at T free ≡ None) where
   none_chosen true U e = none
   none_chosen false U e = e
 
-  none_after : (supply : Supply) (room : Room) (id : ℕ) (c : Command) → Accepted supply T room c → free ≢ id → node_at (tree_after id T c) free ≡ None
+  pub none_after : (supply : Supply) (room : Room) (id : ℕ) (c : Command) → Accepted supply T room c → free ≢ id → node_at (tree_after id T c) free ≡ None
   none_after supply room id (Create path) a other = node_at-with_new_other T path id (File []) free other ∙ none
   none_after supply room id (Mkdir path) a other = node_at-with_new_other T path id Directory free other ∙ none
   none_after supply room id (Link from to) a other = none

@@ -2,7 +2,7 @@
 use Rattle.std.specs.Prelude.{◌≡◌, ◌≢◌, ℕ, ◌≤◌, Bool, true, false, List, length, Some, None}
 use Rattle.std.specs.List.{Contains}
 use Rattle.tree_model.specs.PathText.{Route}
-use Rattle.tree_model.specs.Tree.{Tree, File, Room, id_at, node_at, name_count, path_count, pages_in}
+use Rattle.tree_model.specs.Tree.{Tree, File, Room, parent, id_at, node_at, name_count, path_count, link_count, pages_in}
 use Rattle.tree_model.specs.Capacity.{Supply, free_inodes, free_pages}
 use Rattle.tree_model.specs.Step.{walk_faults, need, refusal_with, resolved, answer_of, tree_after, room_after, RoomAfterWith}
 use Rattle.tree_model.specs.Run.{State, IsVolumeState}
@@ -20,13 +20,14 @@ pub record Enters (supply : Supply) (id : ℕ) (old new : State) (c : Command) :
   pub room : RoomAfterWith None id old.tree old.room c new.room
 
 -- The command finds the same in both states: its walks, the ids of its paths, and of each id that it names the node and how many names,
--- paths and pages it has.
+-- links, paths and pages it has.
 pub record FindsSame (c : Command) (old new : State) : Type 0 where
   pub walks : walk_faults new.tree c ≡ walk_faults old.tree c
   pub ids : (path : Route) → Contains (paths_of c) path → id_at new.tree path ≡ id_at old.tree path
   pub named : (id : ℕ) → names_inode new.tree c id ≡ names_inode old.tree c id
   pub nodes : (id : ℕ) → names_inode old.tree c id ≡ true → node_at new.tree id ≡ node_at old.tree id
   pub names : (id : ℕ) → names_inode old.tree c id ≡ true → name_count new.tree id ≡ name_count old.tree id
+  pub links : (id : ℕ) → names_inode old.tree c id ≡ true → link_count new.tree id ≡ link_count old.tree id
   pub paths : (id : ℕ) → names_inode old.tree c id ≡ true → path_count new.tree id ≡ path_count old.tree id
   pub pages : (id : ℕ) → names_inode old.tree c id ≡ true → pages_in new.room id ≡ pages_in old.room id
 
@@ -39,6 +40,25 @@ ApartLaw = (volume : ℕ) (supply others : Supply) (id : ℕ) (old new : State) 
 abbrev pub UnusedLaw : Type 0
 UnusedLaw = (volume : ℕ) (supply : Supply) (id : ℕ) (old new : State) (other : Command) → IsVolumeState volume old → Enters supply id old new other
     → (free : ℕ) → node_at old.tree free ≡ None → free ≢ id → node_at new.tree free ≡ None
+
+-- The node of this id is the same, or in neither state there is one; and so is how many names, links, paths and pages it has.
+pub record KeepsNode (id : ℕ) (old new : State) : Type 0 where
+  pub node : node_at new.tree id ≡ node_at old.tree id
+  pub names : name_count new.tree id ≡ name_count old.tree id
+  pub links : link_count new.tree id ≡ link_count old.tree id
+  pub paths : path_count new.tree id ≡ path_count old.tree id
+  pub pages : pages_in new.room id ≡ pages_in old.room id
+
+-- Each id that the command doesn't name is kept, but the one that it was given; so are the paths of a node that it doesn't name, and what is at
+-- a path in it, absence too.
+pub record KeepsOthers (given : ℕ) (old new : State) (c : Command) : Type 0 where
+  pub nodes : (id : ℕ) → names_inode old.tree c id ≡ false → id ≢ given → KeepsNode id old new
+  pub paths : (path : Route) (id : ℕ) → id_at old.tree path ≡ Some id → names_inode old.tree c id ≡ false → id_at new.tree path ≡ Some id
+  pub names : (path : Route) (id : ℕ) → id_at old.tree (parent path) ≡ Some id → names_inode old.tree c id ≡ false → id_at new.tree path ≡ id_at old.tree path
+
+-- Every command that is carried out keeps the others, whatever waits beside it. A rename names every node, so it keeps absence alone.
+abbrev pub UntouchedLaw : Type 0
+UntouchedLaw = (volume : ℕ) (supply : Supply) (id : ℕ) (old new : State) (other : Command) → IsVolumeState volume old → Enters supply id old new other → KeepsOthers id old new other
 
 -- As much is free as the command needed.
 pub record HasEnough (later : Supply) (old new : State) (c : Command) : Type 0 where
