@@ -10,7 +10,7 @@ ghost use Rattle.weave_laws.specs.Sizing.{WrittenInsideLaw, FilledLaw, TakenLaw,
 ghost use Rattle.weave_laws.specs.Removing.{ClearedLaw, GivenLaw, FreedLaw};
 ghost use Rattle.weave_laws.specs.Entering.{NodeEnteredLaw, NewNodeLaw, LinkEnteredLaw, NodeRoomLaw, LinkedRoomLaw, RemovedEnteredLaw, RemovedRoomLaw, OneWordLaw};
 ghost use Rattle.weave_laws.specs.Beside.{WiderLaw, DisjointLaw, NodeWordsLaw, LinkWordsLaw, PagedNodeWordsLaw, PagedLinkWordsLaw, OwnedWordsLaw, CommittedWordsLaw, DroppedWordsLaw, ClearedWordsLaw, GivenWordsLaw, FreedWordsLaw, InsideWordsLaw, FilledWordsLaw, TakenWordsLaw, SizedWordsLaw};
-ghost use Rattle.weave_laws.specs.Waiting.{WaitingLinkLaw, WaitingPlaceLaw, WaitingInodeLaw, WaitingClaimingLaw, WaitingWordsLaw, WaitingNodeLaw, WaitingFileLaw, WaitingRemovalLaw, WaitingLossLaw, WaitingClearingLaw, WaitingFallingLaw, WaitingGivingLaw, WaitingFreeingLaw, WaitingWritingLaw, WaitingFillingLaw, WaitingOwningLaw, WaitingRaisingLaw, WaitingLoweringLaw, WaitingTrimmingLaw};
+ghost use Rattle.weave_laws.specs.Waiting.{WaitingLinkLaw, WaitingCountedLaw, WaitingPlaceLaw, WaitingInodeLaw, WaitingClaimingLaw, WaitingWordsLaw, WaitingNodeLaw, WaitingFileLaw, WaitingRemovalLaw, WaitingLossLaw, WaitingApartLaw, WaitingClearingLaw, WaitingFallingLaw, WaitingGivingLaw, WaitingFreeingLaw, WaitingWritingLaw, WaitingFillingLaw, WaitingOwningLaw, WaitingRaisingLaw, WaitingRangeLaw, WaitingLoweringLaw, WaitingTrimmingLaw};
 ghost use Rattle.weave_laws.specs.Joined.{AnyOrderLaw};
 ghost use Rattle.weave_laws.specs.Naming.{NodeWrittenLaw, LinkWrittenLaw, NodeCommittedLaw, LinkCommittedLaw};
 
@@ -134,6 +134,7 @@ pub fn own_words_law()
 /// What a waiting call has is enough for its next step, whatever steps other calls have made.
 pub fn waiting_law()
     ensures links { WaitingLinkLaw }
+    ensures counted { WaitingCountedLaw }
     ensures place { WaitingPlaceLaw }
     ensures inode { WaitingInodeLaw }
     ensures claiming { WaitingClaimingLaw }
@@ -142,6 +143,7 @@ pub fn waiting_law()
     ensures file { WaitingFileLaw }
     ensures removal { WaitingRemovalLaw }
     ensures loss { WaitingLossLaw }
+    ensures apart { WaitingApartLaw }
     ensures clearing { WaitingClearingLaw }
     ensures falling { WaitingFallingLaw }
     ensures giving { WaitingGivingLaw }
@@ -150,6 +152,7 @@ pub fn waiting_law()
     ensures filling { WaitingFillingLaw }
     ensures owning { WaitingOwningLaw }
     ensures raising { WaitingRaisingLaw }
+    ensures range { WaitingRangeLaw }
     ensures lowering { WaitingLoweringLaw }
     ensures trimming { WaitingTrimmingLaw }
 {}
