@@ -49,5 +49,5 @@ pub mod WaitingRemovals
 pub mod WaitingFiles
 mod WaitingLosses
 mod WaitingApart
-mod WaitingRanges
+mod Growing
 pub mod Counterexamples

@@ -1,14 +1,12 @@
 -- The others have left nothing of a node that loses its name, nor of its directory.
-use Rattle.std.proofs.Common.{◌≡◌, ◌≢◌, ◌⊎◌, inl, inr, ℕ, List, sym, subst, ◌∙◌}
+use Rattle.std.proofs.Common.{◌≢◌, ℕ, List, sym, subst, ◌∙◌}
 use Rattle.layout.specs.Fields.{slot_inode}
 use Rattle.tree_model.specs.PathText.{Route}
 use Rattle.tree_model.specs.Run.{State}
 use Rattle.image_reading.specs.Counts.{IsIn}
-use Rattle.image_reading.specs.Reading.{IsFile, IsDirectory, slot_owner, Reached, IsReachedSlot}
+use Rattle.image_reading.specs.Reading.{IsDirectory, slot_owner, Reached, IsReachedSlot}
 use Rattle.image_reading.specs.Residue.{Residue, no_residue}
-use Rattle.image_reading.specs.Soundness.{Rule}
 use Rattle.image_counts.specs.Laws.{IsApart}
-use Rattle.image_counts.proofs.Links.{not_both_kinds}
 use Rattle.image_counts.proofs.Paths.{inode_reached}
 use Rattle.weave_laws.specs.Joined.{joined}
 use Rattle.weave_laws.specs.Waiting.{WaitsBeside, IsLeavingName, LeavesAlone, HasNoSlotOf, WaitingApartLaw}

@@ -1,7 +1,7 @@
 -- What a call that waits between two fences has, and that its next step may be made. It has its own words, facts of the tree that its command still
 -- needs, and what it has left, beside what the others have left. P is the number of pages, I the words before the step.
-use Rattle.std.specs.Prelude.{◌≡◌, ◌≢◌, ◌↔◌, ◌⊎◌, ℕ, ◌+◌, ◌-◌, ◌/◌, ◌%◌, ◌^◌, ◌<◌, ◌≤◌, Bool, true, false, List, [], ◌∷◌, length, reverse, Option, Some, None, slice_get, slice_index, Contains}
-use Rattle.layout.specs.Fields.{word, inode_links, inode_size, page_owner, page_kind, page_offset, page_byte, slot_inode, slot_pointer, slot_name, slot_words}
+use Rattle.std.specs.Prelude.{◌≡◌, ◌≢◌, ◌↔◌, ◌⊎◌, ℕ, ◌+◌, ◌^◌, ◌<◌, ◌≤◌, Bool, true, false, List, [], ◌∷◌, length, reverse, Option, Some, None, slice_get, slice_index, Contains}
+use Rattle.layout.specs.Fields.{word, inode_links, inode_size, page_owner, page_kind, page_offset, slot_inode, slot_pointer, slot_name, slot_words}
 use Rattle.layout.specs.Geometry.{page_of_slot, inode_word_of}
 use Rattle.layout.specs.Name.{IsNameWords, name_in_words}
 use Rattle.tree_model.specs.PathText.{Route}
@@ -20,8 +20,7 @@ use Rattle.image_laws.specs.Create.{IsEmptyNode, node_words}
 use Rattle.image_laws.specs.Remove.{CanRemove}
 use Rattle.image_laws.specs.Stages.{IsFreeInode, IsReadySlot, IsEmptyPage, MayClearName, MayGive, MayFree}
 use Rattle.content_laws.specs.Cut.{MayTrim}
-use Rattle.content_laws.specs.Range.{IsInRange, IsBeside}
-use Rattle.weave_laws.specs.Bytes.{MayWrite, MayFill, MayOwn, MayRaise, HoldsRange, MayLower}
+use Rattle.weave_laws.specs.Bytes.{MayWrite, MayFill, MayOwn, MayRaise, MayLower}
 use Rattle.weave_laws.specs.Entering.{HasPlace, IsNamelessPage}
 use Rattle.weave_laws.specs.Joined.{joined}
 use Rattle.weave_laws.specs.Naming.{IsBlankSlot, HasSpareLink, IsWrittenNode, node_left, link_left}
@@ -197,7 +196,7 @@ pub record LeavesAlone (P : ℕ) (I : List ℕ) (T : Tree) (others : Residue) (x
 abbrev pub HasNoSlotOf : ℕ → List ℕ → Residue → ℕ → Type 0
 HasNoSlotOf P I others d = (t : ℕ) → IsIn t others.slots → slot_owner P I t ≢ d
 
--- Then they have left nothing of the node, nor of its directory. A slot in a page of the node they can't have left: that page has a name.
+-- Then they have left nothing of the node, nor of its directory. A slot in a page of the node they can't have left: such a page has a name, and the node none.
 abbrev pub WaitingApartLaw : Type 0
 WaitingApartLaw = (P : ℕ) (I : List ℕ) (state : State) (path : Route) (d s : ℕ) (others : Residue) → WaitsBeside P I no_residue others state → IsLeavingName P I state.tree path d s
     → LeavesAlone P I state.tree others (slot_inode P I s) → LeavesAlone P I state.tree others d → HasNoSlotOf P I others d
@@ -261,17 +260,6 @@ abbrev pub WaitingRaisingLaw : Type 0
 WaitingRaisingLaw = (P : ℕ) (I : List ℕ) (state : State) (i z : ℕ) (pages : List ℕ) (others : Residue) → WaitsBeside P I (cleared_left pages false i) others state → is_file state.tree i ≡ true
     → AreInOrder P I pages (inode_size I i) z → ((j : ℕ) → Contains pages j → page_owner P I j ≡ i) → HasNoPageOf P I others i → inode_size I i < z → z ≤ 2 ^ 40
     → MayRaise P I i z × ArePagesBetween P I i pages (inode_size I i) z
-
--- These pages, from the file's first on in order, have the range below z, and beside it zeros behind the size.
-pub record HoldsRangeIn (P : ℕ) (I own : List ℕ) (i z offset : ℕ) (bytes : List ℕ) : Type 0 where
-  pub order : AreInOrder P I own 0 z
-  pub of_file : (j : ℕ) → Contains own j → IsPageIn P I i j
-  pub new : (o j : ℕ) → o < z → IsInRange offset bytes o → slice_get own (o / 4096) ≡ Some j → page_byte P I j (o % 4096) ≡ slice_index bytes (o - offset)
-  pub zero : (o j : ℕ) → o < z → IsBeside offset bytes o → inode_size I i ≤ o → slice_get own (o / 4096) ≡ Some j → page_byte P I j (o % 4096) ≡ 0
-
--- Then the file has them.
-abbrev pub WaitingRangeLaw : Type 0
-WaitingRangeLaw = (P : ℕ) (I own : List ℕ) (i z offset : ℕ) (bytes : List ℕ) → MayRaise P I i z → HoldsRangeIn P I own i z offset bytes → HoldsRange P I i z offset bytes
 
 -- The call has left nothing, and the size may fall: these are the pages behind it.
 abbrev pub WaitingLoweringLaw : Type 0

@@ -10,7 +10,8 @@ ghost use Rattle.weave_laws.specs.Sizing.{WrittenInsideLaw, FilledLaw, TakenLaw,
 ghost use Rattle.weave_laws.specs.Removing.{ClearedLaw, GivenLaw, FreedLaw};
 ghost use Rattle.weave_laws.specs.Entering.{NodeEnteredLaw, NewNodeLaw, LinkEnteredLaw, NodeRoomLaw, LinkedRoomLaw, RemovedEnteredLaw, RemovedRoomLaw, OneWordLaw};
 ghost use Rattle.weave_laws.specs.Beside.{WiderLaw, DisjointLaw, NodeWordsLaw, LinkWordsLaw, PagedNodeWordsLaw, PagedLinkWordsLaw, OwnedWordsLaw, CommittedWordsLaw, DroppedWordsLaw, ClearedWordsLaw, GivenWordsLaw, FreedWordsLaw, InsideWordsLaw, FilledWordsLaw, TakenWordsLaw, SizedWordsLaw};
-ghost use Rattle.weave_laws.specs.Waiting.{WaitingLinkLaw, WaitingCountedLaw, WaitingPlaceLaw, WaitingInodeLaw, WaitingClaimingLaw, WaitingWordsLaw, WaitingNodeLaw, WaitingFileLaw, WaitingRemovalLaw, WaitingLossLaw, WaitingApartLaw, WaitingClearingLaw, WaitingFallingLaw, WaitingGivingLaw, WaitingFreeingLaw, WaitingWritingLaw, WaitingFillingLaw, WaitingOwningLaw, WaitingRaisingLaw, WaitingRangeLaw, WaitingLoweringLaw, WaitingTrimmingLaw};
+ghost use Rattle.weave_laws.specs.Waiting.{WaitingLinkLaw, WaitingCountedLaw, WaitingPlaceLaw, WaitingInodeLaw, WaitingClaimingLaw, WaitingWordsLaw, WaitingNodeLaw, WaitingFileLaw, WaitingRemovalLaw, WaitingLossLaw, WaitingApartLaw, WaitingClearingLaw, WaitingFallingLaw, WaitingGivingLaw, WaitingFreeingLaw, WaitingWritingLaw, WaitingFillingLaw, WaitingOwningLaw, WaitingRaisingLaw, WaitingLoweringLaw, WaitingTrimmingLaw};
+ghost use Rattle.weave_laws.specs.Growing.{FilledRangeLaw, TakenRangeLaw, KeptRangeLaw, HeldRangeLaw};
 ghost use Rattle.weave_laws.specs.Joined.{AnyOrderLaw};
 ghost use Rattle.weave_laws.specs.Naming.{NodeWrittenLaw, LinkWrittenLaw, NodeCommittedLaw, LinkCommittedLaw};
 
@@ -152,7 +153,14 @@ pub fn waiting_law()
     ensures filling { WaitingFillingLaw }
     ensures owning { WaitingOwningLaw }
     ensures raising { WaitingRaisingLaw }
-    ensures range { WaitingRangeLaw }
     ensures lowering { WaitingLoweringLaw }
     ensures trimming { WaitingTrimmingLaw }
+{}
+
+/// A file's pages hold the range that is written from when they are filled until the size may rise over them, whatever others store elsewhere.
+pub fn range_law()
+    ensures filled { FilledRangeLaw }
+    ensures taken { TakenRangeLaw }
+    ensures kept { KeptRangeLaw }
+    ensures held { HeldRangeLaw }
 {}

@@ -6,7 +6,6 @@ use Rattle.weave_laws.proofs.WaitingRemovals as removals
 use Rattle.weave_laws.proofs.WaitingFiles as files
 use Rattle.weave_laws.proofs.WaitingLosses.{waiting_loss_law}
 use Rattle.weave_laws.proofs.WaitingApart.{waiting_apart_law}
-use Rattle.weave_laws.proofs.WaitingRanges.{waiting_range_law}
 
 pub returns-clause-links : goal.returns-clause-links
 returns-clause-links c = waiting_link_law
@@ -70,6 +69,3 @@ returns-clause-counted c = waiting_counted_law
 
 pub returns-clause-apart : goal.returns-clause-apart
 returns-clause-apart c = waiting_apart_law
-
-pub returns-clause-range : goal.returns-clause-range
-returns-clause-range c = waiting_range_law
