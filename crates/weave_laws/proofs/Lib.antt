@@ -48,4 +48,6 @@ mod WaitingPlans
 pub mod WaitingRemovals
 pub mod WaitingFiles
 mod WaitingLosses
+mod WaitingApart
+mod Growing
 pub mod Counterexamples

@@ -23,11 +23,11 @@ use Rattle.image_laws.specs.Add.{IsNewNode, IsOldFile, IsFreeSlot, CanAdd}
 use Rattle.image_laws.specs.Create.{node_words}
 use Rattle.image_reading.proofs.Counts.{at_most_none}
 use Rattle.image_laws.proofs.MoveTree.{reverse_below}
-use Rattle.weave_laws.specs.Entering.{IsNamelessPage}
+use Rattle.weave_laws.specs.Entering.{HasPlace, IsNamelessPage}
 use Rattle.weave_laws.specs.Joined.{joined}
 use Rattle.weave_laws.specs.Naming.{slots_left, pages_left, counts_left, IsWrittenParent, node_left, link_left}
 use Rattle.weave_laws.specs.Removing.{IsPageOfName}
-use Rattle.weave_laws.specs.Waiting.{WaitsBeside, HasNoPageOf, IsPlaceOf, IsWaitingName, MayCommit, HasNodeWords, MayCommitNode, HasRaisedLinks, WaitingWordsLaw, WaitingNodeLaw, WaitingFileLaw}
+use Rattle.weave_laws.specs.Waiting.{WaitsBeside, HasNoPageOf, IsPlaceOf, IsWaitingName, TakesPageIfFull, MayCommit, HasNodeWords, MayCommitNode, HasRaisedLinks, WaitingWordsLaw, WaitingNodeLaw, WaitingFileLaw}
 use Rattle.weave_laws.proofs.Entered.{new_node_law}
 use Rattle.weave_laws.proofs.WaitingPlaces.{waiting_link_law, no_pointer, more_names, more_children, count_reached, unreached_page}
 
@@ -121,6 +121,10 @@ module _ (P : ℕ) (I : List ℕ) (own others : Residue) (state : State) (path :
   nameless None at slots pages = room_here (slots s (inl refl))
   nameless (Some page) at slots pages = (at, no_room page (pages page (inl refl)))
 
+  pub place_of : (new_page : Option ℕ) → IsNamelessPage P I d s new_page → TakesPageIfFull state d new_page → HasPlace P I state d s
+  place_of None here full = inl here
+  place_of (Some page) none full = inr full
+
   pub new_page_owner : (new_page : Option ℕ) → IsPageOfName s new_page → (j : ℕ) → IsIn j (pages_left new_page) → page_owner P I j ≡ d
   unfolding slot_owner
   new_page_owner None at j none = absurd none
@@ -173,7 +177,7 @@ parent_left (File bytes) d i rest is = absurd (omega (arith, is))
 
 module _ (P : ℕ) (I : List ℕ) (state : State) (path : Route) (node : Node) (d s : ℕ) (new_page : Option ℕ) (i : ℕ) (others : Residue)
     (waits : WaitsBeside P I (node_left node d s new_page i) others state) (name : IsWaitingName P I state.tree path d s) (at : IsPageOfName s new_page)
-    (has : HasNodeWords I node i) (apart : HasNoPageOf P I others i) where
+    (full : TakesPageIfFull state d new_page) (has : HasNodeWords I node i) (apart : HasNoPageOf P I others i) where
   litter : IsLitterInode P I i
   litter = (waits.holds.beside.of_inodes.each i).0 (inl refl)
 
@@ -206,14 +210,18 @@ module _ (P : ℕ) (I : List ℕ) (state : State) (path : Route) (node : Node) (
   few_names = at_most_none 1 (inode_links I i) (IsNameOf P I i) (λ t n. litter.unreached (subst (Reached P I) n.inode (inode_reached P I waits.holds.coherent t n.slot)))
       (let links = links_are I node i has in let one = one_link node i in omega (arith, links, one))
 
-  pub may_commit_node : MayCommitNode P I path node d s new_page i
+  on_page : IsNamelessPage P I d s new_page
+  on_page = nameless P I (node_left node d s new_page i) others state path d s waits name new_page at (λ t. in_front t (slots_left s new_page) others.slots)
+      (λ j. in_front j (pages_left new_page) others.pages)
+
+  pub may_commit_node : MayCommitNode P I state path node d s new_page i
   may_commit_node = record {
     named = record {
       can = can_add P I (node_left node d s new_page i) others state path d s waits name i least litter.most (inl new_node) (λ file. few_names)
           (λ two. more_children P I (joined (node_left node d s new_page i) others) state waits.holds d (parent_left node d i others.counts (sym (kind_is I node i has) ∙ two))
           (is_directory_d P I (node_left node d s new_page i) others state path d s waits name));
-      place = nameless P I (node_left node d s new_page i) others state path d s waits name new_page at (λ t. in_front t (slots_left s new_page) others.slots)
-          (λ j. in_front j (pages_left new_page) others.pages);
+      place = on_page;
+      has_place = place_of P I (node_left node d s new_page i) others state path d s waits name new_page on_page full;
       path_is = path_is P I (node_left node d s new_page i) others state path d s waits name;
     };
     new = new_node;
@@ -221,7 +229,7 @@ module _ (P : ℕ) (I : List ℕ) (state : State) (path : Route) (node : Node) (
   }
 
 pub waiting_node_law : WaitingNodeLaw
-waiting_node_law P I state path node d s new_page i others waits name at has apart = may_commit_node P I state path node d s new_page i others waits name at has apart
+waiting_node_law P I state path node d s new_page i others waits name at full has apart = may_commit_node P I state path node d s new_page i others waits name at full has apart
 
 pub waiting_words_law : WaitingWordsLaw
 waiting_words_law P I state node d s new_page i others waits has raised = record { words = λ f lt. has.words f (omega (arith, lt)); parent = parent_has (joined (node_left node d s new_page i) others) node others.counts waits.holds refl raised }
@@ -247,17 +255,21 @@ module _ (P : ℕ) (I : List ℕ) (state : State) (path : Route) (d s : ℕ) (ne
     | inr other ↦ (let some = (in_range P I waits.holds.coherent i reached).0 in omega (arith, some, other))
   ]
 
-  pub may_commit_file : IsPageOfName s new_page → MayCommit P I path d s new_page i × IsOldFile P I i
-  may_commit_file at = (
+  on_page_linked : IsPageOfName s new_page → IsNamelessPage P I d s new_page
+  on_page_linked at = nameless P I (link_left s new_page i) others state path d s waits name new_page at (λ t. in_front t (slots_left s new_page) others.slots)
+      (λ j. in_front j (pages_left new_page) others.pages)
+
+  pub may_commit_file : IsPageOfName s new_page → TakesPageIfFull state d new_page → MayCommit P I state path d s new_page i × IsOldFile P I i
+  may_commit_file at full = (
     record {
       can = can_add P I (link_left s new_page i) others state path d s waits name i above_root (in_range P I waits.holds.coherent i reached).1 (inr old_file)
           (more_names P I (joined (link_left s new_page i) others) state waits.holds i (inl refl)) (λ two. absurd (not_both_kinds I i file two));
-      place = nameless P I (link_left s new_page i) others state path d s waits name new_page at (λ t. in_front t (slots_left s new_page) others.slots)
-          (λ j. in_front j (pages_left new_page) others.pages);
+      place = on_page_linked at;
+      has_place = place_of P I (link_left s new_page i) others state path d s waits name new_page (on_page_linked at) full;
       path_is = path_is P I (link_left s new_page i) others state path d s waits name;
     },
     old_file,
   )
 
 pub waiting_file_law : WaitingFileLaw
-waiting_file_law P I state path d s new_page i others waits name at file = may_commit_file P I state path d s new_page i others waits name file at
+waiting_file_law P I state path d s new_page i others waits name at full file = may_commit_file P I state path d s new_page i others waits name file at full

@@ -6,15 +6,15 @@ use Rattle.layout.specs.Geometry.{data_pages_of}
 use Rattle.tree_model.specs.Run.{State}
 use Rattle.tree_model.specs.Tree.{link_count}
 use Rattle.image_reading.specs.Counts.{IsIn, Count, AtMost}
-use Rattle.image_reading.specs.Reading.{HasBytes, IsDirectory, IsHeld, IsLive, Reached, IsNameOf, IsChildOf}
+use Rattle.image_reading.specs.Reading.{HasBytes, IsDirectory, IsHeld, IsLive, Reached, IsNameOf, IsChildOf, IsLinkCount}
 use Rattle.image_reading.specs.Repairs.{IsLitterCount}
 use Rattle.image_reading.specs.Residue.{Residue, IsTidyBeside}
 use Rattle.image_reading.specs.Soundness.{Rule, HasLinks}
 use Rattle.image_reading.proofs.Counts.{length-distinct}
 use Rattle.image_counts.specs.Laws.{ReadsBeside}
 use Rattle.image_counts.proofs.Beside.{has_pages_beside}
-use Rattle.image_counts.proofs.Links.{not_both_kinds, links_counted}
-use Rattle.weave_laws.specs.Waiting.{WaitingLinkLaw}
+use Rattle.image_counts.proofs.Links.{not_both_kinds, links_counted, only_links}
+use Rattle.weave_laws.specs.Waiting.{WaitingLinkLaw, WaitingCountedLaw}
 
 some_none : (o : Option ℕ) (s : ℕ) → o ≡ None → o ≡ Some s → ⊥
 some_none o s none some = cc
@@ -68,6 +68,18 @@ module _ (P : ℕ) (I : List ℕ) (residue : Residue) (state : State) (holds : R
 pub waiting_link_law : WaitingLinkLaw
 waiting_link_law P I residue state x holds left links =
     (link_count state.tree x, links_counted P I state.tree holds.coherent holds.reads.tree x (count_reached P I residue state holds x left), links)
+
+pub waiting_counted_law : WaitingCountedLaw
+waiting_counted_law P I residue state x holds reached = (
+  (λ apart. elim (cases_eq (inode_links I x) (link_count state.tree x)) [
+    | inl same ↦ same
+    | inr other ↦ absurd (apart ((holds.beside.of_counts.each x).1 (record {
+      reached = reached;
+      other = λ links. other (sym (only_links P I state.tree holds.coherent holds.reads.tree x (inode_links I x) reached links));
+    })))
+  ]),
+  (λ same left. ((holds.beside.of_counts.each x).0 left).other (subst (IsLinkCount P I x) (sym same) (links_counted P I state.tree holds.coherent holds.reads.tree x reached))),
+)
 
 -- ---- pages
 

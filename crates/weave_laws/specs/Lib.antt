@@ -9,3 +9,4 @@ pub mod Committing
 pub mod Entering
 pub mod Beside
 pub mod Waiting
+pub mod Growing

@@ -6,6 +6,7 @@ use Rattle.layout.specs.Geometry.{page_of_slot, inode_word_of}
 use Rattle.layout.specs.Name.{IsNameWords, name_in_words}
 use Rattle.tree_model.specs.PathText.{Route}
 use Rattle.tree_model.specs.Tree.{Node, Directory, File, Tree, parent, last_name, id_at, is_directory, is_file, name_count, path_count, link_count}
+use Rattle.tree_model.specs.Step.{is_full}
 use Rattle.tree_model.specs.Run.{State}
 use Rattle.image_reading.specs.Counts.{IsIn, IsDistinct}
 use Rattle.image_reading.specs.Litter.{IsInode, IsZeroSlot}
@@ -13,14 +14,14 @@ use Rattle.image_reading.specs.Reading.{IsFile, IsDirectory, slot_owner, IsHeld,
 use Rattle.image_reading.specs.Residue.{Residue, no_residue}
 use Rattle.image_counts.specs.Entries as entries
 use Rattle.image_counts.specs.Entries.{IsPageIn, IsUnusedDataPage}
-use Rattle.image_counts.specs.Laws.{ReadsBeside}
+use Rattle.image_counts.specs.Laws.{IsApart, ReadsBeside}
 use Rattle.image_laws.specs.Add.{IsNewNode, IsOldFile, CanAdd}
 use Rattle.image_laws.specs.Create.{IsEmptyNode, node_words}
 use Rattle.image_laws.specs.Remove.{CanRemove}
 use Rattle.image_laws.specs.Stages.{IsFreeInode, IsReadySlot, IsEmptyPage, MayClearName, MayGive, MayFree}
 use Rattle.content_laws.specs.Cut.{MayTrim}
 use Rattle.weave_laws.specs.Bytes.{MayWrite, MayFill, MayOwn, MayRaise, MayLower}
-use Rattle.weave_laws.specs.Entering.{IsNamelessPage}
+use Rattle.weave_laws.specs.Entering.{HasPlace, IsNamelessPage}
 use Rattle.weave_laws.specs.Joined.{joined}
 use Rattle.weave_laws.specs.Naming.{IsBlankSlot, HasSpareLink, IsWrittenNode, node_left, link_left}
 use Rattle.weave_laws.specs.Removing.{unnamed_left, cleared_left, IsPageOfName, IsFallingLink, IsLeftPage}
@@ -42,6 +43,11 @@ HasNoPageOf P I others i = (j : ℕ) → IsIn j others.pages → page_owner P I 
 abbrev pub WaitingLinkLaw : Type 0
 WaitingLinkLaw = (P : ℕ) (I : List ℕ) (residue : Residue) (state : State) (x : ℕ) → ReadsBeside P I residue state → IsIn x residue.counts → inode_links I x ≡ link_count state.tree x + 1
     → HasSpareLink P I x
+
+-- The links of a reached inode are left exactly where its link word isn't the number that the tree counts.
+abbrev pub WaitingCountedLaw : Type 0
+WaitingCountedLaw = (P : ℕ) (I : List ℕ) (residue : Residue) (state : State) (x : ℕ) → ReadsBeside P I residue state → Reached P I x
+    → (¬ IsIn x residue.counts) ↔ (inode_links I x ≡ link_count state.tree x)
 
 -- ---- pages
 
@@ -101,10 +107,16 @@ pub record IsWaitingName (P : ℕ) (I : List ℕ) (T : Tree) (path : Route) (d s
   pub words : IsNameWords (slot_words P I s)
   pub name_is : slot_name P I s ≡ last_name path
 
--- The slot may take number i. Its page has another name, or is new.
-pub record MayCommit (P : ℕ) (I : List ℕ) (path : Route) (d s : ℕ) (new_page : Option ℕ) (i : ℕ) : Type 0 where
+-- a directory that takes a new page is full
+abbrev pub TakesPageIfFull : State → ℕ → Option ℕ → Type 0
+TakesPageIfFull state d None = Unit {0}
+TakesPageIfFull state d (Some page) = is_full state.tree state.room d ≡ true
+
+-- The slot may take number i. Its page has another name, or is new, and then the directory is full.
+pub record MayCommit (P : ℕ) (I : List ℕ) (state : State) (path : Route) (d s : ℕ) (new_page : Option ℕ) (i : ℕ) : Type 0 where
   pub can : CanAdd P I (reverse (parent path)) d s i
   pub place : IsNamelessPage P I d s new_page
+  pub has_place : HasPlace P I state d s
   pub path_is : reverse path ≡ slot_name P I s ∷ reverse (parent path)
 
 -- Inode i has the words of the empty node.
@@ -112,8 +124,8 @@ pub record HasNodeWords (I : List ℕ) (node : Node) (i : ℕ) : Type 0 where
   pub empty : IsEmptyNode node
   pub words : (f : ℕ) → f < 4 → word I (inode_word_of i f) ≡ slice_index (node_words node i) f
 
-pub record MayCommitNode (P : ℕ) (I : List ℕ) (path : Route) (node : Node) (d s : ℕ) (new_page : Option ℕ) (i : ℕ) : Type 0 where
-  pub named : MayCommit P I path d s new_page i
+pub record MayCommitNode (P : ℕ) (I : List ℕ) (state : State) (path : Route) (node : Node) (d s : ℕ) (new_page : Option ℕ) (i : ℕ) : Type 0 where
+  pub named : MayCommit P I state path d s new_page i
   pub new : IsNewNode P I i
   pub is_node : IsNode P I i node
 
@@ -130,14 +142,14 @@ WaitingWordsLaw = (P : ℕ) (I : List ℕ) (state : State) (node : Node) (d s : 
 -- and its name may get the number,
 abbrev pub WaitingNodeLaw : Type 0
 WaitingNodeLaw = (P : ℕ) (I : List ℕ) (state : State) (path : Route) (node : Node) (d s : ℕ) (new_page : Option ℕ) (i : ℕ) (others : Residue)
-    → WaitsBeside P I (node_left node d s new_page i) others state → IsWaitingName P I state.tree path d s → IsPageOfName s new_page → HasNodeWords I node i → HasNoPageOf P I others i
-    → MayCommitNode P I path node d s new_page i
+    → WaitsBeside P I (node_left node d s new_page i) others state → IsWaitingName P I state.tree path d s → IsPageOfName s new_page → TakesPageIfFull state d new_page → HasNodeWords I node i
+    → HasNoPageOf P I others i → MayCommitNode P I state path node d s new_page i
 
 -- or that of a file with a link more
 abbrev pub WaitingFileLaw : Type 0
 WaitingFileLaw = (P : ℕ) (I : List ℕ) (state : State) (path : Route) (d s : ℕ) (new_page : Option ℕ) (i : ℕ) (others : Residue)
-    → WaitsBeside P I (link_left s new_page i) others state → IsWaitingName P I state.tree path d s → IsPageOfName s new_page → IsFile I i
-    → MayCommit P I path d s new_page i × IsOldFile P I i
+    → WaitsBeside P I (link_left s new_page i) others state → IsWaitingName P I state.tree path d s → IsPageOfName s new_page → TakesPageIfFull state d new_page → IsFile I i
+    → MayCommit P I state path d s new_page i × IsOldFile P I i
 
 -- ---- it goes
 
@@ -174,6 +186,21 @@ abbrev pub WaitingLossLaw : Type 0
 WaitingLossLaw = (P : ℕ) (I : List ℕ) (state : State) (path : Route) (d s : ℕ) (given_back : Option ℕ) (pages : List ℕ) (goes : Bool) (falling : Option ℕ) (others : Residue)
     → WaitsBeside P I no_residue others state → IsLeavingName P I state.tree path d s → HasNoPageOf P I others (slot_inode P I s) → TakesAlong P I state.tree s given_back pages goes falling
     → GoesWith P I s given_back pages goes falling
+
+-- The others have left no page of inode x, and its link word is the number that the tree counts.
+pub record LeavesAlone (P : ℕ) (I : List ℕ) (T : Tree) (others : Residue) (x : ℕ) : Type 0 where
+  pub pages : HasNoPageOf P I others x
+  pub links : inode_links I x ≡ link_count T x
+
+-- no slot that the others have left stands in a page of directory d
+abbrev pub HasNoSlotOf : ℕ → List ℕ → Residue → ℕ → Type 0
+HasNoSlotOf P I others d = (t : ℕ) → IsIn t others.slots → slot_owner P I t ≢ d
+
+-- Then they have left nothing of the node, nor of its directory. A slot in a page of the node they can't have left: such a page has a name, and the node none.
+abbrev pub WaitingApartLaw : Type 0
+WaitingApartLaw = (P : ℕ) (I : List ℕ) (state : State) (path : Route) (d s : ℕ) (others : Residue) → WaitsBeside P I no_residue others state → IsLeavingName P I state.tree path d s
+    → LeavesAlone P I state.tree others (slot_inode P I s) → LeavesAlone P I state.tree others d → HasNoSlotOf P I others d
+    → IsApart P I others (slot_inode P I s) × IsApart P I others (slot_owner P I s)
 
 -- y is the inode that has a link less, or the file that goes
 abbrev pub IsClearedLink : Bool → ℕ → Option ℕ → ℕ → Type 0

@@ -10,7 +10,8 @@ ghost use Rattle.weave_laws.specs.Sizing.{WrittenInsideLaw, FilledLaw, TakenLaw,
 ghost use Rattle.weave_laws.specs.Removing.{ClearedLaw, GivenLaw, FreedLaw};
 ghost use Rattle.weave_laws.specs.Entering.{NodeEnteredLaw, NewNodeLaw, LinkEnteredLaw, NodeRoomLaw, LinkedRoomLaw, RemovedEnteredLaw, RemovedRoomLaw, OneWordLaw};
 ghost use Rattle.weave_laws.specs.Beside.{WiderLaw, DisjointLaw, NodeWordsLaw, LinkWordsLaw, PagedNodeWordsLaw, PagedLinkWordsLaw, OwnedWordsLaw, CommittedWordsLaw, DroppedWordsLaw, ClearedWordsLaw, GivenWordsLaw, FreedWordsLaw, InsideWordsLaw, FilledWordsLaw, TakenWordsLaw, SizedWordsLaw};
-ghost use Rattle.weave_laws.specs.Waiting.{WaitingLinkLaw, WaitingPlaceLaw, WaitingInodeLaw, WaitingClaimingLaw, WaitingWordsLaw, WaitingNodeLaw, WaitingFileLaw, WaitingRemovalLaw, WaitingLossLaw, WaitingClearingLaw, WaitingFallingLaw, WaitingGivingLaw, WaitingFreeingLaw, WaitingWritingLaw, WaitingFillingLaw, WaitingOwningLaw, WaitingRaisingLaw, WaitingLoweringLaw, WaitingTrimmingLaw};
+ghost use Rattle.weave_laws.specs.Waiting.{WaitingLinkLaw, WaitingCountedLaw, WaitingPlaceLaw, WaitingInodeLaw, WaitingClaimingLaw, WaitingWordsLaw, WaitingNodeLaw, WaitingFileLaw, WaitingRemovalLaw, WaitingLossLaw, WaitingApartLaw, WaitingClearingLaw, WaitingFallingLaw, WaitingGivingLaw, WaitingFreeingLaw, WaitingWritingLaw, WaitingFillingLaw, WaitingOwningLaw, WaitingRaisingLaw, WaitingLoweringLaw, WaitingTrimmingLaw};
+ghost use Rattle.weave_laws.specs.Growing.{FilledRangeLaw, TakenRangeLaw, KeptRangeLaw, HeldRangeLaw};
 ghost use Rattle.weave_laws.specs.Joined.{AnyOrderLaw};
 ghost use Rattle.weave_laws.specs.Naming.{NodeWrittenLaw, LinkWrittenLaw, NodeCommittedLaw, LinkCommittedLaw};
 
@@ -134,6 +135,7 @@ pub fn own_words_law()
 /// What a waiting call has is enough for its next step, whatever steps other calls have made.
 pub fn waiting_law()
     ensures links { WaitingLinkLaw }
+    ensures counted { WaitingCountedLaw }
     ensures place { WaitingPlaceLaw }
     ensures inode { WaitingInodeLaw }
     ensures claiming { WaitingClaimingLaw }
@@ -142,6 +144,7 @@ pub fn waiting_law()
     ensures file { WaitingFileLaw }
     ensures removal { WaitingRemovalLaw }
     ensures loss { WaitingLossLaw }
+    ensures apart { WaitingApartLaw }
     ensures clearing { WaitingClearingLaw }
     ensures falling { WaitingFallingLaw }
     ensures giving { WaitingGivingLaw }
@@ -152,4 +155,12 @@ pub fn waiting_law()
     ensures raising { WaitingRaisingLaw }
     ensures lowering { WaitingLoweringLaw }
     ensures trimming { WaitingTrimmingLaw }
+{}
+
+/// A file's pages hold the range that is written from when they are filled until the size may rise over them, whatever others store elsewhere.
+pub fn range_law()
+    ensures filled { FilledRangeLaw }
+    ensures taken { TakenRangeLaw }
+    ensures kept { KeptRangeLaw }
+    ensures held { HeldRangeLaw }
 {}

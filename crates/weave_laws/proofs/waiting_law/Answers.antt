@@ -1,10 +1,11 @@
 use Rattle.weave_laws.proofs.waiting_law.Goals as goal
-use Rattle.weave_laws.proofs.WaitingPlaces.{waiting_link_law}
+use Rattle.weave_laws.proofs.WaitingPlaces.{waiting_link_law, waiting_counted_law}
 use Rattle.weave_laws.proofs.WaitingNames as names
 use Rattle.weave_laws.proofs.WaitingPlans as plans
 use Rattle.weave_laws.proofs.WaitingRemovals as removals
 use Rattle.weave_laws.proofs.WaitingFiles as files
 use Rattle.weave_laws.proofs.WaitingLosses.{waiting_loss_law}
+use Rattle.weave_laws.proofs.WaitingApart.{waiting_apart_law}
 
 pub returns-clause-links : goal.returns-clause-links
 returns-clause-links c = waiting_link_law
@@ -62,3 +63,9 @@ returns-clause-words c = names.waiting_words_law
 
 pub returns-clause-falling : goal.returns-clause-falling
 returns-clause-falling c = removals.waiting_falling_law
+
+pub returns-clause-counted : goal.returns-clause-counted
+returns-clause-counted c = waiting_counted_law
+
+pub returns-clause-apart : goal.returns-clause-apart
+returns-clause-apart c = waiting_apart_law
