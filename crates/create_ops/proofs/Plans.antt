@@ -2,17 +2,18 @@
 use Rattle.std.proofs.Common.{◌≡◌, ◌≢◌, inl, inr, ℕ, ◌≤◌, List, reverse, Option, None, is_some, sym, ap, subst, ◌∙◌, arith}
 use Rattle.std.proofs.lemmas.Bool.{cases_eq, false≢true}
 use Rattle.std.proofs.lemmas.List.{reverse-reverse}
-use Rattle.layout.specs.Geometry.{inode_word_of}
+use Rattle.layout.specs.Geometry.{inodes_of, inode_word_of}
 use Rattle.layout.specs.Fields.{word}
 use Rattle.layout.specs.Name.{IsName, IsBytes, words_of_name}
 use Rattle.tree_model.specs.PathText.{Route}
 use Rattle.tree_model.specs.Tree.{Node, IsTree, node_at, parent}
 use Rattle.tree_model.specs.Capacity.{untaken}
+use Rattle.tree_model.specs.Step.{least_free_id}
 use Rattle.tree_model.specs.Run.{State}
 use Rattle.tree_model.specs.declared.command.Command.TheVariants.{Create, Mkdir}
 use Rattle.tree_model.specs.Accepted.{MayMake}
 use Rattle.tree_model.proofs.AcceptedLaws.{Accepted-from_row}
-use Rattle.tree_model.proofs.TreeLaws.{least_free_id-ge, least_free_id-free}
+use Rattle.tree_model.proofs.TreeLaws.{least_free_id-free}
 use Rattle.image_reading.specs.Reading.{Names, Reached}
 use Rattle.image_reading.specs.Repairs.{IsLitterInode}
 use Rattle.image_reading.proofs.Tidied.{tidied}
@@ -26,6 +27,7 @@ use Rattle.volume.specs.declared.plan.Action.{Action}
 use Rattle.volume.specs.declared.plan.Action.TheVariants.{Make}
 use Rattle.volume.specs.Planned.{IsEntryFor, IsPlanned, IsPlanOf}
 use Rattle.volume.specs.Prepared.{making}
+use Rattle.volume.proofs.PlannedFree.{least_id}
 use Rattle.image_counts.proofs.States.{state_law}
 use Rattle.create_ops.specs.Making.{IsPlannedAt}
 use Rattle.entry_steps.proofs.Counts.{none_of}
@@ -57,8 +59,14 @@ module _ (P : ℕ) (W : List ℕ) (state : State) (path : Route) (entry : NewEnt
 
   -- ---- the inode
 
+  pub inode_is : entry.inode ≡ least_free_id state.tree
+  inode_is = least_id P W state entry.inode (tidied at.tidy) at.reads for_entry.inode_is
+
+  pub inode_within : entry.inode ≤ inodes_of P
+  inode_within = for_entry.inode_is.free.1
+
   pub not_there : node_at state.tree entry.inode ≡ None
-  not_there = ap (λ (i : ℕ). node_at state.tree i) for_entry.inode_is ∙ least_free_id-free state.tree
+  not_there = ap (λ (i : ℕ). node_at state.tree i) inode_is ∙ least_free_id-free state.tree
 
   pub unreached : Reached P W entry.inode → ⊥
   unreached (route, names) =
@@ -66,7 +74,7 @@ module _ (P : ℕ) (W : List ℕ) (state : State) (path : Route) (entry : NewEnt
       false≢true (sym (ap (λ (o : Option Node). is_some o) not_there) ∙ (Places.volume_state naming).tree.present (reverse route) entry.inode is)
 
   pub from_two : 2 ≤ entry.inode
-  from_two = let least = least_free_id-ge state.tree in omega (arith, least, for_entry.inode_is)
+  from_two = for_entry.inode_is.from_two
 
   pub other : entry.directory ≢ entry.inode
   other same = unreached (subst (λ (i : ℕ). Reached P W i) same (Places.holds naming).0)
@@ -75,8 +83,8 @@ module _ (P : ℕ) (W : List ℕ) (state : State) (path : Route) (entry : NewEnt
   inode_free = zero_inode W entry.inode (λ f lt. elim (cases_eq (word W (inode_word_of entry.inode f)) 0) [
     | inl is ↦ is
     | inr ne ↦ absurd (none_of (IsLitterInode P W) entry.inode at.tidy.repaired.of_inodes
-        (record { least = omega (arith, from_two); most = for_entry.inode_within; unreached = unreached; nonzero = (f, lt, ne) }))
+        (record { least = omega (arith, from_two); most = inode_within; unreached = unreached; nonzero = (f, lt, ne) }))
   ])
 
   pub can : IsName entry.name → IsBytes entry.name → CanMake P W (reverse (parent path)) entry.directory entry.inode (words_of_name entry.name)
-  can is_name of_bytes = record { place = Places.can_name naming is_name of_bytes; least = from_two; most = for_entry.inode_within; unreached = unreached }
+  can is_name of_bytes = record { place = Places.can_name naming is_name of_bytes; least = from_two; most = inode_within; unreached = unreached }

@@ -93,11 +93,13 @@ impl Running {
         ensures volume { Advances (step_of volume.old.size self.old).events (EntersAt self.old) volume.old volume.new result }
         ensures stage { IfOk result (λ reply. StandsNext volume.new (P.view pm.new) (next_by reply self.new)) }
     {
+        // A stage with its objects is long, and moved only where it has some.
+        if let Stage::Begun = self.stage {
+            self.stage = Stage::Written(write(&self.entry, volume, pm)?);
+            return Ok(None);
+        }
         match mem::replace(&mut self.stage, Stage::Begun) {
-            Stage::Begun => {
-                self.stage = Stage::Written(write(&self.entry, volume, pm)?);
-                Ok(None)
-            }
+            Stage::Begun => unreachable!(),
             Stage::Written(NewNode { inode, place }) => match place {
                 NamePlace::Slot(slot) => {
                     commit(&self.entry, NamedNode { inode, slot }, volume, pm)?;
@@ -145,11 +147,8 @@ pub fn advance<P: Pm>(
     ensures stage { IfOk result (λ next. StandsNext volume.new (P.view pm.new) next) }
 {
     let mut running = running;
-    match running.step(volume, pm) {
-        Ok(None) => Ok(Next::More(running)),
-        Ok(Some(reply)) => Ok(Next::Ended(reply)),
-        Err(fault) => Err(fault),
-    }
+    let reply = running.step(volume, pm)?;
+    Ok(Next::of(reply, running))
 }
 
 // The events of its first step: all but those of the owner of its new page, where there is one, and of its number.

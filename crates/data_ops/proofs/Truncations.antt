@@ -148,11 +148,11 @@ module _ (volume : VolumeView) (device : DeviceView) (state : State) (path : Rou
       small = found.within;
       inside = omega (arith, more);
       count = added;
-      free = for_resizing.new_pages.each;
+      free = (λ page among. let unused = for_resizing.new_pages.each page among in (unused.0, unused.1.0));
     };
     old_size = old_size;
     held = held;
-    free = are_free volume.size device.words state resizing.new_pages stands.tidy stands.reads (rising_distinct resizing.new_pages for_resizing.new_pages.rising) for_resizing.new_pages.each;
+    free = are_free volume.size device.words state resizing.new_pages stands.tidy stands.reads (rising_distinct resizing.new_pages for_resizing.new_pages.rising) (λ page among. let unused = for_resizing.new_pages.each page among in (unused.0, unused.1.0));
     reaches = omega arith;
     some = λ less. absurd (omega (arith, less));
   }

@@ -142,11 +142,11 @@ module _ (volume : VolumeView) (device : DeviceView) (state : State) (path : Rou
       small = let most = found.within in let long = for_writing.count_is in omega (arith, most, long);
       inside = let long = for_writing.count_is in omega (arith, long);
       count = added ∙ ap (λ (n : ℕ). pages_of_size (writing.offset + n) - pages_of_size (inode_size W writing.inode)) (sym for_writing.count_is);
-      free = for_writing.new_pages.each;
+      free = (λ page among. let unused = for_writing.new_pages.each page among in (unused.0, unused.1.0));
     };
     old_size = old_size;
     held = held;
-    free = are_free P W state writing.new_pages stands.tidy stands.reads (rising_distinct writing.new_pages for_writing.new_pages.rising) for_writing.new_pages.each;
+    free = are_free P W state writing.new_pages stands.tidy stands.reads (rising_distinct writing.new_pages for_writing.new_pages.rising) (λ page among. let unused = for_writing.new_pages.each page among in (unused.0, unused.1.0));
     reaches = let long = for_writing.count_is in omega (arith, long, more);
     some = λ less. some;
   }

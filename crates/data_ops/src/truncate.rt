@@ -330,11 +330,8 @@ pub fn advance<P: Pm>(
     ensures stage { IfOk result (λ next. StandsNext volume.new (P.view pm.new) next) }
 {
     let mut running = running;
-    match running.step(volume, pm) {
-        Ok(None) => Ok(Next::More(running)),
-        Ok(Some(reply)) => Ok(Next::Ended(reply)),
-        Err(fault) => Err(fault),
-    }
+    let reply = running.step(volume, pm)?;
+    Ok(Next::of(reply, running))
 }
 
 /// Gives a file another size, by the plan of an accepted `truncate`. To more it takes 2 fences, and 3 where the file needs new pages;

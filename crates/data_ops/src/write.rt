@@ -232,11 +232,8 @@ pub fn advance<P: Pm>(
     ensures stage { IfOk result (λ next. StandsNext volume.new (P.view pm.new) bytes.now next) }
 {
     let mut running = running;
-    match running.step(volume, bytes, pm) {
-        Ok(None) => Ok(Next::More(running)),
-        Ok(Some(reply)) => Ok(Next::Ended(reply)),
-        Err(fault) => Err(fault),
-    }
+    let reply = running.step(volume, bytes, pm)?;
+    Ok(Next::of(reply, running))
 }
 
 /// Writes bytes into a file, by the plan of an accepted `write` of these bytes. It takes 1 fence where they end not past the size;

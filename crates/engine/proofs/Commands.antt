@@ -1,5 +1,5 @@
 -- What a line leaves for which nothing was done, and what preparing it adds to what was done.
-use Rattle.std.proofs.Common.{◌≡◌, inl, inr, ℕ, List, false, Option, Some, refl, sym, ap, subst, ◌∙◌, arith}
+use Rattle.std.proofs.Common.{◌≡◌, inl, inr, ℕ, ◌&&◌, List, false, Option, Some, is_none, refl, sym, ap, subst, ◌∙◌, arith}
 use Rattle.std.specs.Prelude.{IsTrue, ◌⊎◌, Result, Ok, Err, OnErr, IfOk, IsErr}
 use Rattle.pm_trait.specs.Trail.{Trail}
 use Rattle.pm_trait.specs.DeviceView.{DeviceView}
@@ -48,12 +48,12 @@ refused_steps P state c refusal e = record {
   room = subst (λ o. RoomAfterWith o (least_free_id state.tree) state.tree state.room c state.room) (sym e) refl;
 }
 
-pub step_refused : (P : ℕ) (state : State) (c : Command) (refusal : Refusal) → {before after : DeviceView} → IsRefusal P state c refusal before after → LineStep P state (Ok c) (Refused refusal) state
+pub step_refused : (P : ℕ) (state : State) (c : Command) (refusal : Refusal) → {before after : DeviceView} → IsRefusal (untaken P) state c refusal before after → LineStep P state (Ok c) (Refused refusal) state
 step_refused P state c refusal (inl e) = inl (refused_steps P state c refusal e)
-step_refused P state c refusal (inr lacks) = inr (record { accepted = lacks.accepted; answered = ap Refused lacks.answered; unchanged = refl })
+step_refused P state c refusal (inr lacks) = inr (record { accepted = λ i. lacks.change i && is_none (lacks.accepted i); answered = ap Refused lacks.answered; unchanged = refl })
 
 -- out of memory comes of a place that the command needs, or of room that the device refused
-refused_cause : (P : ℕ) (state : State) (c : Command) (refusal : Refusal) {before after : DeviceView} → IsRefusal P state c refusal before after → Refused refusal ≡ Refused NoMemory
+refused_cause : (P : ℕ) (state : State) (c : Command) (refusal : Refusal) {before after : DeviceView} → IsRefusal (untaken P) state c refusal before after → Refused refusal ≡ Refused NoMemory
     → IsTrue (needs_places state c) ⊎ HasRisen before.refused after.refused
 refused_cause P state c refusal (inl e) is = absurd (refusal_other P state.tree state.room c (let same : refusal ≡ NoMemory = cc is in e ∙ ap Some same))
 refused_cause P state c refusal (inr lacks) is = lacks.cause
@@ -84,7 +84,7 @@ module _ (old new : SessionView) (before after : DeviceView) (size : new.volume.
     stays = stays_here _ told;
   }
 
-  pub does_refused : (state : State) (c : Command) (refusal : Refusal) → StandsFor new.volume after state → IsRefusal old.volume.size state c refusal before after
+  pub does_refused : (state : State) (c : Command) (refusal : Refusal) → StandsFor new.volume after state → IsRefusal (untaken old.volume.size) state c refusal before after
       → Does old new before after state (Ok c) (Ok (reply.Refused refusal))
   does_refused state c refusal stands refused =
       does_still state (Ok c) (Refused refusal) (reply.Refused refusal) stands (record { reply_is = refl; told = tt }) (step_refused old.volume.size state c refusal refused) refl

@@ -177,7 +177,7 @@ module _ {P : ℕ} {W : List ℕ} {state : State} {path : Route} {d : ℕ} {name
 
   takes_by : (page : Option ℕ) → IsPlace P W d slot page → MayTake P W page
   takes_by None place = tt
-  takes_by (Some page) place = page_free page place.page_is.free
+  takes_by (Some page) place = page_free page (place.page_is.free.0, place.page_is.free.1.0)
 
   pub takes : MayTake P W new_page
   takes = takes_by new_page at.new_name.place

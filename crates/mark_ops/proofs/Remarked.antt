@@ -9,9 +9,9 @@ use Rattle.tree_model.specs.Step.{is_same_node, resolved}
 use Rattle.tree_model.specs.declared.command.Command.{Command}
 use Rattle.tree_model.specs.declared.command.Command.TheVariants.{Create, Mkdir, Link, Unlink, Rmdir, Rename, Write, Truncate, Read, Stat as Tell, List as Show, Df}
 use Rattle.image_reading.proofs.Credits.{count_same}
-use Rattle.image_counts.specs.Entries.{IsPageIn, IsFreePage}
+use Rattle.image_counts.specs.Entries.{IsPageIn, IsUnusedDataPage, IsFreeInode}
 use Rattle.image_laws.specs.Marking.{SameButMark}
-use Rattle.image_laws.proofs.Marking.{marked_back, same_page_owner, same_slot_inode, same_slot_owner, entry_marked}
+use Rattle.image_laws.proofs.Marking.{marked_back, same_inode_kind, same_page_owner, same_page_kind, same_slot_inode, same_slot_owner, entry_marked}
 use Rattle.volume.specs.declared.plan.Action.{Action}
 use Rattle.volume.specs.declared.plan.Action.TheVariants.{Move, Write as WriteBytes, WriteNothing, Resize, KeepSize, KeepNames}
 use Rattle.volume.specs.declared.plan.Loss.{Loss}
@@ -20,7 +20,7 @@ use Rattle.volume.specs.declared.plan.NewEntry.{NewEntry}
 use Rattle.volume.specs.declared.plan.Removal.{Removal}
 use Rattle.volume.specs.declared.plan.Resizing.{Resizing}
 use Rattle.volume.specs.declared.plan.Writing.{Writing}
-use Rattle.volume.specs.Planned.{IsVacantSlot, IsPlace, IsNewNameAt, IsNameAt, IsLossOf, IsAlone, IsGivenBack, IsEntryFor, IsRemovalFor, IsTargetOf, IsEmptiedBy, IsMovingFor, AreNewPages, IsWritingFor, IsResizingFor, IsNothingOr, IsPlanOf, IsPlanned, is_size_of}
+use Rattle.volume.specs.Planned.{IsVacantSlot, IsPlace, IsNewNameAt, IsNameAt, IsLossOf, IsAlone, IsGivenBack, IsLeastInode, IsEntryFor, IsRemovalFor, IsTargetOf, IsEmptiedBy, IsMovingFor, AreNewPages, IsWritingFor, IsResizingFor, IsNothingOr, IsPlanOf, IsPlanned, is_size_of}
 
 -- ---- slots and pages
 
@@ -28,8 +28,11 @@ module _ (P : ℕ) {I J : List ℕ} (same : SameButMark I J) where
   vacant : (d s : ℕ) → IsVacantSlot P I d s → IsVacantSlot P J d s
   vacant d s is = record { page = record { in_range = is.page.in_range; owner = same_slot_owner P same s ∙ is.page.owner }; vacant = same_slot_inode P same s ∙ is.vacant }
 
-  free : (j : ℕ) → IsFreePage P I j → IsFreePage P J j
-  free j (lt, none) = (lt, same_page_owner P same j ∙ none)
+  free : (j : ℕ) → IsUnusedDataPage P I j → IsUnusedDataPage P J j
+  free j (lt, none) = (lt, (same_page_owner P same j ∙ none.0, same_page_kind P same j ∙ none.1))
+
+  free_inode : (i : ℕ) → IsFreeInode P I i → IsFreeInode P J i
+  free_inode i (least, most, none) = (least, most, same_inode_kind same i ∙ none)
 
   -- a page of an inode is one of it in the other words too
   pub page_marked : (i j : ℕ) → IsPageIn P I i j → IsPageIn P J i j
@@ -80,8 +83,11 @@ module _ (P : ℕ) {I J : List ℕ} (same : SameButMark I J) (state : State) whe
   new_pages : (command : Command) (pages : List ℕ) → AreNewPages P I state command pages → AreNewPages P J state command pages
   new_pages command pages are = record { count_is = are.count_is; rising = are.rising; each = λ k at. free P same k (are.each k at); lowest = λ k other at lt there. are.lowest k other at lt (free P back other there) }
 
+  least_inode : (i : ℕ) → IsLeastInode P I i → IsLeastInode P J i
+  least_inode i is = record { free = free_inode P same i is.free; from_two = is.from_two; least = λ other low high there. is.least other low high (free_inode P back other there) }
+
   entry_for : (path : Route) (kind : NodeKind) (entry : NewEntry) → IsEntryFor P I state path kind entry → IsEntryFor P J state path kind entry
-  entry_for path kind entry is = record { kind_is = is.kind_is; new_name = new_name path entry.directory entry.name entry.slot entry.new_page is.new_name; inode_is = is.inode_is; inode_within = is.inode_within }
+  entry_for path kind entry is = record { kind_is = is.kind_is; new_name = new_name path entry.directory entry.name entry.slot entry.new_page is.new_name; inode_is = least_inode entry.inode is.inode_is }
 
   removal_for : (command : Command) (path : Route) (removal : Removal) → IsRemovalFor P I state command path removal → IsRemovalFor P J state command path removal
   removal_for command path removal is = record {

@@ -225,7 +225,7 @@ module _ (P : ℕ) (I : List ℕ) (state : State) (tidy : IsTidied P I) (reads :
 
     new_elsewhere : (new_page : Option ℕ) → IsPlace P I moving.to_directory moving.to_slot new_page → moving.to_directory ≢ moving.from_directory → slot_owner P I moving.to_slot ≡ moving.from_directory → ⊥
     new_elsewhere None place other owner = other (sym place.vacant.page.owner ∙ owner)
-    new_elsewhere (Some page) place other owner = not_free page place.page_is.free.1 place.slot_is owner
+    new_elsewhere (Some page) place other owner = not_free page place.page_is.free.1.0 place.slot_is owner
 
     -- where the source is alone and its directory gains no name, the target stands in another page
     elsewhere : (replaced : Option Loss) → IsTargetOf P I state from to moving replaced → IsAlone P I moving.from_slot → cond (is_some replaced) false (moving.to_directory == moving.from_directory) ≡ false

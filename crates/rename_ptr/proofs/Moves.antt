@@ -275,7 +275,7 @@ module _ {P : ℕ} {W : List ℕ} {state : State} (from to : Route) {moving : Mo
   take_by None None none no_page = (Places.can_name (naming none) at.is_name at.of_bytes, Places.vacant (naming none) (place_at none None no_page).vacant)
   take_by None (Some page) none is =
       let place = place_at none (Some page) is in
-      (Places.can_name (naming none) at.is_name at.of_bytes, place.page_is.free, page_here page place)
+      (Places.can_name (naming none) at.is_name at.of_bytes, (place.page_is.free.0, place.page_is.free.1.0), page_here page place)
   take_by (Some loss) page is same = can_replace loss (target_at loss is)
 
   pub can_rename : CanRename P W from_way to_way moving.from_slot moving.to_directory moving.to_slot (target_of moving)

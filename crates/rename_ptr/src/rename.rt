@@ -153,11 +153,8 @@ pub fn advance<P: Pm>(
     ensures stage { IfOk result (λ next. StandsNext volume.new (P.view pm.new) next) }
 {
     let mut running = running;
-    match running.step(volume, pm) {
-        Ok(None) => Ok(Next::More(running)),
-        Ok(Some(reply)) => Ok(Next::Ended(reply)),
-        Err(fault) => Err(fault),
-    }
+    let reply = running.step(volume, pm)?;
+    Ok(Next::of(reply, running))
 }
 
 // Makes the next step of a move on the device.

@@ -6,22 +6,23 @@ use Rattle.layout.proofs.GeometryLaws.{data_pages_below}
 use Rattle.tree_model.specs.PathText.{Route}
 use Rattle.tree_model.specs.Tree.{Node, Directory, File, node_at, is_directory, bytes_of, bytes_of_node}
 use Rattle.tree_model.specs.Walk.{walk}
-use Rattle.tree_model.specs.Capacity.{free_pages, untaken, file_limit}
-use Rattle.tree_model.specs.Step.{first, at, fault_of, id_of, need, lacks_pages, refusal_of}
+use Rattle.tree_model.specs.Capacity.{free_pages, file_limit}
+use Rattle.tree_model.specs.Step.{first, at, fault_of, id_of, need, lacks_pages, refusal_with}
 use Rattle.tree_model.specs.Run.{State}
 use Rattle.tree_model.specs.Places.{needs_places}
 use Rattle.tree_model.specs.declared.command.Command.{Command}
 use Rattle.tree_model.specs.declared.command.Command.TheVariants.{Create, Mkdir, Link, Unlink, Rmdir, Rename, Write, Truncate, Read, Stat as Tell, List as Show, Df}
 use Rattle.tree_model.specs.declared.reply.Refusal.{Refusal}
 use Rattle.tree_model.specs.declared.reply.Refusal.TheVariants.{IsDir, TooBig, NoPages}
+use Rattle.image_reading.specs.Residue.{Residue}
 use Rattle.image_reading.specs.Soundness.{Rule}
-use Rattle.image_reading.proofs.Tidied.{tidied}
+use Rattle.image_counts.specs.Laws.{supply_beside}
 use Rattle.image_counts.proofs.States.{state_law}
 use Rattle.volume.specs.Volume.{VolumeView}
-use Rattle.volume.specs.Stands.{StandsFor}
+use Rattle.volume.specs.Beside.{StandsBeside}
 use Rattle.volume.specs.declared.plan.Action.{Action}
 use Rattle.volume.specs.declared.plan.Action.TheVariants.{Make, Name, Remove, Move, Write as WriteBytes, WriteNothing, Resize, KeepSize, KeepNames, Read as ReadBytes, Status, Names, Space}
-use Rattle.volume.specs.Planned.{IsMovingFor, IsWritingFor, IsResizingFor, IsPlanOf, IsPlanned}
+use Rattle.volume.specs.Planned.{IsMovingFor, IsWritingFor, IsResizingFor, IsPlanOf, IsPlannedWith}
 use Rattle.volume.specs.Prepared.{IsBoundedWriting, IsBoundedResizing}
 use Rattle.volume.specs.declared.plan.Writing.{Writing}
 use Rattle.volume.specs.declared.plan.Resizing.{Resizing}
@@ -131,34 +132,34 @@ bytes_within None within = omega arith
 bytes_within (Some Directory) within = omega arith
 bytes_within (Some (File bytes)) within = within bytes refl
 
-module _ (volume : VolumeView) (device : DeviceView) (state : State) (stands : StandsFor volume device state) where
+module _ (volume : VolumeView) (device : DeviceView) (state : State) (residue : Residue) (stands : StandsBeside volume device state residue) where
   -- a file's size
   pub size_within : (inode size : ℕ) → size ≡ length (bytes_of state.tree inode) → size ≤ file_limit
   size_within inode size is =
-      let most = bytes_within (node_at state.tree inode) ((state_law volume.size device.words state (tidied stands.tidy).coherent stands.reads).fits.sizes inode) in
+      let most = bytes_within (node_at state.tree inode) ((state_law volume.size device.words state stands.sound.coherent stands.reads).fits.sizes inode) in
       omega (arith, is, most)
 
   -- how many data pages there are
   pub few_pages : length volume.data_pages < 2 ^ 32
   few_pages =
-      let size = (stands.tidy.sound.coherent Rule.head 0).size refl in
+      let size = (stands.sound.coherent Rule.head 0).size refl in
       let below = data_pages_below volume.size size in
       let all = stands.knows.each_page in
       omega (arith, all, below, size)
 
   -- the new pages of an accepted command
-  pages_within : (n needed : ℕ) → n ≡ needed → nat_lt (free_pages (untaken volume.size) state.tree state.room) needed ≡ false → n < 2 ^ 16
+  pages_within : (n needed : ℕ) → n ≡ needed → nat_lt (free_pages (supply_beside volume.size residue) state.tree state.room) needed ≡ false → n < 2 ^ 16
   pages_within n needed is enough =
-      let most = not_less (free_pages (untaken volume.size) state.tree state.room) needed enough in
-      let size = (stands.tidy.sound.coherent Rule.head 0).size refl in
+      let most = not_less (free_pages (supply_beside volume.size residue) state.tree state.room) needed enough in
+      let size = (stands.sound.coherent Rule.head 0).size refl in
       let below = data_pages_below volume.size size in
       omega (arith, is, most, below, size)
 
-  pub bounded_writing : (command : Command) (writing : Writing) → IsPlanned volume.size device.words state command (WriteBytes writing) → IsBoundedWriting writing
+  pub bounded_writing : (command : Command) (writing : Writing) → IsPlannedWith (supply_beside volume.size residue) device.words state command (WriteBytes writing) → IsBoundedWriting writing
   bounded_writing command writing planned =
       let (path, offset, bytes, is, for) = planned_writing volume.size device.words state command writing planned.plan_is in
-      let limits = passes_limits (fault_of (walk state.tree path)) (at IsDir (is_directory state.tree (id_of state.tree path))) (nat_lt file_limit (offset + length bytes)) (lacks_pages (untaken volume.size) state.tree state.room (Write path offset bytes))
-      (ap (refusal_of volume.size state.tree state.room) (sym is) ∙ planned.accepted) in
+      let limits = passes_limits (fault_of (walk state.tree path)) (at IsDir (is_directory state.tree (id_of state.tree path))) (nat_lt file_limit (offset + length bytes)) (lacks_pages (supply_beside volume.size residue) state.tree state.room (Write path offset bytes))
+      (ap (refusal_with (supply_beside volume.size residue) state.tree state.room) (sym is) ∙ planned.accepted) in
       let end = not_less file_limit (offset + length bytes) limits.0 in
       let first = for.offset_is in
       let count = for.count_is in
@@ -168,11 +169,11 @@ module _ (volume : VolumeView) (device : DeviceView) (state : State) (stands : S
         new_pages = pages_within (length writing.new_pages) (need state.tree state.room (Write path offset bytes)) for.new_pages.count_is limits.1;
       }
 
-  pub bounded_resizing : (command : Command) (resizing : Resizing) → IsPlanned volume.size device.words state command (Resize resizing) → IsBoundedResizing resizing
+  pub bounded_resizing : (command : Command) (resizing : Resizing) → IsPlannedWith (supply_beside volume.size residue) device.words state command (Resize resizing) → IsBoundedResizing resizing
   bounded_resizing command resizing planned =
       let (path, size, is, for) = planned_resizing volume.size device.words state command resizing planned.plan_is in
-      let limits = passes_limits (fault_of (walk state.tree path)) (at IsDir (is_directory state.tree (id_of state.tree path))) (nat_lt file_limit size) (lacks_pages (untaken volume.size) state.tree state.room (Truncate path size))
-      (ap (refusal_of volume.size state.tree state.room) (sym is) ∙ planned.accepted) in
+      let limits = passes_limits (fault_of (walk state.tree path)) (at IsDir (is_directory state.tree (id_of state.tree path))) (nat_lt file_limit size) (lacks_pages (supply_beside volume.size residue) state.tree state.room (Truncate path size))
+      (ap (refusal_with (supply_beside volume.size residue) state.tree state.room) (sym is) ∙ planned.accepted) in
       let old = size_within resizing.inode resizing.old_size for.old_is in
       let cut = for.cut_is in
       record {

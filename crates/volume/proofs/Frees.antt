@@ -1,27 +1,26 @@
 -- How many inodes and pages are free.
-use Rattle.std.proofs.Common.{◌≡◌, ◌≢◌, inl, inr, ℕ, zero, suc, ◌+◌, ◌-◌, ◌<◌, ◌≤◌, Bool, true, false, cond, List, [], ◌∷◌, length, map, Some, refl, sym, ap, subst, ◌∙◌, arith}
+use Rattle.std.proofs.Common.{◌≡◌, inl, inr, ℕ, zero, suc, ◌+◌, ◌-◌, ◌<◌, ◌≤◌, Bool, true, false, cond, List, [], ◌∷◌, length, map, Some, refl, sym, ap, subst, ◌∙◌, arith}
 use Rattle.std.proofs.lemmas.Option.{slice_get_within}
 use Rattle.std.proofs.lemmas.List.Sums.{sum_by-cons}
 use Rattle.pm_trait.specs.DeviceView.{DeviceView}
 use Rattle.layout.specs.Geometry.{inodes_of, data_pages_of}
 use Rattle.layout.specs.Fields.{inode_kind}
 use Rattle.tree_model.specs.Capacity.{free_inodes, free_pages, untaken}
-use Rattle.tree_model.specs.Step.{least_free_id}
 use Rattle.tree_model.specs.Run.{State}
 use Rattle.image_reading.specs.Counts.{IsIn, IsDistinct, Count}
 use Rattle.image_reading.specs.Residue.{Residue, no_residue}
 use Rattle.image_reading.specs.Soundness.{root}
 use Rattle.image_reading.proofs.Counts.{count_none}
-use Rattle.image_reading.proofs.Tidied.{tidied}
 use Rattle.image_counts.specs.Entries.{IsUnusedDataPage, IsFreeInode}
 use Rattle.image_counts.specs.Laws.{ReadsBeside, supply_beside}
 use Rattle.image_counts.proofs.Beside.{page_count_beside_law}
 use Rattle.image_counts.proofs.Counting.{count_alike}
-use Rattle.image_counts.proofs.Inodes.{free_inode_beside_law, free_inode_law}
+use Rattle.image_counts.proofs.Inodes.{free_inode_beside_law}
 use Rattle.allocators.specs.Numbers.{IsFree, IsLowest, free_in}
 use Rattle.volume.specs.Volume.{VolumeView}
 use Rattle.volume.specs.Stands.{StandsFor}
 use Rattle.volume.specs.Beside.{StandsBeside}
+use Rattle.volume.specs.Planned.{IsLeastInode}
 use Rattle.volume.proofs.Beside.{stands_beside}
 
 abbrev counted : Bool → ℕ
@@ -114,12 +113,15 @@ count_free (b ∷ numbers) =
 one_back : (k : ℕ) → k ≡ suc k - 1
 one_back k = omega arith
 
+one_on : (k : ℕ) → suc k ≡ k + 1
+one_on k = omega arith
+
 -- a directory is no free inode
 not_both : (kind : ℕ) → kind ≡ 2 → kind ≡ 0 → ⊥
 not_both kind two none = omega (arith, two, none)
 
 module _ (volume : VolumeView) (device : DeviceView) (state : State) (residue : Residue) (stands : StandsBeside volume device state residue) where
-  reads_beside : ReadsBeside volume.size device.words residue state
+  pub reads_beside : ReadsBeside volume.size device.words residue state
   reads_beside = record { coherent = stands.sound.coherent; beside = stands.beside; reads = stands.reads }
 
   free_inode_beside : (k : ℕ) → IsFree volume.inodes k → IsFreeInode volume.size device.words (suc k)
@@ -128,7 +130,7 @@ module _ (volume : VolumeView) (device : DeviceView) (state : State) (residue : 
       let most : suc k ≤ inodes_of volume.size = omega (arith, inside, stands.knows.each_inode) in
       (omega arith, most, (stands.knows.inodes (suc k) (omega arith) most).0 (subst (IsFree volume.inodes) (one_back k) free))
 
-  inode_free_beside : (i : ℕ) → IsFreeInode volume.size device.words i → IsFree volume.inodes (i - 1)
+  pub inode_free_beside : (i : ℕ) → IsFreeInode volume.size device.words i → IsFree volume.inodes (i - 1)
   inode_free_beside i (least, most, unused) = (stands.knows.inodes i least most).1 unused
 
   inodes_counted : Count (IsFreeInode volume.size device.words) (free_in volume.inodes)
@@ -155,12 +157,21 @@ module _ (volume : VolumeView) (device : DeviceView) (state : State) (residue : 
       (page_count_beside_law volume.size device.words residue state reads_beside).free (free_in volume.data_pages)
       (count_alike (IsFree volume.data_pages) (IsUnusedDataPage volume.size device.words) (free_in volume.data_pages) unused_page page_unused (count_free volume.data_pages))
 
+  -- the root's inode isn't free
+  root_taken : IsFree volume.inodes 0 → ⊥
+  root_taken free = not_both (inode_kind device.words 1) ((stands.sound.coherent root 1).directory refl) (free_inode_beside 0 free).2
+
+  pub least_inode : (k : ℕ) → IsLowest volume.inodes k → IsLeastInode volume.size device.words (k + 1)
+  least_inode zero lowest = absurd (root_taken lowest.free)
+  least_inode (suc k) lowest = record {
+    free = subst (IsFreeInode volume.size device.words) (one_on (suc k)) (free_inode_beside (suc k) lowest.free);
+    from_two = omega arith;
+    least = λ j low high unused. let least = lowest.least (j - 1) (inode_free_beside j unused) in omega (arith, least, low, high);
+  }
+
 -- ---- and where no call runs
 
 module _ (volume : VolumeView) (device : DeviceView) (state : State) (stands : StandsFor volume device state) where
-  free_inode : (k : ℕ) → IsFree volume.inodes k → IsFreeInode volume.size device.words (suc k)
-  free_inode = free_inode_beside volume device state no_residue (stands_beside stands)
-
   pub inode_free : (i : ℕ) → IsFreeInode volume.size device.words i → IsFree volume.inodes (i - 1)
   inode_free = inode_free_beside volume device state no_residue (stands_beside stands)
 
@@ -169,17 +180,3 @@ module _ (volume : VolumeView) (device : DeviceView) (state : State) (stands : S
 
   pub free_pages_are : free_pages (untaken volume.size) state.tree state.room ≡ free_in volume.data_pages
   free_pages_are = free_pages_beside volume device state no_residue (stands_beside stands)
-
-  -- the root's inode isn't free
-  pub root_taken : IsFree volume.inodes 0 → ⊥
-  root_taken free = not_both (inode_kind device.words 1) (((tidied stands.tidy).coherent root 1).directory refl) (free_inode 0 free).2
-
-  pub least_inode : (k : ℕ) → IsLowest volume.inodes k → (k + 1 ≡ least_free_id state.tree) × (k + 1 ≤ inodes_of volume.size)
-  least_inode zero lowest = absurd (root_taken lowest.free)
-  least_inode (suc k) lowest =
-      let unused = free_inode (suc k) lowest.free in
-      let used : (j : ℕ) → 2 ≤ j → j < suc (suc k) → inode_kind device.words j ≢ 0 = λ j low high none.
-      let most : j ≤ inodes_of volume.size = omega (arith, unused.1, high) in
-      let least = lowest.least (j - 1) (inode_free j (omega (arith, low), most, none)) in omega (arith, least, low, high) in
-      let is = (free_inode_law volume.size device.words state (tidied stands.tidy) stands.reads).least (suc (suc k)) (omega arith) unused used in
-      (omega (arith, is), omega (arith, unused.1))

@@ -7,6 +7,7 @@ use Rattle.layout.specs.declared.kinds.NodeKind.TheVariants.{File, Directory}
 use Rattle.tree_model.specs.Capacity.{file_limit}
 use Rattle.tree_model.specs.Run.{State}
 use Rattle.tree_model.specs.declared.command.Command.{Command}
+use Rattle.image_reading.specs.Residue.{no_residue}
 use Rattle.volume.specs.Volume.{VolumeView}
 use Rattle.volume.specs.Carried.{HasReserved, IsPlanFor}
 use Rattle.volume.specs.Stages.{keeping, HasKept}
@@ -16,10 +17,11 @@ use Rattle.volume.specs.Prepared.{IsBounded}
 use Rattle.volume.specs.declared.plan.Moving.{Moving}
 use Rattle.volume.specs.declared.plan.Action.{Action}
 use Rattle.volume.specs.declared.plan.Action.TheVariants.{Make, Name, Remove, Move, Write as WriteBytes, WriteNothing, Resize, KeepSize, KeepNames, Read as ReadBytes, Status, Names, Space}
+use Rattle.volume.proofs.Beside.{stands_beside}
 use Rattle.volume.proofs.PlanActions.{pages_few}
 
 pub bounded : (volume : VolumeView) (device : DeviceView) (state : State) (command : Command) (action : Action) → IsPlanFor volume device state command action → IsBounded action
-bounded volume device state command action plan = pages_few volume device state plan.stands command action plan.planned
+bounded volume device state command action plan = pages_few volume device state no_residue (stands_beside plan.stands) command action plan.planned
 
 -- ---- parts
 

@@ -1,5 +1,8 @@
 pub mod Beside
+pub mod PlannedFree
+pub mod PreparedAlone
 pub mod WalkedBeside
+pub mod Naming
 pub mod Statuses
 pub mod Walked
 pub mod Ways
@@ -9,6 +12,7 @@ pub mod PageRooms
 pub mod Reserved
 pub mod Frees
 pub mod Holders
+pub mod WalkedNames
 pub mod Rows
 pub mod LinkRows
 pub mod PageLists
@@ -17,6 +21,7 @@ pub mod MayStill
 pub mod PlannedRemovals
 pub mod PlannedPages
 pub mod RemovalRows
+pub mod NamingRemovals
 pub mod RenameRows
 pub mod Readings
 pub mod LowestPages

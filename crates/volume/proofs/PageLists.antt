@@ -12,7 +12,7 @@ use Rattle.image_counts.specs.Entries.{IsPageIn}
 use Rattle.image_counts.proofs.Counting.{count_fewer, count_run}
 use Rattle.volatile_index.specs.Index.{pages_of}
 use Rattle.volume.specs.Volume.{VolumeView}
-use Rattle.volume.specs.Stands.{StandsFor, IsStanding}
+use Rattle.volume.specs.Stands.{IsStanding}
 use Rattle.volume.specs.Beside.{StandsBeside, IsUntouched}
 use Rattle.volume.specs.Planned.{IsLossOf}
 use Rattle.volume.specs.declared.plan.Loss.{Loss}
@@ -59,9 +59,9 @@ pages_counted volume device i (state, stands) least most = pages_counted_beside 
 few : (P : ℕ) (I : List ℕ) (i pages : ℕ) → Count (IsPageIn P I i) pages → pages ≤ data_pages_of P
 few P I i pages count = count_fewer (IsPageIn P I i) (λ page. (0 ≤ page) × (page < 0 + data_pages_of P)) pages (data_pages_of P) (λ page inside. (omega arith, omega (arith, inside.in_range))) count (count_run 0 (data_pages_of P))
 
-pub few_lost : (volume : VolumeView) (device : DeviceView) (state : State) (command : Command) (loss : Loss) → StandsFor volume device state → IsLossOf volume.size device.words state command loss → loss.pages < 2 ^ 16
-few_lost volume device state command loss stands is =
-    let size = (stands.tidy.sound.coherent Rule.head 0).size refl in
+pub few_lost : (volume : VolumeView) (device : DeviceView) (state : State) (residue : Residue) (command : Command) (loss : Loss) → StandsBeside volume device state residue → IsLossOf volume.size device.words state command loss → loss.pages < 2 ^ 16
+few_lost volume device state residue command loss stands is =
+    let size = (stands.sound.coherent Rule.head 0).size refl in
     let below = data_pages_below volume.size size in
     elim loss.goes as (λ goes. loss.goes ≡ goes → loss.pages < 2 ^ 16) [
       | true ↦ λ goes. let most = few volume.size device.words loss.inode loss.pages (is.pages goes) in omega (arith, most, below, size)

@@ -1,4 +1,4 @@
--- Which pages of a directory have a slot that names nothing, told by how many of its entries stand in each.
+-- Which pages of a directory have a slot that names nothing, told by how many of its entries stand in each, beside calls that run.
 use Rattle.std.proofs.Common.{◌≡◌, ◌≢◌, inl, inr, ℕ, ◌+◌, ◌*◌, ◌<◌, ◌≤◌, ◌==◌, Bool, true, List, [], ◌∷◌, length, filter, Option, Some, None, refl, sym, ap, subst, ◌∙◌, arith}
 use Rattle.std.proofs.lemmas.Bool.{cases_eq}
 use Rattle.std.proofs.lemmas.Bool.Decides.{nat_tests}
@@ -10,21 +10,20 @@ use Rattle.layout.specs.Fields.{page_owner, slot_inode, slot_name}
 use Rattle.tree_model.specs.Run.{State}
 use Rattle.image_reading.specs.Counts.{Count}
 use Rattle.image_reading.specs.Reading.{HasBytes, IsDirectory, Reached, IsRoomOf}
-use Rattle.image_reading.specs.Residue.{no_residue}
-use Rattle.image_reading.proofs.Tidied.{tidied}
+use Rattle.image_reading.specs.Residue.{Residue}
 use Rattle.image_counts.specs.Entries.{IsSlotOf, IsSlotIn, IsPageIn}
 use Rattle.image_counts.proofs.Links.{not_both_kinds}
 use Rattle.image_counts.proofs.Counting.{IsMatching, IsMatched, count_matched, count_alike, count_fewer, count_less, count_run, none_counted, among_filter, filter_among, filter_apart}
-use Rattle.image_counts.proofs.Tidied.{owned_kept, has_room_words}
+use Rattle.image_counts.proofs.Beside.{page_count_beside_law, room_beside_law}
 use Rattle.volatile_index.specs.Entries.{IsSorted, names_in, IsOpen, IsLeastOpen}
 use Rattle.volatile_index.specs.Index.{entries_of}
 use Rattle.volatile_index.specs.declared.entry.Entry.{Entry}
 use Rattle.volume.specs.Volume.{VolumeView}
-use Rattle.volume.specs.Stands.{StandsFor}
+use Rattle.volume.specs.Beside.{StandsBeside, IsUntouched}
 use Rattle.volume.specs.Planned.{IsVacantSlot}
 use Rattle.volume.specs.Lowest.{IsLowestOf, IsVacantAmong}
 use Rattle.volume.proofs.Places.{slots_of_page, page_is, contains_one, in_one, owner_is}
-use Rattle.volume.proofs.Beside.{stands_beside}
+use Rattle.volume.proofs.Frees.{reads_beside}
 use Rattle.volume.proofs.Statuses.{among_contained, contained_among, matching}
 
 some_counted : (Q : ℕ → Type 0) (n : ℕ) → 0 < n → Count Q n → (x : ℕ) × Q x
@@ -40,7 +39,7 @@ in_page entry page passes = grind (arith, nat_tests, passes)
 passes_in : (entry : Entry) (page : ℕ) → page_of_slot entry.slot ≡ page → stands_in page entry ≡ true
 passes_in entry page at = grind (arith, nat_tests, at)
 
-module _ (volume : VolumeView) (device : DeviceView) (state : State) (stands : StandsFor volume device state) (d : ℕ) (least : 1 ≤ d) (most : d ≤ inodes_of volume.size) (sorted : IsSorted (entries_of volume.index d)) where
+module _ (volume : VolumeView) (device : DeviceView) (state : State) (residue : Residue) (stands : StandsBeside volume device state residue) (d : ℕ) (least : 1 ≤ d) (most : d ≤ inodes_of volume.size) (sorted : IsSorted (entries_of volume.index d)) where
   abbrev P : ℕ
   P = volume.size
 
@@ -59,7 +58,7 @@ module _ (volume : VolumeView) (device : DeviceView) (state : State) (stands : S
 
   matching_in : (page : ℕ) → IsMatching HasSlot (filter (stands_in page) entries)
   matching_in page =
-      let all = matching volume device state no_residue (stands_beside stands) d least most sorted in
+      let all = matching volume device state residue stands d least most sorted in
       record {
         apart = filter_apart (stands_in page) entries all.apart;
         each = λ entry among. all.each entry (among_filter (stands_in page) entries entry among).0;
@@ -93,12 +92,17 @@ module _ (volume : VolumeView) (device : DeviceView) (state : State) (stands : S
         owner = sym (owner_is P W s) ∙ named.0.1;
       })
 
-  module _ (reached : Reached P W d) (directory : IsDirectory W d) where
+  module _ (reached : Reached P W d) (directory : IsDirectory W d) (untouched : IsUntouched volume W residue d) where
     page_kept : (page : ℕ) → IsPageIn P W d page → IsRoomOf P W d page
-    page_kept page is = elim (owned_kept P W state (tidied stands.tidy) stands.reads page is.in_range (λ zero. let owner = is.owner in omega (arith, owner, zero, least))) [
-      | inl other ↦ absurd (not_both_kinds W d (subst (HasBytes W) is.owner other.file) directory)
-      | inr room ↦ subst (λ z. IsRoomOf P W z page) is.owner room
-    ]
+    page_kept page is =
+        let used = ((page_count_beside_law P W residue state (reads_beside volume device state residue stands)).used page is.in_range).1 (λ unused. let owner = is.owner in let none = unused.0 in omega (arith, owner, none, least)) in
+        elim used [
+          | inl kept ↦ elim kept [
+            | inl other ↦ absurd (not_both_kinds W d (subst (HasBytes W) is.owner other.file) directory)
+            | inr room ↦ subst (λ z. IsRoomOf P W z page) is.owner room
+          ]
+          | inr left ↦ absurd (untouched.apart.pages page left is.owner)
+        ]
 
     pub vacant_room : (slot : ℕ) → IsVacantSlot P W d slot → IsOpen entries (page_of_slot slot)
     vacant_room slot vacant = (some, few)
@@ -129,7 +133,7 @@ module _ (volume : VolumeView) (device : DeviceView) (state : State) (stands : S
               in_range = slot_below P s (subst (λ (j : ℕ). j < data_pages_of P) (sym at) is.in_range);
               owner = owner_is P W s ∙ ap (λ (j : ℕ). page_owner P W j) at ∙ is.owner;
             } in
-            let rooms = has_room_words P W state (tidied stands.tidy) stands.reads d reached directory in
+            let rooms = room_beside_law P W residue state (reads_beside volume device state residue stands) d reached directory untouched.apart in
             (((rooms.live s slot).1 (numbered s at), slot.owner), at)
 
     pub none_vacant : ((page : ℕ) → ¬ IsOpen entries page) → IsLowestOf (IsVacantSlot P W d) None

@@ -6,13 +6,11 @@ use Rattle.layout.specs.Geometry.{data_pages_of, slots_of, page_of_slot}
 use Rattle.layout.proofs.GeometryLaws.{slot_below}
 use Rattle.layout.specs.Fields.{page_owner}
 use Rattle.image_reading.specs.Reading.{slot_owner}
-use Rattle.image_reading.proofs.Tidied.{tidied}
-use Rattle.image_counts.specs.Entries.{IsFreePage}
+use Rattle.image_counts.specs.Entries.{IsUnusedDataPage}
 use Rattle.allocators.specs.Numbers.{IsFree, IsLowest}
 use Rattle.volume.specs.Volume.{VolumeView}
-use Rattle.volume.specs.Stands.{IsStanding}
+use Rattle.volume.specs.Beside.{IsStandingBeside}
 use Rattle.volume.specs.Planned.{IsLowestPage, IsPlace}
-use Rattle.volume.proofs.Unused.{free_unowned}
 
 -- ---- a slot's page
 
@@ -44,17 +42,17 @@ pub in_one : (page other : ℕ) → Contains (page ∷ []) other → other ≡ p
 in_one page other (zero, lt, is) = sym is
 in_one page other (suc k, lt, is) = absurd (omega arith)
 
-module _ (volume : VolumeView) (device : DeviceView) (standing : IsStanding volume device) where
+module _ (volume : VolumeView) (device : DeviceView) (standing : IsStandingBeside volume device) where
   -- ---- free pages
 
-  pub free_page : (page : ℕ) → IsFree volume.data_pages page → IsFreePage volume.size device.words page
+  pub free_page : (page : ℕ) → IsFree volume.data_pages page → IsUnusedDataPage volume.size device.words page
   free_page page free =
       let inside = slice_get_within volume.data_pages page true free in
-      let below : page < data_pages_of volume.size = omega (arith, inside, standing.1.knows.each_page) in
-      (below, ((standing.1.knows.data_pages page below).0 free).0)
+      let below : page < data_pages_of volume.size = omega (arith, inside, standing.2.knows.each_page) in
+      (below, (standing.2.knows.data_pages page below).0 free)
 
-  pub page_free : (page : ℕ) → IsFreePage volume.size device.words page → IsFree volume.data_pages page
-  page_free page (below, unowned) = (free_unowned volume device.words standing.1.knows (tidied standing.1.tidy) page below).1 unowned
+  pub page_free : (page : ℕ) → IsUnusedDataPage volume.size device.words page → IsFree volume.data_pages page
+  page_free page (below, unused) = (standing.2.knows.data_pages page below).1 unused
 
   pub lowest_page : (page : ℕ) → IsLowest volume.data_pages page → IsLowestPage volume.size device.words page
   lowest_page page lowest = record {

@@ -1,11 +1,12 @@
 -- Which command a plan is of, by its action, and what is known of it then.
-use Rattle.std.proofs.Common.{◌≡◌, ◌⊎◌, inl, inr, ℕ, ◌^◌, ◌<◌, ◌≤◌, Bool, true, false, ◌&&◌, List, Option, None, Some, is_none, is_some, refl, sym, ap, subst, ◌∙◌, arith}
+use Rattle.std.proofs.Common.{◌≡◌, ◌⊎◌, inl, inr, ℕ, ◌^◌, ◌<◌, ◌≤◌, Bool, true, false, List, Option, None, Some, is_some, refl, sym, ap, subst, ◌∙◌, arith}
 use Rattle.std.specs.Prelude.{not}
 use Rattle.pm_trait.specs.DeviceView.{DeviceView}
 use Rattle.layout.specs.declared.kinds.NodeKind.{NodeKind}
 use Rattle.layout.specs.declared.kinds.NodeKind.TheVariants.{File, Directory}
 use Rattle.tree_model.specs.PathText.{Route}
 use Rattle.tree_model.specs.Tree.{parent, id_at}
+use Rattle.tree_model.specs.Capacity.{Supply}
 use Rattle.tree_model.specs.Run.{State}
 use Rattle.tree_model.specs.Places.{needs_places}
 use Rattle.tree_model.specs.declared.command.Command.{Command}
@@ -13,9 +14,11 @@ use Rattle.tree_model.specs.declared.command.Command.TheVariants.{Create, Mkdir,
 use Rattle.tree_model.specs.declared.reply.Refusal.TheVariants.{NoMemory}
 use Rattle.volatile_index.specs.Index.{inodes_of_index}
 use Rattle.volume.specs.Volume.{VolumeView}
-use Rattle.volume.specs.Stands.{StandsFor}
+use Rattle.image_reading.specs.Residue.{Residue}
+use Rattle.image_counts.specs.Laws.{supply_beside}
+use Rattle.volume.specs.Beside.{StandsBeside}
 use Rattle.volume.specs.declared.plan.Action.TheVariants.{Make, Name, Remove, Move, Write as WriteBytes, WriteNothing, Resize, KeepSize, KeepNames, Read as ReadBytes, Status, Names, Space}
-use Rattle.volume.specs.Planned.{IsLinkFor, IsRemovalFor, IsTargetOf, IsMovingFor, IsWritingFor, IsResizingFor, IsPlanOf, IsPlanned}
+use Rattle.volume.specs.Planned.{IsLinkFor, IsRemovalFor, IsTargetOf, IsMovingFor, IsWritingFor, IsResizingFor, IsPlanOf, IsPlannedWith}
 use Rattle.volume.specs.Costs.{pages_of_loss}
 use Rattle.volume.specs.Prepared.{making, TakesPlace, IsNamedIn, IsBounded, IsShort, LacksRoom}
 use Rattle.volume.specs.declared.plan.NewEntry.{NewEntry}
@@ -25,7 +28,7 @@ use Rattle.volume.specs.declared.plan.Removal.{Removal}
 use Rattle.volume.specs.declared.plan.Moving.{Moving}
 use Rattle.volume.specs.declared.plan.Action.{Action}
 use Rattle.volume.proofs.Plans.{change_is, same_entry, nothing_or, planned_making}
-use Rattle.volume.proofs.Walked.{reached_at, in_table}
+use Rattle.volume.proofs.WalkedBeside.{reached_at, in_table}
 use Rattle.volume.proofs.PageLists.{few_lost}
 use Rattle.volume.proofs.ContentPlans.{planned_writing, planned_resizing, writing_needs, resizing_needs, bounded_writing, bounded_resizing}
 
@@ -154,11 +157,13 @@ places_needed P I state command Space plan takes = absurd takes
 
 -- ---- where memory is short
 
-pub lacks_room : (P : ℕ) (I : List ℕ) (state : State) (command : Command) (action : Action) (before after : DeviceView) → IsPlanned P I state command action → IsShort action before after → LacksRoom P state command NoMemory before after
-lacks_room P I state command action before after planned short = record {
+pub lacks_room : (supply : Supply) (I : List ℕ) (state : State) (command : Command) (action : Action) (before after : DeviceView) → IsPlannedWith supply I state command action → IsShort action before after
+    → LacksRoom supply state command NoMemory before after
+lacks_room supply I state command action before after planned short = record {
   answered = refl;
-  accepted = λ i. (change_is P I state command action planned.plan_is ∙ short.change) i && is_none (planned.accepted i);
-  cause = elim short.cause [ inl takes ↦ inl (places_needed P I state command action planned.plan_is takes) | inr risen ↦ inr risen ];
+  change = change_is supply.pages I state command action planned.plan_is ∙ short.change;
+  accepted = planned.accepted;
+  cause = elim short.cause [ inl takes ↦ inl (places_needed supply.pages I state command action planned.plan_is takes) | inr risen ↦ inr risen ];
 }
 
 -- ---- its directory, and its pages
@@ -178,18 +183,18 @@ target_directory : (P : ℕ) (I : List ℕ) (state : State) (from to : Route) (m
 target_directory P I state from to moving None (absent, new) = new.directory_is
 target_directory P I state from to moving (Some loss) (named, is_loss, no_page) = named.directory_is
 
-few_replaced : (volume : VolumeView) (device : DeviceView) (state : State) → StandsFor volume device state → (from to : Route) (moving : Moving) (replaced : Option Loss) → IsTargetOf volume.size device.words state from to moving replaced
+few_replaced : (volume : VolumeView) (device : DeviceView) (state : State) (residue : Residue) → StandsBeside volume device state residue → (from to : Route) (moving : Moving) (replaced : Option Loss) → IsTargetOf volume.size device.words state from to moving replaced
     → pages_of_loss replaced < 2 ^ 16
-few_replaced volume device state stands from to moving None target = omega arith
-few_replaced volume device state stands from to moving (Some loss) (named, is_loss, no_page) = few_lost volume device state (Rename from to) loss stands is_loss
+few_replaced volume device state residue stands from to moving None target = omega arith
+few_replaced volume device state residue stands from to moving (Some loss) (named, is_loss, no_page) = few_lost volume device state residue (Rename from to) loss stands is_loss
 
-module _ (volume : VolumeView) (device : DeviceView) (state : State) (stands : StandsFor volume device state) (command : Command) where
+module _ (volume : VolumeView) (device : DeviceView) (state : State) (residue : Residue) (stands : StandsBeside volume device state residue) (command : Command) where
   within_index : (path : Route) (d : ℕ) → id_at state.tree path ≡ Some d → (1 ≤ d) × (d ≤ inodes_of_index volume.index)
   within_index path d named =
-      let within = in_table volume device d (state, stands) (reached_at volume device state path d stands named) in
+      let within = in_table volume device d (state, residue, stands) (reached_at volume device state residue path d stands named) in
       (within.0, omega (arith, within.1, stands.knows.nodes.each_inode))
 
-  pub directory_within : (action : Action) → IsPlanned volume.size device.words state command action → IsNamedIn (inodes_of_index volume.index) action
+  pub directory_within : (action : Action) → IsPlannedWith (supply_beside volume.size residue) device.words state command action → IsNamedIn (inodes_of_index volume.index) action
   directory_within (Make entry) planned =
       let (path, named) = directory_named volume.size device.words state entry command planned.plan_is in
       within_index path entry.directory named
@@ -216,18 +221,18 @@ module _ (volume : VolumeView) (device : DeviceView) (state : State) (stands : S
   directory_within (Names inode) planned = tt
   directory_within Space planned = tt
 
-  pub pages_few : (action : Action) → IsPlanned volume.size device.words state command action → IsBounded action
+  pub pages_few : (action : Action) → IsPlannedWith (supply_beside volume.size residue) device.words state command action → IsBounded action
   pages_few (Make entry) planned = tt
   pages_few (Name link) planned = tt
   pages_few (Remove removal) planned =
       let (path, is, for) = planned_removing volume.size device.words state command removal planned.plan_is in
-      few_lost volume device state command removal.loss stands for.loss
+      few_lost volume device state residue command removal.loss stands for.loss
   pages_few (Move moving) planned =
       let (from, to, is, for) = planned_moving volume.size device.words state command moving planned.plan_is in
-      few_replaced volume device state stands from to moving moving.replaced for.target
+      few_replaced volume device state residue stands from to moving moving.replaced for.target
   pages_few WriteNothing planned = tt
-  pages_few (WriteBytes writing) planned = bounded_writing volume device state stands command writing planned
-  pages_few (Resize resizing) planned = bounded_resizing volume device state stands command resizing planned
+  pages_few (WriteBytes writing) planned = bounded_writing volume device state residue stands command writing planned
+  pages_few (Resize resizing) planned = bounded_resizing volume device state residue stands command resizing planned
   pages_few KeepSize planned = tt
   pages_few KeepNames planned = tt
   pages_few (ReadBytes reading) planned = tt

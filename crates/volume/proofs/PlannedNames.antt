@@ -1,13 +1,10 @@
 -- What a planned entry and a planned name take is free, and the name isn't there.
-use Rattle.std.proofs.Common.{◌≡◌, ℕ, ◌-◌, ◌≤◌, inl, inr, false, List, [], ◌∷◌, ◌++◌, reverse, Contains, Option, Some, None, is_some, sym, ap, subst, ◌∙◌, arith, true≢false}
-use Rattle.std.proofs.lemmas.Bool.{cases_eq}
-use Rattle.std.proofs.lemmas.List.{reverse-reverse}
+use Rattle.std.proofs.Common.{◌≡◌, ℕ, ◌-◌, ◌≤◌, false, List, [], ◌∷◌, ◌++◌, Contains, Option, Some, None, is_some, sym, ap, subst, ◌∙◌, arith, true≢false}
 use Rattle.pm_trait.specs.DeviceView.{DeviceView}
-use Rattle.layout.specs.Fields.{inode_kind}
 use Rattle.layout.specs.declared.kinds.NodeKind.{NodeKind}
 use Rattle.layout.specs.declared.kinds.NodeKind.TheVariants.{File, Directory}
 use Rattle.tree_model.specs.PathText.{Route}
-use Rattle.tree_model.specs.Tree.{IsTree, is_root, parent, id_at, node_at}
+use Rattle.tree_model.specs.Tree.{IsTree, is_root, parent, id_at}
 use Rattle.tree_model.specs.Capacity.{untaken}
 use Rattle.tree_model.specs.Accepted.{MayName, MayMake}
 use Rattle.tree_model.specs.Step.{refusal_of}
@@ -15,10 +12,6 @@ use Rattle.tree_model.specs.Run.{State}
 use Rattle.tree_model.specs.declared.command.Command.{Command}
 use Rattle.tree_model.specs.declared.command.Command.TheVariants.{Create, Mkdir, Link}
 use Rattle.tree_model.proofs.AcceptedLaws.{Accepted-from_row}
-use Rattle.tree_model.proofs.TreeLaws.{least_free_id-ge}
-use Rattle.image_reading.specs.Reading.{Names, Reached}
-use Rattle.image_reading.proofs.Tidied.{tidied}
-use Rattle.image_counts.proofs.Inodes.{free_inode_law}
 use Rattle.allocators.specs.Numbers.{IsFree}
 use Rattle.volatile_index.specs.Index.{entries_of}
 use Rattle.volume.specs.Volume.{VolumeView}
@@ -30,6 +23,7 @@ use Rattle.volume.specs.Entered.{pages_of_option, MayTakePages, MayPutName}
 use Rattle.volume.specs.declared.plan.NewEntry.{NewEntry}
 use Rattle.volume.specs.declared.plan.NewName.{NewName}
 use Rattle.volume.specs.declared.plan.Action.TheVariants.{Make, Name}
+use Rattle.volume.proofs.Beside.{standing_beside}
 use Rattle.volume.proofs.Frees.{inode_free}
 use Rattle.volume.proofs.PlanActions.{IsOfLink, planned_linking}
 use Rattle.volume.proofs.Plans.{same_entry, planned_making}
@@ -48,7 +42,7 @@ module _ (volume : VolumeView) (device : DeviceView) (state : State) (stands : S
   takes None place = may_take_none volume
   takes (Some page) place = record {
     once = ((λ none. none), tt);
-    free = λ other there. subst (IsFree volume.data_pages) (sym (in_one page other there)) (page_free volume device (state, stands) page place.page_is.free);
+    free = λ other there. subst (IsFree volume.data_pages) (sym (in_one page other there)) (page_free volume device (standing_beside volume device (state, stands)) page place.page_is.free);
   }
 
   pub may_take_new : MayTakePages volume (pages_of_option new_page)
@@ -115,20 +109,8 @@ module _ (volume : VolumeView) (device : DeviceView) (state : State) (command : 
 
   -- ---- its inode
 
-  unreached : ¬ Reached volume.size device.words entry.inode
-  unreached (route, names) =
-      let is = (plan.stands.reads.tree.names (reverse route) entry.inode).1 (subst (λ (r : Route). Names volume.size device.words r entry.inode) (sym (reverse-reverse route)) names) in
-      let none = ap (node_at state.tree) for_entry.inode_is ∙ may.unused in
-      true≢false (sym (tree.present (reverse route) entry.inode is) ∙ ap is_some none)
-
   pub inode_from_one : 1 ≤ entry.inode
-  inode_from_one = let least = least_free_id-ge state.tree in omega (arith, least, for_entry.inode_is)
-
-  unused : inode_kind device.words entry.inode ≡ 0
-  unused = elim (cases_eq (inode_kind device.words entry.inode) 0) [
-    | inl none ↦ none
-    | inr some ↦ absurd (unreached (((free_inode_law volume.size device.words state (tidied plan.stands.tidy) plan.stands.reads).used entry.inode inode_from_one for_entry.inode_within).1 some))
-  ]
+  inode_from_one = for_entry.inode_is.free.0
 
   pub may_take_inode : IsFree volume.inodes (entry.inode - 1)
-  may_take_inode = inode_free volume device state plan.stands entry.inode (inode_from_one, for_entry.inode_within, unused)
+  may_take_inode = inode_free volume device state plan.stands entry.inode for_entry.inode_is.free

@@ -11,9 +11,10 @@ use Rattle.tree_model.specs.declared.command.Command.{Command}
 use Rattle.tree_model.specs.declared.command.Command.TheVariants.{Write, Truncate}
 use Rattle.tree_model.proofs.AcceptedLaws.{Accepted-from_row}
 use Rattle.image_reading.specs.Reading.{Reached, pages_of_size}
+use Rattle.image_reading.specs.Residue.{no_residue}
 use Rattle.image_reading.proofs.Counts.{count_one}
 use Rattle.image_reading.proofs.Tidied.{tidied}
-use Rattle.image_counts.specs.Entries.{IsPageIn, IsFreePage}
+use Rattle.image_counts.specs.Entries.{IsPageIn, IsUnusedDataPage}
 use Rattle.image_counts.proofs.Nodes.{size_law}
 use Rattle.image_counts.proofs.Tidied.{file_pages_law}
 use Rattle.volatile_index.specs.Index.{inodes_of_index, pages_of}
@@ -26,6 +27,7 @@ use Rattle.volume.specs.declared.plan.Writing.{Writing}
 use Rattle.volume.specs.declared.plan.Resizing.{Resizing}
 use Rattle.volume.specs.declared.plan.Action.TheVariants.{Write as WriteBytes, Resize}
 use Rattle.volume.proofs.Walked.{stands_tree, reached_at, in_table, in_index}
+use Rattle.volume.proofs.Beside.{stands_beside}
 use Rattle.volume.proofs.Places.{page_free}
 use Rattle.volume.proofs.PageLists.{pages_counted}
 use Rattle.volume.proofs.LowestPages.{rising_distinct}
@@ -37,10 +39,10 @@ same_some : (x y : ℕ) → ◌≡◌ {A = Option ℕ} (Some x) (Some y) → x �
 same_some x y e = cc
 
 module _ (volume : VolumeView) (device : DeviceView) (state : State) where
-  may_take : (n : ℕ) (pages : List ℕ) → StandsFor volume device state → AreLowestOf (IsFreePage volume.size device.words) n pages → MayTakePages volume pages
+  may_take : (n : ℕ) (pages : List ℕ) → StandsFor volume device state → AreLowestOf (IsUnusedDataPage volume.size device.words) n pages → MayTakePages volume pages
   may_take n pages stands lowest = record {
     once = rising_distinct pages lowest.rising;
-    free = λ page there. page_free volume device (state, stands) page (lowest.each page there);
+    free = λ page there. page_free volume device (state, no_residue, stands_beside stands) page (lowest.each page there);
   }
 
   pub may_take_written : (command : Command) (writing : Writing) → IsPlanFor volume device state command (WriteBytes writing) → MayTakePages volume writing.new_pages
@@ -55,10 +57,10 @@ module _ (volume : VolumeView) (device : DeviceView) (state : State) where
 
   -- the file is one of the index
   pub written_in_index : (command : Command) (writing : Writing) → IsPlanFor volume device state command (WriteBytes writing) → (1 ≤ writing.inode) × (writing.inode ≤ inodes_of_index volume.index)
-  written_in_index command writing plan = directory_within volume device state plan.stands command (WriteBytes writing) plan.planned
+  written_in_index command writing plan = directory_within volume device state no_residue (stands_beside plan.stands) command (WriteBytes writing) plan.planned
 
   pub resized_in_index : (command : Command) (resizing : Resizing) → IsPlanFor volume device state command (Resize resizing) → (1 ≤ resizing.inode) × (resizing.inode ≤ inodes_of_index volume.index)
-  resized_in_index command resizing plan = directory_within volume device state plan.stands command (Resize resizing) plan.planned
+  resized_in_index command resizing plan = directory_within volume device state no_residue (stands_beside plan.stands) command (Resize resizing) plan.planned
 
   -- a file has as many pages as its size asks for
   pages_held : (inode : ℕ) (bytes : List ℕ) → StandsFor volume device state → Reached volume.size device.words inode → is_file_node (node_at state.tree inode) ≡ true → length (bytes_of state.tree inode) ≡ inode_size device.words inode

@@ -9,28 +9,29 @@ use Rattle.layout.specs.declared.kinds.NodeKind.TheVariants.{File, Directory}
 use Rattle.tree_model.specs.PathText.{Route}
 use Rattle.tree_model.specs.Tree.{root_id, is_root, parent, last_name, node_at, is_directory, is_file, name_count, path_count, entries_in}
 use Rattle.tree_model.specs.Walk.{walk, walk_to_parent, step_into}
-use Rattle.tree_model.specs.Capacity.{untaken}
-use Rattle.tree_model.specs.Step.{first, at, fault_of, id_of, least_free_id, names_in, tree_after, refusal_of}
+use Rattle.tree_model.specs.Step.{first, at, fault_of, id_of, least_free_id, names_in, tree_after, refusal_with}
 use Rattle.tree_model.specs.Run.{State}
 use Rattle.tree_model.specs.declared.command.Command.TheVariants.{Unlink, Rmdir}
 use Rattle.tree_model.specs.declared.reply.Refusal.{Refusal}
 use Rattle.tree_model.specs.declared.reply.Refusal.TheVariants.{NotFound, NotDir, Root, IsDir, NotEmpty}
 use Rattle.tree_model.proofs.AcceptedLaws.{Accepted-from_row}
 use Rattle.image_reading.specs.Counts.{Count}
-use Rattle.image_reading.proofs.Tidied.{tidied}
+use Rattle.image_reading.specs.Residue.{Residue}
 use Rattle.image_counts.specs.Entries.{IsPageIn}
-use Rattle.image_counts.proofs.Links.{link_word_law}
+use Rattle.image_counts.specs.Laws.{supply_beside}
+use Rattle.image_counts.proofs.Links.{link_word_beside_law}
 use Rattle.volatile_index.specs.Entries.{IsAbsent}
 use Rattle.volatile_index.specs.Index.{entries_of}
 use Rattle.volume.specs.Volume.{VolumeView}
-use Rattle.volume.specs.Stands.{StandsFor}
+use Rattle.volume.specs.Beside.{StandsBeside, IsUntouched}
 use Rattle.volume.specs.Walks.{name_row, WouldHold}
 use Rattle.volume.specs.declared.plan.Action.TheVariants.{Remove}
-use Rattle.volume.specs.Planned.{IsNameAt, IsAlone, IsGivenBack, IsPlanned}
+use Rattle.volume.specs.Planned.{IsNameAt, IsAlone, IsGivenBack, IsPlannedWith}
 use Rattle.volume.specs.declared.plan.Removal.{Removal}
 use Rattle.volume.proofs.Ways.{walk_last, parent_walked, walk_fails}
-use Rattle.volume.proofs.Walked.{stands_tree, reached_at, entry_there, step_there, step_absent}
+use Rattle.volume.proofs.WalkedBeside.{stands_tree, reached_at, entry_there, step_there, step_absent}
 use Rattle.volume.proofs.Readings.{a_file, no_file}
+use Rattle.volume.proofs.Frees.{reads_beside}
 use Rattle.volume.proofs.Holders.{held, named_there}
 
 -- ---- how a row begins
@@ -57,9 +58,9 @@ is_some_test n some = grind (arith, nat_tests)
 pub is_none_test : (n : ℕ) → n ≤ 0 → nat_lt 0 n ≡ false
 is_none_test n none = grind (arith, nat_tests)
 
-module _ (volume : VolumeView) (device : DeviceView) (state : State) (stands : StandsFor volume device state) (path : Route) where
+module _ (volume : VolumeView) (device : DeviceView) (state : State) (residue : Residue) (stands : StandsBeside volume device state residue) (path : Route) where
   pub name_fails : (fault : Refusal) → walk_to_parent state.tree path ≡ Err fault → name_row state.tree path ≡ Some fault
-  name_fails fault e = ap (λ w. begun (fault_of w) (is_root path)) (walk_fails state.tree path fault (stands_tree volume device state stands) e)
+  name_fails fault e = ap (λ w. begun (fault_of w) (is_root path)) (walk_fails state.tree path fault (stands_tree volume device state residue stands) e)
 
   module _ (d : ℕ) (name : List ℕ) (holder : WouldHold state.tree path d name) where
     at_name : walk state.tree path ≡ step_into state.tree (Ok (record { path = parent path; id = d })) name
@@ -69,32 +70,32 @@ module _ (volume : VolumeView) (device : DeviceView) (state : State) (stands : S
 
     pub name_absent : IsAbsent (entries_of volume.index d) name → name_row state.tree path ≡ Some NotFound
     name_absent none =
-        let (at_parent, directory) = held volume device state stands path d name holder in
-        ap (λ w. begun (fault_of w) (is_root path)) (at_name ∙ step_absent volume device state (parent path) d name stands at_parent directory none)
+        let (at_parent, directory) = held volume device state residue stands path d name holder in
+        ap (λ w. begun (fault_of w) (is_root path)) (at_name ∙ step_absent volume device state residue (parent path) d name stands at_parent directory none)
 
     module _ (slot : ℕ) (there : Contains (entries_of volume.index d) (record { name = name; slot = slot })) where
       pub name_found : name_row state.tree path ≡ None
       name_found =
-          let (at_parent, directory) = held volume device state stands path d name holder in
-          let walked = at_name ∙ step_there volume device state (parent path) d slot name stands at_parent directory there in
+          let (at_parent, directory) = held volume device state residue stands path d name holder in
+          let walked = at_name ∙ step_there volume device state residue (parent path) d slot name stands at_parent directory there in
           λ i. begun (fault_of (walked i)) (holder.below i)
 
       pub name_is : IsNameAt volume.size device.words state path d name slot (slot_inode volume.size device.words slot)
       name_is =
-          let at_parent = (held volume device state stands path d name holder).0 in
+          let at_parent = (held volume device state residue stands path d name holder).0 in
           record {
             directory_is = at_parent;
             name_is = holder.named;
-            slot_is = entry_there volume device d slot name (state, stands) (reached_at volume device state (parent path) d stands at_parent) there;
-            inode_is = named_there volume device state stands path d name holder slot there;
+            slot_is = entry_there volume device d slot name (state, residue, stands) (reached_at volume device state residue (parent path) d stands at_parent) there;
+            inode_is = named_there volume device state residue stands path d name holder slot there;
           }
 
   -- ---- the rows
 
-  pub unlink_fails : (fault : Refusal) → name_row state.tree path ≡ Some fault → refusal_of volume.size state.tree state.room (Unlink path) ≡ Some fault
+  pub unlink_fails : (fault : Refusal) → name_row state.tree path ≡ Some fault → refusal_with (supply_beside volume.size residue) state.tree state.room (Unlink path) ≡ Some fault
   unlink_fails fault e = fails_first (fault_of (walk state.tree path)) (at Root (is_root path)) (at IsDir (is_directory state.tree (id_of state.tree path)) ∷ []) fault e
 
-  pub rmdir_fails : (fault : Refusal) → name_row state.tree path ≡ Some fault → refusal_of volume.size state.tree state.room (Rmdir path) ≡ Some fault
+  pub rmdir_fails : (fault : Refusal) → name_row state.tree path ≡ Some fault → refusal_with (supply_beside volume.size residue) state.tree state.room (Rmdir path) ≡ Some fault
   rmdir_fails fault e =
       fails_first (fault_of (walk state.tree path)) (at Root (is_root path)) (at NotDir (is_file state.tree (id_of state.tree path)) ∷ at NotEmpty (nat_lt 0 (name_count state.tree (id_of state.tree path))) ∷ []) fault e
 
@@ -111,7 +112,7 @@ module _ (volume : VolumeView) (device : DeviceView) (state : State) (stands : S
 
     -- ---- a file
 
-    unlink_row : (b : Bool) → is_directory state.tree inode ≡ b → refusal_of volume.size state.tree state.room (Unlink path) ≡ at IsDir b
+    unlink_row : (b : Bool) → is_directory state.tree inode ≡ b → refusal_with (supply_beside volume.size residue) state.tree state.room (Unlink path) ≡ at IsDir b
     unlink_row b is =
         passes_first (fault_of (walk state.tree path)) (at Root (is_root path)) (at IsDir (is_directory state.tree (id_of state.tree path)) ∷ []) passes
         ∙ ap (λ id. first (at IsDir (is_directory state.tree id) ∷ [])) its_id ∙ ap (λ t. first (at IsDir t ∷ [])) is ∙ alone b
@@ -120,18 +121,18 @@ module _ (volume : VolumeView) (device : DeviceView) (state : State) (stands : S
         alone true = refl
         alone false = refl
 
-    pub unlink_directory : is_directory state.tree inode ≡ true → refusal_of volume.size state.tree state.room (Unlink path) ≡ Some IsDir
+    pub unlink_directory : is_directory state.tree inode ≡ true → refusal_with (supply_beside volume.size residue) state.tree state.room (Unlink path) ≡ Some IsDir
     unlink_directory is = unlink_row true is
 
-    pub unlink_planned : (links pages : ℕ) (given_back : Option ℕ) → is_directory state.tree inode ≡ false → links ≡ inode_links device.words inode → IsLeft (links == 1) pages given_back
-        → IsPlanned volume.size device.words state (Unlink path) (Remove (removal_of File (links == 1) pages given_back))
-    unlink_planned links pages given_back is links_are (all, none, given) =
+    pub unlink_planned : IsUntouched volume device.words residue inode → (links pages : ℕ) (given_back : Option ℕ) → is_directory state.tree inode ≡ false → links ≡ inode_links device.words inode → IsLeft (links == 1) pages given_back
+        → IsPlannedWith (supply_beside volume.size residue) device.words state (Unlink path) (Remove (removal_of File (links == 1) pages given_back))
+    unlink_planned untouched links pages given_back is links_are (all, none, given) =
         let accepted = unlink_row false is in
-        let found = Accepted-from_row (untaken volume.size) state.tree state.room (Unlink path) (stands_tree volume device state stands) accepted in
+        let found = Accepted-from_row (supply_beside volume.size residue) state.tree state.room (Unlink path) (stands_tree volume device state residue stands) accepted in
         let same : found.source.id ≡ inode = sym found.source.is ∙ its_id in
         let goes = found.goes (least_free_id state.tree) in
-        let reached = reached_at volume device state path inode stands is_name.inode_is in
-        let counted = links_are ∙ sym (link_word_law volume.size device.words state (tidied stands.tidy) stands.reads inode reached) ∙ otherwise (is_directory state.tree inode) _ (path_count state.tree inode) is in
+        let reached = reached_at volume device state residue path inode stands is_name.inode_is in
+        let counted = links_are ∙ sym (link_word_beside_law volume.size device.words residue state (reads_beside volume device state residue stands) inode reached untouched.apart) ∙ otherwise (is_directory state.tree inode) _ (path_count state.tree inode) is in
         record {
           accepted = accepted;
           plan_is = (
@@ -154,16 +155,16 @@ module _ (volume : VolumeView) (device : DeviceView) (state : State) (stands : S
     -- ---- a directory
 
     pub rmdir_row : (file some : Bool) → is_file state.tree inode ≡ file → nat_lt 0 (name_count state.tree inode) ≡ some
-        → refusal_of volume.size state.tree state.room (Rmdir path) ≡ first (at NotDir file ∷ at NotEmpty some ∷ [])
+        → refusal_with (supply_beside volume.size residue) state.tree state.room (Rmdir path) ≡ first (at NotDir file ∷ at NotEmpty some ∷ [])
     rmdir_row file some is names =
         passes_first (fault_of (walk state.tree path)) (at Root (is_root path)) (at NotDir (is_file state.tree (id_of state.tree path)) ∷ at NotEmpty (nat_lt 0 (name_count state.tree (id_of state.tree path))) ∷ []) passes
         ∙ ap (λ id. first (at NotDir (is_file state.tree id) ∷ at NotEmpty (nat_lt 0 (name_count state.tree id)) ∷ [])) its_id
         ∙ (λ i. first (at NotDir (is i) ∷ at NotEmpty (names i) ∷ []))
 
     there : is_some (node_at state.tree inode) ≡ true
-    there = (stands_tree volume device state stands).present path inode is_name.inode_is
+    there = (stands_tree volume device state residue stands).present path inode is_name.inode_is
 
-    pub rmdir_file : is_directory state.tree inode ≡ false → refusal_of volume.size state.tree state.room (Rmdir path) ≡ Some NotDir
+    pub rmdir_file : is_directory state.tree inode ≡ false → refusal_with (supply_beside volume.size residue) state.tree state.room (Rmdir path) ≡ Some NotDir
     rmdir_file is = rmdir_row true (nat_lt 0 (name_count state.tree inode)) (a_file (node_at state.tree inode) there is) refl
 
     -- the directory has so many names
@@ -171,14 +172,14 @@ module _ (volume : VolumeView) (device : DeviceView) (state : State) (stands : S
       counted : names ≡ name_count state.tree inode
       counted = names_are ∙ length-map (entries_in state.tree inode) (λ e. last_name e.0)
 
-      pub rmdir_some : 0 < names → refusal_of volume.size state.tree state.room (Rmdir path) ≡ Some NotEmpty
+      pub rmdir_some : 0 < names → refusal_with (supply_beside volume.size residue) state.tree state.room (Rmdir path) ≡ Some NotEmpty
       rmdir_some some = rmdir_row false true (no_file (node_at state.tree inode) is) (ap (nat_lt 0) (sym counted) ∙ is_some_test names some)
 
       pub rmdir_planned : (pages : ℕ) (given_back : Option ℕ) → names ≤ 0 → IsLeft true pages given_back
-          → IsPlanned volume.size device.words state (Rmdir path) (Remove (removal_of Directory true pages given_back))
+          → IsPlannedWith (supply_beside volume.size residue) device.words state (Rmdir path) (Remove (removal_of Directory true pages given_back))
       rmdir_planned pages given_back none (all, nothing, given) =
           let accepted = rmdir_row false false (no_file (node_at state.tree inode) is) (ap (nat_lt 0) (sym counted) ∙ is_none_test names none) in
-          let found = Accepted-from_row (untaken volume.size) state.tree state.room (Rmdir path) (stands_tree volume device state stands) accepted in
+          let found = Accepted-from_row (supply_beside volume.size residue) state.tree state.room (Rmdir path) (stands_tree volume device state residue stands) accepted in
           let same : found.source.id ≡ inode = sym found.source.is ∙ its_id in
           record {
             accepted = accepted;

@@ -12,33 +12,57 @@ use Rattle.tree_model.specs.Tree.{Tree, Node, IsTree, root_id, is_root, parent, 
 use Rattle.tree_model.specs.Walk.{Place, root_place, walk, walk_to_parent}
 use Rattle.tree_model.specs.Capacity.{free_pages, untaken}
 use Rattle.tree_model.specs.Accepted.{MayReplace}
-use Rattle.tree_model.specs.Step.{first, at, fault_of, id_of, is_same_node, names_in, page_for_name, faults_of_rename, refusal_of, least_free_id, tree_after, without_path}
+use Rattle.tree_model.specs.Step.{first, at, fault_of, id_of, is_same_node, names_in, page_for_name, faults_of_rename, refusal_of, refusal_with, least_free_id, tree_after, without_path}
 use Rattle.tree_model.specs.Run.{State}
 use Rattle.tree_model.specs.declared.command.Command.TheVariants.{Rename, Rmdir}
 use Rattle.tree_model.specs.declared.reply.Refusal.{Refusal}
 use Rattle.tree_model.specs.declared.reply.Refusal.TheVariants.{NotDir, Root, IsDir, NotEmpty, IntoItself, NoPages}
 use Rattle.tree_model.proofs.AcceptedLaws.{Accepted-from_row}
 use Rattle.tree_model.proofs.PathCounts.{gone-where_unnamed, path_count-without_path}
-use Rattle.image_reading.proofs.Tidied.{tidied}
 use Rattle.image_reading.specs.Counts.{Count}
-use Rattle.image_counts.specs.Entries.{IsFreePage, IsPageIn}
-use Rattle.image_counts.proofs.Links.{link_word_law}
+use Rattle.image_reading.specs.Residue.{Residue, no_residue}
+use Rattle.image_counts.specs.Entries.{IsUnusedDataPage, IsPageIn}
+use Rattle.image_counts.specs.Laws.{supply_beside}
+use Rattle.image_counts.proofs.Apart.{apart_nothing}
+use Rattle.image_counts.proofs.Links.{link_word_beside_law}
 use Rattle.volatile_index.specs.Entries.{IsAbsent}
 use Rattle.volatile_index.specs.Index.{entries_of}
 use Rattle.volume.specs.Volume.{VolumeView}
-use Rattle.volume.specs.Stands.{StandsFor, HasNode}
+use Rattle.volume.specs.Beside.{StandsBeside, StandsAlone, HasNodeAlone, MayPrepare}
 use Rattle.volume.specs.Moves.{is_directory_kind}
-use Rattle.volume.specs.Planned.{IsVacantSlot, IsPlace, IsNameAt, IsLossOf, IsAlone, IsGivenBack, IsMovingFor, IsNothingOr, IsPlanned}
+use Rattle.volume.specs.Planned.{IsVacantSlot, IsPlace, IsNameAt, IsLossOf, IsAlone, IsGivenBack, IsMovingFor, IsNothingOr, IsPlannedWith, IsPlanned}
 use Rattle.volume.specs.Walks.{name_row, replace_row, WouldHold}
-use Rattle.volume.specs.Prepared.{IsLeftWith}
+use Rattle.volume.specs.Prepared.{IsLeftWith, IsPlanFound}
 use Rattle.volume.specs.declared.plan.Loss.{Loss}
 use Rattle.volume.specs.declared.plan.Moving.{Moving}
+use Rattle.volume.specs.declared.plan.Action.{Action}
 use Rattle.volume.specs.declared.plan.Action.TheVariants.{Move, KeepNames}
-use Rattle.volume.proofs.Walked.{stands_tree, reached_at}
+use Rattle.volume.proofs.Beside.{untouched_nothing}
+use Rattle.volume.proofs.Frees.{reads_beside}
+use Rattle.volume.proofs.WalkedBeside.{stands_tree, reached_at}
 use Rattle.volume.proofs.Readings.{a_file, no_file}
-use Rattle.volume.proofs.Statuses.{same_state}
+use Rattle.volume.proofs.Statuses.{same_state_beside}
 use Rattle.volume.proofs.Holders.{held, named_there, named_absent, lacks_page, has_page}
 use Rattle.volume.proofs.RemovalRows.{is_some_test, is_none_test, otherwise, name_found, name_is, rmdir_row}
+
+-- ---- a rename is prepared alone
+
+module _ (volume : VolumeView) (device : DeviceView) (state : State) (residue : Residue) (from to : Route) (asked : MayPrepare volume device state residue (Rename from to)) where
+  left_none : residue ≡ no_residue
+  left_none = asked.untouched.alone refl
+
+  pub alone : StandsAlone volume device state
+  alone = subst (StandsBeside volume device state) left_none asked.stands
+
+module _ (volume : VolumeView) (device : DeviceView) (from to : Route) where
+  pub plan_alone : (action : Action) → ((state : State) → StandsAlone volume device state → IsPlanned volume.size device.words state (Rename from to) action) → IsPlanFound volume device (Rename from to) action
+  plan_alone action planned = λ state residue asked.
+      subst (λ (left : Residue). IsPlannedWith (supply_beside volume.size left) device.words state (Rename from to) action) (sym (left_none volume device state residue from to asked)) (planned state (alone volume device state residue from to asked))
+
+  pub refusal_alone : (fault : Refusal) → ((state : State) → StandsAlone volume device state → refusal_of volume.size state.tree state.room (Rename from to) ≡ Some fault)
+      → (state : State) (residue : Residue) → MayPrepare volume device state residue (Rename from to) → refusal_with (supply_beside volume.size residue) state.tree state.room (Rename from to) ≡ Some fault
+  refusal_alone fault refused state residue asked =
+      subst (λ (left : Residue). refusal_with (supply_beside volume.size left) state.tree state.room (Rename from to) ≡ Some fault) (sym (left_none volume device state residue from to asked)) (refused state (alone volume device state residue from to asked))
 
 -- ---- how the row begins
 
@@ -144,9 +168,9 @@ given_too Alone Other slot None other kept = λ both. kept both.0
 given_too Alone Other slot (Some page) other (alone, is) = ((alone, other), is)
 
 -- the node that a volume has stands in each state that it stands for
-pub there_now : (volume : VolumeView) (device : DeviceView) (inode : ℕ) → HasNode volume device inode → (state : State) → StandsFor volume device state → is_some (node_at state.tree inode) ≡ true
+pub there_now : (volume : VolumeView) (device : DeviceView) (inode : ℕ) → HasNodeAlone volume device inode → (state : State) → StandsAlone volume device state → is_some (node_at state.tree inode) ≡ true
 there_now volume device inode (known, stands_known, there) state stands =
-    subst (λ (s : State). is_some (node_at s.tree inode) ≡ true) (same_state volume device known state stands_known stands) there
+    subst (λ (s : State). is_some (node_at s.tree inode) ≡ true) (same_state_beside volume device known state no_residue no_residue stands_known stands) there
 
 -- which of two nodes may not take the other's name
 module _ (T : Tree) (kind : NodeKind) (inode : ℕ) (there : is_some (node_at T inode) ≡ true) where
@@ -183,7 +207,7 @@ one_more less n none more = grind (arith, nat_tests)
 same_some : (x y : ℕ) → ◌≡◌ {A = Option ℕ} (Some x) (Some y) → x ≡ y
 same_some x y e = cc
 
-module _ (volume : VolumeView) (device : DeviceView) (state : State) (stands : StandsFor volume device state) (from to : Route) where
+module _ (volume : VolumeView) (device : DeviceView) (state : State) (stands : StandsAlone volume device state) (from to : Route) where
   abbrev tests : List (Option Refusal)
   tests = faults_of_rename (untaken volume.size) state.tree state.room from to
 
@@ -203,7 +227,7 @@ module _ (volume : VolumeView) (device : DeviceView) (state : State) (stands : S
         from_is = ap (λ o. unwrap_or o root_id) source.inode_is
 
         tree : IsTree state.tree
-        tree = stands_tree volume device state stands
+        tree = stands_tree volume device state no_residue stands
 
         there_from : is_some (node_at state.tree inode) ≡ true
         there_from = tree.present from inode source.inode_is
@@ -230,7 +254,7 @@ module _ (volume : VolumeView) (device : DeviceView) (state : State) (stands : S
 
         module _ (absent : IsAbsent (entries_of volume.index d) name) where
           none : id_at state.tree to ≡ None
-          none = named_absent volume device state stands to d name holder absent
+          none = named_absent volume device state no_residue stands to d name holder absent
 
           differ : is_same_node state.tree from to ≡ false
           differ = ap (λ o. is_number (id_at state.tree from) (id_of state.tree to) && is_some o) none ∙ and_false (is_number (id_at state.tree from) (id_of state.tree to))
@@ -251,20 +275,20 @@ module _ (volume : VolumeView) (device : DeviceView) (state : State) (stands : S
           new_into_itself is = new_row ∙ ap (λ b. first (at IntoItself b ∷ at NoPages lacks ∷ [])) is
 
           module _ (outside : is_directory state.tree inode && is_above from to ≡ false) where
-            pub new_no_page : ((slot : ℕ) → ¬ IsVacantSlot volume.size device.words d slot) → ((page : ℕ) → ¬ IsFreePage volume.size device.words page) → refusal_of volume.size state.tree state.room (Rename from to) ≡ Some NoPages
-            new_no_page all_named all_owned =
-                let short = lacks_page volume device state stands to d name holder all_named all_owned in
+            pub new_no_page : ((slot : ℕ) → ¬ IsVacantSlot volume.size device.words d slot) → ((page : ℕ) → ¬ IsUnusedDataPage volume.size device.words page) → refusal_of volume.size state.tree state.room (Rename from to) ≡ Some NoPages
+            new_no_page all_named all_used =
+                let short = lacks_page volume device state no_residue stands to d name holder (untouched_nothing volume device.words d) all_named all_used in
                 new_row ∙ (λ i. first (at IntoItself (outside i) ∷ at NoPages (short i) ∷ []))
 
             pub new_planned : (kind : NodeKind) (slot : ℕ) (new_page given_back : Option ℕ) → is_directory state.tree inode ≡ is_directory_kind kind → IsPlace volume.size device.words d slot new_page → IsLeftEmpty slot given_back
                 → IsPlanned volume.size device.words state (Rename from to) (Move (moving_to kind slot new_page None given_back))
             new_planned kind slot new_page given_back kind_is place given =
-                let enough = has_page volume device state stands to d name holder slot new_page place in
+                let enough = has_page volume device state no_residue stands to d name holder (untouched_nothing volume device.words d) slot new_page place in
                 let moving = moving_to kind slot new_page None given_back in
                 let for : IsMovingFor volume.size device.words state from to moving = record {
                   kind_is = kind_is;
                   source = source;
-                  target = (none, record { directory_is = (held volume device state stands to d name holder).0; name_is = holder.named; place = place });
+                  target = (none, record { directory_is = (held volume device state no_residue stands to d name holder).0; name_is = holder.named; place = place });
                   given_back = given;
                 } in
                 record {
@@ -279,7 +303,7 @@ module _ (volume : VolumeView) (device : DeviceView) (state : State) (stands : S
           other = slot_inode volume.size device.words slot
 
           named : id_at state.tree to ≡ Some other
-          named = named_there volume device state stands to d name holder slot there
+          named = named_there volume device state no_residue stands to d name holder slot there
 
           to_is : id_of state.tree to ≡ other
           to_is = ap (λ o. unwrap_or o root_id) named
@@ -362,10 +386,10 @@ module _ (volume : VolumeView) (device : DeviceView) (state : State) (stands : S
                 -- a directory has one path: without it, it is gone
                 one_path : is_directory state.tree other ≡ true → (path_count state.tree other == 1) ≡ true
                 one_path directory =
-                    let is_name = name_is volume device state stands to d name holder slot there in
-                    let begins = name_found volume device state stands to d name holder slot there in
+                    let is_name = name_is volume device state no_residue stands to d name holder slot there in
+                    let begins = name_found volume device state no_residue stands to d name holder slot there in
                     let found = Accepted-from_row (untaken volume.size) state.tree state.room (Rmdir to) tree
-                    (rmdir_row volume device state stands to begins d name slot other is_name false false (no_file (node_at state.tree other) directory) (ap (nat_lt 0) empty ∙ no_less 0)) in
+                    (rmdir_row volume device state no_residue stands to begins d name slot other is_name false false (no_file (node_at state.tree other) directory) (ap (nat_lt 0) empty ∙ no_less 0)) in
                     let same = same_some found.source.id other (sym found.source.named ∙ named) in
                     let gone = ap (λ id. node_at (tree_after (least_free_id state.tree) state.tree (Rmdir to)) id) (sym same) ∙ found.goes (least_free_id state.tree) in
                     let present = ap (node_at state.tree) (sym its_id) ∙ replace.target.present in
@@ -375,8 +399,8 @@ module _ (volume : VolumeView) (device : DeviceView) (state : State) (stands : S
                 counted : (directory : Bool) → is_directory state.tree other ≡ directory → directory || (inode_links device.words other == 1) ≡ (path_count state.tree other == 1)
                 counted true is = sym (one_path is)
                 counted false is =
-                    let reached = reached_at volume device state to other stands named in
-                    ap (λ n. n == 1) (sym (link_word_law volume.size device.words state (tidied stands.tidy) stands.reads other reached) ∙ otherwise (is_directory state.tree other) _ (path_count state.tree other) is)
+                    let reached = reached_at volume device state no_residue to other stands named in
+                    ap (λ n. n == 1) (sym (link_word_beside_law volume.size device.words no_residue state (reads_beside volume device state no_residue stands) other reached (apart_nothing volume.size device.words other)) ∙ otherwise (is_directory state.tree other) _ (path_count state.tree other) is)
 
                 pub onto_planned : (loss : Loss) (given_back : Option ℕ) → IsLeftWith volume.size device.words other kind loss → IsLeftEmpty slot given_back
                     → IsPlanned volume.size device.words state (Rename from to) (Move (moving_to kind slot None (Some loss) given_back))
@@ -389,7 +413,7 @@ module _ (volume : VolumeView) (device : DeviceView) (state : State) (stands : S
                       pages = λ all. subst (λ (id : ℕ). Count (IsPageIn volume.size device.words id) loss.pages) (sym left.inode_is) (left.pages all);
                       no_pages = left.no_pages;
                     } in
-                    let is_name = subst (λ (id : ℕ). IsNameAt volume.size device.words state to d name slot id) (sym left.inode_is) (name_is volume device state stands to d name holder slot there) in
+                    let is_name = subst (λ (id : ℕ). IsNameAt volume.size device.words state to d name slot id) (sym left.inode_is) (name_is volume device state no_residue stands to d name holder slot there) in
                     let for : IsMovingFor volume.size device.words state from to moving = record { kind_is = kind_is; source = source; target = (is_name, is_loss, refl); given_back = given } in
                     record {
                       accepted = accepted;

@@ -1,14 +1,16 @@
 -- When a volume stands for a tree and a room beside calls that run, each cut at a fence: the residue has what they have left in the words.
-use Rattle.std.specs.Prelude.{◌≡◌, ◌↔◌, ℕ, ◌+◌, ◌-◌, ◌*◌, ◌<◌, ◌≤◌, IsTrue, List, length, Contains, Some, is_some, slice_get}
+use Rattle.std.specs.Prelude.{◌≡◌, ◌↔◌, ℕ, ◌+◌, ◌-◌, ◌*◌, ◌<◌, ◌≤◌, true, IsTrue, List, length, Contains, Some, is_some, slice_get}
 use Rattle.pm_trait.specs.DeviceView.{DeviceView, IsSettledView}
 use Rattle.layout.specs.Superblock.{has_mark}
 use Rattle.layout.specs.Geometry.{inodes_of, data_pages_of}
 use Rattle.layout.specs.Fields.{inode_kind, page_offset}
-use Rattle.tree_model.specs.Tree.{node_at}
+use Rattle.tree_model.specs.Tree.{Tree, node_at}
 use Rattle.tree_model.specs.Run.{State}
+use Rattle.tree_model.specs.declared.command.Command.{Command}
+use Rattle.naming_laws.specs.Naming.{names_inode, names_all}
 use Rattle.image_reading.specs.Counts.{IsIn, IsDistinct}
 use Rattle.image_reading.specs.Reading.{HasBytes, Reached, ReadsAs}
-use Rattle.image_reading.specs.Residue.{Residue, IsTidyBeside}
+use Rattle.image_reading.specs.Residue.{Residue, no_residue, IsTidyBeside}
 use Rattle.image_reading.specs.Soundness.{Sound}
 use Rattle.image_counts.specs.Entries.{IsEntryOf, IsPageIn, IsUnusedPage}
 use Rattle.image_counts.specs.Laws.{IsApart}
@@ -57,6 +59,35 @@ pub record IsUntouched (volume : VolumeView) (I : List ℕ) (residue : Residue) 
   pub apart : IsApart volume.size I residue i
   pub listed : (page : ℕ) → IsIn page residue.pages → ¬ Contains (pages_of volume.index i) page
 
+-- it stands for some tree, beside a residue that has nothing of the inode
+abbrev pub IsTouchedByNone : VolumeView → DeviceView → ℕ → Type 0
+IsTouchedByNone volume device inode = (state : State) × (residue : Residue) × StandsBeside volume device state residue × IsUntouched volume device.words residue inode
+
 -- it stands for a tree with a node of this inode, which no running call touches
 abbrev pub HasNodeBeside : VolumeView → DeviceView → ℕ → Type 0
 HasNodeBeside volume device inode = (state : State) × (residue : Residue) × StandsBeside volume device state residue × IsTrue (is_some (node_at state.tree inode)) × IsUntouched volume device.words residue inode
+
+-- it stands for the state, and what runs has left nothing
+abbrev pub StandsAlone : VolumeView → DeviceView → State → Type 0
+StandsAlone volume device state = StandsBeside volume device state no_residue
+
+abbrev pub IsStandingAlone : VolumeView → DeviceView → Type 0
+IsStandingAlone volume device = (state : State) × StandsAlone volume device state
+
+abbrev pub HasNodeAlone : VolumeView → DeviceView → ℕ → Type 0
+HasNodeAlone volume device inode = (state : State) × StandsAlone volume device state × IsTrue (is_some (node_at state.tree inode))
+
+-- No running call has left anything of a node that the command names. A rename names all, and is prepared where nothing is left. That no call
+-- names what this one names is more: one that has left nothing of a node may still change it.
+pub record NamesUntouched (volume : VolumeView) (I : List ℕ) (residue : Residue) (T : Tree) (command : Command) : Type 0 where
+  pub each : (i : ℕ) → names_inode T command i ≡ true → IsUntouched volume I residue i
+  pub alone : names_all command ≡ true → residue ≡ no_residue
+
+-- the volume stands for the state beside the residue, which has nothing of what the command names
+pub record MayPrepare (volume : VolumeView) (device : DeviceView) (state : State) (residue : Residue) (command : Command) : Type 0 where
+  pub stands : StandsBeside volume device state residue
+  pub untouched : NamesUntouched volume device.words residue state.tree command
+
+-- the command may be prepared for some state, beside some residue
+abbrev pub IsAsked : VolumeView → DeviceView → Command → Type 0
+IsAsked volume device command = (state : State) × (residue : Residue) × MayPrepare volume device state residue command

@@ -1,17 +1,18 @@
 -- Plans of accepted commands. P is the number of pages, I the words, d a directory.
 use Rattle.std.specs.Prelude.{◌≡◌, ◌≢◌, ℕ, ◌-◌, ◌*◌, ◌<◌, ◌≤◌, Bool, true, false, ◌==◌, List, length, Option, Some, None, is_none}
-use Rattle.layout.specs.Geometry.{pieces, inodes_of, page_of_slot}
+use Rattle.layout.specs.Geometry.{pieces, page_of_slot}
 use Rattle.layout.specs.Fields.{slot_inode}
 use Rattle.layout.specs.declared.kinds.NodeKind.{NodeKind}
 use Rattle.layout.specs.declared.kinds.NodeKind.TheVariants.{File, Directory}
 use Rattle.tree_model.specs.PathText.{Route}
 use Rattle.tree_model.specs.Tree.{parent, last_name, id_at, node_at, is_directory, bytes_of, page_bytes}
-use Rattle.tree_model.specs.Step.{least_free_id, id_of, is_same_node, need, tree_after, resolved, refusal_of}
+use Rattle.tree_model.specs.Capacity.{Supply, untaken}
+use Rattle.tree_model.specs.Step.{least_free_id, id_of, is_same_node, need, tree_after, resolved, refusal_with}
 use Rattle.tree_model.specs.Run.{State}
 use Rattle.tree_model.specs.declared.command.Command.{Command}
 use Rattle.tree_model.specs.declared.command.Command.TheVariants.{Create, Mkdir, Link, Unlink, Rmdir, Rename, Write, Truncate, Read, Stat as Tell, List as Show, Df}
 use Rattle.image_reading.specs.Counts.{Count}
-use Rattle.image_counts.specs.Entries.{IsEntryOf, IsSlotIn, IsPageIn, IsFreePage}
+use Rattle.image_counts.specs.Entries.{IsEntryOf, IsSlotIn, IsPageIn, IsUnusedDataPage, IsFreeInode}
 use Rattle.volume.specs.Lowest.{AreLowestOf}
 use Rattle.volume.specs.Moves.{is_directory_kind}
 use Rattle.volume.specs.declared.plan.Moving.{Moving}
@@ -37,10 +38,10 @@ pub record IsLowestSlot (P : ℕ) (I : List ℕ) (d slot : ℕ) : Type 0 where
   pub vacant : IsVacantSlot P I d slot
   pub lowest : (other : ℕ) → other < slot → ¬ IsVacantSlot P I d other
 
--- the lowest page that nobody owns
+-- the lowest page that has neither an owner nor a kind
 pub record IsLowestPage (P : ℕ) (I : List ℕ) (page : ℕ) : Type 0 where
-  pub free : IsFreePage P I page
-  pub lowest : (other : ℕ) → other < page → ¬ IsFreePage P I other
+  pub free : IsUnusedDataPage P I page
+  pub lowest : (other : ℕ) → other < page → ¬ IsUnusedDataPage P I other
 
 -- the directory needs a new page, and the slot is the first of this one
 pub record IsNewPage (P : ℕ) (I : List ℕ) (d page slot : ℕ) : Type 0 where
@@ -86,13 +87,18 @@ IsGivenBack IsEmptied slot (Some page) = IsEmptied × (page ≡ page_of_slot slo
 
 -- ---- plans
 
--- The entry is the one that the path asks for, and its inode the least free one.
+-- the least inode from 2 that has no kind
+pub record IsLeastInode (P : ℕ) (I : List ℕ) (inode : ℕ) : Type 0 where
+  pub free : IsFreeInode P I inode
+  pub from_two : 2 ≤ inode
+  pub least : (other : ℕ) → 2 ≤ other → other < inode → ¬ IsFreeInode P I other
+
+-- The entry is the one that the path asks for, and its inode the least that is free.
 pub record IsEntryFor (P : ℕ) (I : List ℕ) (state : State) (path : Route) (kind : NodeKind) (entry : NewEntry) : Type 0 where
   pub kind_is : entry.kind ≡ kind
   pub new_name : IsNewNameAt P I state path entry.directory entry.name entry.slot entry.new_page
   pub open new_name use *
-  pub inode_is : entry.inode ≡ least_free_id state.tree
-  pub inode_within : entry.inode ≤ inodes_of P
+  pub inode_is : IsLeastInode P I entry.inode
 
 pub record IsLinkFor (P : ℕ) (I : List ℕ) (state : State) (from to : Route) (link : NewName) : Type 0 where
   pub new_name : IsNewNameAt P I state to link.directory link.name link.slot link.new_page
@@ -121,7 +127,7 @@ pub record IsMovingFor (P : ℕ) (I : List ℕ) (state : State) (from to : Route
 
 -- the new pages of a file: the lowest free ones, as many as the command needs
 abbrev pub AreNewPages : ℕ → List ℕ → State → Command → List ℕ → Type 0
-AreNewPages P I state command pages = AreLowestOf (IsFreePage P I) (need state.tree state.room command) pages
+AreNewPages P I state command pages = AreLowestOf (IsUnusedDataPage P I) (need state.tree state.room command) pages
 
 pub record IsWritingFor (P : ℕ) (I : List ℕ) (state : State) (path : Route) (offset : ℕ) (bytes : List ℕ) (writing : Writing) : Type 0 where
   pub inode_is : id_at state.tree path ≡ Some writing.inode
@@ -168,7 +174,11 @@ IsPlanOf P I state (Tell path) action = action ≡ Status (id_of state.tree path
 IsPlanOf P I state (Show path) action = action ≡ Names (id_of state.tree path)
 IsPlanOf P I state Df action = action ≡ Space
 
--- the command is accepted, and this is what its plan does
-pub record IsPlanned (P : ℕ) (I : List ℕ) (state : State) (command : Command) (action : Action) : Type 0 where
-  pub accepted : refusal_of P state.tree state.room command ≡ None
-  pub plan_is : IsPlanOf P I state (resolved state.tree command) action
+-- the command is accepted on a volume of which others hold something, and this is what its plan does
+pub record IsPlannedWith (supply : Supply) (I : List ℕ) (state : State) (command : Command) (action : Action) : Type 0 where
+  pub accepted : refusal_with supply state.tree state.room command ≡ None
+  pub plan_is : IsPlanOf supply.pages I state (resolved state.tree command) action
+
+-- and where others hold nothing
+abbrev pub IsPlanned : ℕ → List ℕ → State → Command → Action → Type 0
+IsPlanned P I state command action = IsPlannedWith (untaken P) I state command action

@@ -3,9 +3,9 @@ use Rattle.std.specs.Prelude.{◌≡◌, ◌≢◌, ◌⊎◌, ℕ, ◌+◌, ◌
 use Rattle.pm_trait.specs.Device.{HasRisen}
 use Rattle.pm_trait.specs.DeviceView.{DeviceView}
 use Rattle.tree_model.specs.PathText.{Route}
-use Rattle.tree_model.specs.Step.{refusal_of}
-use Rattle.tree_model.specs.Capacity.{file_limit}
-use Rattle.tree_model.specs.Run.{State, is_changing, may_fail}
+use Rattle.tree_model.specs.Step.{refusal_with}
+use Rattle.tree_model.specs.Capacity.{Supply, file_limit}
+use Rattle.tree_model.specs.Run.{State, is_changing}
 use Rattle.tree_model.specs.Places.{needs_places}
 use Rattle.tree_model.specs.declared.command.Command.{Command}
 use Rattle.tree_model.specs.declared.command.Command.TheVariants.{Create, Mkdir}
@@ -16,11 +16,13 @@ use Rattle.volume.specs.Volume.{VolumeView}
 use Rattle.volume.specs.Costs.{events_of, pages_of_loss}
 use Rattle.allocators.specs.Numbers.{IsFree, free_in}
 use Rattle.volume.specs.Lowest.{AreLowestOf}
-use Rattle.volume.specs.Stands.{StandsFor}
+use Rattle.volume.specs.Beside.{MayPrepare}
 use Rattle.volume.specs.Moves.{is_directory_kind}
-use Rattle.volume.specs.Planned.{IsPlanned}
+use Rattle.volume.specs.Planned.{IsPlannedWith}
 use Rattle.image_reading.specs.Counts.{Count}
+use Rattle.image_reading.specs.Residue.{Residue}
 use Rattle.image_counts.specs.Entries.{IsPageIn}
+use Rattle.image_counts.specs.Laws.{supply_beside}
 use Rattle.volume.specs.Carried.{HasReserved}
 use Rattle.layout.specs.Fields.{inode_links}
 use Rattle.layout.specs.declared.kinds.NodeKind.{NodeKind}
@@ -41,25 +43,33 @@ making Directory path = Mkdir path
 
 -- Memory is short for a change that the tree and the room accept: for one that needs no place in a table only where the device
 -- refused room.
-pub record LacksRoom (P : ℕ) (state : State) (command : Command) (refusal : Refusal) (before after : DeviceView) : Type 0 where
+pub record LacksRoom (supply : Supply) (state : State) (command : Command) (refusal : Refusal) (before after : DeviceView) : Type 0 where
   pub answered : refusal ≡ NoMemory
-  pub accepted : IsTrue (may_fail P state command)
+  pub change : is_changing command ≡ true
+  pub accepted : refusal_with supply state.tree state.room command ≡ None
   pub cause : IsTrue (needs_places state command) ⊎ HasRisen before.refused after.refused
 
 -- the tree and the room refuse the command, or they don't and memory is short
-abbrev pub IsRefusal : ℕ → State → Command → Refusal → DeviceView → DeviceView → Type 0
-IsRefusal P state command refusal before after =
-    (refusal_of P state.tree state.room command ≡ Some refusal) ⊎ LacksRoom P state command refusal before after
+abbrev pub IsRefusal : Supply → State → Command → Refusal → DeviceView → DeviceView → Type 0
+IsRefusal supply state command refusal before after =
+    (refusal_with supply state.tree state.room command ≡ Some refusal) ⊎ LacksRoom supply state command refusal before after
 
--- The command's plan, or the first refusal of its row.
+-- The command's plan, beside whatever calls run. They hold what the residue has.
+abbrev pub IsPlanFound : VolumeView → DeviceView → Command → Action → Type 0
+IsPlanFound volume device command action =
+    (state : State) (residue : Residue) → MayPrepare volume device state residue command → IsPlannedWith (supply_beside volume.size residue) device.words state command action
+
+-- This plan, or the first refusal of the command's row.
 abbrev pub IsPlanOrRefusal : VolumeView → DeviceView → Command → Result Action Refusal → Type 0
-IsPlanOrRefusal volume device command (Ok action) = (state : State) → StandsFor volume device state → IsPlanned volume.size device.words state command action
-IsPlanOrRefusal volume device command (Err refusal) = (state : State) → StandsFor volume device state → refusal_of volume.size state.tree state.room command ≡ Some refusal
+IsPlanOrRefusal volume device command (Ok action) = IsPlanFound volume device command action
+IsPlanOrRefusal volume device command (Err refusal) =
+    (state : State) (residue : Residue) → MayPrepare volume device state residue command → refusal_with (supply_beside volume.size residue) state.tree state.room command ≡ Some refusal
 
--- The command's plan; or the first refusal of its row, or memory is short for the list of its new pages.
+-- This plan; or the first refusal of the command's row, or memory is short for the list of its new pages.
 abbrev pub IsPlanOrShort : VolumeView → DeviceView → Command → Result Action Refusal → Type 0
-IsPlanOrShort volume device command (Ok action) = (state : State) → StandsFor volume device state → IsPlanned volume.size device.words state command action
-IsPlanOrShort volume device command (Err refusal) = (state : State) → StandsFor volume device state → IsRefusal volume.size state command refusal device device
+IsPlanOrShort volume device command (Ok action) = IsPlanFound volume device command action
+IsPlanOrShort volume device command (Err refusal) =
+    (state : State) (residue : Residue) → MayPrepare volume device state residue command → IsRefusal (supply_beside volume.size residue) state command refusal device device
 
 -- why so many new pages can't be listed: too few are free, or memory is short for a list that isn't empty
 abbrev pub LacksPages : ℕ → ℕ → Refusal → Type 0
@@ -220,7 +230,7 @@ pub record Prepares (old new : VolumeView) (before after : DeviceView) (command 
   pub view : IsSameButPlaces old new
   pub device : IsSameButRoom before after
   pub accepted : IfOk result (λ plan. HasReserved new after plan × (after.refused ≡ before.refused))
-  pub no_place : (state : State) → StandsFor old before state → needs_places state command ≡ false → new ≡ old
+  pub no_place : (state : State) (residue : Residue) → MayPrepare old before state residue command → needs_places state command ≡ false → new ≡ old
   pub refused : IfErr result (λ refusal. refusal ≢ NoMemory → (new ≡ old) × (after ≡ before))
   pub idle : IfOk result (λ plan. events_of plan ≡ 0 → (new ≡ old) × (after ≡ before))
   pub reading : is_changing command ≡ false → (new ≡ old) × (after ≡ before)

@@ -5,6 +5,7 @@ mod contents;
 mod costs;
 mod fences;
 mod leaving;
+mod named;
 mod names;
 mod next;
 mod place;
@@ -19,6 +20,7 @@ pub use costs::{
     COMMIT_EVENTS, DESCRIPTOR_REST_EVENTS, FENCE_EVENTS, INODE_EVENTS, MARK_EVENTS, NAME_EVENTS,
     NEW_PAGE_EVENTS, PAGE_EVENTS, SLOT_REST_EVENTS, WORD_EVENTS,
 };
+pub use named::{MOST_NAMED, NamedNodes};
 pub use next::{Held, Next};
 pub use plan::{
     Action, Loss, Moving, NewEntry, NewName, NewPages, Plan, Reading, Removal, Resizing, Writing,

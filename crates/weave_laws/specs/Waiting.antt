@@ -223,7 +223,7 @@ WaitingFallingLaw = (P : ℕ) (I : List ℕ) (state : State) (s : ℕ) (given_ba
 
 -- ---- pages and an inode go
 
--- Page j has no name any more, or it is one of the file that goes.
+-- Page j is one of the file that goes, or it has no name any more.
 abbrev pub IsGoingPage : ℕ → List ℕ → Bool → ℕ → ℕ → Type 0
 IsGoingPage P I goes i j = ((goes ≡ true) × (page_owner P I j ≡ i) × (page_kind P I j ≡ 1)) ⊎ IsBarePage P I j
 

@@ -6,6 +6,8 @@ mod costs;
 mod course;
 mod marks;
 #[cfg(test)]
+mod names;
+#[cfg(test)]
 mod plans;
 #[cfg(test)]
 mod renames;

@@ -4,9 +4,10 @@ ghost use Rattle.layout.specs.Geometry.{pieces};
 ghost use Rattle.tree_model.specs.Capacity.{file_limit};
 ghost use Rattle.tree_model.specs.Run.{State};
 ghost use Rattle.tree_model.specs.declared.command.Command.TheVariants.{Read as ReadBytes};
+ghost use Rattle.image_reading.specs.Residue.{Residue};
 ghost use Rattle.allocators.specs.Numbers.{IsFree, free_in};
 ghost use Rattle.volume.specs.Lowest.{AreLowestOf};
-ghost use Rattle.volume.specs.Stands.{StandsFor, IsStanding};
+ghost use Rattle.volume.specs.Beside.{StandsBeside, IsStandingBeside};
 ghost use Rattle.volume.specs.Walks.{file_row, IsSizedFile};
 ghost use Rattle.volume.specs.Prepared.{IsPlanOrRefusal, IsPlanOrShort, AreNewPagesOr};
 
@@ -68,7 +69,7 @@ impl Volume {
         pm: &P,
     ) -> Result<Action, Refusal>
         requires going { self.now.stopped ≡ false }
-        requires stands { IsStanding self.now (P.view pm.now) }
+        requires stands { IsStandingBeside self.now (P.view pm.now) }
         ensures { IsPlanOrShort self.now (P.view pm.now) (Command.Write path.now offset bytes.now) result }
     {
         let file = self.file_at(path, pm)?;
@@ -92,7 +93,7 @@ impl Volume {
     // The change of a file to another size.
     pub(super) fn resizing<P: Pm>(&self, path: &Path, size: u64, pm: &P) -> Result<Action, Refusal>
         requires going { self.now.stopped ≡ false }
-        requires stands { IsStanding self.now (P.view pm.now) }
+        requires stands { IsStandingBeside self.now (P.view pm.now) }
         ensures { IsPlanOrShort self.now (P.view pm.now) (Command.Truncate path.now size) result }
     {
         let file = self.file_at(path, pm)?;
@@ -122,7 +123,7 @@ impl Volume {
         pm: &P,
     ) -> Result<Action, Refusal>
         requires going { self.now.stopped ≡ false }
-        requires stands { IsStanding self.now (P.view pm.now) }
+        requires stands { IsStandingBeside self.now (P.view pm.now) }
         ensures { IsPlanOrRefusal self.now (P.view pm.now) (ReadBytes path.now offset count) result }
     {
         let file = self.file_at(path, pm)?;
@@ -139,8 +140,8 @@ impl Volume {
     // The file that a path leads to.
     fn file_at<P: Pm>(&self, path: &Path, pm: &P) -> Result<SizedFile, Refusal>
         requires going { self.now.stopped ≡ false }
-        requires stands { IsStanding self.now (P.view pm.now) }
-        ensures { (state : State) → StandsFor self.now (P.view pm.now) state → MatchResult result
+        requires stands { IsStandingBeside self.now (P.view pm.now) }
+        ensures { (state : State) (residue : Residue) → StandsBeside self.now (P.view pm.now) state residue → MatchResult result
             (λ file. IsSizedFile state.tree path.now file.inode file.size)
             (λ refusal. file_row state.tree path.now ≡ Some refusal) }
     {

@@ -1,6 +1,6 @@
 // One more name for a file.
 ghost use Rattle.std.specs.Prelude.{◌≡◌, false};
-ghost use Rattle.volume.specs.Stands.{IsStanding};
+ghost use Rattle.volume.specs.Beside.{IsAsked};
 ghost use Rattle.volume.specs.Prepared.{IsPlanOrRefusal};
 
 use crate::plan::{Action, NewName};
@@ -12,7 +12,7 @@ impl Volume {
     // The naming of the file of one path by another.
     pub(super) fn new_name<P: Pm>(&self, from: &Path, to: &Path, pm: &P) -> Result<Action, Refusal>
         requires going { self.now.stopped ≡ false }
-        requires stands { IsStanding self.now (P.view pm.now) }
+        requires asked { IsAsked self.now (P.view pm.now) (Command.Link from.now to.now) }
         ensures { IsPlanOrRefusal self.now (P.view pm.now) (Command.Link from.now to.now) result }
     {
         let inode = self.resolve(from, pm)?;

@@ -3,9 +3,10 @@ ghost use Rattle.std.specs.Prelude.{◌≡◌, ◌*◌, ◌<◌, ◌≤◌, ℕ,
 ghost use Rattle.layout.specs.Geometry.{inodes_of, slots_of};
 ghost use Rattle.tree_model.specs.Run.{State};
 ghost use Rattle.image_reading.specs.Counts.{Count};
+ghost use Rattle.image_reading.specs.Residue.{Residue};
 ghost use Rattle.image_counts.specs.Entries.{IsPageIn};
 ghost use Rattle.volatile_index.specs.Index.{inodes_of_index, pages_of};
-ghost use Rattle.volume.specs.Stands.{StandsFor, IsStanding};
+ghost use Rattle.volume.specs.Beside.{StandsBeside, IsStandingBeside, IsTouchedByNone, IsAsked};
 ghost use Rattle.volume.specs.Planned.{IsNameAt, IsAlone, IsGivenBack};
 ghost use Rattle.volume.specs.Walks.{name_row};
 ghost use Rattle.volume.specs.Prepared.{IsPlanOrRefusal};
@@ -21,7 +22,7 @@ pub(super) const LAST_LINK: u64 = 1;
 
 // A name that stands in a directory: its slot, and the inode that it names.
 #[derive(Drop)]
-pub(super) struct Named {
+pub(crate) struct Named {
     pub directory: u64,
     pub name: Name,
     pub slot: u64,
@@ -47,7 +48,7 @@ pub(super) fn emptied_page(geometry: &Geometry, words: &[u64], slot: u64) -> Opt
 impl Volume {
     // The removal of a file's name.
     pub(super) fn file_removal<P: Pm>(&self, path: &Path, pm: &P) -> Result<Action, Refusal>
-        requires stands { IsStanding self.now (P.view pm.now) }
+        requires asked { IsAsked self.now (P.view pm.now) (Command.Unlink path.now) }
         ensures { IsPlanOrRefusal self.now (P.view pm.now) (Command.Unlink path.now) result }
     {
         let named = self.name_at(path, pm)?;
@@ -61,7 +62,7 @@ impl Volume {
 
     // The removal of a directory, which is empty.
     pub(super) fn directory_removal<P: Pm>(&self, path: &Path, pm: &P) -> Result<Action, Refusal>
-        requires stands { IsStanding self.now (P.view pm.now) }
+        requires asked { IsAsked self.now (P.view pm.now) (Command.Rmdir path.now) }
         ensures { IsPlanOrRefusal self.now (P.view pm.now) (Command.Rmdir path.now) result }
     {
         let named = self.name_at(path, pm)?;
@@ -76,11 +77,11 @@ impl Volume {
     }
 
     // The name that a path ends in, which the root doesn't have.
-    pub(super) fn name_at<P: Pm>(&self, path: &Path, pm: &P) -> Result<Named, Refusal>
-        requires stands { IsStanding self.now (P.view pm.now) }
-        ensures row { (state : State) → StandsFor self.now (P.view pm.now) state → MatchResult result
+    pub(crate) fn name_at<P: Pm>(&self, path: &Path, pm: &P) -> Result<Named, Refusal>
+        requires stands { IsStandingBeside self.now (P.view pm.now) }
+        ensures row { (state : State) (residue : Residue) → StandsBeside self.now (P.view pm.now) state residue → MatchResult result
             (λ named. name_row state.tree path.now ≡ None) (λ refusal. name_row state.tree path.now ≡ Some refusal) }
-        ensures named { (state : State) → StandsFor self.now (P.view pm.now) state → IfOk result (λ named.
+        ensures named { (state : State) (residue : Residue) → StandsBeside self.now (P.view pm.now) state residue → IfOk result (λ named.
             IsNameAt self.now.size (P.view pm.now).words state path.now named.directory named.name named.slot
             named.inode) }
     {
@@ -100,7 +101,7 @@ impl Volume {
 
     // The removal of a name, with which its node goes or not.
     fn removal_of<P: Pm>(&self, named: Named, kind: NodeKind, goes: bool, pm: &P) -> Removal
-        requires stands { IsStanding self.now (P.view pm.now) }
+        requires stands { IsTouchedByNone self.now (P.view pm.now) named.inode }
         requires slot { named.slot < slots_of self.now.size }
         requires least { 1 ≤ named.inode }
         requires most { named.inode ≤ inodes_of self.now.size }

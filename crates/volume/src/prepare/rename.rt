@@ -7,7 +7,7 @@ ghost use Rattle.tree_model.specs.Run.{State};
 ghost use Rattle.volatile_index.specs.Entries.{IsAbsent};
 ghost use Rattle.volatile_index.specs.Index.{entries_of};
 ghost use Rattle.volume.specs.Moves.{is_directory_kind};
-ghost use Rattle.volume.specs.Stands.{StandsFor, IsStanding, HasNode};
+ghost use Rattle.volume.specs.Beside.{StandsAlone, IsStandingAlone, HasNodeAlone};
 ghost use Rattle.volume.specs.Planned.{IsAlone, IsGivenBack, IsPlace, IsNameAt};
 ghost use Rattle.volume.specs.Walks.{WouldHold, IsMovedName, replace_row};
 ghost use Rattle.volume.specs.Prepared.{IsPlanOrRefusal, IsLeftWith};
@@ -42,7 +42,7 @@ impl Volume {
     // The move of a name to another, or nothing where both are of one node.
     pub(super) fn renaming<P: Pm>(&self, from: &Path, to: &Path, pm: &P) -> Result<Action, Refusal>
         requires going { self.now.stopped ≡ false }
-        requires stands { IsStanding self.now (P.view pm.now) }
+        requires stands { IsStandingAlone self.now (P.view pm.now) }
         ensures { IsPlanOrRefusal self.now (P.view pm.now) (Command.Rename from.now to.now) result }
     {
         self.resolve(from, pm)?;
@@ -66,10 +66,10 @@ impl Volume {
         target: LastName,
         pm: &P,
     ) -> Result<Action, Refusal>
-        requires stands { IsStanding self.now (P.view pm.now) }
-        requires source { (state : State) → StandsFor self.now (P.view pm.now) state → IsMovedName
+        requires stands { IsStandingAlone self.now (P.view pm.now) }
+        requires source { (state : State) → StandsAlone self.now (P.view pm.now) state → IsMovedName
             self.now.size (P.view pm.now).words state from.now source.directory source.name source.slot source.inode }
-        requires target { (state : State) → StandsFor self.now (P.view pm.now) state →
+        requires target { (state : State) → StandsAlone self.now (P.view pm.now) state →
             WouldHold state.tree to.now target.directory target.name }
         requires absent { IsAbsent (entries_of self.now.index target.directory) target.name }
         ensures { IsPlanOrRefusal self.now (P.view pm.now) (Command.Rename from.now to.now) result }
@@ -95,10 +95,10 @@ impl Volume {
         slot: u64,
         pm: &P,
     ) -> Result<Action, Refusal>
-        requires stands { IsStanding self.now (P.view pm.now) }
-        requires source { (state : State) → StandsFor self.now (P.view pm.now) state → IsMovedName
+        requires stands { IsStandingAlone self.now (P.view pm.now) }
+        requires source { (state : State) → StandsAlone self.now (P.view pm.now) state → IsMovedName
             self.now.size (P.view pm.now).words state from.now source.directory source.name source.slot source.inode }
-        requires target { (state : State) → StandsFor self.now (P.view pm.now) state →
+        requires target { (state : State) → StandsAlone self.now (P.view pm.now) state →
             WouldHold state.tree to.now target.directory target.name }
         requires there { Contains (entries_of self.now.index target.directory)
             (record { name = target.name; slot = slot }) }
@@ -123,9 +123,9 @@ impl Volume {
 
     // Whether a directory would come below itself.
     fn is_into_itself<P: Pm>(&self, inode: u64, from: &Path, to: &Path, pm: &P) -> bool
-        requires stands { IsStanding self.now (P.view pm.now) }
-        requires there { HasNode self.now (P.view pm.now) inode }
-        ensures { (state : State) → StandsFor self.now (P.view pm.now) state
+        requires stands { IsStandingAlone self.now (P.view pm.now) }
+        requires there { HasNodeAlone self.now (P.view pm.now) inode }
+        ensures { (state : State) → StandsAlone self.now (P.view pm.now) state
             → result ≡ (is_directory_in state.tree inode && is_above_in from.now to.now) }
     {
         self.is_directory(inode, pm) && is_above(from, to)
@@ -133,9 +133,9 @@ impl Volume {
 
     // What a node loses that one of this kind replaces: only one of its kind, and no directory with names.
     fn replaced<P: Pm>(&self, inode: u64, kind: NodeKind, pm: &P) -> Result<Loss, Refusal>
-        requires stands { IsStanding self.now (P.view pm.now) }
-        requires there { HasNode self.now (P.view pm.now) inode }
-        ensures { (state : State) → StandsFor self.now (P.view pm.now) state → MatchResult result
+        requires stands { IsStandingAlone self.now (P.view pm.now) }
+        requires there { HasNodeAlone self.now (P.view pm.now) inode }
+        ensures { (state : State) → StandsAlone self.now (P.view pm.now) state → MatchResult result
             (λ loss. (replace_row state.tree kind inode ≡ None)
             × IsLeftWith self.now.size (P.view pm.now).words inode kind loss)
             (λ refusal. replace_row state.tree kind inode ≡ Some refusal) }
@@ -158,9 +158,9 @@ impl Volume {
 
     // What an inode's node is.
     fn kind_of<P: Pm>(&self, inode: u64, pm: &P) -> NodeKind
-        requires stands { IsStanding self.now (P.view pm.now) }
-        requires there { HasNode self.now (P.view pm.now) inode }
-        ensures { (state : State) → StandsFor self.now (P.view pm.now) state
+        requires stands { IsStandingAlone self.now (P.view pm.now) }
+        requires there { HasNodeAlone self.now (P.view pm.now) inode }
+        ensures { (state : State) → StandsAlone self.now (P.view pm.now) state
             → is_directory_in state.tree inode ≡ is_directory_kind result }
     {
         if self.is_directory(inode, pm) {
@@ -180,7 +180,7 @@ impl Volume {
         replaced: Option<Loss>,
         pm: &P,
     ) -> Moving
-        requires stands { IsStanding self.now (P.view pm.now) }
+        requires stands { IsStandingAlone self.now (P.view pm.now) }
         requires source { source.slot < slots_of self.now.size }
         requires target { place.now.slot < slots_of self.now.size }
         ensures is { result ≡ record {

@@ -1,0 +1,30 @@
+use Rattle.std.proofs.Common.{◌≡◌, [], Option, Ok, ap, subst, ◌∙◌}
+use Rattle.std.proofs.lemmas.Result.{err_from_is_err_and}
+use Rattle.volume.specs.Walks.{place_of_parent, IsLastName}
+use Rattle.volume.specs.declared.resolve.LastName.{LastName}
+use Rattle.volume.proofs.Holders.{would_hold, is_here}
+use Rattle.volume.proofs.WalkedNames.{new_fails, new_at_root, new_named}
+use Rattle.volume.proofs.volume.Volume.named_by_new.Goals as goal
+
+pub returns-in_err-last : goal.returns-in_err-last
+returns-in_err-last g c =
+    let p = err_from_is_err_and c.from_residual.result c.from_residual.ensures.1 in
+    rw (p.1, p.2) (λ state residue stands. new_fails state.tree c.args.path.now _ (c.in_err-last.ensures.directory state residue stands))
+
+pub returns-in_default : goal.returns-in_default
+returns-in_default g c = λ state residue stands.
+    let root : c.args.path.now ≡ [] = subst (IsLastName c.args.path.now) c.in_default.is c.in_ok-last.ensures.name in
+    let walked = c.in_ok-last.ensures.directory state residue stands ∙ ap (λ (last : Option LastName). place_of_parent c.args.path.now (Ok last)) c.in_default.is in
+    new_at_root state.tree c.args.path.now walked root
+
+pub inode_of-requires-clause-reached : goal.inode_of-requires-clause-reached
+inode_of-requires-clause-reached g c =
+    let (state, residue, stands) = c.requires.stands in
+    let holder = would_hold state.tree c.args.path.now c.in_ok-last.field-0 c.in-Some.last (c.in_ok-last.ensures.directory state residue stands) c.in_ok-last.ensures.name c.in-Some.is in
+    (is_here c.args.self.now (g.P.Pm.view c.args.pm.now) state residue stands c.args.path.now c.in-Some.last.directory c.in-Some.last.name holder).0
+
+pub returns : goal.returns
+returns g c = λ state residue stands.
+    let holder = would_hold state.tree c.args.path.now c.in_ok-last.field-0 c.in-Some.last (c.in_ok-last.ensures.directory state residue stands) c.in_ok-last.ensures.name c.in-Some.is in
+    new_named c.args.self.now (g.P.Pm.view c.args.pm.now) state residue stands c.args.path.now c.in-Some.last.directory c.in-Some.last.name c.inode_of.result holder
+    (c.inode_of.ensures state residue c.args.path.now stands holder)
