@@ -1,8 +1,8 @@
-mod Lists
-mod OpenedPage
-mod Pointed
-mod Behind
-mod GoneWith
-mod Committed
-mod Cleared
-mod Entered
+pub mod Lists
+pub mod OpenedPage
+pub mod Pointed
+pub mod Behind
+pub mod GoneWith
+pub mod Committed
+pub mod Cleared
+pub mod Entered

@@ -35,19 +35,19 @@ pub mod SizedRaised
 pub mod SizedLowered
 pub mod SizedTaken
 pub mod SizedFilled
-mod Ordered
-mod SizedInside
+pub mod Ordered
+pub mod SizedInside
 pub mod Entered
-mod Removed
-mod OneWord
+pub mod Removed
+pub mod OneWord
 pub mod Disjoint
 pub mod OwnWords
 pub mod WaitingPlaces
 pub mod WaitingNames
-mod WaitingPlans
+pub mod WaitingPlans
 pub mod WaitingRemovals
 pub mod WaitingFiles
-mod WaitingLosses
-mod WaitingApart
-mod Growing
+pub mod WaitingLosses
+pub mod WaitingApart
+pub mod Growing
 pub mod Counterexamples
