@@ -20,8 +20,10 @@ use Rattle.tree_model.proofs.RoomLaws.{IsPageCount, IsPageCount-from_room, IsRoo
 use Rattle.tree_model.proofs.RoomsKept.{NamesMove, one_if}
 use Rattle.tree_model.proofs.TreeKept.{chosen, none_some, same_some}
 use Rattle.image_reading.specs.Reading.{slot_owner, ReadsAs}
+use Rattle.image_reading.specs.Residue.{no_residue}
 use Rattle.image_reading.specs.Tidy.{IsTidied}
-use Rattle.image_counts.specs.Laws.{HasRoomWords}
+use Rattle.image_counts.specs.Laws.{HasRoomWords, ReadsBeside}
+use Rattle.image_counts.proofs.Apart.{reads_tidied, apart_nothing}
 use Rattle.image_counts.proofs.Nodes.{size_law}
 use Rattle.image_counts.proofs.Paths.{entry_law, in_range}
 use Rattle.image_counts.proofs.States.{state_law}
@@ -35,7 +37,7 @@ use Rattle.volume.proofs.Places.{page_is, owner_is}
 use Rattle.volume.proofs.Ways.{whole_path}
 use Rattle.plan_laws.specs.Laws.{gives_back, PlanRoomLaw}
 use Rattle.plan_laws.proofs.PageBounds.{page_count, alone_bound, alone_and_vacant, alone_where}
-use Rattle.plan_laws.proofs.PlanFacts.{FoundMove, coherent, tree, id_is, holds, room_words, full_by, some_page, found_move}
+use Rattle.plan_laws.proofs.PlanFacts.{FoundMove, tree, id_is, holds, room_words, full_by, some_page, found_move}
 
 -- ---- another choice
 
@@ -133,6 +135,10 @@ module _ (T : Tree) (room : Room) (c : Command) (after : Tree) (moves : NamesMov
       (λ full. eqb-true (name_count T d) (32 * pages_in room d) full) alone)
 
 module _ (P : ℕ) (I : List ℕ) (state : State) (tidy : IsTidied P I) (reads : ReadsAs P I state) where
+  -- nothing is left of what runs
+  beside : ReadsBeside P I no_residue state
+  beside = reads_tidied P I state tidy reads
+
   abbrev after : Command → Tree
   after c = tree_after (least_free_id state.tree) state.tree c
 
@@ -141,7 +147,7 @@ module _ (P : ℕ) (I : List ℕ) (state : State) (tidy : IsTidied P I) (reads :
 
   some_choice : (c : Command) → refusal_of P state.tree state.room c ≡ None → (other : Bool) × IsRoom (after c) (room_by c other)
   some_choice c accepted =
-      let (new, left) = room_after-is_there (untaken P) (least_free_id state.tree) state.tree state.room c None accepted (tree P I state tidy reads) (state_law P I state (coherent P I state tidy reads) reads).room in
+      let (new, left) = room_after-is_there (untaken P) (least_free_id state.tree) state.tree state.room c None accepted (tree (untaken P) I no_residue state beside) (state_law P I state tidy.coherent reads).room in
       let (other, is, fits) = left in
       (other, subst (IsRoom (after c)) is fits)
 
@@ -163,14 +169,14 @@ module _ (P : ℕ) (I : List ℕ) (state : State) (tidy : IsTidied P I) (reads :
   module _ (c : Command) (path : Route) (removal : Removal) (for : IsRemovalFor P I state c path removal) (accepted : refusal_of P state.tree state.room c ≡ None) (holder : HasHolder state.tree path)
       (loses : losing state.tree c ≡ Some (id_of state.tree (parent path))) (gains : gaining state.tree c ≡ None) (moves : NamesMove state.tree c (after c)) where
     words : HasRoomWords P I state removal.directory
-    words = room_words P I state tidy reads path holder removal.directory for.named.directory_is
+    words = room_words (untaken P) I no_residue state beside path holder removal.directory for.named.directory_is (apart_nothing P I removal.directory)
 
     is_held : is_directory state.tree removal.directory ≡ true
-    is_held = holds P I state tidy reads path holder removal.directory for.named.directory_is
+    is_held = holds (untaken P) I no_residue state beside path holder removal.directory for.named.directory_is
 
     removal_room : IsRoom (after c) (room_by c (is_some removal.given_back))
     removal_room =
-        name_lost c (is_some removal.given_back) removal.directory accepted (loses ∙ ap Some (id_is P I state tidy reads (parent path) removal.directory for.named.directory_is)) (λ lost stays.
+        name_lost c (is_some removal.given_back) removal.directory accepted (loses ∙ ap Some (id_is (untaken P) I no_residue state beside (parent path) removal.directory for.named.directory_is)) (λ lost stays.
         loses_only state.tree state.room c (after c) moves removal.directory lost stays (is_some removal.given_back) (page_count P I state tidy reads removal.directory words is_held)
         (ap (λ o. is_number o removal.directory) gains)
         (λ is. alone_bound P I state tidy reads removal.directory words is_held removal.name removal.slot for.named.slot_is (given_where (IsAlone P I removal.slot) removal.slot removal.given_back for.given_back is))
@@ -180,32 +186,32 @@ module _ (P : ℕ) (I : List ℕ) (state : State) (tidy : IsTidied P I) (reads :
 
   unlink_room : (path : Route) (removal : Removal) → IsRemovalFor P I state (Unlink path) path removal → refusal_of P state.tree state.room (Unlink path) ≡ None → IsRoom (after (Unlink path)) (room_by (Unlink path) (is_some removal.given_back))
   unlink_room path removal for accepted =
-      let found = Accepted-from_row (untaken P) state.tree state.room (Unlink path) (tree P I state tidy reads) accepted in
+      let found = Accepted-from_row (untaken P) state.tree state.room (Unlink path) (tree (untaken P) I no_residue state beside) accepted in
       removal_room (Unlink path) path removal for accepted found.holder refl refl
-      (NamesMove-unlink (untaken P) state.tree state.room (least_free_id state.tree) path (tree P I state tidy reads) accepted)
+      (NamesMove-unlink (untaken P) state.tree state.room (least_free_id state.tree) path (tree (untaken P) I no_residue state beside) accepted)
 
   rmdir_room : (path : Route) (removal : Removal) → IsRemovalFor P I state (Rmdir path) path removal → refusal_of P state.tree state.room (Rmdir path) ≡ None → IsRoom (after (Rmdir path)) (room_by (Rmdir path) (is_some removal.given_back))
   rmdir_room path removal for accepted =
-      let found = Accepted-from_row (untaken P) state.tree state.room (Rmdir path) (tree P I state tidy reads) accepted in
+      let found = Accepted-from_row (untaken P) state.tree state.room (Rmdir path) (tree (untaken P) I no_residue state beside) accepted in
       removal_room (Rmdir path) path removal for accepted found.holder refl refl
-      (NamesMove-rmdir (untaken P) state.tree state.room (least_free_id state.tree) path (tree P I state tidy reads) accepted)
+      (NamesMove-rmdir (untaken P) state.tree state.room (least_free_id state.tree) path (tree (untaken P) I no_residue state beside) accepted)
 
   -- ---- a name moves
 
   -- a name's slot has the number of its node
   slot_names : (path : Route) (d : ℕ) (name : List ℕ) (slot inode : ℕ) → is_root path ≡ false → IsNameAt P I state path d name slot inode → slot_inode P I slot ≡ inode
   slot_names path d name slot inode below at =
-      let entry = (entry_law P I state (coherent P I state tidy reads) reads (parent path) d (slot_inode P I slot) name at.directory_is).1 (slot, at.slot_is, refl) in
+      let entry = (entry_law P I state tidy.coherent reads (parent path) d (slot_inode P I slot) name at.directory_is).1 (slot, at.slot_is, refl) in
       let whole = whole_path path below ∙ ap (λ n. parent path ++ n ∷ []) (sym at.name_is) in
       same_some (slot_inode P I slot) inode (sym entry ∙ ap (id_at state.tree) (sym whole) ∙ at.inode_is)
 
-  module _ (from to : Route) (moving : Moving) (for : IsMovingFor P I state from to moving) (found : FoundMove P state from to moving) where
+  module _ (from to : Route) (moving : Moving) (for : IsMovingFor P I state from to moving) (found : FoundMove (untaken P) state from to moving) where
     -- the directory that loses the old name gets the new one
     gains_is : (replaced : Option Loss) → IsTargetOf P I state from to moving replaced
         → is_number (gaining state.tree (Rename from to)) moving.from_directory ≡ cond (is_some replaced) false (moving.to_directory == moving.from_directory)
     gains_is None (absent, new) =
         ap (λ o. is_number (cond (is_some o) None (Some (id_of state.tree (parent to)))) moving.from_directory) absent
-        ∙ ap (λ x. x == moving.from_directory) (id_is P I state tidy reads (parent to) moving.to_directory new.directory_is)
+        ∙ ap (λ x. x == moving.from_directory) (id_is (untaken P) I no_residue state beside (parent to) moving.to_directory new.directory_is)
     gains_is (Some loss) (there, is_loss, no_page) = ap (λ o. is_number (cond (is_some o) None (Some (id_of state.tree (parent to)))) moving.from_directory) there.inode_is
 
     from_owner : slot_owner P I moving.from_slot ≡ moving.from_directory
@@ -217,8 +223,8 @@ module _ (P : ℕ) (I : List ℕ) (state : State) (tidy : IsTidied P I) (reads :
     -- no free page is the source's
     not_free : (page : ℕ) → page_owner P I page ≡ 0 → moving.to_slot ≡ 32 * page → slot_owner P I moving.to_slot ≡ moving.from_directory → ⊥
     not_free page free at owner =
-        let (reached, directory) = ((size_law P I state (coherent P I state tidy reads) reads).directories moving.from_directory).0 (holds P I state tidy reads from found.old_holder moving.from_directory for.source.directory_is) in
-        let least = (in_range P I (coherent P I state tidy reads) moving.from_directory reached).0 in
+        let (reached, directory) = ((size_law P I state tidy.coherent reads).directories moving.from_directory).0 (holds (untaken P) I no_residue state beside from found.old_holder moving.from_directory for.source.directory_is) in
+        let least = (in_range P I tidy.coherent moving.from_directory reached).0 in
         let is = page_is page moving.to_slot (omega (arith, at)) (omega (arith, at)) in
         let none : moving.from_directory ≡ 0 = sym owner ∙ owner_is P I moving.to_slot ∙ ap (page_owner P I) is ∙ free in
         omega (arith, least, none)
@@ -249,7 +255,7 @@ module _ (P : ℕ) (I : List ℕ) (state : State) (tidy : IsTidied P I) (reads :
         → is_full state.tree state.room moving.from_directory ≡ false → IsVacantSlot P I moving.from_directory moving.to_slot
     vacant None (absent, new) gains room =
         let same = eqb-true moving.to_directory moving.from_directory gains in
-        let none = sym (full_by P I state tidy reads to found.new_holder moving.to_directory new.directory_is moving.to_slot moving.new_page new.place) ∙ ap (is_full state.tree state.room) same ∙ room in
+        let none = sym (full_by (untaken P) I no_residue state beside to found.new_holder moving.to_directory new.directory_is (apart_nothing P I moving.to_directory) moving.to_slot moving.new_page new.place) ∙ ap (is_full state.tree state.room) same ∙ room in
         subst (λ x. IsVacantSlot P I x moving.to_slot) same (by_page moving.new_page new.place none)
       where
         by_page : (new_page : Option ℕ) → IsPlace P I moving.to_directory moving.to_slot new_page → is_some new_page ≡ false → IsVacantSlot P I moving.to_directory moving.to_slot
@@ -262,18 +268,18 @@ module _ (P : ℕ) (I : List ℕ) (state : State) (tidy : IsTidied P I) (reads :
         let d = moving.from_directory in
         let gives = is_some moving.given_back in
         let Emptied = IsEmptiedBy P I moving in
-        let words = room_words P I state tidy reads from found.old_holder d for.source.directory_is in
-        let is_held = holds P I state tidy reads from found.old_holder d for.source.directory_is in
+        let words = room_words (untaken P) I no_residue state beside from found.old_holder d for.source.directory_is (apart_nothing P I d) in
+        let is_held = holds (untaken P) I no_residue state beside from found.old_holder d for.source.directory_is in
         let old = page_count P I state tidy reads d words is_held in
-        let moves = NamesMove-rename (untaken P) state.tree state.room (least_free_id state.tree) from to (tree P I state tidy reads) accepted in
-        let loses = ap (λ b. cond b None (Some (id_of state.tree (parent from)))) found.move.differ ∙ ap Some (id_is P I state tidy reads (parent from) d for.source.directory_is) in
+        let moves = NamesMove-rename (untaken P) state.tree state.room (least_free_id state.tree) from to (tree (untaken P) I no_residue state beside) accepted in
+        let loses = ap (λ b. cond b None (Some (id_of state.tree (parent from)))) found.move.differ ∙ ap Some (id_is (untaken P) I no_residue state beside (parent from) d for.source.directory_is) in
         let gains = gains_is moving.replaced for.target in
         name_lost (Rename from to) gives d accepted loses (λ lost stays.
         elim (cond (is_some moving.replaced) false (moving.to_directory == d)) as (λ t. cond (is_some moving.replaced) false (moving.to_directory == d) ≡ t
         → IsPageCount (name_count (after (Rename from to)) d) (pages_after state.tree state.room (Rename from to) gives d)) [
           | true ↦ λ is.
               exchanges state.tree state.room (Rename from to) (after (Rename from to)) moves d lost stays gives old (gains ∙ is)
-              (some_page P I state tidy reads from found.old_holder d for.source.directory_is moving.from_name moving.from_slot for.source.slot_is)
+              (some_page (untaken P) I no_residue state beside from found.old_holder d for.source.directory_is (apart_nothing P I d) moving.from_name moving.from_slot for.source.slot_is)
               (λ room given. let emptied = given_where Emptied moving.from_slot moving.given_back for.given_back given in
               alone_and_vacant P I state tidy reads d words is_held moving.from_name moving.from_slot for.source.slot_is emptied.0 moving.to_slot (vacant moving.replaced for.target is room) emptied.1)
           | false ↦ λ is.
@@ -290,7 +296,7 @@ module _ (P : ℕ) (I : List ℕ) (state : State) (tidy : IsTidied P I) (reads :
       nothing_lost (Rename from to) (gives_back action) accepted (ap (λ b. cond b None (Some (id_of state.tree (parent from)))) one)
   rename_room from to action accepted false differ (moving, is, for) =
       subst (λ (a : Action). IsRoom (after (Rename from to)) (room_by (Rename from to) (gives_back a))) (sym is)
-      (move_room from to moving for (found_move P I state tidy reads from to moving for accepted differ) accepted)
+      (move_room from to moving for (found_move (untaken P) I no_residue state beside from to moving for accepted differ) accepted)
 
   -- ---- every command
 

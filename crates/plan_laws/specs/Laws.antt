@@ -1,15 +1,19 @@
 -- What is proved of plans once for all commands.
-use Rattle.std.specs.Prelude.{◌≡◌, ℕ, Bool, false, List, is_some, Ok}
-use Rattle.tree_model.specs.Tree.{IsRoom}
-use Rattle.tree_model.specs.Step.{step, least_free_id, room_after, resolved}
+use Rattle.std.specs.Prelude.{◌≡◌, ℕ, Bool, true, false, List, is_some, Ok}
+use Rattle.tree_model.specs.Tree.{Tree, IsRoom}
+use Rattle.tree_model.specs.Capacity.{Supply}
+use Rattle.tree_model.specs.Step.{step, least_free_id, tree_after, room_after, resolved}
 use Rattle.tree_model.specs.Run.{State}
-use Rattle.tree_model.specs.Fences.{fences_of}
+use Rattle.tree_model.specs.Fences.{fences_of, fences_of_accepted}
 use Rattle.tree_model.specs.declared.command.Command.{Command}
+use Rattle.naming_laws.specs.Naming.{names_inode}
 use Rattle.image_reading.specs.Reading.{ReadsAs}
+use Rattle.image_reading.specs.Residue.{Residue}
 use Rattle.image_reading.specs.Tidy.{IsTidied}
+use Rattle.image_counts.specs.Laws.{IsApart, ReadsBeside}
 use Rattle.volume.specs.declared.plan.Action.{Action}
 use Rattle.volume.specs.declared.plan.Action.TheVariants.{Make, Name, Remove, Move, Write as WriteBytes, WriteNothing, Resize, KeepSize, KeepNames, Read as ReadBytes, Status, Names, Space}
-use Rattle.volume.specs.Planned.{IsPlanned}
+use Rattle.volume.specs.Planned.{IsPlannedWith, IsPlanned}
 use Rattle.volume.specs.Costs.{events_of, fences_of_plan}
 use Rattle.volume.specs.LineEvents.{events_of_line}
 
@@ -49,3 +53,21 @@ PlanEventsLaw = (P : ℕ) (I : List ℕ) (state later : State) (command : Comman
 abbrev pub PlanFencesLaw : Type 0
 PlanFencesLaw = (P : ℕ) (I : List ℕ) (state later : State) (command : Command) (action : Action) → IsTidied P I → ReadsAs P I state → IsPlanned P I state command action → IsLeftBy P state command action later
     → fences_of_plan action ≡ fences_of state (Ok command) (step P state.tree state.room command).answer later
+
+-- ---- beside calls that run
+
+-- No running call has left anything of a node that the command names.
+abbrev pub NamesApart : ℕ → List ℕ → Residue → Tree → Command → Type 0
+NamesApart P I residue T command = (i : ℕ) → names_inode T command i ≡ true → IsApart P I residue i
+
+-- The tree is the one that the command leaves, its new node having id n, and the room the one where a page is given back exactly as the action does.
+pub record IsLeftBeside (n : ℕ) (state : State) (command : Command) (action : Action) (later : State) : Type 0 where
+  pub tree : later.tree ≡ tree_after n state.tree command
+  pub room : later.room ≡ room_after n state.tree state.room command (gives_back action)
+  pub fits : IsRoom later.tree later.room
+
+-- The fences of a plan that was made beside them are those that its command takes between the two states.
+abbrev pub PlanFencesBesideLaw : Type 0
+PlanFencesBesideLaw = (I : List ℕ) (supply : Supply) (residue : Residue) (state later : State) (command : Command) (action : Action) (n : ℕ) → ReadsBeside supply.pages I residue state
+    → NamesApart supply.pages I residue state.tree command → IsPlannedWith supply I state command action → IsLeftBeside n state command action later
+    → fences_of_plan action ≡ fences_of_accepted state command later
