@@ -102,7 +102,7 @@ impl Running {
             Stage::Begun => unreachable!(),
             Stage::Written(NewNode { inode, place }) => match place {
                 NamePlace::Slot(slot) => {
-                    commit(&self.entry, NamedNode { inode, slot }, volume, pm)?;
+                    commit(&self.entry, inode, slot, volume, pm)?;
                     Ok(Some(Reply::Done))
                 }
                 NamePlace::Page(page) => {
@@ -111,8 +111,8 @@ impl Running {
                     Ok(None)
                 }
             },
-            Stage::Claimed(node) => {
-                commit(&self.entry, node, volume, pm)?;
+            Stage::Claimed(NamedNode { inode, slot }) => {
+                commit(&self.entry, inode, slot, volume, pm)?;
                 Ok(Some(Reply::Done))
             }
         }
@@ -211,16 +211,19 @@ fn claim<P: Pm>(
 #[inline(always)]
 fn commit<P: Pm>(
     entry: &NewEntry,
-    node: NamedNode,
+    inode: InodeH<Clean, Init>,
+    slot: DentryH<Clean, Named>,
     volume: &mut Volume,
     pm: &mut P,
 ) -> Result<(), PmFault>
-    requires stands { StandsStage volume.old (P.view pm.old) (record { entry = entry.now; stage = Claimed node }) }
+    requires stands { StandsStage volume.old (P.view pm.old) (record {
+      entry = entry.now;
+      stage = Claimed (record { inode = inode; slot = slot });
+    }) }
     requires begins { MayFence (P.view pm.old) (512 * volume.old.size) commit_events 1 }
     ensures takes { Takes (naming volume.old.size entry.now.slot entry.now.inode) (P.view pm.old) (P.view pm.new) result }
     ensures volume { Advances commit_events (PutsEntryName entry.now) volume.old volume.new result }
 {
-    let NamedNode { inode, slot } = node;
     let committed = commit_node(pm, slot, &inode);
     settle(volume, committed, COMMIT_EVENTS)?;
     volume.put_name(
