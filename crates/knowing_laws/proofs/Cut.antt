@@ -151,11 +151,11 @@ known_lost old index I J before after inodes places gone knows long stay keeps f
   each_inode = length-with_given old.inodes places ∙ knows.each_inode;
   inodes = λ i least most.
       free_now old.inodes places (i - 1) (inode_kind I i ≡ 0) (inode_kind J i ≡ 0) (let each = knows.each_inode in omega (arith, each, least, most)) (knows.inodes i least most)
-      (λ out. frees.change.other_inodes i (λ among. out ((placed i least).1 among))) (λ among. frees.inodes_free i ((placed i least).0 among));
+      (λ out. frees.change.other_inodes i least most (λ among. out ((placed i least).1 among))) (λ among. frees.inodes_free i ((placed i least).0 among));
   each_page = length-with_given old.data_pages gone ∙ knows.each_page;
   data_pages = λ j low.
       free_now old.data_pages gone j (IsUnusedPage old.size I j) (IsUnusedPage old.size J j) (let each = knows.each_page in omega (arith, each, low)) (knows.data_pages j low)
-      (frees.change.other_pages j) (frees.pages_free j);
+      (frees.change.other_pages j low) (frees.pages_free j);
 }
 
 -- ---- the last pages of a file

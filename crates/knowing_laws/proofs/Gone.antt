@@ -1,5 +1,5 @@
 -- What a volume knows once a name is out of its index.
-use Rattle.std.proofs.Common.{◌≡◌, inl, inr, ℕ, ◌+◌, List, [], Contains, refl, sym, ap, subst, ◌∙◌}
+use Rattle.std.proofs.Common.{◌≡◌, inl, inr, ℕ, ◌+◌, List, [], Contains, refl, sym, ap, subst, ◌∙◌, arith}
 use Rattle.std.specs.Prelude.{Some, slice_get}
 use Rattle.std.proofs.lemmas.Bool.{cases_eq}
 use Rattle.layout.specs.Geometry.{inodes_of, data_pages_of}
@@ -52,12 +52,12 @@ module _ (old new : VolumeView) (I J : List ℕ) (before after : Residue) (d : �
 
   module _ (numbers : ChangesNumbers old.size I J [] []) where
     inodes_still : ToldFree (inodes_of old.size) old.inodes (λ k. inode_kind J (k + 1) ≡ 0)
-    inodes_still = free_as (inodes_told (inodes_of old.size) old.inodes I knows.each_inode knows.inodes) (λ k low. numbers.other_inodes (k + 1) (λ none. none))
+    inodes_still = free_as (inodes_told (inodes_of old.size) old.inodes I knows.each_inode knows.inodes) (λ k low. numbers.other_inodes (k + 1) (omega arith) (omega (arith, low)) (λ none. none))
 
     pages_still : ToldFree (data_pages_of old.size) old.data_pages (λ j. IsUnusedPage old.size J j)
     pages_still =
         let was : ToldFree (data_pages_of old.size) old.data_pages (λ j. IsUnusedPage old.size I j) = record { each = knows.each_page; free = knows.data_pages } in
-        free_as was (λ j low. numbers.other_pages j (λ none. none))
+        free_as was (λ j low. numbers.other_pages j low (λ none. none))
 
 pub name_gone_law : NameGoneLaw
 name_gone_law old new I J before after d name knows long away still numbers leaves =

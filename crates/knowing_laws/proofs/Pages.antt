@@ -25,9 +25,9 @@ known_by_nodes old index I J before after knows long change nodes = record {
   whole = long ∙ knows.whole;
   nodes = nodes;
   each_inode = knows.each_inode;
-  inodes = λ i least most. let a = knows.inodes i least most in let b = change.other_inodes i (λ none. none) in ((λ free. b.0 (a.0 free)), (λ free. a.1 (b.1 free)));
+  inodes = λ i least most. let a = knows.inodes i least most in let b = change.other_inodes i least most (λ none. none) in ((λ free. b.0 (a.0 free)), (λ free. a.1 (b.1 free)));
   each_page = knows.each_page;
-  data_pages = λ j low. let a = knows.data_pages j low in let b = change.other_pages j (λ none. none) in ((λ free. b.0 (a.0 free)), (λ free. a.1 (b.1 free)));
+  data_pages = λ j low. let a = knows.data_pages j low in let b = change.other_pages j low (λ none. none) in ((λ free. b.0 (a.0 free)), (λ free. a.1 (b.1 free)));
 }
 
 -- ---- the list of inode i grows

@@ -72,21 +72,21 @@ module _ (old : VolumeView) (I J : List ℕ) (before after : Residue) (knows : K
     pages_taken =
         let was : ToldFree (data_pages_of old.size) old.data_pages (λ j. IsUnusedPage old.size I j) = record { each = knows.each_page; free = knows.data_pages } in
         free_as (taken_told was pages) (λ j low. (
-          (λ (free, out). (uses.change.other_pages j out).0 free),
-          (λ free. let out : ¬ IsIn j pages = λ among. uses.pages_used j among free in ((uses.change.other_pages j out).1 free, out)),
+          (λ (free, out). (uses.change.other_pages j low out).0 free),
+          (λ free. let out : ¬ IsIn j pages = λ among. uses.pages_used j among free in ((uses.change.other_pages j low out).1 free, out)),
         ))
 
   inodes_same : UsesNumbers old.size I J [] pages → ToldFree (inodes_of old.size) old.inodes (λ k. inode_kind J (k + 1) ≡ 0)
-  inodes_same uses = free_as (inodes_told (inodes_of old.size) old.inodes I knows.each_inode knows.inodes) (λ k low. uses.change.other_inodes (k + 1) (λ none. none))
+  inodes_same uses = free_as (inodes_told (inodes_of old.size) old.inodes I knows.each_inode knows.inodes) (λ k low. uses.change.other_inodes (k + 1) (omega arith) (omega (arith, low)) (λ none. none))
 
   inode_taken : (inode : ℕ) → UsesNumbers old.size I J (inode ∷ []) pages → ToldFree (inodes_of old.size) (slice_set old.inodes (inode - 1) false) (λ k. inode_kind J (k + 1) ≡ 0)
   inode_taken inode uses =
       let some = (uses.change.inodes_within inode (inl refl)).0 in
       free_as (taken_told (inodes_told (inodes_of old.size) old.inodes I knows.each_inode knows.inodes) ((inode - 1) ∷ [])) (λ k low. (
-        (λ (free, out). (uses.change.other_inodes (k + 1) (λ among. elim among [ inl same ↦ out (inl (omega (arith, same))) | inr none ↦ none ])).0 free),
+        (λ (free, out). (uses.change.other_inodes (k + 1) (omega arith) (omega (arith, low)) (λ among. elim among [ inl same ↦ out (inl (omega (arith, same))) | inr none ↦ none ])).0 free),
         (λ free.
             let other : ¬ IsIn (k + 1) (inode ∷ []) = λ among. uses.inodes_used (k + 1) among free in
-            ((uses.change.other_inodes (k + 1) other).1 free, (λ among. elim among [ inl same ↦ other (inl (omega (arith, same, some))) | inr none ↦ none ]))),
+            ((uses.change.other_inodes (k + 1) (omega arith) (omega (arith, low)) other).1 free, (λ among. elim among [ inl same ↦ other (inl (omega (arith, same, some))) | inr none ↦ none ]))),
       ))
 
 pub quiet_known_law : QuietKnownLaw

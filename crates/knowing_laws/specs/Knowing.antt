@@ -1,7 +1,7 @@
 -- What a volume knows behind a step of one call, beside what other calls have left. I are the words before the step, J those after it; a
 -- residue is of all calls, before the step or behind it. P is the number of pages.
-use Rattle.std.specs.Prelude.{◌≡◌, ◌≢◌, ◌↔◌, ◌⊎◌, ℕ, ◌+◌, ◌≤◌, Bool, true, false, List, [], ◌∷◌, ◌++◌, length, Contains, Option, Some, None, slice_get}
-use Rattle.layout.specs.Geometry.{inodes_of}
+use Rattle.std.specs.Prelude.{◌≡◌, ◌≢◌, ◌↔◌, ◌⊎◌, ℕ, ◌+◌, ◌<◌, ◌≤◌, Bool, true, false, List, [], ◌∷◌, ◌++◌, length, Contains, Option, Some, None, slice_get}
+use Rattle.layout.specs.Geometry.{inodes_of, data_pages_of}
 use Rattle.layout.specs.Fields.{inode_kind, page_owner, page_offset}
 use Rattle.image_reading.specs.Counts.{IsIn, IsDistinct}
 use Rattle.image_reading.specs.Reading.{HasBytes, Reached}
@@ -32,11 +32,11 @@ pub record KeepsPagesBut (P : ℕ) (I J : List ℕ) (before after : Residue) (pa
   pub owners : (j : ℕ) → ¬ IsIn j after.pages → ¬ IsIn j pages → page_owner P J j ≡ page_owner P I j
   pub offsets : (j : ℕ) → ¬ IsIn j after.pages → ¬ IsIn j pages → page_offset P J j ≡ page_offset P I j
 
--- But for these inodes and pages every number is free in both words or in neither.
+-- But for these inodes and pages every number of the volume is free in both words or in neither.
 pub record ChangesNumbers (P : ℕ) (I J : List ℕ) (inodes pages : List ℕ) : Type 0 where
   pub inodes_within : (i : ℕ) → IsIn i inodes → (1 ≤ i) × (i ≤ inodes_of P)
-  pub other_inodes : (i : ℕ) → ¬ IsIn i inodes → (inode_kind I i ≡ 0) ↔ (inode_kind J i ≡ 0)
-  pub other_pages : (j : ℕ) → ¬ IsIn j pages → IsUnusedPage P I j ↔ IsUnusedPage P J j
+  pub other_inodes : (i : ℕ) → 1 ≤ i → i ≤ inodes_of P → ¬ IsIn i inodes → (inode_kind I i ≡ 0) ↔ (inode_kind J i ≡ 0)
+  pub other_pages : (j : ℕ) → j < data_pages_of P → ¬ IsIn j pages → IsUnusedPage P I j ↔ IsUnusedPage P J j
 
 -- they come into use,
 pub record UsesNumbers (P : ℕ) (I J : List ℕ) (inodes pages : List ℕ) : Type 0 where
