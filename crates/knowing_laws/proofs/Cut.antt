@@ -110,9 +110,9 @@ module _ (P : ℕ) (old new : List NodeView) (I J : List ℕ) (before after : Re
         | no out ↦ (
           (λ there.
               let was = (knows.pages x j least most (keeps.left j kept out)).0 (in_contained j (pages_of old x) (list.was j (contained_in j (pages_of new x) there)).0) in
-              record { in_range = was.in_range; owner = keeps.owners j kept out ∙ was.owner }),
+              record { in_range = was.in_range; owner = keeps.owners j was.in_range kept out ∙ was.owner }),
           (λ inside.
-              let was = (knows.pages x j least most (keeps.left j kept out)).1 (record { in_range = inside.in_range; owner = sym (keeps.owners j kept out) ∙ inside.owner }) in
+              let was = (knows.pages x j least most (keeps.left j kept out)).1 (record { in_range = inside.in_range; owner = sym (keeps.owners j inside.in_range kept out) ∙ inside.owner }) in
               in_contained j (pages_of new x) (list.stays j (contained_in j (pages_of old x) was) out)),
         )
       ]
@@ -129,7 +129,8 @@ module _ (P : ℕ) (old new : List NodeView) (I J : List ℕ) (before after : Re
     offsets = λ x k j reached bytes kept there.
         let was = stay.files x reached bytes in
         let out = ((loses.lists x was.least was.most).was j (contained_in j (pages_of new x) (contains_at (pages_of new x) k j there))).1 in
-        keeps.offsets j kept out ∙ knows.offsets x k j was.reached was.file (keeps.left j kept out) (loses.places x k j bytes there);
+        let inside = (listed_now x j was.least was.most kept).0 (contains_at (pages_of new x) k j there) in
+        keeps.offsets j inside.in_range kept out ∙ knows.offsets x k j was.reached was.file (keeps.left j kept out) (loses.places x k j bytes there);
   }
 
 -- ---- numbers that are free

@@ -1,9 +1,9 @@
 -- What is known of the pages of each inode, once the list of one has grown.
-use Rattle.std.proofs.Common.{◌≡◌, ◌≢◌, ◌↔◌, ◌⊎◌, inl, inr, ℕ, ◌+◌, ◌≤◌, List, [], ◌++◌, length, Some, sym, ap, subst, ◌∙◌}
+use Rattle.std.proofs.Common.{◌≡◌, ◌≢◌, ◌↔◌, ◌⊎◌, inl, inr, ℕ, ◌+◌, ◌≤◌, List, [], ◌++◌, length, Some, sym, ap, subst, ◌∙◌, ◌<◌}
 use Rattle.std.specs.Prelude.{Contains, slice_get}
 use Rattle.std.proofs.lemmas.Bool.{cases_eq}
-use Rattle.layout.specs.Geometry.{inodes_of}
-use Rattle.layout.specs.Fields.{page_offset}
+use Rattle.layout.specs.Geometry.{inodes_of, data_pages_of}
+use Rattle.layout.specs.Fields.{page_offset, page_owner}
 use Rattle.image_reading.specs.Counts.{IsIn, IsDistinct}
 use Rattle.image_reading.specs.Residue.{Residue}
 use Rattle.image_counts.specs.Entries.{IsEntryOf, IsPageIn}
@@ -52,9 +52,9 @@ module _ (old : VolumeView) (index : List NodeView) (I J : List ℕ) (before aft
       pages_gained were index i least most elsewhere pages here are.once (λ j among. are.unlisted i j among least most)
 
   owned_still : (x j : ℕ) → ¬ IsIn j after.pages → ¬ IsIn j pages → IsPageIn old.size I x j ↔ IsPageIn old.size J x j
-  owned_still x j kept other = let same = keeps.owners j kept other in (
-    (λ was. record { in_range = was.in_range; owner = same ∙ was.owner }),
-    (λ is. record { in_range = is.in_range; owner = sym same ∙ is.owner }),
+  owned_still x j kept other = let same : j < data_pages_of old.size → page_owner old.size J j ≡ page_owner old.size I j = λ low. keeps.owners j low kept other in (
+    (λ was. record { in_range = was.in_range; owner = same was.in_range ∙ was.owner }),
+    (λ is. record { in_range = is.in_range; owner = sym (same is.in_range) ∙ is.owner }),
   )
 
   listed : (x j : ℕ) → 1 ≤ x → x ≤ inodes_of old.size → ¬ IsIn j after.pages → Contains (pages_of index x) j ↔ IsPageIn old.size J x j
@@ -76,7 +76,8 @@ module _ (old : VolumeView) (index : List NodeView) (I J : List ℕ) (before aft
   old_offset : (x k j : ℕ) → IsFileOf old.size I x → ¬ IsIn j after.pages → Contains (pages_of old.index x) j → slice_get (pages_of old.index x) k ≡ Some j → page_offset old.size J j ≡ k
   old_offset x k j file kept there stood =
       let other : ¬ IsIn j pages = λ among. are.unlisted x j among file.least file.most there in
-      keeps.offsets j kept other ∙ knows.nodes.offsets x k j file.reached file.file (keeps.left j kept other) stood
+      let inside = (knows.nodes.pages x j file.least file.most (keeps.left j kept other)).0 there in
+      keeps.offsets j inside.in_range kept other ∙ knows.nodes.offsets x k j file.reached file.file (keeps.left j kept other) stood
 
   pub grown : IsGrown old index I J after i pages
   grown = record {

@@ -1,8 +1,9 @@
 -- What a volume knows once the numbers are taken that came into use; and what it knows of pages where their lists stay.
 use Rattle.std.proofs.Common.{◌≡◌, ◌↔◌, inl, inr, ℕ, ◌+◌, ◌-◌, ◌<◌, ◌≤◌, Bool, false, List, [], ◌∷◌, length, Contains, Some, None, refl, sym, ap, subst, ◌∙◌, arith}
+use Rattle.entry_steps.proofs.Lists.{contains_at}
 use Rattle.std.specs.Prelude.{slice_get, slice_set}
 use Rattle.layout.specs.Geometry.{inodes_of, data_pages_of}
-use Rattle.layout.specs.Fields.{inode_kind}
+use Rattle.layout.specs.Fields.{inode_kind, page_owner}
 use Rattle.image_reading.specs.Counts.{IsIn, IsDistinct}
 use Rattle.image_reading.specs.Reading.{HasBytes, Reached}
 use Rattle.image_reading.specs.Residue.{Residue}
@@ -37,10 +38,10 @@ module _ (P : ℕ) (old new : List NodeView) (I J : List ℕ) (before after : Re
   pages_kept : (i page : ℕ) → 1 ≤ i → i ≤ inodes_of P → ¬ IsIn page after.pages → Contains (pages_of new i) page ↔ IsPageIn P J i page
   pages_kept i page least most kept =
       let was = knows.pages i page least most (keeps.left page kept (λ none. none)) in
-      let owner = keeps.owners page kept (λ none. none) in
+      let owner : page < data_pages_of P → page_owner P J page ≡ page_owner P I page = λ low. keeps.owners page low kept (λ none. none) in
       subst (λ (l : List ℕ). Contains l page ↔ IsPageIn P J i page) (sym (same i)) (
-        (λ there. let inside = was.0 there in record { in_range = inside.in_range; owner = owner ∙ inside.owner }),
-        (λ inside. was.1 (record { in_range = inside.in_range; owner = sym owner ∙ inside.owner })),
+        (λ there. let inside = was.0 there in record { in_range = inside.in_range; owner = owner inside.in_range ∙ inside.owner }),
+        (λ inside. was.1 (record { in_range = inside.in_range; owner = sym (owner inside.in_range) ∙ inside.owner })),
       )
 
   pub nodes_kept : inodes_of_index new ≡ inodes_of_index old
@@ -54,7 +55,8 @@ module _ (P : ℕ) (old new : List NodeView) (I J : List ℕ) (before after : Re
     offsets = λ i k page reached bytes kept stands.
         let file = files i reached bytes in
         let was = knows.offsets i k page file.reached file.file (keeps.left page kept (λ none. none)) (ap (λ (l : List ℕ). slice_get l k) (sym (same i)) ∙ stands) in
-        keeps.offsets page kept (λ none. none) ∙ was;
+        let inside = (pages_kept i page file.least file.most kept).0 (contains_at (pages_of new i) k page stands) in
+        keeps.offsets page inside.in_range kept (λ none. none) ∙ was;
   }
 
 -- ---- numbers are taken

@@ -29,8 +29,8 @@ pub record KeepsEntries (P : ℕ) (I J : List ℕ) : Type 0 where
 -- A page that isn't left behind the step, and is none of these, wasn't left before, and has the owner and the offset that it had.
 pub record KeepsPagesBut (P : ℕ) (I J : List ℕ) (before after : Residue) (pages : List ℕ) : Type 0 where
   pub left : (j : ℕ) → ¬ IsIn j after.pages → ¬ IsIn j pages → ¬ IsIn j before.pages
-  pub owners : (j : ℕ) → ¬ IsIn j after.pages → ¬ IsIn j pages → page_owner P J j ≡ page_owner P I j
-  pub offsets : (j : ℕ) → ¬ IsIn j after.pages → ¬ IsIn j pages → page_offset P J j ≡ page_offset P I j
+  pub owners : (j : ℕ) → j < data_pages_of P → ¬ IsIn j after.pages → ¬ IsIn j pages → page_owner P J j ≡ page_owner P I j
+  pub offsets : (j : ℕ) → j < data_pages_of P → ¬ IsIn j after.pages → ¬ IsIn j pages → page_offset P J j ≡ page_offset P I j
 
 -- But for these inodes and pages every number of the volume is free in both words or in neither.
 pub record ChangesNumbers (P : ℕ) (I J : List ℕ) (inodes pages : List ℕ) : Type 0 where
