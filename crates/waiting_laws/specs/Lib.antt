@@ -1,0 +1,11 @@
+pub mod Beside
+pub mod Naming
+pub mod Making
+pub mod Linking
+pub mod Removing
+pub mod Growing
+pub mod Writing
+pub mod Cutting
+pub mod Moving
+pub mod Preparing
+pub mod Begins
