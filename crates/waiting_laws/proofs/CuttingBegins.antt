@@ -13,6 +13,7 @@ use Rattle.tree_model.specs.declared.reply.Reply.TheVariants.{Done}
 use Rattle.image_reading.specs.Counts.{IsIn, IsDistinct}
 use Rattle.image_reading.specs.Reading.{ReadsAs}
 use Rattle.image_reading.specs.Residue.{Residue, no_residue}
+use Rattle.image_reading.specs.Soundness.{Sound}
 use Rattle.image_laws.specs.Quiet.{IsMix}
 use Rattle.image_counts.proofs.Distinct.{in_back}
 use Rattle.image_laws.specs.CreateStep.{IsStepped}
@@ -47,7 +48,7 @@ use Rattle.data_ops.specs.declared.truncate.Stage.{Stage}
 use Rattle.data_ops.specs.declared.truncate.Stage.TheVariants.{Cutting}
 use Rattle.waiting_laws.specs.Beside.{IsReady, StandsWith, MakesStep, Leaves, Commits}
 use Rattle.waiting_laws.specs.Cutting.{WaitsOn, CutLoweredLaw, CutAtOnceLaw, left_by, held_by}
-use Rattle.waiting_laws.proofs.Standing.{IsReached, waits, behind}
+use Rattle.waiting_laws.proofs.Standing.{IsReached, waits, no_mark, same_mark, sound_without, behind}
 use Rattle.waiting_laws.proofs.ReadyStands.{stands_keeping}
 use Rattle.waiting_laws.proofs.FilePages as files
 use Rattle.waiting_laws.proofs.FileTruncations as truncations
@@ -108,6 +109,17 @@ module _ (volume : VolumeView) (before : DeviceView) (state : State) (path : Rou
   stepped : (n : ℕ) → IsStepped P K state (Truncate path z) n
   stepped n = lowered_truncate_law P I state path i z n may (truncations.for_resizing volume before state path resizing others ready).inode_is ready.prepared.stands.reads
 
+  stores_sized : StoresIn P I K [] [] (i ∷ [])
+  stores_sized = sized_words_law P I i z
+
+  sound : Sound P K
+  sound = sound_without P K (leaves_lowered P I i z may).coherent
+      (same_mark P I K [] [] (i ∷ []) stores_sized ∙ no_mark volume before state others ready.prepared.stands ready.unmarked)
+
+  -- the step that makes them commits the truncation
+  pub commits : (n : ℕ) (J : List ℕ) → (step_of volume (Cutting resizing Begun)).Makes I J → Commits P I J state (Truncate path z) n
+  commits n J made = subst (λ (l : List ℕ). Commits P I l state (Truncate path z) n) (sym made) (record { crash = crash; sound = sound; stepped = stepped n })
+
   -- beside what is left then, in any state that the words read as
   reached : (kept : ℕ) (later : State) → ReadsAs P K later → IsReached (record volume { kept = kept }) K later (left_by volume resizing) others
   reached kept later reads = record {
@@ -126,10 +138,7 @@ module _ (volume : VolumeView) (before : DeviceView) (state : State) (path : Rou
     spent = record volume { kept = kept_now - commit_events }
 
     stores_only : StoresIn P I after.words [] [] (i ∷ [])
-    stores_only = subst (λ (J : List ℕ). StoresIn P I J [] [] (i ∷ [])) (sym makes.takes.makes) (sized_words_law P I i z)
-
-    pub commits : (n : ℕ) → Commits P I after.words state (Truncate path z) n
-    commits n = subst (λ (J : List ℕ). Commits P I J state (Truncate path z) n) (sym makes.takes.makes) (record { crash = crash; stepped = stepped n })
+    stores_only = subst (λ (J : List ℕ). StoresIn P I J [] [] (i ∷ [])) (sym makes.takes.makes) stores_sized
 
     module _ (later : State) (reads : ReadsAs P after.words later) where
       reads_sized : ReadsAs P K later
@@ -208,7 +217,7 @@ next_none false resizing is = refl
 
 pub cut_lowered_law : CutLoweredLaw
 cut_lowered_law volume new before after state path resizing progress n others ready begins makes is stands =
-    let commit = commits volume before state path resizing others ready begins new after makes n in
+    let commit = commits volume before state path resizing others ready begins n after.words makes.takes.makes in
     let at = next_some (nat_lt 0 resizing.cut) resizing progress is in (
       commit,
       subst (λ (p : CutProgress). WaitsOn volume new before after commit.stepped.new resizing p others) (sym at)
@@ -217,7 +226,7 @@ cut_lowered_law volume new before after state path resizing progress n others re
 
 pub cut_at_once_law : CutAtOnceLaw
 cut_at_once_law volume new before after state path resizing n others ready begins makes is =
-    let commit = commits volume before state path resizing others ready begins new after makes n in
+    let commit = commits volume before state path resizing others ready begins n after.words makes.takes.makes in
     let test = next_none (nat_lt 0 resizing.cut) resizing is in
     let none : resizing.cut ≡ 0 = grind (arith, nat_tests, test) in (
       commit,

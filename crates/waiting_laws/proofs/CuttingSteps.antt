@@ -137,7 +137,7 @@ module _ (old : VolumeView) (before : DeviceView) (state : State) (resizing : Re
           no_pointer = waiting.beside.no_pointer;
         }
 
-    given_keeps : KeepsMeaning P I J
+    pub given_keeps : KeepsMeaning P I J
     given_keeps = quiet P I J [] gone [] given_stores none (λ M mix. trimming P I J (Contains gone) gives i may_trim M mix)
 
     -- a page that the others have left isn't the file's then
@@ -156,7 +156,7 @@ module _ (old : VolumeView) (before : DeviceView) (state : State) (resizing : Re
     cleared_stores : StoresIn P I J [] gone []
     cleared_stores = freed_words_law P I J gone false i (words.clears_rest P I J i gone clears)
 
-    cleared_keeps : KeepsMeaning P I J
+    pub cleared_keeps : KeepsMeaning P I J
     cleared_keeps = quiet P I J [] gone [] cleared_stores none (λ M mix. stages.freeing P I J M (Contains gone) words.Nothing i may_free (words.clears_rest P I J i gone clears) mix)
 
     module _ (kept : ℕ) (new : VolumeView) (leaves : LeavesLastPages (record old { kept = kept }) new i resizing.cut) where

@@ -14,7 +14,7 @@ use Rattle.tree_model.specs.declared.command.Command.TheVariants.{Write}
 use Rattle.image_reading.specs.Counts.{IsIn}
 use Rattle.image_reading.specs.Reading.{ReadsAs}
 use Rattle.image_reading.specs.Residue.{Residue, no_residue, IsTidyBeside}
-use Rattle.image_reading.specs.Soundness.{IsCoherent}
+use Rattle.image_reading.specs.Soundness.{IsCoherent, Sound}
 use Rattle.image_counts.specs.Entries.{IsPageIn}
 use Rattle.image_counts.proofs.Distinct.{in_either}
 use Rattle.image_laws.specs.CreateStep.{IsStepped}
@@ -46,7 +46,7 @@ use Rattle.knowing_laws.specs.Knowing.{FollowPages}
 use Rattle.knowing_laws.proofs.Pages.{pages_known}
 use Rattle.waiting_laws.specs.Beside.{StandsWith, MakesStep, Leaves, Affects, Commits}
 use Rattle.waiting_laws.specs.Growing.{file_held_by, pages_left_by, WaitsToGrow, GrowthEndsLaw}
-use Rattle.waiting_laws.proofs.Standing.{IsReached, waits, behind}
+use Rattle.waiting_laws.proofs.Standing.{IsReached, waits, no_mark, same_mark, sound_without, behind}
 use Rattle.waiting_laws.proofs.FilePages as files
 use Rattle.waiting_laws.proofs.FilePages.{no_size}
 use Rattle.waiting_laws.proofs.FileKnown.{known_keeping}
@@ -62,9 +62,7 @@ stepped_by P I state growth bytes path _ n may holds at reads (IsGrowing.write s
 stepped_by P I state growth bytes path _ n may holds at reads (IsGrowing.truncate none starts) =
     raised_truncate_law P I state path growth.inode growth.new_size growth.offset n may (subst (λ l. HoldsRange P I growth.inode growth.new_size growth.offset l) none holds) at reads
 
-module _ (old new : VolumeView) (before after : DeviceView) (state : State) (path : Route) (command : Command) (growth : Growth) (bytes pages : List ℕ) (n : ℕ) (others : Residue)
-    (waiting : WaitsToGrow old before state growth bytes pages Owned others) (grows : IsGrowing growth bytes path command) (named : id_at state.tree path ≡ Some growth.inode)
-    (makes : MakesStep (step_of_growth old.size growth bytes pages Owned) (EntersGrowth growth.inode pages Owned) old new before after) where
+module _ (old : VolumeView) (before : DeviceView) (state : State) (growth : Growth) (bytes pages : List ℕ) (others : Residue) (waiting : WaitsToGrow old before state growth bytes pages Owned others) where
   abbrev P : ℕ
   P = old.size
 
@@ -101,81 +99,89 @@ module _ (old new : VolumeView) (before after : DeviceView) (state : State) (pat
 
   -- ---- the command
 
-  stepped : IsStepped P J state command n
-  stepped = stepped_by P I state growth bytes path command n may_raise.0 holds named waiting.beside.stands.reads grows
+  stores_sized : StoresIn P I J [] [] (i ∷ [])
+  stores_sized = sized_words_law P I i z
 
-  same_words : after.words ≡ J
-  same_words = makes.takes.makes
+  sound : Sound P J
+  sound = sound_without P J (raised_meaning_law P I i z growth.offset bytes may_raise.0 holds).coherent
+      (same_mark P I J [] [] (i ∷ []) stores_sized ∙ no_mark old before state residue waiting.beside.stands waiting.beside.unmarked)
 
-  pub commits : Commits P I after.words state command n
-  commits = subst (λ l. Commits P I l state command n) (sym same_words) (record { crash = (raised_meaning_law P I i z growth.offset bytes may_raise.0 holds).commit; stepped = stepped })
+  stepped : (path : Route) (command : Command) (n : ℕ) → IsGrowing growth bytes path command → id_at state.tree path ≡ Some i → IsStepped P J state command n
+  stepped path command n grows named = stepped_by P I state growth bytes path command n may_raise.0 holds named waiting.beside.stands.reads grows
 
-  -- ---- what is stored
-
-  stores : StoresIn P I after.words [] (own ++ pages) (i ∷ [])
-  stores = subst (λ l. StoresIn P I l [] (own ++ pages) (i ∷ [])) (sym same_words) (
-      wider_law P I J [] [] (i ∷ []) [] (own ++ pages) (i ∷ []) (record { of_slots = λ s among. absurd among; of_pages = λ j among. absurd among; of_inodes = λ x among. among }) (sized_words_law P I i z))
+  pub commits : (path : Route) (command : Command) (n : ℕ) → IsGrowing growth bytes path command → id_at state.tree path ≡ Some i
+      → (L : List ℕ) → (step_of_growth old.size growth bytes pages Owned).Makes I L → Commits P I L state command n
+  commits path command n grows named L made = subst (λ l. Commits P I l state command n) (sym made)
+      (record { crash = (raised_meaning_law P I i z growth.offset bytes may_raise.0 holds).commit; sound = sound; stepped = stepped path command n grows named })
 
   -- ---- the volume behind it
 
-  abbrev spent : VolumeView
-  spent = record old { kept = old.kept - (step_of_growth old.size growth bytes pages Owned).events }
+  module _ (new : VolumeView) (after : DeviceView) (makes : MakesStep (step_of_growth old.size growth bytes pages Owned) (EntersGrowth growth.inode pages Owned) old new before after) where
+    same_words : after.words ≡ J
+    same_words = makes.takes.makes
 
-  puts : PutsPages spent new i pages
-  puts = makes.enters
+    stores : StoresIn P I after.words [] (own ++ pages) (i ∷ [])
+    stores = subst (λ l. StoresIn P I l [] (own ++ pages) (i ∷ [])) (sym same_words) (
+        wider_law P I J [] [] (i ∷ []) [] (own ++ pages) (i ∷ []) (record { of_slots = λ s among. absurd among; of_pages = λ j among. absurd among; of_inodes = λ x among. among }) stores_sized)
 
-  abbrev listed : VolumeView
-  listed = record spent { index = new.index }
+    abbrev spent : VolumeView
+    spent = record old { kept = old.kept - (step_of_growth old.size growth bytes pages Owned).events }
 
-  file_there : (1 ≤ i) × (i ≤ inodes_of P)
-  file_there = files.in_inodes old before state residue waiting.beside.stands i waiting.file
+    puts : PutsPages spent new i pages
+    puts = makes.enters
 
-  follow : FollowPages spent J pages i
-  follow = record {
-    are = record {
-      owned = λ j among. words.still_in P I i z file_there.0 file_there.1 i j (waiting.new_pages j (in_contained j pages among));
-      unlisted = λ x j among least most there. waiting.unlisted x j among there;
-      once = in_order P I pages growth.old_size z waiting.new_order;
-    };
-    offsets = λ k j at.
-        let same = words.offset_same P I i z file_there.0 file_there.1 j in
-        let stood = waiting.new_order.offsets k j at in
-        let all = waiting.old_order.count in
-        let none = no_size in
-        omega (arith, same, stood, all, none);
-  }
+    abbrev listed : VolumeView
+    listed = record spent { index = new.index }
 
-  -- with the words and the state that a step leaves
-  reached : (l : List ℕ) → l ≡ J → (later : State) → ReadsAs P l later → IsReached listed l later no_residue others
-  reached l same later reads = record {
-    coherent = subst (IsCoherent P) (sym same) (raised_meaning_law P I i z growth.offset bytes may_raise.0 holds).coherent;
-    beside = subst (λ w. IsTidyBeside P w others) (sym same) (raised_law P I i z pages others may_raise.0 may_raise.1 waiting.beside.stands.beside);
-    reads = reads;
-    knows = subst (λ w. KnowsBeside listed w others) (sym same) (
-        pages_known spent listed I J residue others i pages (known_keeping spent.kept old I residue waiting.beside.stands.knows) (length-set I (inode_word_of i 2) z) file_there.0 file_there.1
-        (keeps_entries (size_words.change P I i z may_raise.0.coherent may_raise.0.reached (raised_coherent P I i z may_raise.0)))
-        (words.keeps_pages P I i z file_there.0 file_there.1 residue others pages (λ j kept none among. elim (in_either j pages others.pages among) [ inl mine ↦ none mine | inr theirs ↦ kept theirs ])) follow (words.numbers P I i z file_there.0 file_there.1) (record { index = puts.index; rest = refl }));
-    no_pointer = waiting.beside.no_pointer;
-  }
+    file_there : (1 ≤ i) × (i ≤ inodes_of P)
+    file_there = files.in_inodes old before state residue waiting.beside.stands i waiting.file
 
-  beside : (later : State) → ReadsAs P after.words later → StandsWith listed after later no_residue others
-  beside later reads = behind old listed before after state later (pages_left_by i pages) no_residue others (step_of_growth old.size growth bytes pages Owned) (EntersGrowth i pages Owned) [] (own ++ pages) (i ∷ [])
-      waiting.beside (record { kept = makes.kept; takes = makes.takes; enters = record { index = puts.index; rest = refl } }) refl (record { size = refl; stopped = refl; marked = refl; kept = refl }) stores
-      (reached after.words same_words later reads)
+    follow : FollowPages spent J pages i
+    follow = record {
+      are = record {
+        owned = λ j among. words.still_in P I i z file_there.0 file_there.1 i j (waiting.new_pages j (in_contained j pages among));
+        unlisted = λ x j among least most there. waiting.unlisted x j among there;
+        once = in_order P I pages growth.old_size z waiting.new_order;
+      };
+      offsets = λ k j at.
+          let same = words.offset_same P I i z file_there.0 file_there.1 j in
+          let stood = waiting.new_order.offsets k j at in
+          let all = waiting.old_order.count in
+          let none = no_size in
+          omega (arith, same, stood, all, none);
+    }
 
-  lists : (x j : ℕ) → Contains (pages_of new.index x) j → Contains (pages_of old.index x) j ⊎ IsIn j (own ++ pages)
-  lists x j there = elim (cases_eq x i) [
-    | inl same ↦
-        let here : Contains (own ++ pages) j = subst (λ (l : List ℕ). Contains l j) (ap (λ y. pages_of new.index y) same ∙ puts.index.node.pages) there in
-        inr (contained_in j (own ++ pages) here)
-    | inr other ↦ inl (subst (λ (node : NodeView). Contains node.pages j) (puts.index.elsewhere.others x other) there)
-  ]
+    -- with the words and the state that a step leaves
+    reached : (l : List ℕ) → l ≡ J → (later : State) → ReadsAs P l later → IsReached listed l later no_residue others
+    reached l same later reads = record {
+      coherent = subst (IsCoherent P) (sym same) (raised_meaning_law P I i z growth.offset bytes may_raise.0 holds).coherent;
+      beside = subst (λ w. IsTidyBeside P w others) (sym same) (raised_law P I i z pages others may_raise.0 may_raise.1 waiting.beside.stands.beside);
+      reads = reads;
+      knows = subst (λ w. KnowsBeside listed w others) (sym same) (
+          pages_known spent listed I J residue others i pages (known_keeping spent.kept old I residue waiting.beside.stands.knows) (length-set I (inode_word_of i 2) z) file_there.0 file_there.1
+          (keeps_entries (size_words.change P I i z may_raise.0.coherent may_raise.0.reached (raised_coherent P I i z may_raise.0)))
+          (words.keeps_pages P I i z file_there.0 file_there.1 residue others pages (λ j kept none among. elim (in_either j pages others.pages among) [ inl mine ↦ none mine | inr theirs ↦ kept theirs ])) follow (words.numbers P I i z file_there.0 file_there.1) (record { index = puts.index; rest = refl }));
+      no_pointer = waiting.beside.no_pointer;
+    }
 
-  affects : Affects old listed (file_held_by old i pages)
-  affects = record { size = refl; others = λ x none. puts.index.elsewhere.others x (λ same. none (inl same)); lists = lists }
+    beside : (later : State) → ReadsAs P after.words later → StandsWith listed after later no_residue others
+    beside later reads = behind old listed before after state later (pages_left_by i pages) no_residue others (step_of_growth old.size growth bytes pages Owned) (EntersGrowth i pages Owned) [] (own ++ pages) (i ∷ [])
+        waiting.beside (record { kept = makes.kept; takes = makes.takes; enters = record { index = puts.index; rest = refl } }) refl (record { size = refl; stopped = refl; marked = refl; kept = refl }) stores
+        (reached after.words same_words later reads)
 
-  pub leaves : (later : State) → ReadsAs P after.words later → Leaves old new before after later no_residue others (file_held_by old i pages)
-  leaves later reads = subst (λ v. Leaves old v before after later no_residue others (file_held_by old i pages)) (sym puts.rest) (record { beside = beside later reads; stores = stores; affects = affects })
+    lists : (x j : ℕ) → Contains (pages_of new.index x) j → Contains (pages_of old.index x) j ⊎ IsIn j (own ++ pages)
+    lists x j there = elim (cases_eq x i) [
+      | inl same ↦
+          let here : Contains (own ++ pages) j = subst (λ (l : List ℕ). Contains l j) (ap (λ y. pages_of new.index y) same ∙ puts.index.node.pages) there in
+          inr (contained_in j (own ++ pages) here)
+      | inr other ↦ inl (subst (λ (node : NodeView). Contains node.pages j) (puts.index.elsewhere.others x other) there)
+    ]
+
+    affects : Affects old listed (file_held_by old i pages)
+    affects = record { size = refl; others = λ x none. puts.index.elsewhere.others x (λ same. none (inl same)); lists = lists }
+
+    pub leaves : (later : State) → ReadsAs P after.words later → Leaves old new before after later no_residue others (file_held_by old i pages)
+    leaves later reads = subst (λ v. Leaves old v before after later no_residue others (file_held_by old i pages)) (sym puts.rest) (record { beside = beside later reads; stores = stores; affects = affects })
 
 unfinished : (progress : Progress) → ◌≡◌ {A = Option Progress} (Some progress) None → ⊥
 unfinished progress e = cc
@@ -184,5 +190,5 @@ pub growth_ends_law : GrowthEndsLaw
 growth_ends_law old new before after state path command growth bytes pages Begun n others waiting grows named makes last = absurd waiting.new_pages
 growth_ends_law old new before after state path command growth bytes pages Filled n others waiting grows named makes last = absurd (unfinished Owned last)
 growth_ends_law old new before after state path command growth bytes pages Owned n others waiting grows named makes last =
-    let ends = commits old new before after state path command growth bytes pages n others waiting grows named makes in
-    (ends, leaves old new before after state path command growth bytes pages n others waiting grows named makes ends.stepped.new ends.stepped.reads)
+    let ends = commits old before state growth bytes pages others waiting path command n grows named after.words makes.takes.makes in
+    (ends, leaves old before state growth bytes pages others waiting new after makes ends.stepped.new ends.stepped.reads)

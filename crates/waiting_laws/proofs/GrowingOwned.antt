@@ -37,17 +37,12 @@ use Rattle.waiting_laws.proofs.Standing.{IsReached, waits, no_mark, behind, quie
 use Rattle.waiting_laws.proofs.FileKnown.{known_still}
 use Rattle.waiting_laws.proofs.GrowingTake as take
 
-module _ (old new : VolumeView) (before after : DeviceView) (state : State) (growth : Growth) (bytes pages : List ℕ) (others : Residue)
-    (waiting : WaitsToGrow old before state growth bytes pages Filled others)
-    (makes : MakesStep (step_of_growth old.size growth bytes pages Filled) (EntersGrowth growth.inode pages Filled) old new before after) (stands : StandsGrowth new after growth bytes pages Owned) where
+module _ (old : VolumeView) (before : DeviceView) (state : State) (growth : Growth) (bytes pages : List ℕ) (others : Residue) (waiting : WaitsToGrow old before state growth bytes pages Filled others) where
   abbrev P : ℕ
   P = old.size
 
   abbrev I : List ℕ
   I = before.words
-
-  abbrev J : List ℕ
-  J = after.words
 
   abbrev i : ℕ
   i = growth.inode
@@ -58,79 +53,85 @@ module _ (old new : VolumeView) (before after : DeviceView) (state : State) (gro
   abbrev residue : Residue
   residue = joined (pages_left_by i pages) others
 
-  takes : TakesPages P I J i pages
-  takes = makes.takes.makes
-
   may : MayOwn P I i pages
   may = waiting_owning_law P I state i growth.new_size pages others (waits old before state (pages_left_by i pages) others waiting.beside) waiting.file
       (subst (λ n. AreInOrder P I pages n growth.new_size) (sym waiting.size) waiting.new_order) waiting.new_pages
 
-  -- ---- what is stored
-
-  owners_stored : StoresIn P I J [] pages []
-  owners_stored = taken_words_law P I J i pages takes
-
-  stores : StoresIn P I J [] (own ++ pages) (i ∷ [])
-  stores = wider_law P I J [] pages [] [] (own ++ pages) (i ∷ []) (record { of_slots = λ s among. absurd among; of_pages = λ j among. in_back j own pages among; of_inodes = λ x among. absurd among }) owners_stored
-
   unmarked : has_mark I ≡ false
   unmarked = no_mark old before state residue waiting.beside.stands waiting.beside.unmarked
 
-  pub keeps_meaning : KeepsMeaning P I J
-  keeps_meaning = quiet P I J [] pages [] owners_stored unmarked (λ M mix. taken_meaning_law P I J M i pages may takes mix)
-
-  same : SameMeaning P I J
-  same = taken_meaning_law P I J J i pages may takes (mix_itself I J takes.size)
-
-  -- ---- the volume behind it, which has lost the step's events alone
-
-  abbrev spent : VolumeView
-  spent = record old { kept = old.kept - (step_of_growth old.size growth bytes pages Filled).events }
-
   left : (j : ℕ) → Contains pages j → IsIn j (pages ++ others.pages)
   left j is = in_front j pages others.pages (contained_in j pages is)
-
-  reached : IsReached spent J state (pages_left_by i pages) others
-  reached = record {
-    coherent = same.coherent;
-    beside = taken_law P I J i pages residue may takes waiting.beside.stands.beside;
-    reads = record { tree = same.reads state.tree waiting.beside.stands.reads.tree; room = same.room state.room waiting.beside.stands.reads.room };
-    knows = known_still spent.kept old I J residue residue waiting.beside.stands.knows takes.size (take.entries P I J i pages may takes) (take.keeps_pages P I J i pages may takes residue left) (take.numbers P I J i pages may takes);
-    no_pointer = waiting.beside.no_pointer;
-  }
-
-  beside : StandsWith spent after state (pages_left_by i pages) others
-  beside = behind old spent before after state state (pages_left_by i pages) (pages_left_by i pages) others (step_of_growth old.size growth bytes pages Filled) (EntersGrowth i pages Filled) [] (own ++ pages) (i ∷ [])
-      waiting.beside (record { kept = makes.kept; takes = makes.takes; enters = refl }) (lt-ltb 0 (length pages) waiting.at.some) (record { size = refl; stopped = refl; marked = refl; kept = refl }) stores reached
 
   apart : (j : ℕ) → IsIn j others.pages → (j < data_pages_of P) × (¬ IsIn j pages)
   apart j among =
       let listed = waiting.beside.stands.beside.of_pages in
       (((listed.each j).0 (in_back j pages others.pages among)).in_range, (λ mine. distinct_apart pages others.pages listed.distinct j mine among))
 
-  waits_then : StandsGrowth spent after growth bytes pages Owned → WaitsToGrow spent after state growth bytes pages Owned others
-  waits_then stands_then = record {
-    beside = beside;
-    at = stands_then.at;
-    knows = stands_then.knows;
-    file = waiting.file;
-    size = take.size_same P I J i pages may takes ∙ waiting.size;
-    larger = waiting.larger;
-    small = waiting.small;
-    old_order = take.still_order P I J i pages may takes own 0 growth.old_size waiting.old_order;
-    old_pages = λ j there. take.still_in P I J i pages may takes j (waiting.old_pages j there);
-    new_order = take.still_order P I J i pages may takes pages growth.old_size growth.new_size waiting.new_order;
-    new_pages = take.new_in P I J i pages may takes;
-    range = taken_range_law P I J (own ++ pages) i growth.offset bytes pages may takes waiting.range;
-    unlisted = waiting.unlisted;
-    alone = take.still_alone P I J i pages may takes others apart waiting.alone;
-  }
+  -- ---- the words
 
-  pub waits_on : WaitsOn old new before after state growth bytes pages Owned others
-  waits_on = subst (λ v. WaitsOn old v before after state growth bytes pages Owned others) (sym makes.enters) (record {
-    waits = waits_then (subst (λ v. StandsGrowth v after growth bytes pages Owned) makes.enters stands);
-    leaves = record { beside = beside; stores = stores; affects = record { size = refl; others = λ x none. refl; lists = λ x j listed. inl listed } };
-  })
+  module _ (J : List ℕ) (takes : TakesPages P I J i pages) where
+    owners_stored : StoresIn P I J [] pages []
+    owners_stored = taken_words_law P I J i pages takes
+
+    stores : StoresIn P I J [] (own ++ pages) (i ∷ [])
+    stores = wider_law P I J [] pages [] [] (own ++ pages) (i ∷ []) (record { of_slots = λ s among. absurd among; of_pages = λ j among. in_back j own pages among; of_inodes = λ x among. absurd among }) owners_stored
+
+    pub keeps_meaning : KeepsMeaning P I J
+    keeps_meaning = quiet P I J [] pages [] owners_stored unmarked (λ M mix. taken_meaning_law P I J M i pages may takes mix)
+
+    same : SameMeaning P I J
+    same = taken_meaning_law P I J J i pages may takes (mix_itself I J takes.size)
+
+    reached : (kept : ℕ) → IsReached (record old { kept = kept }) J state (pages_left_by i pages) others
+    reached kept = record {
+      coherent = same.coherent;
+      beside = taken_law P I J i pages residue may takes waiting.beside.stands.beside;
+      reads = record { tree = same.reads state.tree waiting.beside.stands.reads.tree; room = same.room state.room waiting.beside.stands.reads.room };
+      knows = known_still kept old I J residue residue waiting.beside.stands.knows takes.size (take.entries P I J i pages may takes) (take.keeps_pages P I J i pages may takes residue left) (take.numbers P I J i pages may takes);
+      no_pointer = waiting.beside.no_pointer;
+    }
+
+  -- ---- behind the step: the volume has lost its events alone
+
+  module _ (new : VolumeView) (after : DeviceView) (makes : MakesStep (step_of_growth old.size growth bytes pages Filled) (EntersGrowth growth.inode pages Filled) old new before after)
+      (stands : StandsGrowth new after growth bytes pages Owned) where
+    abbrev L : List ℕ
+    L = after.words
+
+    taken : TakesPages P I L i pages
+    taken = makes.takes.makes
+
+    abbrev spent : VolumeView
+    spent = record old { kept = old.kept - (step_of_growth old.size growth bytes pages Filled).events }
+
+    beside : StandsWith spent after state (pages_left_by i pages) others
+    beside = behind old spent before after state state (pages_left_by i pages) (pages_left_by i pages) others (step_of_growth old.size growth bytes pages Filled) (EntersGrowth i pages Filled) [] (own ++ pages) (i ∷ [])
+        waiting.beside (record { kept = makes.kept; takes = makes.takes; enters = refl }) (lt-ltb 0 (length pages) waiting.at.some) (record { size = refl; stopped = refl; marked = refl; kept = refl }) (stores L taken) (reached L taken spent.kept)
+
+    waits_then : StandsGrowth spent after growth bytes pages Owned → WaitsToGrow spent after state growth bytes pages Owned others
+    waits_then stands_then = record {
+      beside = beside;
+      at = stands_then.at;
+      knows = stands_then.knows;
+      file = waiting.file;
+      size = take.size_same P I L i pages may taken ∙ waiting.size;
+      larger = waiting.larger;
+      small = waiting.small;
+      old_order = take.still_order P I L i pages may taken own 0 growth.old_size waiting.old_order;
+      old_pages = λ j there. take.still_in P I L i pages may taken j (waiting.old_pages j there);
+      new_order = take.still_order P I L i pages may taken pages growth.old_size growth.new_size waiting.new_order;
+      new_pages = take.new_in P I L i pages may taken;
+      range = taken_range_law P I L (own ++ pages) i growth.offset bytes pages may taken waiting.range;
+      unlisted = waiting.unlisted;
+      alone = take.still_alone P I L i pages may taken others apart waiting.alone;
+    }
+
+    pub waits_on : WaitsOn old new before after state growth bytes pages Owned others
+    waits_on = subst (λ v. WaitsOn old v before after state growth bytes pages Owned others) (sym makes.enters) (record {
+      waits = waits_then (subst (λ v. StandsGrowth v after growth bytes pages Owned) makes.enters stands);
+      leaves = record { beside = beside; stores = stores L taken; affects = record { size = refl; others = λ x none. refl; lists = λ x j listed. inl listed } };
+    })
 
 owned_next : (next : Progress) → ◌≡◌ {A = Option Progress} (Some Owned) (Some next) → Owned ≡ next
 owned_next next e = cc
@@ -143,7 +144,7 @@ growth_owned_law old new before after state growth bytes pages Begun next others
 growth_owned_law old new before after state growth bytes pages Filled next others waiting makes follows stands =
     let owned = owned_next next follows in
     let stands_owned = subst (λ p. StandsGrowth new after growth bytes pages p) (sym owned) stands in (
-      subst (λ p. WaitsOn old new before after state growth bytes pages p others) owned (waits_on old new before after state growth bytes pages others waiting makes stands_owned),
-      keeps_meaning old new before after state growth bytes pages others waiting makes stands_owned,
+      subst (λ p. WaitsOn old new before after state growth bytes pages p others) owned (waits_on old before state growth bytes pages others waiting new after makes stands_owned),
+      keeps_meaning old before state growth bytes pages others waiting after.words makes.takes.makes,
     )
 growth_owned_law old new before after state growth bytes pages Owned next others waiting makes follows stands = absurd (no_next next follows)

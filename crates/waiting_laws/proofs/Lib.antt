@@ -27,6 +27,7 @@ pub mod GrowingStill
 pub mod WritingBegins
 pub mod WritingResized
 pub mod WritingInside
+pub mod ContentCrash
 pub mod RemovingBare
 pub mod RemovingBegins
 pub mod RemovingClears
@@ -62,6 +63,8 @@ pub mod LinkingClaimed
 pub mod LinkingEnds
 pub mod LinkingHolds
 pub mod LinkingStill
+pub mod NamedCrashMaking
+pub mod NamedCrashLinking
 pub mod BeginsApart
 pub mod BeginsEnough
 pub mod BeginsIdle
@@ -80,3 +83,4 @@ pub mod MovingEnds
 pub mod MovingEntries
 pub mod MovingTaken
 pub mod MovingCommits
+pub mod UnnamedCrash

@@ -23,7 +23,6 @@ use Rattle.unlink_ops.specs.declared.link.Stage.TheVariants.{Begun, Written, Cla
 use Rattle.unlink_ops.specs.LinkStages.{RunningView, IsAfter, IsAfterPlace, EntersAtStage, EntersAfterPlace, StandsStage, step_at}
 use Rattle.waiting_laws.specs.Beside.{MakesStep}
 use Rattle.waiting_laws.specs.Linking.{left_by, WaitsOn, WaitsToLink, LinkingClaimedLaw}
-use Rattle.waiting_laws.proofs.Standing.{quiet}
 use Rattle.waiting_laws.proofs.NamingClaimed as claims
 use Rattle.waiting_laws.proofs.NamingClaimed.{IsClaimed}
 use Rattle.waiting_laws.proofs.NamingWords.{links_stay}
@@ -33,12 +32,12 @@ module _ (old : VolumeView) (before after : DeviceView) (state : State) (from pa
     (on : WaitsToLink old before state from path (record { link = link; stage = Written (record { inode = inode; place = Page page }) }) others)
     (makes : MakesStep (owning old.size page link.directory) (EntersAfterPlace link (Page page)) old (with_kept (old.kept - commit_events) old) before after) where
   claimed : IsClaimed old.size before.words after.words state path link.directory link.slot page (joined (left_by link) others)
-  claimed = claims.claimed on.beside on.name on.words.1 on.place (EntersAfterPlace link (Page page)) makes
+  claimed = claims.claimed on.beside on.name on.words.1 on.place after.words makes.takes.makes
 
   waits_again : (file : NamedSlot) → StandsStage (with_kept (old.kept - commit_events) old) after (record { link = link; stage = Claimed file })
       → WaitsOn old (with_kept (old.kept - commit_events) old) before after state from path (record { link = link; stage = Claimed file }) others
   waits_again file stands =
-      let (leaves, quiet) = claims.leaves on.beside on.name on.words.1 on.place (EntersAfterPlace link (Page page)) makes link.inode refl in
+      let leaves = claims.leaves on.beside on.name on.words.1 on.place (EntersAfterPlace link (Page page)) makes link.inode refl in
       record {
         waits = record {
           beside = leaves.beside;
@@ -46,7 +45,7 @@ module _ (old : VolumeView) (before after : DeviceView) (state : State) (from pa
           file_is = on.file_is;
           name_is = on.name_is;
           name = claimed.name;
-          place = claims.place_then on.beside on.name on.words.1 on.place (EntersAfterPlace link (Page page)) makes;
+          place = claims.place_then on.beside on.name on.words.1 on.place after.words makes.takes.makes;
           full = on.full;
           file = on.file;
           -- other words than the owner stay
@@ -54,7 +53,7 @@ module _ (old : VolumeView) (before after : DeviceView) (state : State) (from pa
           knows = record { place = stands.place; unlisted = on.knows.unlisted };
         };
         leaves = leaves;
-        quiet = quiet;
+        quiet = claims.crash_claimed on.beside on.name on.words.1 on.place after.words makes.takes.makes;
       }
 
 -- ---- by its stage

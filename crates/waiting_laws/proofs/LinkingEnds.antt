@@ -12,6 +12,8 @@ use Rattle.image_reading.specs.Residue.{Residue}
 use Rattle.image_counts.proofs.Nodes.{size_law}
 use Rattle.image_counts.proofs.Paths.{in_range}
 use Rattle.image_laws.specs.Add.{IsOldFile, CanAdd}
+use Rattle.image_laws.specs.Create.{committed}
+use Rattle.image_laws.specs.CreateStep.{IsStepped}
 use Rattle.inode_state.specs.Inode.{InodeView}
 use Rattle.weave_laws.specs.Joined.{joined}
 use Rattle.weave_laws.specs.Waiting.{WaitsBeside, IsWaitingName, MayCommit}
@@ -31,12 +33,12 @@ use Rattle.entry_steps.specs.Steps.{naming}
 use Rattle.unlink_ops.specs.declared.link.Stage.{Stage}
 use Rattle.unlink_ops.specs.declared.link.Stage.TheVariants.{Begun, Written, Claimed}
 use Rattle.unlink_ops.specs.LinkStages.{RunningView, IsAfter, IsAfterPlace, EntersAtStage, EntersAfterPlace, step_at}
-use Rattle.waiting_laws.specs.Beside.{MakesStep}
+use Rattle.waiting_laws.specs.Beside.{MakesStep, Commits}
 use Rattle.waiting_laws.specs.Linking.{held_by, left_by, WaitsToLink, LinkingEndsLaw}
 use Rattle.waiting_laws.proofs.Standing.{waits}
-use Rattle.waiting_laws.proofs.NamingEnds.{page_of_place, brings, HasEnded, ended}
+use Rattle.waiting_laws.proofs.NamingEnds.{page_of_place, brings, name_commits, HasEnded, ended}
 
-module _ (old new : VolumeView) (before after : DeviceView) (state : State) (from path : Route) (running : RunningView) (others : Residue) (on : WaitsToLink old before state from path running others)
+module _ (old : VolumeView) (before : DeviceView) (state : State) (from path : Route) (running : RunningView) (others : Residue) (on : WaitsToLink old before state from path running others)
     (name : IsWaitingName old.size before.words state.tree path running.link.directory running.link.slot) where
   abbrev P : ℕ
   P = old.size
@@ -68,10 +70,15 @@ module _ (old new : VolumeView) (before after : DeviceView) (state : State) (fro
   can : CanAdd P I (reverse (parent path)) d s i
   can = may.0.can
 
-  pub ends : (Enters : VolumeView → VolumeView → Type 0) → MakesStep (naming P s i) Enters old new before after → PutsName (record old { kept = old.kept - commit_events }) new d link.name s link.new_page
+  stepped : IsStepped P (committed P I s i) state (Link from path) i
+  stepped = link_entered_law P I state (reverse (parent path)) from path d s i i can may.1 on.file_is may.0.has_place may.0.path_is beside.holds.reads
+
+  pub commits : (J : List ℕ) → (naming P s i).Makes I J → Commits P I J state (Link from path) i
+  commits J made = name_commits on.beside.stands on.beside.unmarked can stepped J made
+
+  pub ends : (new : VolumeView) (after : DeviceView) (Enters : VolumeView → VolumeView → Type 0) → MakesStep (naming P s i) Enters old new before after → PutsName (record old { kept = old.kept - commit_events }) new d link.name s link.new_page
       → HasEnded old new before after state (Link from path) i others (held_by link)
-  ends Enters makes puts = ended on.beside can
-      (link_entered_law P I state (reverse (parent path)) from path d s i i can may.1 on.file_is may.0.has_place may.0.path_is beside.holds.reads)
+  ends new after Enters makes puts = ended on.beside can stepped
       (link_committed_law P I (reverse (parent path)) d s link.new_page i others can (waiting_link_law P I (joined (left_by link) others) state i beside.holds (inl refl) on.links) on.place beside.holds.beside)
       (brings can link.name (on.name_is ∙ sym name.name_is) (λ reached bytes. let (least, most) = in_range P I beside.holds.coherent i may.1.reached in inl (record { least = least; most = most; reached = may.1.reached; file = may.1.file })))
       refl on.beside.no_pointer on.place on.knows Enters makes puts
@@ -83,14 +90,14 @@ module _ (old new : VolumeView) (before after : DeviceView) (state : State) (fro
       → MakesStep (step_at old.size named (Written (record { inode = inode; place = place }))) (EntersAfterPlace named place) old new before after → IsAfterPlace named place (Ended Done)
       → HasEnded old new before after state (Link from path) named.inode others (held_by named)
   from_place named inode (Slot dentry) on makes is =
-      ends old new before after state from path (record { link = named; stage = Written (record { inode = inode; place = Slot dentry }) }) others on on.name (EntersAfterPlace named (Slot dentry)) makes makes.enters
+      ends old before state from path (record { link = named; stage = Written (record { inode = inode; place = Slot dentry }) }) others on on.name new after (EntersAfterPlace named (Slot dentry)) makes makes.enters
   from_place named inode (Page page) on makes (node, is) = absurd (let clash : ◌≡◌ {A = Next RunningView} (Ended Done) (More (record { link = named; stage = Claimed node })) = is in cc)
 
   from_stage : (named : NewName) (stage : Stage) → WaitsToLink old before state from path (record { link = named; stage = stage }) others → MakesStep (step_at old.size named stage) (EntersAtStage named stage) old new before after
       → IsAfter named stage (Ended Done) → HasEnded old new before after state (Link from path) named.inode others (held_by named)
   from_stage named Begun on makes is = absurd on.name
   from_stage named (Written node) on makes is = from_place named node.inode node.place on makes is
-  from_stage named (Claimed node) on makes is = ends old new before after state from path (record { link = named; stage = Claimed node }) others on on.name (EntersAtStage named (Claimed node)) makes makes.enters
+  from_stage named (Claimed node) on makes is = ends old before state from path (record { link = named; stage = Claimed node }) others on on.name new after (EntersAtStage named (Claimed node)) makes makes.enters
 
 pub linking_ends : LinkingEndsLaw
 linking_ends old new before after state from path running others on makes is = from_stage old new before after state from path others running.link running.stage on makes is

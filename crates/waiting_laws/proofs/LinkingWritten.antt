@@ -36,9 +36,9 @@ use Rattle.unlink_ops.specs.declared.link.Stage.TheVariants.{Written}
 use Rattle.unlink_ops.specs.Linking.{WritesLink, written_events, writing}
 use Rattle.unlink_ops.specs.LinkStages.{RunningView, begun, EntersAt, StandsStage}
 use Rattle.unlink_ops.proofs.LinkCourse.{more_events}
-use Rattle.waiting_laws.specs.Beside.{IsReady, MakesStep}
+use Rattle.waiting_laws.specs.Beside.{IsReady, MakesStep, KeepsMeaning}
 use Rattle.waiting_laws.specs.Linking.{left_by, WaitsOn, LinkingWrittenLaw}
-use Rattle.waiting_laws.proofs.Standing.{quiet}
+use Rattle.waiting_laws.proofs.NamingBegun.{crash_quiet}
 use Rattle.waiting_laws.proofs.NamingPlaced as placed
 use Rattle.waiting_laws.proofs.NamingPlaced.{IsComingName}
 use Rattle.waiting_laws.proofs.NamingWritten.{WritesName, named_in_slot, named_in_page, name_at, quiet_in_slot, quiet_in_page, written_waits}
@@ -115,6 +115,14 @@ module _ (volume : VolumeView) (before : DeviceView) (state : State) (from path 
         links = makes.links;
       }
 
+  -- what the step makes,
+  pub wrote_by : (J : List ℕ) → (writing P link).Makes I J → WritesLinkName P I J state path d s i link.new_page others
+  wrote_by J (written, is_name, of_bytes) = writes_name J is_name of_bytes link.new_page coming.new.place written
+
+  -- and that a crash in it changes no meaning
+  pub crash_written : (J : List ℕ) → (writing P link).Makes I J → KeepsMeaning P I J
+  crash_written J made = crash_quiet ready.prepared.stands ready.unmarked (wrote_by J made).step
+
   -- ---- where it waits
 
   module _ (after : DeviceView) (wrote : WritesLinkName P I after.words state path d s i link.new_page others) where
@@ -125,7 +133,7 @@ module _ (volume : VolumeView) (before : DeviceView) (state : State) (from path 
     waits_now : (node : NamedFile) → MakesStep (writing P link) (EntersAt (begun link)) (keeping volume (Name link)) N before after → StandsStage N after (record { link = link; stage = Written node })
         → WaitsOn volume N before after state from path (record { link = link; stage = Written node }) others
     waits_now node makes stands =
-        let (leaves, quiet) = written_waits volume N N before after state path d s i link.new_page None (i ∷ []) (Link from path) (Name link) (left_by link) others (writing P link) (EntersAt (begun link)) N.inodes N.data_pages ready (more_events link)
+        let leaves = written_waits volume N N before after state path d s i link.new_page None (i ∷ []) (Link from path) (Name link) (left_by link) others (writing P link) (EntersAt (begun link)) N.inodes N.data_pages ready (more_events link)
         wrote.name refl ready.no_pointer (λ x none. absurd none) (λ x among other. elim among [ inl is ↦ subst (Reached P I) (sym is) file.reached | inr none ↦ absurd none ])
         (λ x among. elim among [ inl is ↦ inl is | inr none ↦ absurd none ]) makes refl refl refl refl in
         record {
@@ -142,7 +150,7 @@ module _ (volume : VolumeView) (before : DeviceView) (state : State) (from path 
             knows = record { place = stands.place; unlisted = placed.unlisted coming };
           };
           leaves = leaves;
-          quiet = quiet;
+          quiet = crash_written after.words makes.takes.makes;
         }
 
 pub next_is : (one other : RunningView) → ◌≡◌ {A = Next RunningView} (More one) (More other) → one ≡ other
@@ -150,8 +158,7 @@ next_is one other e = cc
 
 pub linking_written : LinkingWrittenLaw
 linking_written volume new before after state from path link next others ready makes (node, is) stands =
-    let (written, is_name, of_bytes) = makes.takes.makes in
-    let wrote = writes_name volume before state from path link others ready after.words is_name of_bytes link.new_page (begins.coming volume before state from path link others ready).new.place written in
+    let wrote = wrote_by volume before state from path link others ready after.words makes.takes.makes in
     let running : RunningView = record { link = link; stage = Written node } in
     subst (λ (r : RunningView). WaitsOn volume new before after state from path r others) (sym (next_is next running is))
     (subst (λ (v : VolumeView). MakesStep (writing volume.size link) (EntersAt (begun link)) (keeping volume (Name link)) v before after → StandsStage v after running → WaitsOn volume v before after state from path running others) (sym makes.enters)

@@ -28,7 +28,6 @@ use Rattle.create_ops.specs.Stages.{RunningView, IsAfter, IsAfterPlace, EntersAt
 use Rattle.create_ops.proofs.Standing.{paid_commit}
 use Rattle.waiting_laws.specs.Beside.{MakesStep}
 use Rattle.waiting_laws.specs.Making.{left_by, WaitsOn, WaitsToMake, MakingClaimedLaw}
-use Rattle.waiting_laws.proofs.Standing.{quiet}
 use Rattle.waiting_laws.proofs.NamingClaimed as claims
 use Rattle.waiting_laws.proofs.NamingClaimed.{IsClaimed}
 use Rattle.waiting_laws.proofs.NamingWords.{inode_stays, links_stay}
@@ -54,7 +53,7 @@ module _ (old : VolumeView) (before after : DeviceView) (state : State) (path : 
   i = entry.inode
 
   claimed : IsClaimed P I J state path d entry.slot page (joined (left_by entry) others)
-  claimed = claims.claimed on.beside on.name on.words.1 on.place (EntersAfterPlace entry (Page page)) makes
+  claimed = claims.claimed on.beside on.name on.words.1 on.place after.words makes.takes.makes
 
   -- other words than the owner stay
   raised : (node : Node) → HasRaisedLinks I state.tree node d → HasRaisedLinks J state.tree node d
@@ -65,14 +64,14 @@ module _ (old : VolumeView) (before after : DeviceView) (state : State) (path : 
 
   waits_again : (node : NamedNode) → StandsStage (paid_commit old) after (record { entry = entry; stage = Claimed node }) → WaitsOn old (paid_commit old) before after state path (record { entry = entry; stage = Claimed node }) others
   waits_again node stands =
-      let (leaves, quiet) = claims.leaves on.beside on.name on.words.1 on.place (EntersAfterPlace entry (Page page)) makes i refl in
+      let leaves = claims.leaves on.beside on.name on.words.1 on.place (EntersAfterPlace entry (Page page)) makes i refl in
       record {
         waits = record {
           beside = leaves.beside;
           words = stands.words;
           name_is = on.name_is;
           name = claimed.name;
-          place = claims.place_then on.beside on.name on.words.1 on.place (EntersAfterPlace entry (Page page)) makes;
+          place = claims.place_then on.beside on.name on.words.1 on.place after.words makes.takes.makes;
           full = on.full;
           node = record { empty = on.node.empty; words = λ f lt. inode_stays claimed.step.range claimed.step.stores i f on.words.0.least on.words.0.most lt (λ none. none) ∙ on.node.words f lt };
           links = raised (node_of entry.kind) on.links;
@@ -80,7 +79,7 @@ module _ (old : VolumeView) (before after : DeviceView) (state : State) (path : 
           knows = record { place = stands.place; unlisted = on.knows.unlisted };
         };
         leaves = leaves;
-        quiet = quiet;
+        quiet = claims.crash_claimed on.beside on.name on.words.1 on.place after.words makes.takes.makes;
       }
 
 -- ---- by its stage

@@ -31,16 +31,16 @@ use Rattle.create_ops.specs.declared.run.Stage.{Stage}
 use Rattle.create_ops.specs.declared.run.Stage.TheVariants.{Begun, Written, Claimed}
 use Rattle.create_ops.specs.Making.{node_of}
 use Rattle.create_ops.specs.Stages.{RunningView, IsAfter, IsAfterPlace, EntersAtStage, EntersAfterPlace, step_at}
-use Rattle.waiting_laws.specs.Beside.{MakesStep}
+use Rattle.waiting_laws.specs.Beside.{MakesStep, Commits}
 use Rattle.waiting_laws.specs.Making.{held_by, left_by, WaitsToMake, MakingEndsLaw}
 use Rattle.waiting_laws.proofs.Standing.{waits}
-use Rattle.waiting_laws.proofs.NamingEnds.{page_of_place, brings, same_page, HasEnded, ended}
+use Rattle.waiting_laws.proofs.NamingEnds.{page_of_place, brings, same_page, name_commits, HasEnded, ended}
 
 command_is : (kind : NodeKind) (path : Route) → making (node_of kind) path ≡ of_kind kind path
 command_is AFile path = refl
 command_is ADirectory path = refl
 
-module _ (old new : VolumeView) (before after : DeviceView) (state : State) (path : Route) (running : RunningView) (others : Residue) (on : WaitsToMake old before state path running others)
+module _ (old : VolumeView) (before : DeviceView) (state : State) (path : Route) (running : RunningView) (others : Residue) (on : WaitsToMake old before state path running others)
     (name : IsWaitingName old.size before.words state.tree path running.entry.directory running.entry.slot) where
   abbrev P : ℕ
   P = old.size
@@ -72,11 +72,16 @@ module _ (old new : VolumeView) (before after : DeviceView) (state : State) (pat
   can : CanAdd P I (reverse (parent path)) d s i
   can = may.named.can
 
-  pub ends : (Enters : VolumeView → VolumeView → Type 0) → MakesStep (naming P s i) Enters old new before after → PutsName (record old { kept = old.kept - commit_events }) new d entry.name s entry.new_page
+  stepped : IsStepped P (committed P I s i) state (of_kind entry.kind path) i
+  stepped = subst (λ command. IsStepped P (committed P I s i) state command i) (command_is entry.kind path)
+      (node_entered_law P I state (reverse (parent path)) path node d s i can may.new may.is_node on.node.empty may.named.has_place may.named.path_is beside.holds.reads)
+
+  pub commits : (J : List ℕ) → (naming P s i).Makes I J → Commits P I J state (of_kind entry.kind path) i
+  commits J made = name_commits on.beside.stands on.beside.unmarked can stepped J made
+
+  pub ends : (new : VolumeView) (after : DeviceView) (Enters : VolumeView → VolumeView → Type 0) → MakesStep (naming P s i) Enters old new before after → PutsName (record old { kept = old.kept - commit_events }) new d entry.name s entry.new_page
       → HasEnded old new before after state (of_kind entry.kind path) i others (held_by entry)
-  ends Enters makes puts = ended on.beside can
-      (subst (λ command. IsStepped P (committed P I s i) state command i) (command_is entry.kind path)
-      (node_entered_law P I state (reverse (parent path)) path node d s i can may.new may.is_node on.node.empty may.named.has_place may.named.path_is beside.holds.reads))
+  ends new after Enters makes puts = ended on.beside can stepped
       (node_committed_law P I (reverse (parent path)) node d s entry.new_page i others can (waiting_words_law P I state node d s entry.new_page i others beside on.node on.links) on.place beside.holds.beside)
       (brings can entry.name (on.name_is ∙ sym name.name_is) (λ reached bytes. inr (let some = can.least in omega (arith, some), can.most, λ j page. may.new.no_pages j page.in_range (same_page can i j page).owner)))
       refl on.beside.no_pointer on.place on.knows Enters makes puts
@@ -88,14 +93,14 @@ module _ (old new : VolumeView) (before after : DeviceView) (state : State) (pat
       → MakesStep (step_at old.size named (Written (record { inode = inode; place = place }))) (EntersAfterPlace named place) old new before after → IsAfterPlace named place (Ended Done)
       → HasEnded old new before after state (of_kind named.kind path) named.inode others (held_by named)
   from_place named inode (Slot dentry) on makes is =
-      ends old new before after state path (record { entry = named; stage = Written (record { inode = inode; place = Slot dentry }) }) others on on.name (EntersAfterPlace named (Slot dentry)) makes makes.enters
+      ends old before state path (record { entry = named; stage = Written (record { inode = inode; place = Slot dentry }) }) others on on.name new after (EntersAfterPlace named (Slot dentry)) makes makes.enters
   from_place named inode (Page page) on makes (node, is) = absurd (let clash : ◌≡◌ {A = Next RunningView} (Ended Done) (More (record { entry = named; stage = Claimed node })) = is in cc)
 
   from_stage : (named : NewEntry) (stage : Stage) → WaitsToMake old before state path (record { entry = named; stage = stage }) others → MakesStep (step_at old.size named stage) (EntersAtStage named stage) old new before after
       → IsAfter named stage (Ended Done) → HasEnded old new before after state (of_kind named.kind path) named.inode others (held_by named)
   from_stage named Begun on makes is = absurd on.name
   from_stage named (Written node) on makes is = from_place named node.inode node.place on makes is
-  from_stage named (Claimed node) on makes is = ends old new before after state path (record { entry = named; stage = Claimed node }) others on on.name (EntersAtStage named (Claimed node)) makes makes.enters
+  from_stage named (Claimed node) on makes is = ends old before state path (record { entry = named; stage = Claimed node }) others on on.name new after (EntersAtStage named (Claimed node)) makes makes.enters
 
 pub making_ends : MakingEndsLaw
 making_ends old new before after state path running others on makes is = from_stage old new before after state path others running.entry running.stage on makes is

@@ -44,9 +44,9 @@ use Rattle.create_ops.specs.Stages.{RunningView, begun, EntersAt, StandsStage}
 use Rattle.volume.proofs.Moments.{with_kept}
 use Rattle.create_ops.proofs.Course.{more_events}
 use Rattle.create_ops.proofs.Standing.{with_numbers, numbers_in}
-use Rattle.waiting_laws.specs.Beside.{IsReady, MakesStep}
+use Rattle.waiting_laws.specs.Beside.{IsReady, MakesStep, KeepsMeaning}
 use Rattle.waiting_laws.specs.Making.{left_by, WaitsOn, MakingWrittenLaw}
-use Rattle.waiting_laws.proofs.Standing.{quiet}
+use Rattle.waiting_laws.proofs.NamingBegun.{crash_quiet}
 use Rattle.waiting_laws.proofs.NamingPlaced as placed
 use Rattle.waiting_laws.proofs.NamingPlaced.{IsComingName}
 use Rattle.waiting_laws.proofs.NamingWritten.{WritesName, named_in_slot, named_in_page, name_at, quiet_in_slot, quiet_in_page, none_of_inode, written_waits}
@@ -150,6 +150,14 @@ module _ (volume : VolumeView) (before : DeviceView) (state : State) (path : Rou
         links = makes.parent;
       }
 
+  -- what the step makes,
+  pub wrote_by : (J : List ℕ) → (writing P entry).Makes I J → WritesEntry P I J state path entry.kind d s i entry.new_page others
+  wrote_by J (written, is_name, of_bytes) = writes_entry J is_name of_bytes entry.new_page coming.new.place written
+
+  -- and that a crash in it changes no meaning
+  pub crash_written : (J : List ℕ) → (writing P entry).Makes I J → KeepsMeaning P I J
+  crash_written J made = crash_quiet ready.prepared.stands ready.unmarked (wrote_by J made).step
+
   -- ---- where it waits
 
   module _ (after : DeviceView) (wrote : WritesEntry P I after.words state path entry.kind d s i entry.new_page others) where
@@ -170,7 +178,7 @@ module _ (volume : VolumeView) (before : DeviceView) (state : State) (path : Rou
     waits_now : (file : NewNode) → MakesStep (writing P entry) (EntersAt (begun entry)) (keeping volume (Make entry)) N before after → StandsStage N after (record { entry = entry; stage = Written file })
         → WaitsOn volume N before after state path (record { entry = entry; stage = Written file }) others
     waits_now file makes stands =
-        let (leaves, quiet) = written_waits volume (record (with_kept N.kept volume) { data_pages = N.data_pages }) N before after state path d s i entry.new_page (Some i) (i ∷ counts_left node d) (of_kind entry.kind path) (Make entry)
+        let leaves = written_waits volume (record (with_kept N.kept volume) { data_pages = N.data_pages }) N before after state path d s i entry.new_page (Some i) (i ∷ counts_left node d) (of_kind entry.kind path) (Make entry)
         (left_by entry) others (writing P entry) (EntersAt (begun entry)) N.inodes N.data_pages ready (more_events entry) wrote.name refl ready.no_pointer
         (λ x among. elim among [ inl is ↦ (inl is, subst (λ y. inode_kind J y ≢ 0) (sym is) kind_used) | inr none ↦ absurd none ])
         (λ x among other. elim among [ inl is ↦ absurd (other (inl is)) | inr count ↦ subst (Reached P I) (sym (counts_in node d x count)) reached ])
@@ -190,7 +198,7 @@ module _ (volume : VolumeView) (before : DeviceView) (state : State) (path : Rou
             knows = record { place = stands.place; unlisted = placed.unlisted coming };
           };
           leaves = leaves;
-          quiet = quiet;
+          quiet = crash_written J makes.takes.makes;
         }
 
 pub next_is : (one other : RunningView) → ◌≡◌ {A = Next RunningView} (More one) (More other) → one ≡ other
@@ -200,8 +208,7 @@ pub making_written : MakingWrittenLaw
 making_written volume new before after state path entry next others ready makes (file, is) stands =
     let (taken, page, inode) = makes.enters in
     let new_is = numbers_in entry (keeping volume (Make entry)) _ taken new refl page inode in
-    let (written, is_name, of_bytes) = makes.takes.makes in
-    let wrote = writes_entry volume before state path entry others ready after.words is_name of_bytes entry.new_page (begins.coming volume before state path entry others ready).new.place written in
+    let wrote = wrote_by volume before state path entry others ready after.words makes.takes.makes in
     let running : RunningView = record { entry = entry; stage = Written file } in
     subst (λ (r : RunningView). WaitsOn volume new before after state path r others) (sym (next_is next running is))
     (subst (λ (v : VolumeView). MakesStep (writing volume.size entry) (EntersAt (begun entry)) (keeping volume (Make entry)) v before after → StandsStage v after running → WaitsOn volume v before after state path running others) (sym new_is)

@@ -183,8 +183,8 @@ goer_within volume moving (Some loss) each has (least, most, goes) = (least, ome
 no_file : (K : List ℕ) (i : ℕ) → inode_kind K i ≡ 2 → HasBytes K i → ⊥
 no_file K i two one = omega (arith, two, one)
 
-module _ (old new : VolumeView) (before after : DeviceView) (state : State) (from to : Route) (moving : Moving) (progress : Progress) (waits : WaitsToMove old before state from to moving progress)
-    (makes : MakesStep (step_of old (Stepping moving progress)) (EntersAt (Stepping moving progress)) old new before after) (e : next_moving moving progress ≡ Ended Done) where
+module _ (old : VolumeView) (before : DeviceView) (state : State) (from to : Route) (moving : Moving) (progress : Progress) (waits : WaitsToMove old before state from to moving progress)
+    (e : next_moving moving progress ≡ Ended Done) where
   abbrev P : ℕ
   P = old.size
 
@@ -195,13 +195,10 @@ module _ (old new : VolumeView) (before after : DeviceView) (state : State) (fro
   all = pages ++ pages_left moving.given_back
 
   abbrev kept : VolumeView
-  kept = stepping.kept old new before after state from to moving progress waits makes
+  kept = stepping.kept old before state from to moving progress waits
 
   at : IsMovingAt P waits.at.first waits.start from to moving
-  at = stepping.at_first old new before after state from to moving progress waits makes
-
-  last : IsLastOf P before.words after.words moving pages
-  last = last_by from to at pages waits.at.pages_are waits.knows.losses.count before.words after.words progress waits.at.made makes.takes.makes e
+  at = stepping.at_first old before state from to moving progress waits
 
   left_pages : (left_by old moving progress).pages ≡ all
   left_pages = last_pages moving pages progress e
@@ -219,20 +216,35 @@ module _ (old new : VolumeView) (before after : DeviceView) (state : State) (fro
       let (goes, page) = (waits.at.pages_are.among j).0 (in_contained j pages went) in
       other (sym (listed_at i j least most (in_front j pages (pages_left moving.given_back) went) there) ∙ page.owner ∙ sym (goer_is moving.replaced moving.from_directory goes))
 
-  knows_new : KnowsBeside new after.words no_residue
-  knows_new =
-      let each = waits.stands.knows.nodes.each_inode in
-      let (least, most, apart) = goer_within old moving moving.replaced each waits.knows.losses waits.knows.losses.inode in
-      let directory = waits.knows.losses.directory in
-      known_given kept new before.words after.words (left_by old moving progress) moving (least, most) last.0
-      (stepping.knows_kept old new before after state from to moving progress waits makes) waits.stands.sound.coherent left_pages (directory.0, omega (arith, directory, each)) (no_file after.words moving.from_directory last.1) apart
-      page_listed pages_listed (gives_by moving progress kept new e makes.enters)
+  -- ---- the words J of the step
 
-  pub ends : StandsBeside new after state no_residue × KeepsMeaning P before.words after.words
-  ends = (
-    stepping.stands_again old new before after state from to moving progress waits makes state no_residue last.0.means.coherent last.0.beside (reads_same P before.words after.words last.0.means state waits.stands.reads) knows_new,
-    stepping.crash_keeps old new before after state from to moving progress waits makes last.0.crash,
-  )
+  module _ (J : List ℕ) (made : (step_of old (Stepping moving progress)).Makes before.words J) where
+    last : IsLastOf P before.words J moving pages
+    last = last_by from to at pages waits.at.pages_are waits.knows.losses.count before.words J progress waits.at.made made e
+
+    pub crash_last : KeepsMeaning P before.words J
+    crash_last = stepping.crash_keeps old before state from to moving progress waits J made last.0.crash
+
+  -- ---- the volume behind it
+
+  module _ (new : VolumeView) (after : DeviceView) (makes : MakesStep (step_of old (Stepping moving progress)) (EntersAt (Stepping moving progress)) old new before after) where
+    abbrev behind_it : IsLastOf P before.words after.words moving pages
+    behind_it = last after.words makes.takes.makes
+
+    knows_new : KnowsBeside new after.words no_residue
+    knows_new =
+        let each = waits.stands.knows.nodes.each_inode in
+        let (least, most, apart) = goer_within old moving moving.replaced each waits.knows.losses waits.knows.losses.inode in
+        let directory = waits.knows.losses.directory in
+        known_given kept new before.words after.words (left_by old moving progress) moving (least, most) behind_it.0
+        (stepping.knows_kept old before state from to moving progress waits) waits.stands.sound.coherent left_pages (directory.0, omega (arith, directory, each)) (no_file after.words moving.from_directory behind_it.1) apart
+        page_listed pages_listed (gives_by moving progress kept new e makes.enters)
+
+    pub ends : StandsBeside new after state no_residue × KeepsMeaning P before.words after.words
+    ends = (
+      stepping.stands_again old before state from to moving progress waits new after makes state no_residue behind_it.0.means.coherent behind_it.0.beside (reads_same P before.words after.words behind_it.0.means state waits.stands.reads) knows_new,
+      crash_last after.words makes.takes.makes,
+    )
 
 pub moving_ends : MovingEndsLaw
-moving_ends old new before after state from to moving progress waits makes e = ends old new before after state from to moving progress waits makes e
+moving_ends old new before after state from to moving progress waits makes e = ends old before state from to moving progress waits e new after makes

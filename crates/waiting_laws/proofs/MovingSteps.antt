@@ -53,8 +53,7 @@ record HasGoneOn (P : ℕ) (first now : List ℕ) (new : VolumeView) (moving : M
   made : Through (made_at P moving pages next) first now
   gone : gone_pages new moving.replaced ≡ pages
 
-module _ (old new : VolumeView) (before after : DeviceView) (state : State) (from to : Route) (moving : Moving) (progress : Progress) (waits : WaitsToMove old before state from to moving progress)
-    (makes : MakesStep (step_of old (Stepping moving progress)) (EntersAt (Stepping moving progress)) old new before after) where
+module _ (old : VolumeView) (before : DeviceView) (state : State) (from to : Route) (moving : Moving) (progress : Progress) (waits : WaitsToMove old before state from to moving progress) where
   abbrev P : ℕ
   P = old.size
 
@@ -83,103 +82,117 @@ module _ (old new : VolumeView) (before after : DeviceView) (state : State) (fro
   pub knows_kept : KnowsBeside kept before.words (left_by old moving progress)
   knows_kept = knows_with old (old.kept - step.events) before.words (left_by old moving progress) waits.stands.knows
 
-  same_beside : IsSameBeside kept new
-  same_beside = enters_beside kept new moving progress makes.enters
+  -- ---- the words J of the step
 
-  mark_same : has_mark after.words ≡ has_mark before.words
-  mark_same = mark_kept before.words after.words (step_keeps P moving pages before.words after.words progress waits.at.store makes.takes.makes)
+  module _ (J : List ℕ) (made : step.Makes before.words J) where
+    pub mark_same : has_mark J ≡ has_mark before.words
+    mark_same = mark_kept before.words J (step_keeps P moving pages before.words J progress waits.at.store made)
 
-  -- a crash in a step that changes no meaning
-  pub crash_keeps : ((M : List ℕ) → IsMix before.words after.words M → SameMeaning P before.words M) → KeepsMeaning P before.words after.words
-  crash_keeps same = quiet_crash P before.words after.words mark_same (no_mark old before state (left_by old moving progress) waits.stands waits.unmarked) same
+    -- a crash in a step that changes no meaning
+    pub crash_keeps : ((M : List ℕ) → IsMix before.words J M → SameMeaning P before.words M) → KeepsMeaning P before.words J
+    crash_keeps same = quiet_crash P before.words J mark_same (no_mark old before state (left_by old moving progress) waits.stands waits.unmarked) same
 
-  -- Behind a step the volume stands for a state that these words read as, beside what they are tidy beside.
-  pub stands_again : (later : State) (residue : Residue) → IsCoherent P after.words → IsTidyBeside P after.words residue → ReadsAs P after.words later → KnowsBeside new after.words residue → StandsBeside new after later residue
-  stands_again later residue fit beside reads knows =
-      stands_behind old new before after state later (left_by old moving progress) residue step (EntersAt (Stepping moving progress)) waits.stands waits.unmarked makes (stores P moving pages count_is progress waits.at.store)
-      (record { size = same_beside.size; stopped = same_beside.stopped; marked = same_beside.marked; kept = same_beside.kept }) mark_same
-      (record {
-        coherent = subst (λ (p : ℕ). IsCoherent p after.words) (sym same_beside.size) fit;
-        beside = subst (λ (p : ℕ). IsTidyBeside p after.words residue) (sym same_beside.size) beside;
-        reads = subst (λ (p : ℕ). ReadsAs p after.words later) (sym same_beside.size) reads;
-        knows = knows;
-      })
+    -- in one that is neither the commit nor the last
+    module _ (next : Progress) (e : next_moving moving progress ≡ More (Stepping moving next)) (other : progress ≡ Pointed → ⊥) where
+      quiet : IsQuietMove P before.words J moving pages progress next
+      quiet = quiet_move from to at_first pages waits.at.pages_are before.words J progress other waits.at.store waits.at.made made next e
 
-  module _ (next : Progress) (e : next_moving moving progress ≡ More (Stepping moving next)) (stands : StandsStage new after (Stepping moving next)) where
-    -- by the next stage of the course
-    gone_on : HasGoneOn P first after.words new moving pages next
-    gone_on = next_cases P moving pages (λ there. there ≡ More (Stepping moving next) → HasGoneOn P first after.words new moving pages next) progress waits.at.store count_is
-        (λ other is e. subst (HasGoneOn P first after.words new moving pages) (same_next moving other next e)
-        (record { made = is.made first before.words after.words waits.at.made makes.takes.makes; gone = is.gone kept new makes.enters })) (λ last e. absurd (no_next moving next e)) e
+      pub crash_quiet : KeepsMeaning P before.words J
+      crash_quiet = crash_keeps quiet.step.crash
 
-    pub gone_same : gone_pages new moving.replaced ≡ pages
-    gone_same = gone_on.gone
+  -- ---- the volume behind it
 
-    -- where it lists a page that is left, by the words at the begin
-    abbrev pub AreListed : ℕ → List ℕ → List ℕ → Type 0
-    AreListed p begun l = (i j : ℕ) → 1 ≤ i → i ≤ inodes_of p → IsIn j (left_with moving l next).pages → Contains (pages_of new.index i) j → page_owner p begun j ≡ i
+  module _ (new : VolumeView) (after : DeviceView) (makes : MakesStep (step_of old (Stepping moving progress)) (EntersAt (Stepping moving progress)) old new before after) where
+    same_beside : IsSameBeside kept new
+    same_beside = enters_beside kept new moving progress makes.enters
 
-    -- its words, with those at its begin, in a volume of p pages of which these go
-    abbrev HasBegun : ℕ → List ℕ → Type 0
-    HasBegun p l = (at : IsAt p after.words moving l next) × IsPlannedMove p at.first waits.start from to moving × AreListed p at.first l
+    -- Behind a step the volume stands for a state that these words read as, beside what they are tidy beside.
+    pub stands_again : (later : State) (residue : Residue) → IsCoherent P after.words → IsTidyBeside P after.words residue → ReadsAs P after.words later → KnowsBeside new after.words residue → StandsBeside new after later residue
+    stands_again later residue fit beside reads knows =
+        stands_behind old new before after state later (left_by old moving progress) residue step (EntersAt (Stepping moving progress)) waits.stands waits.unmarked makes (stores P moving pages count_is progress waits.at.store)
+        (record { size = same_beside.size; stopped = same_beside.stopped; marked = same_beside.marked; kept = same_beside.kept }) (mark_same after.words makes.takes.makes)
+        (record {
+          coherent = subst (λ (p : ℕ). IsCoherent p after.words) (sym same_beside.size) fit;
+          beside = subst (λ (p : ℕ). IsTidyBeside p after.words residue) (sym same_beside.size) beside;
+          reads = subst (λ (p : ℕ). ReadsAs p after.words later) (sym same_beside.size) reads;
+          knows = knows;
+        })
 
-    has_begun : AreListed P first pages → HasBegun new.size (gone_pages new moving.replaced)
-    has_begun listed = subst (λ (p : ℕ). HasBegun p (gone_pages new moving.replaced)) (sym same_beside.size) (subst (HasBegun P) (sym gone_on.gone) (
-      record { first = first; planned = (waits.start, from, to, waits.planned); pages_are = waits.at.pages_are; made = gone_on.made; store = stands.at.0.store },
-      waits.planned,
-      listed,
-    ))
+    module _ (next : Progress) (e : next_moving moving progress ≡ More (Stepping moving next)) (stands : StandsStage new after (Stepping moving next)) where
+      -- by the next stage of the course
+      gone_on : HasGoneOn P first after.words new moving pages next
+      gone_on = next_cases P moving pages (λ there. there ≡ More (Stepping moving next) → HasGoneOn P first after.words new moving pages next) progress waits.at.store count_is
+          (λ other is e. subst (HasGoneOn P first after.words new moving pages) (same_next moving other next e)
+          (record { made = is.made first before.words after.words waits.at.made makes.takes.makes; gone = is.gone kept new makes.enters })) (λ last e. absurd (no_next moving next e)) e
 
-    -- It waits at the next stage where the volume stands beside what it has left.
-    pub waits_on : (later : State) → StandsBeside new after later (left_with moving pages next) → AreListed P first pages → WaitsToMove new after later from to moving next
-    waits_on later stood listed = let (at, planned, lists) = has_begun listed in record {
-      stands = subst (λ (l : List ℕ). StandsBeside new after later (left_with moving l next)) (sym gone_on.gone) stood;
-      going = same_beside.stopped ∙ waits.going;
-      unmarked = same_beside.marked ∙ waits.unmarked;
-      at = at;
-      knows = stands.at.1;
-      start = waits.start;
-      planned = planned;
-      named = waits.named;
-      listed = lists;
-    }
+      pub gone_same : gone_pages new moving.replaced ≡ pages
+      gone_same = gone_on.gone
 
-    -- ---- where it isn't the commit
+      -- where it lists a page that is left, by the words at the begin
+      abbrev pub AreListed : ℕ → List ℕ → List ℕ → Type 0
+      AreListed p begun l = (i j : ℕ) → 1 ≤ i → i ≤ inodes_of p → IsIn j (left_with moving l next).pages → Contains (pages_of new.index i) j → page_owner p begun j ≡ i
 
-    module _ (other : progress ≡ Pointed → ⊥) where
-      quiet : IsQuietMove P before.words after.words moving pages progress next
-      quiet = quiet_move from to at_first pages waits.at.pages_are before.words after.words progress other waits.at.store waits.at.made makes.takes.makes next e
+      -- its words, with those at its begin, in a volume of p pages of which these go
+      abbrev HasBegun : ℕ → List ℕ → Type 0
+      HasBegun p l = (at : IsAt p after.words moving l next) × IsPlannedMove p at.first waits.start from to moving × AreListed p at.first l
 
-      takes : TakesPages kept new (taken_at moving progress)
-      takes = takes_at moving progress next kept new other e makes.enters
+      has_begun : AreListed P first pages → HasBegun new.size (gone_pages new moving.replaced)
+      has_begun listed = subst (λ (p : ℕ). HasBegun p (gone_pages new moving.replaced)) (sym same_beside.size) (subst (HasBegun P) (sym gone_on.gone) (
+        record { first = first; planned = (waits.start, from, to, waits.planned); pages_are = waits.at.pages_are; made = gone_on.made; store = stands.at.0.store },
+        waits.planned,
+        listed,
+      ))
 
-      knows_new : KnowsBeside new after.words (left_with moving pages next)
-      knows_new =
-          known_quiet kept new before.words after.words (left_with moving pages progress) (left_with moving pages next) (taken_at moving progress) knows_kept coherent waits.stands.beside quiet.step quiet.left quiet.taken takes
+      -- It waits at the next stage where the volume stands beside what it has left.
+      pub waits_on : (later : State) → StandsBeside new after later (left_with moving pages next) → AreListed P first pages → WaitsToMove new after later from to moving next
+      waits_on later stood listed = let (at, planned, lists) = has_begun listed in record {
+        stands = subst (λ (l : List ℕ). StandsBeside new after later (left_with moving l next)) (sym gone_on.gone) stood;
+        going = same_beside.stopped ∙ waits.going;
+        unmarked = same_beside.marked ∙ waits.unmarked;
+        at = at;
+        knows = stands.at.1;
+        start = waits.start;
+        planned = planned;
+        named = waits.named;
+        listed = lists;
+      }
 
-      -- a page that is taken is free at the begin
-      taken_listed : (p : Progress) → Through (made_at P moving pages p) first before.words → KnowsBeside old before.words (left_with moving pages p) → (i j : ℕ) → 1 ≤ i → i ≤ inodes_of P → IsIn j (taken_at moving p)
-          → Contains (pages_of old.index i) j → page_owner P first j ≡ i
-      taken_listed Begun same knows i j least most among there = subst (λ (l : List ℕ). page_owner P l j ≡ i) same (((knows.nodes.pages i j least most (λ none. none)).0 there).owner)
-      taken_listed Filled same knows i j least most among there = absurd among
-      taken_listed Opened same knows i j least most among there = absurd among
-      taken_listed Pointed same knows i j least most among there = absurd among
-      taken_listed Moved same knows i j least most among there = absurd among
-      taken_listed Left same knows i j least most among there = absurd among
-      taken_listed Cleared same knows i j least most among there = absurd among
-      taken_listed Disowned same knows i j least most among there = absurd among
+      -- ---- where it isn't the commit
 
-      listed_new : AreListed P first pages
-      listed_new i j least most among there =
-          let was : Contains (pages_of old.index i) j = subst (λ (v : VolumeView). Contains (pages_of v.index i) j) takes there in
-          elim (quiet.left j among) [ inl left ↦ waits.listed i j least most left was | inr new_page ↦ taken_listed progress waits.at.made waits.stands.knows i j least most new_page was ]
+      module _ (other : progress ≡ Pointed → ⊥) where
+        abbrev quietly : IsQuietMove P before.words after.words moving pages progress next
+        quietly = quiet after.words makes.takes.makes next e other
 
-      pub steps : WaitsToMove new after state from to moving next × KeepsMeaning P before.words after.words
-      steps =
-          let same = step_means quiet.step in (
-            waits_on state (stands_again state (left_with moving pages next) same.coherent quiet.step.beside (reads_same P before.words after.words same state waits.stands.reads) knows_new) listed_new,
-            crash_keeps quiet.step.crash,
-          )
+        takes : TakesPages kept new (taken_at moving progress)
+        takes = takes_at moving progress next kept new other e makes.enters
+
+        knows_new : KnowsBeside new after.words (left_with moving pages next)
+        knows_new =
+            known_quiet kept new before.words after.words (left_with moving pages progress) (left_with moving pages next) (taken_at moving progress) knows_kept coherent waits.stands.beside quietly.step quietly.left quietly.taken takes
+
+        -- a page that is taken is free at the begin
+        taken_listed : (p : Progress) → Through (made_at P moving pages p) first before.words → KnowsBeside old before.words (left_with moving pages p) → (i j : ℕ) → 1 ≤ i → i ≤ inodes_of P → IsIn j (taken_at moving p)
+            → Contains (pages_of old.index i) j → page_owner P first j ≡ i
+        taken_listed Begun same knows i j least most among there = subst (λ (l : List ℕ). page_owner P l j ≡ i) same (((knows.nodes.pages i j least most (λ none. none)).0 there).owner)
+        taken_listed Filled same knows i j least most among there = absurd among
+        taken_listed Opened same knows i j least most among there = absurd among
+        taken_listed Pointed same knows i j least most among there = absurd among
+        taken_listed Moved same knows i j least most among there = absurd among
+        taken_listed Left same knows i j least most among there = absurd among
+        taken_listed Cleared same knows i j least most among there = absurd among
+        taken_listed Disowned same knows i j least most among there = absurd among
+
+        listed_new : AreListed P first pages
+        listed_new i j least most among there =
+            let was : Contains (pages_of old.index i) j = subst (λ (v : VolumeView). Contains (pages_of v.index i) j) takes there in
+            elim (quietly.left j among) [ inl left ↦ waits.listed i j least most left was | inr new_page ↦ taken_listed progress waits.at.made waits.stands.knows i j least most new_page was ]
+
+        pub steps : WaitsToMove new after state from to moving next × KeepsMeaning P before.words after.words
+        steps =
+            let same = step_means quietly.step in (
+              waits_on state (stands_again state (left_with moving pages next) same.coherent quietly.step.beside (reads_same P before.words after.words same state waits.stands.reads) knows_new) listed_new,
+              crash_quiet after.words makes.takes.makes next e other,
+            )
 
 pub moving_steps : MovingStepsLaw
-moving_steps old new before after state from to moving progress next waits other makes e stands = steps old new before after state from to moving progress waits makes next e stands other
+moving_steps old new before after state from to moving progress next waits other makes e stands = steps old before state from to moving progress waits new after makes next e stands other

@@ -64,6 +64,12 @@ module _ {volume : VolumeView} {device : DeviceView} {state : State} {command : 
 abbrev pub name_held : ℕ → ℕ → ℕ → Holding
 name_held d s i = record { slots = s ∷ []; pages = page_of_slot s ∷ []; inodes = i ∷ d ∷ [] }
 
+-- a crash in a step that changes no meaning leaves what is sound and means the same
+pub crash_quiet : {volume : VolumeView} {device : DeviceView} {state : State} {residue : Residue} {J slots pages inodes : List ℕ} → StandsBeside volume device state residue → volume.marked ≡ false
+    → IsQuietStep volume.size device.words J slots pages inodes → KeepsMeaning volume.size device.words J
+crash_quiet {volume} {device} {state} {residue} {J} {slots} {pages} {inodes} stands unmarked step =
+    quiet volume.size device.words J slots pages inodes step.stores (no_mark volume device state residue stands unmarked) step.crash
+
 -- what the words after it say, by another name of the volume's size
 pub reached_by : (new : VolumeView) (P : ℕ) (words : List ℕ) (later : State) (next others : Residue) → new.size ≡ P → IsCoherent P words → IsTidyBeside P words (joined next others) → ReadsAs P words later
     → KnowsBeside new words (joined next others) → (joined next others).pointer ≡ None → IsReached new words later next others
@@ -81,22 +87,19 @@ pub waits_on : (volume new : VolumeView) (kept : ℕ) (before after : DeviceView
     (numbers pages_free : List Bool) → StandsWith (with_kept kept volume) before state own others → MakesStep step Enters (with_kept kept volume) new before after → step.stores ≡ true
     → new ≡ record volume { kept = kept - step.events; inodes = numbers; data_pages = pages_free } → IsQuietStep volume.size before.words after.words slots pages inodes
     → AreAmong slots pages inodes held.slots held.pages held.inodes → IsTidyBeside volume.size after.words (joined left others) → KnowsBeside new after.words (joined left others) → (joined left others).pointer ≡ None
-    → Leaves volume new before after state left others held × KeepsMeaning volume.size before.words after.words
-waits_on volume new kept before after state own left others slots pages inodes held step Enters numbers pages_free with makes stores is quietly among tidy knows none = (
-  record {
-    beside = behind (with_kept kept volume) new before after state state own left others step Enters slots pages inodes with makes stores
-        (record { size = size; stopped = ap (λ (v : VolumeView). v.stopped) is; marked = ap (λ (v : VolumeView). v.marked) is; kept = ap (λ (v : VolumeView). v.kept) is }) quietly.stores
-        (reached_by new volume.size after.words state left others size quietly.entries.same.coherent tidy
-        (record { tree = quietly.entries.same.reads state.tree with.stands.reads.tree; room = quietly.entries.same.room state.room with.stands.reads.room }) knows none);
-    stores = wider_law volume.size before.words after.words slots pages inodes held.slots held.pages held.inodes among quietly.stores;
-    affects = record {
-      size = size;
-      others = λ x out. ap (λ (v : VolumeView). node_of v.index x) is;
-      lists = λ x j there. inl (subst (λ (v : VolumeView). Contains (pages_of v.index x) j) is there);
-    };
-  },
-  quiet volume.size before.words after.words slots pages inodes quietly.stores (no_mark (with_kept kept volume) before state (joined own others) with.stands with.unmarked) quietly.crash,
-)
+    → Leaves volume new before after state left others held
+waits_on volume new kept before after state own left others slots pages inodes held step Enters numbers pages_free with makes stores is quietly among tidy knows none = record {
+  beside = behind (with_kept kept volume) new before after state state own left others step Enters slots pages inodes with makes stores
+      (record { size = size; stopped = ap (λ (v : VolumeView). v.stopped) is; marked = ap (λ (v : VolumeView). v.marked) is; kept = ap (λ (v : VolumeView). v.kept) is }) quietly.stores
+      (reached_by new volume.size after.words state left others size quietly.entries.same.coherent tidy
+      (record { tree = quietly.entries.same.reads state.tree with.stands.reads.tree; room = quietly.entries.same.room state.room with.stands.reads.room }) knows none);
+  stores = wider_law volume.size before.words after.words slots pages inodes held.slots held.pages held.inodes among quietly.stores;
+  affects = record {
+    size = size;
+    others = λ x out. ap (λ (v : VolumeView). node_of v.index x) is;
+    lists = λ x j there. inl (subst (λ (v : VolumeView). Contains (pages_of v.index x) j) is there);
+  };
+}
   where
     size : new.size ≡ volume.size
     size = ap (λ (v : VolumeView). v.size) is

@@ -37,7 +37,7 @@ use Rattle.waiting_laws.specs.Naming.{IsUnclaimedName}
 use Rattle.image_counts.proofs.Distinct.{in_front}
 use Rattle.knowing_laws.proofs.Quiet.{quiet_known_law}
 use Rattle.waiting_laws.proofs.Standing.{waits}
-use Rattle.waiting_laws.proofs.NamingBegun.{knows_kept, name_held, waits_on}
+use Rattle.waiting_laws.proofs.NamingBegun.{knows_kept, name_held, crash_quiet, waits_on}
 use Rattle.waiting_laws.proofs.NamingQuiet.{IsQuietStep, keeps_entries, keeps_owners, takes_numbers}
 
 -- The new page has its owner, and the name waits in it; what is to be repaired is the same.
@@ -129,28 +129,32 @@ module _ {P : ℕ} {I : List ℕ} {state : State} {path : Route} {d s page : ℕ
 
 -- ---- on the device and the volume
 
-module _ {old : VolumeView} {before after : DeviceView} {state : State} {path : Route} {d s : ℕ} {new_page : Option ℕ} {page : ℕ} {left others : Residue} (on : StandsWith old before state left others)
-    (name : IsUnclaimedName old.size before.words state.tree path d s page) (at : IsPageAt old.size d s new_page page before) (place : IsWrittenPlace old.size before.words s new_page)
-    (Enters : VolumeView → VolumeView → Type 0) (makes : MakesStep (owning old.size page d) Enters old (with_kept (old.kept - commit_events) old) before after) where
-  pub claimed : IsClaimed old.size before.words after.words state path d s page (joined left others)
-  claimed = subst (λ l. IsClaimed old.size before.words l state path d s page (joined left others)) (sym makes.takes.makes)
-      (is_claimed (waits old before state left others on) name at.ready.in_range (subst (IsWrittenPlace old.size before.words s) at.page_is place))
+module _ {old : VolumeView} {before : DeviceView} {state : State} {path : Route} {d s : ℕ} {new_page : Option ℕ} {page : ℕ} {left others : Residue} (on : StandsWith old before state left others)
+    (name : IsUnclaimedName old.size before.words state.tree path d s page) (at : IsPageAt old.size d s new_page page before) (place : IsWrittenPlace old.size before.words s new_page) where
+  module _ (J : List ℕ) (made : (owning old.size page d).Makes before.words J) where
+    pub claimed : IsClaimed old.size before.words J state path d s page (joined left others)
+    claimed = subst (λ l. IsClaimed old.size before.words l state path d s page (joined left others)) (sym made)
+        (is_claimed (waits old before state left others on) name at.ready.in_range (subst (IsWrittenPlace old.size before.words s) at.page_is place))
 
-  pub place_then : IsWrittenPlace old.size after.words s new_page
-  place_then = subst (IsWrittenPlace old.size after.words s) (sym at.page_is) claimed.place
+    pub crash_claimed : KeepsMeaning old.size before.words J
+    crash_claimed = crash_quiet on.stands on.unmarked claimed.step
 
-  -- the volume knows what it knew
-  known : IsIn page left.pages → KnowsBeside old after.words (joined left others)
-  known among = quiet_known_law old old old before.words after.words (joined left others) (joined left others) None [] on.stands.knows claimed.step.stores.size (keeps_entries claimed.step)
-      (keeps_owners claimed.step (joined left others) (joined left others) (λ j among. among)
-      (λ j here. elim here [ inl is ↦ in_front j left.pages others.pages (subst (λ x. IsIn x left.pages) (sym is) among) | inr none ↦ absurd none ]))
-      (takes_numbers claimed.step [] [] (λ x none. absurd none) (λ j none. absurd none)
-      (λ j here out. elim here [ inl is ↦ subst (λ x. IsUnusedPage old.size before.words x ↔ IsUnusedPage old.size after.words x) (sym is) claimed.unused | inr none ↦ absurd none ])
-      (λ x none. absurd none))
-      refl refl
+    pub place_then : IsWrittenPlace old.size J s new_page
+    place_then = subst (IsWrittenPlace old.size J s) (sym at.page_is) claimed.place
+
+    -- the volume knows what it knew
+    known : IsIn page left.pages → KnowsBeside old J (joined left others)
+    known among = quiet_known_law old old old before.words J (joined left others) (joined left others) None [] on.stands.knows claimed.step.stores.size (keeps_entries claimed.step)
+        (keeps_owners claimed.step (joined left others) (joined left others) (λ j among. among)
+        (λ j here. elim here [ inl is ↦ in_front j left.pages others.pages (subst (λ x. IsIn x left.pages) (sym is) among) | inr none ↦ absurd none ]))
+        (takes_numbers claimed.step [] [] (λ x none. absurd none) (λ j none. absurd none)
+        (λ j here out. elim here [ inl is ↦ subst (λ x. IsUnusedPage old.size before.words x ↔ IsUnusedPage old.size J x) (sym is) claimed.unused | inr none ↦ absurd none ])
+        (λ x none. absurd none))
+        refl refl
 
   -- the call waits again
-  pub leaves : (i : ℕ) → left.pages ≡ pages_left new_page → Leaves old (with_kept (old.kept - commit_events) old) before after state left others (name_held d s i) × KeepsMeaning old.size before.words after.words
-  leaves i is = waits_on old (with_kept (old.kept - commit_events) old) old.kept before after state left left others [] (page ∷ []) [] (name_held d s i) (owning old.size page d) Enters old.inodes old.data_pages on makes refl refl claimed.step
+  pub leaves : {after : DeviceView} (Enters : VolumeView → VolumeView → Type 0) → MakesStep (owning old.size page d) Enters old (with_kept (old.kept - commit_events) old) before after → (i : ℕ) → left.pages ≡ pages_left new_page
+      → Leaves old (with_kept (old.kept - commit_events) old) before after state left others (name_held d s i)
+  leaves {after} Enters makes i is = waits_on old (with_kept (old.kept - commit_events) old) old.kept before after state left left others [] (page ∷ []) [] (name_held d s i) (owning old.size page d) Enters old.inodes old.data_pages on makes refl refl (claimed after.words makes.takes.makes).step
       (record { of_slots = λ t none. absurd none; of_pages = λ j among. elim among [ inl here ↦ inl (here ∙ sym name.page_is) | inr none ↦ absurd none ]; of_inodes = λ x none. absurd none })
-      claimed.tidy (knows_kept (old.kept - commit_events) (known (subst (IsIn page) (sym (is ∙ ap pages_left at.page_is)) (inl refl)))) on.no_pointer
+      (claimed after.words makes.takes.makes).tidy (knows_kept (old.kept - commit_events) (known after.words makes.takes.makes (subst (IsIn page) (sym (is ∙ ap pages_left at.page_is)) (inl refl)))) on.no_pointer

@@ -1,5 +1,5 @@
 -- A slot takes its number, by which the name is there: what the volume knows then, and that its call has ended.
-use Rattle.std.proofs.Common.{◌≡◌, ◌≢◌, ◌⊎◌, inl, inr, ℕ, ◌≤◌, ◌-◌, List, [], ◌∷◌, ◌++◌, Contains, Option, Some, None, refl, sym, ap, subst, ◌∙◌}
+use Rattle.std.proofs.Common.{◌≡◌, ◌≢◌, ◌⊎◌, inl, inr, ℕ, ◌≤◌, ◌-◌, false, List, [], ◌∷◌, ◌++◌, Contains, Option, Some, None, refl, sym, ap, subst, ◌∙◌}
 use Rattle.std.proofs.lemmas.Bool.{cases_eq}
 use Rattle.pm_trait.specs.DeviceView.{DeviceView}
 use Rattle.layout.specs.Geometry.{inodes_of, page_of_slot, slot_word_of}
@@ -11,7 +11,7 @@ use Rattle.tree_model.specs.declared.command.Command.{Command}
 use Rattle.image_reading.specs.Counts.{IsIn}
 use Rattle.image_reading.specs.Reading.{HasBytes, slot_owner, Reached, IsReachedSlot}
 use Rattle.image_reading.specs.Residue.{Residue, no_residue, IsTidyBeside}
-use Rattle.image_reading.specs.Soundness.{IsCoherent}
+use Rattle.image_reading.specs.Soundness.{Sound}
 use Rattle.image_counts.specs.Entries.{IsEntryOf, IsPageIn}
 use Rattle.image_counts.proofs.Distinct.{in_either}
 use Rattle.image_counts.proofs.Links.{not_both_kinds}
@@ -34,7 +34,7 @@ use Rattle.weave_laws.proofs.OneWord.{one_word_law}
 use Rattle.weave_laws.proofs.OwnWords.{committed_words_law}
 use Rattle.volatile_index.specs.Index.{NodeView, node_of, pages_of}
 use Rattle.volume.specs.Volume.{VolumeView}
-use Rattle.volume.specs.Beside.{KnowsBeside}
+use Rattle.volume.specs.Beside.{KnowsBeside, StandsBeside}
 use Rattle.volume.specs.Costs.{commit_events}
 use Rattle.volume.specs.Entered.{pages_of_option, PutsName}
 use Rattle.volume.proofs.Moments.{with_kept, IsSameBeside, name_beside}
@@ -45,7 +45,7 @@ use Rattle.knowing_laws.specs.Knowing.{IsFileOf, BringsName, KeepsPagesBut, Chan
 use Rattle.knowing_laws.proofs.Names.{name_known}
 use Rattle.waiting_laws.specs.Beside.{Affects, Holding, StandsWith, MakesStep, Commits, Leaves}
 use Rattle.waiting_laws.specs.Naming.{KnowsPlace}
-use Rattle.waiting_laws.proofs.Standing.{IsReached, behind}
+use Rattle.waiting_laws.proofs.Standing.{IsReached, behind, no_mark, same_mark, sound_without}
 use Rattle.waiting_laws.proofs.NamingBegun.{knows_kept, name_held, reached_by}
 use Rattle.waiting_laws.proofs.NamingWritten.{page_left}
 use Rattle.waiting_laws.proofs.NamingWords.{owner_stays, offset_stays, unused_stays, inode_kind_stays}
@@ -159,6 +159,19 @@ module _ {P : ℕ} {I : List ℕ} {p : Route} {d s i : ℕ} (can : CanAdd P I p 
 in_added : (xs ys : List ℕ) (j : ℕ) → Contains (xs ++ ys) j → Contains xs j ⊎ IsIn j ys
 in_added xs ys j there = elim (in_either j xs ys (contained_in j (xs ++ ys) there)) [ inl old ↦ inl (in_contained j xs old) | inr added ↦ inr added ]
 
+-- ---- the step commits
+
+-- The slot takes its number: there is nothing between, and the words after it are sound.
+pub name_commits : {volume : VolumeView} {device : DeviceView} {state : State} {residue : Residue} {command : Command} {p : Route} {d s i : ℕ} → StandsBeside volume device state residue → volume.marked ≡ false
+    → CanAdd volume.size device.words p d s i → IsStepped volume.size (committed volume.size device.words s i) state command i → (J : List ℕ) → (naming volume.size s i).Makes device.words J
+    → Commits volume.size device.words J state command i
+name_commits {volume} {device} {state} {residue} {command} {p} {d} {s} {i} stands unmarked can stepped J made = record {
+  crash = λ M mix. subst (λ l. IsMix device.words l M → (M ≡ device.words) ⊎ (M ≡ l)) (sym made) (one_word_law device.words M (slot_word_of volume.size s 0) i) mix;
+  sound = subst (Sound volume.size) (sym made) (sound_without volume.size (committed volume.size device.words s i) (add_law volume.size device.words p d s i can).coherent
+      (same_mark volume.size device.words (committed volume.size device.words s i) (s ∷ []) [] [] (stores can) ∙ no_mark volume device state residue stands unmarked));
+  stepped = subst (λ l. IsStepped volume.size l state command i) (sym made) stepped;
+}
+
 -- ---- the call has ended
 
 -- it is committed, and nothing of it is left
@@ -188,10 +201,7 @@ module _ {old new : VolumeView} {before after : DeviceView} {state : State} {com
   made = makes.takes.makes
 
   commits : Commits P I after.words state command i
-  commits = record {
-    crash = λ M mix. subst (λ l. IsMix I l M → (M ≡ I) ⊎ (M ≡ l)) (sym made) (one_word_law I M (slot_word_of P s 0) i) mix;
-    stepped = subst (λ l. IsStepped P l state command i) (sym made) stepped;
-  }
+  commits = name_commits on.stands on.unmarked can stepped after.words made
 
   stored : StoresIn P I after.words (s ∷ []) [] []
   stored = subst (λ l. StoresIn P I l (s ∷ []) [] []) (sym made) (stores can)
@@ -210,7 +220,7 @@ module _ {old new : VolumeView} {before after : DeviceView} {state : State} {com
   -- what the words after it say
   reached : IsReached new after.words commits.stepped.new no_residue others
   reached = reached_by new P after.words commits.stepped.new no_residue others same.size
-      (subst (IsCoherent P) (sym made) (add_law P I p d s i can).coherent)
+      commits.sound.coherent
       (subst (λ l. IsTidyBeside P l others) (sym made) tidy)
       commits.stepped.reads
       (subst (λ l. KnowsBeside new l others) (sym made) known)

@@ -44,7 +44,7 @@ use Rattle.entry_steps.specs.Waiting.{IsPlaceAt}
 use Rattle.entry_steps.proofs.Lists.{not_none, one_page}
 use Rattle.knowing_laws.specs.Knowing.{EntersInodeOf}
 use Rattle.knowing_laws.proofs.Quiet.{quiet_known_law}
-use Rattle.waiting_laws.specs.Beside.{IsReady, MakesStep, Leaves, KeepsMeaning}
+use Rattle.waiting_laws.specs.Beside.{IsReady, MakesStep, Leaves}
 use Rattle.waiting_laws.specs.Naming.{IsUnclaimedName, IsNameIn}
 use Rattle.waiting_laws.proofs.NamingBegun.{knows_kept, begins_with, name_held, waits_on}
 use Rattle.waiting_laws.proofs.NamingWords.{owner_stays}
@@ -195,7 +195,7 @@ pub written_waits : (volume taken new : VolumeView) (before after : DeviceView) 
     → ((x : ℕ) → IsIn x inodes → IsIn x (i ∷ d ∷ [])) → MakesStep step Enters (keeping volume action) new before after → step.stores ≡ true
     → new ≡ record volume { kept = volume.kept + events_of action - step.events; inodes = numbers; data_pages = pages_free }
     → TakesPages (with_kept new.kept volume) taken (pages_of_option page) → EntersInodeOf taken new inode
-    → Leaves volume new before after state left others (name_held d s i) × KeepsMeaning volume.size before.words after.words
+    → Leaves volume new before after state left others (name_held d s i)
 written_waits volume taken new before after state path d s i page inode inodes command action left others step Enters numbers pages_free ready some wrote is none used reached within makes stores same takes enters =
     waits_on volume new (volume.kept + events_of action) before after state no_residue left others (slots_left s page) (pages_left page) inodes (name_held d s i) step Enters numbers pages_free (begins_with ready some) makes stores same wrote.step
     (record { of_slots = λ t among. inl (slot_held s page t among); of_pages = λ j among. page_held volume.size after.words s page wrote.named.place j among; of_inodes = within }) wrote.tidy

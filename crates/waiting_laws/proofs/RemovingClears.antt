@@ -1,6 +1,7 @@
 -- The slot of a removal is cleared, and a link falls: behind this step it waits again, or nothing of it is left.
 use Rattle.std.proofs.Common.{◌≡◌, inl, inr, ℕ, ◌-◌, ◌<◌, ◌≤◌, List, [], ◌∷◌, Option, Some, None, refl, sym, subst, ◌∙◌, arith}
 use Rattle.pm_trait.specs.DeviceView.{DeviceView}
+use Rattle.pm_trait.specs.Unfolds.{Step}
 use Rattle.layout.specs.Geometry.{inodes_of, data_pages_of, page_of_slot}
 use Rattle.layout.proofs.GeometryLaws.{page_of_slot_below}
 use Rattle.layout.specs.Fields.{inode_kind, page_owner, page_kind, page_offset}
@@ -9,7 +10,6 @@ use Rattle.image_reading.specs.Counts.{IsIn}
 use Rattle.image_reading.specs.Reading.{slot_owner}
 use Rattle.image_reading.specs.Residue.{Residue, IsTidyBeside}
 use Rattle.image_counts.proofs.Distinct.{in_back}
-use Rattle.image_laws.specs.Drop.{ClearsName}
 use Rattle.image_laws.specs.Frame.{SameMeaning}
 use Rattle.image_laws.specs.Free.{Stores}
 use Rattle.image_laws.specs.Stages.{MayClearName}
@@ -34,22 +34,19 @@ use Rattle.waiting_laws.specs.Beside.{StandsWith, MakesStep, KeepsMeaning}
 use Rattle.waiting_laws.specs.Removing.{held_by, falling_of, left_at, HasItsPage, IsPlaced, WaitsToRemove, WaitsOn}
 use Rattle.waiting_laws.proofs.RemovingKnows.{reads_same, entries_stay, unused_as, same_numbers, known_still}
 use Rattle.waiting_laws.proofs.RemovingWaits as waiting
-use Rattle.waiting_laws.proofs.RemovingWaits.{at, same_next, after_clearing, all_left, left_given, given_left, cut_by, by_cut, goes_by, page_of_name, given_here, cleared_link, falls_held, behind_kept}
+use Rattle.waiting_laws.proofs.RemovingWaits.{KeepsPlace, at, after_clearing, all_left, page_of_name, cleared_link, falls_held, behind_kept}
 use Rattle.waiting_laws.proofs.Standing as standing
+use Rattle.waiting_laws.proofs.Standing.{IsReached}
 
--- ---- the slot is cleared, and a link falls
+-- ---- the words J of the step: the slot is cleared, and a link falls
 
-module _ (old : VolumeView) (before after : DeviceView) (state : State) (removal : Removal) (others : Residue) (waits : WaitsToRemove old before state (at removal Unnamed) others)
-    (N : VolumeView) (same : N ≡ with_kept (old.kept - (step_at old.size removal (pages_gone old removal) Unnamed).events) old)
-    (makes : MakesStep (step_at old.size removal (pages_gone old removal) Unnamed) (EntersAt (at removal Unnamed)) old N before after) where
+module _ (old : VolumeView) (before : DeviceView) (state : State) (removal : Removal) (others : Residue) (waits : WaitsToRemove old before state (at removal Unnamed) others)
+    (J : List ℕ) (clears : (step_at old.size removal (pages_gone old removal) Unnamed).Makes before.words J) where
   abbrev P : ℕ
   P = old.size
 
   abbrev I : List ℕ
   I = before.words
-
-  abbrev J : List ℕ
-  J = after.words
 
   abbrev s : ℕ
   s = removal.slot
@@ -65,9 +62,6 @@ module _ (old : VolumeView) (before after : DeviceView) (state : State) (removal
 
   abbrev left : Residue
   left = cleared_left (all_left pages removal.given_back) removal.loss.goes removal.loss.inode
-
-  clears : ClearsName P I J s y
-  clears = makes.takes.makes
 
   may : MayClearName P I s y
   may = waiting_clearing_law P I state s removal.given_back pages removal.loss.goes removal.loss.inode falling y others (waiting.beside_words old before state removal Unnamed others waits)
@@ -86,7 +80,7 @@ module _ (old : VolumeView) (before after : DeviceView) (state : State) (removal
   tidy : IsTidyBeside P J (joined left others)
   tidy = cleared_law P I J s y removal.given_back pages removal.loss.goes removal.loss.inode falling others may (page_of_name P I removal removal.given_back waits.page) falls clears waits.beside.stands.beside
 
-  pub only : StoresIn P I J (held_by old removal).slots (held_by old removal).pages (held_by old removal).inodes
+  only : StoresIn P I J (held_by old removal).slots (held_by old removal).pages (held_by old removal).inodes
   only = wider_law P I J (s ∷ []) [] (y ∷ []) (held_by old removal).slots (held_by old removal).pages (held_by old removal).inodes
       (record {
         of_slots = λ t among. inl among;
@@ -123,17 +117,17 @@ module _ (old : VolumeView) (before after : DeviceView) (state : State) (removal
   abbrev K : VolumeView
   K = with_kept (old.kept - spent) old
 
-  pub beside : StandsWith K after state left others
-  beside = standing.behind old K before after state state (left_at old removal Unnamed) left others (step_at P removal pages Unnamed) (EntersAt (at removal Unnamed)) (held_by old removal).slots (held_by old removal).pages (held_by old removal).inodes
-      waits.beside (subst (λ (v : VolumeView). MakesStep (step_at P removal pages Unnamed) (EntersAt (at removal Unnamed)) old v before after) same makes) refl (behind_kept old spent) only
-      (record {
-        coherent = meaning.coherent;
-        beside = tidy;
-        reads = reads_same P I J state meaning waits.beside.stands.reads;
-        knows = known_still (old.kept - spent) old I J (joined (left_at old removal Unnamed) others) (joined left others) waits.beside.stands.knows clears.size (entries_stay P I J may.coherent free_stores) keeps_pages numbers;
-        no_pointer = waits.beside.no_pointer;
-      })
+  -- what the volume stands beside then
+  reached : IsReached K J state left others
+  reached = record {
+    coherent = meaning.coherent;
+    beside = tidy;
+    reads = reads_same P I J state meaning waits.beside.stands.reads;
+    knows = known_still (old.kept - spent) old I J (joined (left_at old removal Unnamed) others) (joined left others) waits.beside.stands.knows clears.size (entries_stay P I J may.coherent free_stores) keeps_pages numbers;
+    no_pointer = waits.beside.no_pointer;
+  }
 
+  -- no crash in it changes a meaning
   pub quiet : KeepsMeaning P I J
   quiet = standing.quiet P I J (held_by old removal).slots (held_by old removal).pages (held_by old removal).inodes only (waiting.no_mark old before state removal Unnamed others waits)
       (λ M mix. stages.clearing_law P I J M s y may clears mix)
@@ -159,17 +153,40 @@ module _ (old : VolumeView) (before after : DeviceView) (state : State) (removal
       let low = ((waits.beside.stands.beside.of_pages.each j).0 (in_back j (left_at old removal Unnamed).pages others.pages among)).in_range in
       waits.alone j among (sym (owner_kept j low) ∙ is)
 
-  pub waits_cleared : StandsStage K after (at removal Cleared) → WaitsOn old K before after state (at removal Cleared) others
-  waits_cleared stands = waiting.waits_again old before state removal Unnamed others waits (old.kept - spent) after Cleared beside stands tt (page_kept removal.given_back waits.page) place_kept alone_kept only
+  keeps : KeepsPlace old I J removal others
+  keeps = record { page = page_kept removal.given_back waits.page; place = place_kept; alone = alone_kept; stores = only }
 
-  pub waits_disowned : StandsStage K after (at removal Disowned) → WaitsOn old K before after state (at removal Disowned) others
-  waits_disowned stands = waiting.waits_again old before state removal Unnamed others waits (old.kept - spent) after Disowned beside stands tt (page_kept removal.given_back waits.page) place_kept alone_kept only
+-- ---- where it waits behind the step
 
-  pub on_cleared : (next : RunningView) → next_of removal Unnamed ≡ More next → StandsStage N after next → WaitsOn old N before after state next others × KeepsMeaning P I J
+module _ (old : VolumeView) (before after : DeviceView) (state : State) (removal : Removal) (others : Residue) (waits : WaitsToRemove old before state (at removal Unnamed) others)
+    (N : VolumeView) (same : N ≡ with_kept (old.kept - (step_at old.size removal (pages_gone old removal) Unnamed).events) old)
+    (makes : MakesStep (step_at old.size removal (pages_gone old removal) Unnamed) (EntersAt (at removal Unnamed)) old N before after) where
+  abbrev step : Step
+  step = step_at old.size removal (pages_gone old removal) Unnamed
+
+  abbrev R : VolumeView
+  R = with_kept (old.kept - step.events) old
+
+  pub kept_place : KeepsPlace old before.words after.words removal others
+  kept_place = keeps old before state removal others waits after.words makes.takes.makes
+
+  pub beside : StandsWith R after state (cleared_left (all_left (pages_gone old removal) removal.given_back) removal.loss.goes removal.loss.inode) others
+  beside = standing.behind old R before after state state (left_at old removal Unnamed) (left_at old removal Cleared) others step (EntersAt (at removal Unnamed)) (held_by old removal).slots (held_by old removal).pages (held_by old removal).inodes
+      waits.beside (subst (λ (v : VolumeView). MakesStep step (EntersAt (at removal Unnamed)) old v before after) same makes) refl (behind_kept old step.events) kept_place.stores
+      (reached old before state removal others waits after.words makes.takes.makes)
+
+  waits_cleared : StandsStage R after (at removal Cleared) → WaitsOn old R before after state (at removal Cleared) others
+  waits_cleared stands = waiting.waits_again old before state removal Unnamed others waits (old.kept - step.events) after Cleared beside stands tt kept_place
+
+  waits_disowned : StandsStage R after (at removal Disowned) → WaitsOn old R before after state (at removal Disowned) others
+  waits_disowned stands = waiting.waits_again old before state removal Unnamed others waits (old.kept - step.events) after Disowned beside stands tt kept_place
+
+  pub on_cleared : (next : RunningView) → next_of removal Unnamed ≡ More next → StandsStage N after next → WaitsOn old N before after state next others × KeepsMeaning old.size before.words after.words
   on_cleared next is stands =
-      subst (λ (v : VolumeView). StandsStage v after next → WaitsOn old v before after state next others × KeepsMeaning P I J) (sym same)
+      let crash = quiet old before state removal others waits after.words makes.takes.makes in
+      subst (λ (v : VolumeView). StandsStage v after next → WaitsOn old v before after state next others × KeepsMeaning old.size before.words after.words) (sym same)
       (elim (after_clearing removal next is) [
-        | inl cleared ↦ subst (λ (r : RunningView). StandsStage K after r → WaitsOn old K before after state r others × KeepsMeaning P I J) cleared (λ stood. (waits_cleared stood, quiet))
-        | inr disowned ↦ subst (λ (r : RunningView). StandsStage K after r → WaitsOn old K before after state r others × KeepsMeaning P I J) disowned (λ stood. (waits_disowned stood, quiet))
+        | inl cleared ↦ subst (λ (r : RunningView). StandsStage R after r → WaitsOn old R before after state r others × KeepsMeaning old.size before.words after.words) cleared (λ stood. (waits_cleared stood, crash))
+        | inr disowned ↦ subst (λ (r : RunningView). StandsStage R after r → WaitsOn old R before after state r others × KeepsMeaning old.size before.words after.words) disowned (λ stood. (waits_disowned stood, crash))
       ])
       stands

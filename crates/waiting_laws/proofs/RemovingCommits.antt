@@ -6,6 +6,7 @@ use Rattle.pm_trait.specs.DeviceView.{DeviceView}
 use Rattle.layout.specs.Geometry.{inodes_of, slot_word_of}
 use Rattle.layout.specs.Fields.{inode_links, page_owner, slot_inode, slot_name}
 use Rattle.layout.specs.Name.{name_in_words}
+use Rattle.layout.specs.Superblock.{has_mark}
 use Rattle.layout.specs.declared.kinds.NodeKind.{NodeKind}
 use Rattle.layout.specs.declared.kinds.NodeKind.TheVariants.{File, Directory}
 use Rattle.tree_model.specs.PathText.{Route}
@@ -14,7 +15,7 @@ use Rattle.tree_model.specs.Run.{State}
 use Rattle.image_reading.specs.Counts.{IsIn}
 use Rattle.image_reading.specs.Reading.{IsFile, IsDirectory, slot_owner, Reached, IsNameOf, IsChildOf, ReadsAs}
 use Rattle.image_reading.specs.Residue.{Residue, no_residue, IsTidyBeside}
-use Rattle.image_reading.specs.Soundness.{IsCoherent}
+use Rattle.image_reading.specs.Soundness.{IsCoherent, Sound}
 use Rattle.image_reading.proofs.Counts.{count_one}
 use Rattle.image_counts.specs.Entries.{IsEntryOf}
 use Rattle.image_counts.proofs.Distinct.{in_back}
@@ -54,6 +55,7 @@ use Rattle.knowing_laws.proofs.Gone.{name_gone_law}
 use Rattle.unlink_ops.specs.declared.removal.Stage.TheVariants.{Begun, Unnamed}
 use Rattle.unlink_ops.specs.RemovalStages.{RunningView, begun, pages_gone, step_of, next_of, EntersAt, StandsStage}
 use Rattle.waiting_laws.specs.Beside.{IsReady, StandsWith, MakesStep, Affects, Commits}
+use Rattle.waiting_laws.specs.Crashes.{RemovingFirstCrashLaw}
 use Rattle.waiting_laws.specs.Removing.{of_kind, held_by, falling_of, left_at, HasItsPage, IsPlaced, AreListed, WaitsOn, RemovingCommitsLaw}
 use Rattle.waiting_laws.proofs.RemovingKnows.{unused_as, same_numbers, known_keeping, same_pages}
 use Rattle.waiting_laws.proofs.RemovingPlanned as planned
@@ -86,17 +88,15 @@ room_for marked kept events spare some =
       | false ↦ λ is room. (let none = ltb-false 0 events is in omega (arith, none, some))
     ] refl
 
-module _ (volume new : VolumeView) (before after : DeviceView) (state : State) (path : Route) (removal : Removal) (n : ℕ) (others : Residue)
-    (ready : IsReady volume before state (of_kind removal.loss.kind path) (Remove removal) others)
-    (makes : MakesStep (step_of (keeping volume (Remove removal)) (begun removal)) (EntersAt (begun removal)) (keeping volume (Remove removal)) new before after) where
+-- ---- the words: A are those of the step
+
+module _ (volume : VolumeView) (before : DeviceView) (state : State) (path : Route) (removal : Removal) (n : ℕ) (others : Residue)
+    (ready : IsReady volume before state (of_kind removal.loss.kind path) (Remove removal) others) where
   abbrev P : ℕ
   P = volume.size
 
   abbrev I : List ℕ
   I = before.words
-
-  abbrev J : List ℕ
-  J = after.words
 
   abbrev s : ℕ
   s = removal.slot
@@ -119,9 +119,6 @@ module _ (volume new : VolumeView) (before after : DeviceView) (state : State) (
   abbrev falling : Option ℕ
   falling = falling_of removal.loss.kind removal
 
-  made : J ≡ A
-  made = makes.takes.makes
-
   can : CanRemove P I way s
   can = planned.can volume before state path removal others ready
 
@@ -142,22 +139,35 @@ module _ (volume new : VolumeView) (before after : DeviceView) (state : State) (
 
   -- ---- it commits
 
-  stepped : IsStepped P J state (of_kind removal.loss.kind path) n
-  stepped = subst (λ (l : List ℕ). IsStepped P l state (of_kind removal.loss.kind path) n) (sym made)
-      (subst (λ c. IsStepped P A state c n) (same_command removal.loss.kind path)
-      (removed_entered_law P I state way path s n (kind_of removal.loss.kind) can (planned.path_is volume before state path removal others ready) ready.prepared.stands.reads))
-
-  commits : Commits P I J state (of_kind removal.loss.kind path) n
-  commits = record {
-    crash = subst (λ (l : List ℕ). (M : List ℕ) → IsMix I l M → (M ≡ I) ⊎ (M ≡ l)) (sym made) (λ M mix. one_word_law I M (slot_word_of P s 0) 0 mix);
-    stepped = stepped;
-  }
+  stepped : IsStepped P A state (of_kind removal.loss.kind path) n
+  stepped = subst (λ c. IsStepped P A state c n) (same_command removal.loss.kind path)
+      (removed_entered_law P I state way path s n (kind_of removal.loss.kind) can (planned.path_is volume before state path removal others ready) ready.prepared.stands.reads)
 
   abbrev later : State
   later = stepped.new
 
-  reads_after : ReadsAs P A later
-  reads_after = subst (λ (l : List ℕ). ReadsAs P l later) made stepped.reads
+  only : StoresIn P I A (held_by volume removal).slots (held_by volume removal).pages (held_by volume removal).inodes
+  only = wider_law P I A (s ∷ []) [] [] (held_by volume removal).slots (held_by volume removal).pages (held_by volume removal).inodes
+      (record { of_slots = λ t among. inl among; of_pages = λ j none. absurd none; of_inodes = λ x none. absurd none })
+      (dropped_words_law P I s)
+
+  unmarked : has_mark A ≡ false
+  unmarked = standing.same_mark P I A (held_by volume removal).slots (held_by volume removal).pages (held_by volume removal).inodes only ∙ standing.no_mark volume before state others ready.prepared.stands ready.unmarked
+
+  commits_words : Commits P I A state (of_kind removal.loss.kind path) n
+  commits_words = record {
+    crash = λ M mix. one_word_law I M (slot_word_of P s 0) 0 mix;
+    sound = standing.sound_without P A coherent_after unmarked;
+    stepped = stepped;
+  }
+
+  -- whatever words the step makes
+  pub commits : (J : List ℕ) → (step_of volume (begun removal)).Makes I J → Commits P I J state (of_kind removal.loss.kind path) n
+  commits J made = record {
+    crash = subst (λ (l : List ℕ). (M : List ℕ) → IsMix I l M → (M ≡ I) ⊎ (M ≡ l)) (sym made) commits_words.crash;
+    sound = subst (λ (l : List ℕ). Sound P l) (sym made) commits_words.sound;
+    stepped = record { new = later; reads = subst (λ (l : List ℕ). ReadsAs P l later) (sym made) stepped.reads; tree = stepped.tree; room = stepped.room };
+  }
 
   -- ---- what is left
 
@@ -184,7 +194,7 @@ module _ (volume new : VolumeView) (before after : DeviceView) (state : State) (
   file_falls bytes stays =
       let x = slot_inode P I s in
       let was = facts.i_reached P I way s can in
-      let now = (links_counted P A later.tree coherent_after reads_after.tree x stays).file (facts.kind_same P I way s can x was ∙ bytes) in
+      let now = (links_counted P A later.tree coherent_after stepped.reads.tree x stays).file (facts.kind_same P I way s can x was ∙ bytes) in
       let more = slot_laws.count_gained (IsNameOf P A x) (IsNameOf P I x) s (link_count later.tree x)
       (λ t other. let same = slot_laws.names (unnamed.kept can) x t other in (same.1, same.0)) (λ name. (facts.slot_back P I way s can s name.slot).1 refl) (record { slot = facts.old_slot P I way s can; inode = refl }) now in
       let had = (links_counted P I state.tree coherent ready.prepared.stands.reads.tree x was).file bytes in
@@ -195,7 +205,7 @@ module _ (volume new : VolumeView) (before after : DeviceView) (state : State) (
   parent_falls two =
       let x = slot_owner P I s in
       let was : Reached P I x = (way, can.path) in
-      let (m, now, now_is) = (links_counted P A later.tree coherent_after reads_after.tree x (facts.d_reached P I way s can)).directory (facts.kind_same P I way s can x was ∙ can.directory) in
+      let (m, now, now_is) = (links_counted P A later.tree coherent_after stepped.reads.tree x (facts.d_reached P I way s can)).directory (facts.kind_same P I way s can x was ∙ can.directory) in
       let more = slot_laws.count_gained (IsChildOf P A x) (IsChildOf P I x) s m
       (λ t other. let same = slot_laws.children (unnamed.kept can) x t other in (same.1, same.0)) (λ child. (facts.slot_back P I way s can s child.slot).1 refl) (record { slot = facts.old_slot P I way s can; owner = refl; directory = two }) now in
       let (k, had, had_is) = (links_counted P I state.tree coherent ready.prepared.stands.reads.tree x was).directory can.directory in
@@ -222,7 +232,7 @@ module _ (volume new : VolumeView) (before after : DeviceView) (state : State) (
       let was = facts.i_reached P I way s can in
       let kind = facts.kind_same P I way s can (slot_inode P I s) was in
       let bytes : IsFile I (slot_inode P I s) = file_by falling (planned.goes_with volume before state path removal others ready).link stays in
-      subst (λ (x : ℕ). is_file later.tree x ≡ true) inode_is (((size_law P A later coherent_after reads_after).files (slot_inode P I s)).1 (stays_reached stays, kind ∙ bytes))
+      subst (λ (x : ℕ). is_file later.tree x ≡ true) inode_is (((size_law P A later coherent_after stepped.reads).files (slot_inode P I s)).1 (stays_reached stays, kind ∙ bytes))
     where
       gone_directory : IsDirectory I (slot_inode P I s) → removal.loss.goes ≡ false → IsFile I (slot_inode P I s)
       gone_directory two stays = absurd (facts.directory_gone P I way s can two (stays_reached stays))
@@ -235,7 +245,7 @@ module _ (volume new : VolumeView) (before after : DeviceView) (state : State) (
   parent_stays : is_directory later.tree d ≡ true
   parent_stays =
       subst (λ (x : ℕ). is_directory later.tree x ≡ true) owner_is
-      (((size_law P A later coherent_after reads_after).directories (slot_owner P I s)).1 (facts.d_reached P I way s can, facts.kind_same P I way s can (slot_owner P I s) (way, can.path) ∙ can.directory))
+      (((size_law P A later coherent_after stepped.reads).directories (slot_owner P I s)).1 (facts.d_reached P I way s can, facts.kind_same P I way s can (slot_owner P I s) (way, can.path) ∙ can.directory))
 
   -- ---- the name in the index
 
@@ -281,80 +291,7 @@ module _ (volume new : VolumeView) (before after : DeviceView) (state : State) (
   numbers : ChangesNumbers P I A [] []
   numbers = same_numbers P I A (λ x least most. only_slot.node_kind x most) (λ j low. unused_as P I A j (only_slot.owner j low) (only_slot.kind j low))
 
-  -- ---- the volume
-
-  abbrev K : VolumeView
-  K = keeping volume (Remove removal)
-
-  abbrev spent : ℕ
-  spent = (step_of K (begun removal)).events
-
-  abbrev M : VolumeView
-  M = with_kept (K.kept - spent) volume
-
-  leaves : LeavesName M new d removal.name
-  leaves = makes.enters
-
-  behind : IsBehind K new spent
-  behind = let is = removal_beside M new d removal.name leaves in record { size = is.size; stopped = is.stopped; marked = is.marked; kept = is.kept }
-
-  size : new.size ≡ P
-  size = behind.size
-
-  stands_ready : StandsWith K before state no_residue others
-  stands_ready = record {
-    stands = record {
-      settled = ready.prepared.stands.settled;
-      sound = ready.prepared.stands.sound;
-      beside = ready.prepared.stands.beside;
-      reads = ready.prepared.stands.reads;
-      knows = known_keeping K.kept volume I others ready.prepared.stands.knows;
-      mark = ready.prepared.stands.mark;
-      room = room_for volume.marked volume.kept (events_of (Remove removal)) before.spare (omega arith) ready.reserved.room;
-    };
-    going = ready.going;
-    unmarked = ready.unmarked;
-    no_pointer = ready.no_pointer;
-  }
-
-  only : StoresIn P I J (held_by volume removal).slots (held_by volume removal).pages (held_by volume removal).inodes
-  only = wider_law P I J (s ∷ []) [] [] (held_by volume removal).slots (held_by volume removal).pages (held_by volume removal).inodes
-      (record { of_slots = λ t among. inl among; of_pages = λ j none. absurd none; of_inodes = λ x none. absurd none })
-      (subst (λ (l : List ℕ). StoresIn P I l (s ∷ []) [] []) (sym made) (dropped_words_law P I s))
-
-  same_gone : pages_gone new removal ≡ pages
-  same_gone = ap (λ (l : List ℕ). cond removal.loss.goes l []) (same_pages M new d removal.name leaves i)
-
-  same_left : left_at new removal Unnamed ≡ left_at volume removal Unnamed
-  same_left = ap (λ (l : List ℕ). unnamed_left s removal.given_back l removal.loss.goes i falling) same_gone
-
-  knows : KnowsBeside new J (joined (left_at volume removal Unnamed) others)
-  knows = subst (λ (l : List ℕ). KnowsBeside new l (joined (left_at volume removal Unnamed) others)) (sym made)
-      (name_gone_law M new I A others (joined (left_at volume removal Unnamed) others) d removal.name (known_keeping M.kept volume I others ready.prepared.stands.knows) only_slot.size away keeps_pages numbers leaves)
-
-  -- of the words after it, by the size that the volume has
-  of_new : (Q : ℕ → List ℕ → Type 0) → Q P A → Q new.size J
-  of_new Q is = subst (λ (p : ℕ). Q p J) (sym size) (subst (Q P) (sym made) is)
-
-  beside : StandsWith new after later (left_at volume removal Unnamed) others
-  beside = standing.behind K new before after state later no_residue (left_at volume removal Unnamed) others (step_of K (begun removal)) (EntersAt (begun removal)) (held_by volume removal).slots (held_by volume removal).pages (held_by volume removal).inodes
-      stands_ready makes refl behind only
-      (record {
-        coherent = of_new IsCoherent coherent_after;
-        beside = of_new (λ p l. IsTidyBeside p l (joined (left_at volume removal Unnamed) others)) tidy;
-        reads = of_new (λ p l. ReadsAs p l later) reads_after;
-        knows = knows;
-        no_pointer = ready.no_pointer;
-      })
-
-  affects : Affects volume new (held_by volume removal)
-  affects = record {
-    size = size;
-    others = λ x out. leaves.index.elsewhere.others x (λ same. out (inr (inl same)));
-    lists = λ x j there. inl (subst (λ (l : List ℕ). Contains l j) (same_pages M new d removal.name leaves x) there);
-  }
-
-  -- ---- where it waits
+  -- ---- the places
 
   page_after : (given : Option ℕ) → HasItsPage P I removal given → HasItsPage P A removal given
   page_after None is = facts.owner_same P I way s can s (facts.old_slot P I way s can) ∙ is
@@ -387,46 +324,130 @@ module _ (volume new : VolumeView) (before after : DeviceView) (state : State) (
       let out : ¬ IsIn j others.pages = λ left. (planned.directory_untouched volume before state path removal others ready).apart.pages j left owner in
       other (sym ((ready.prepared.stands.knows.nodes.pages x j least most out).0 there).owner ∙ owner)
 
-  still_listed : (l : List ℕ) (y : ℕ) → AreListedAt volume l y → AreListedAt new l y
-  still_listed l y listed x j among least most other there =
-      listed x j among least (subst (λ (p : ℕ). x ≤ inodes_of p) size most) other (subst (λ (m : List ℕ). Contains m j) (same_pages M new d removal.name leaves x) there)
-
-  listed : AreListed new removal
-  listed = record {
-    node = subst (λ (l : List ℕ). AreListedAt new l i) (sym same_gone) (still_listed pages i listed_node);
-    directory = still_listed (pages_left removal.given_back) d listed_directory;
-  }
-
   alone : HasNoPageOf P A others i
   alone j among is =
       let low = ((ready.prepared.stands.beside.of_pages.each j).0 among).in_range in
       (planned.node_untouched volume before state path removal others ready).apart.pages j among (sym (only_slot.owner j low) ∙ is)
 
-  waits : StandsStage new after (at removal Unnamed) → WaitsOn volume new before after later (at removal Unnamed) others
-  waits stands =
-      let with = subst (λ (r : Residue). StandsWith new after later r others) (sym same_left) beside in
-      record {
-        waits = record {
-          beside = with;
-          words = stands.words;
-          losses = stands.losses;
-          falling = subst (λ (l : List ℕ). HasFallingLinks l later.tree falling) (sym made) falls;
-          page = of_new (λ p l. HasItsPage p l removal removal.given_back) (page_after removal.given_back its_page);
-          place = of_new (λ p l. IsPlaced p l removal) place;
-          stays = file_stays;
-          parent = parent_stays;
-          listed = listed;
-          alone = of_new (λ p l. HasNoPageOf p l others i) alone;
-        };
-        leaves = record { beside = with; stores = only; affects = affects };
-      }
+  -- ---- the volume that has taken it in, behind the step's fence
 
-  pub commit : (next : RunningView) → next_of removal Begun ≡ More next → StandsStage new after next
-      → (made : Commits P I J state (of_kind removal.loss.kind path) n) × WaitsOn volume new before after made.stepped.new next others
-  unfolding commits stepped
-  commit next is stands =
-      subst (λ (r : RunningView). StandsStage new after r → (made : Commits P I J state (of_kind removal.loss.kind path) n) × WaitsOn volume new before after made.stepped.new r others)
-      (same_next (at removal Unnamed) next is) (λ stood. (commits, waits stood)) stands
+  module _ (new : VolumeView) (after : DeviceView) (makes : MakesStep (step_of (keeping volume (Remove removal)) (begun removal)) (EntersAt (begun removal)) (keeping volume (Remove removal)) new before after) where
+    abbrev J : List ℕ
+    J = after.words
+
+    made : J ≡ A
+    made = makes.takes.makes
+
+    abbrev committed : Commits P I J state (of_kind removal.loss.kind path) n
+    committed = commits J made
+
+    stored : StoresIn P I J (held_by volume removal).slots (held_by volume removal).pages (held_by volume removal).inodes
+    stored = subst (λ (l : List ℕ). StoresIn P I l (held_by volume removal).slots (held_by volume removal).pages (held_by volume removal).inodes) (sym made) only
+
+    abbrev K : VolumeView
+    K = keeping volume (Remove removal)
+
+    abbrev spent : ℕ
+    spent = (step_of K (begun removal)).events
+
+    abbrev M : VolumeView
+    M = with_kept (K.kept - spent) volume
+
+    leaves : LeavesName M new d removal.name
+    leaves = makes.enters
+
+    behind : IsBehind K new spent
+    behind = let is = removal_beside M new d removal.name leaves in record { size = is.size; stopped = is.stopped; marked = is.marked; kept = is.kept }
+
+    size : new.size ≡ P
+    size = behind.size
+
+    stands_ready : StandsWith K before state no_residue others
+    stands_ready = record {
+      stands = record {
+        settled = ready.prepared.stands.settled;
+        sound = ready.prepared.stands.sound;
+        beside = ready.prepared.stands.beside;
+        reads = ready.prepared.stands.reads;
+        knows = known_keeping K.kept volume I others ready.prepared.stands.knows;
+        mark = ready.prepared.stands.mark;
+        room = room_for volume.marked volume.kept (events_of (Remove removal)) before.spare (omega arith) ready.reserved.room;
+      };
+      going = ready.going;
+      unmarked = ready.unmarked;
+      no_pointer = ready.no_pointer;
+    }
+
+    same_gone : pages_gone new removal ≡ pages
+    same_gone = ap (λ (l : List ℕ). cond removal.loss.goes l []) (same_pages M new d removal.name leaves i)
+
+    same_left : left_at new removal Unnamed ≡ left_at volume removal Unnamed
+    same_left = ap (λ (l : List ℕ). unnamed_left s removal.given_back l removal.loss.goes i falling) same_gone
+
+    knows : KnowsBeside new J (joined (left_at volume removal Unnamed) others)
+    knows = subst (λ (l : List ℕ). KnowsBeside new l (joined (left_at volume removal Unnamed) others)) (sym made)
+        (name_gone_law M new I A others (joined (left_at volume removal Unnamed) others) d removal.name (known_keeping M.kept volume I others ready.prepared.stands.knows) only_slot.size away keeps_pages numbers leaves)
+
+    -- of the words after it, by the size that the volume has
+    of_new : (Q : ℕ → List ℕ → Type 0) → Q P A → Q new.size J
+    of_new Q is = subst (λ (p : ℕ). Q p J) (sym size) (subst (Q P) (sym made) is)
+
+    beside : StandsWith new after later (left_at volume removal Unnamed) others
+    beside = standing.behind K new before after state later no_residue (left_at volume removal Unnamed) others (step_of K (begun removal)) (EntersAt (begun removal)) (held_by volume removal).slots (held_by volume removal).pages (held_by volume removal).inodes
+        stands_ready makes refl behind stored
+        (record {
+          coherent = of_new IsCoherent coherent_after;
+          beside = of_new (λ p l. IsTidyBeside p l (joined (left_at volume removal Unnamed) others)) tidy;
+          reads = of_new (λ p l. ReadsAs p l later) stepped.reads;
+          knows = knows;
+          no_pointer = ready.no_pointer;
+        })
+
+    affects : Affects volume new (held_by volume removal)
+    affects = record {
+      size = size;
+      others = λ x out. leaves.index.elsewhere.others x (λ same. out (inr (inl same)));
+      lists = λ x j there. inl (subst (λ (l : List ℕ). Contains l j) (same_pages M new d removal.name leaves x) there);
+    }
+
+    still_listed : (l : List ℕ) (y : ℕ) → AreListedAt volume l y → AreListedAt new l y
+    still_listed l y listed x j among least most other there =
+        listed x j among least (subst (λ (p : ℕ). x ≤ inodes_of p) size most) other (subst (λ (m : List ℕ). Contains m j) (same_pages M new d removal.name leaves x) there)
+
+    listed : AreListed new removal
+    listed = record {
+      node = subst (λ (l : List ℕ). AreListedAt new l i) (sym same_gone) (still_listed pages i listed_node);
+      directory = still_listed (pages_left removal.given_back) d listed_directory;
+    }
+
+    waits : StandsStage new after (at removal Unnamed) → WaitsOn volume new before after later (at removal Unnamed) others
+    waits stands =
+        let with = subst (λ (r : Residue). StandsWith new after later r others) (sym same_left) beside in
+        record {
+          waits = record {
+            beside = with;
+            words = stands.words;
+            losses = stands.losses;
+            falling = subst (λ (l : List ℕ). HasFallingLinks l later.tree falling) (sym made) falls;
+            page = of_new (λ p l. HasItsPage p l removal removal.given_back) (page_after removal.given_back its_page);
+            place = of_new (λ p l. IsPlaced p l removal) place;
+            stays = file_stays;
+            parent = parent_stays;
+            listed = listed;
+            alone = of_new (λ p l. HasNoPageOf p l others i) alone;
+          };
+          leaves = record { beside = with; stores = stored; affects = affects };
+        }
+
+    pub commit : (next : RunningView) → next_of removal Begun ≡ More next → StandsStage new after next
+        → (commits : Commits P I J state (of_kind removal.loss.kind path) n) × WaitsOn volume new before after commits.stepped.new next others
+    unfolding commits
+    commit next is stands =
+        subst (λ (r : RunningView). StandsStage new after r → (commits : Commits P I J state (of_kind removal.loss.kind path) n) × WaitsOn volume new before after commits.stepped.new r others)
+        (same_next (at removal Unnamed) next is) (λ stood. (committed, waits stood)) stands
+
+pub removing_first_crash_law : RemovingFirstCrashLaw
+removing_first_crash_law volume device state path removal n others J ready made = commits volume device state path removal n others ready J made
 
 pub removing_commits_law : RemovingCommitsLaw
-removing_commits_law volume new before after state path removal next n others ready makes is stands = commit volume new before after state path removal n others ready makes next is stands
+removing_commits_law volume new before after state path removal next n others ready makes is stands = commit volume before state path removal n others ready new after makes next is stands

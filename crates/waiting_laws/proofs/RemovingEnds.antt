@@ -49,8 +49,8 @@ module _ (old new : VolumeView) (before after : DeviceView) (state : State) (rem
       let stands : StandsWith K after state no_residue others =
       subst (λ (r : Residue). StandsWith K after state r others) (nothing_left old removal none stays) (clears.beside old before after state removal others waits new makes.enters makes) in
       subst (λ (v : VolumeView). Leaves old v before after state no_residue others (held_by old removal) × KeepsMeaning old.size before.words after.words) (sym makes.enters) (
-        record { beside = stands; stores = clears.only old before after state removal others waits new makes.enters makes; affects = affects_none old K.kept removal },
-        clears.quiet old before after state removal others waits new makes.enters makes,
+        record { beside = stands; stores = (clears.kept_place old before after state removal others waits new makes.enters makes).stores; affects = affects_none old K.kept removal },
+        clears.quiet old before state removal others waits after.words makes.takes.makes,
       )
 
 by_stage : (old new : VolumeView) (before after : DeviceView) (state : State) (removal : Removal) (stage : Stage) (others : Residue) → WaitsToRemove old before state (at removal stage) others

@@ -4,6 +4,7 @@ use Rattle.std.specs.Prelude.{Contains, slice_index}
 use Rattle.std.proofs.lemmas.Bool.{cases_eq}
 use Rattle.std.proofs.lemmas.List.{get_or_default}
 use Rattle.pm_trait.specs.DeviceView.{DeviceView}
+use Rattle.pm_trait.specs.Unfolds.{Step}
 use Rattle.layout.specs.Geometry.{inodes_of, inode_word_of, descriptor_word_of}
 use Rattle.layout.specs.Fields.{word, inode_kind, page_owner, page_kind, page_offset}
 use Rattle.layout.specs.declared.fields.DescriptorFields.{DescriptorFields}
@@ -22,7 +23,7 @@ use Rattle.image_laws.specs.Stages.{MayFree}
 use Rattle.image_laws.proofs.Addresses.{descriptor-ne_inode, descriptor_word-one}
 use Rattle.image_laws.proofs.Free.{same_stores}
 use Rattle.image_laws.proofs.Stages as stages
-use Rattle.removal_steps.specs.Steps.{MayBeEmptied, WasEmptied, IsCut}
+use Rattle.removal_steps.specs.Steps.{MayBeEmptied, WasEmptied}
 use Rattle.weave_laws.specs.Beside.{StoresIn}
 use Rattle.weave_laws.specs.Joined.{joined}
 use Rattle.weave_laws.specs.Naming.{pages_left}
@@ -46,9 +47,9 @@ use Rattle.waiting_laws.specs.Beside.{StandsWith, MakesStep, Affects, Leaves, Ke
 use Rattle.waiting_laws.specs.Removing.{held_by, left_at, WaitsToRemove}
 use Rattle.waiting_laws.proofs.RemovingKnows.{reads_same, entries_stay, unused_as, free_inode_as, known_keeping}
 use Rattle.waiting_laws.proofs.RemovingWaits as waiting
-use Rattle.waiting_laws.proofs.RemovingWaits.{at, all_left, left_given, given_left, cut_by, by_cut, all_held}
+use Rattle.waiting_laws.proofs.RemovingWaits.{at, all_left, cut_by, by_cut, all_held}
 use Rattle.waiting_laws.proofs.Standing as standing
-use Rattle.waiting_laws.proofs.Standing.{IsBehind}
+use Rattle.waiting_laws.proofs.Standing.{IsBehind, IsReached}
 
 -- ---- lists
 
@@ -118,18 +119,15 @@ node_others : (given new : VolumeView) (goes : Bool) (x : ℕ) → LeavesInodeIf
 node_others given new false x same i other = ap (λ (v : VolumeView). node_of v.index i) same
 node_others given new true x leaves i other = leaves.index.elsewhere.others i other
 
--- ---- the step
+-- ---- the words J of the step
 
-module _ (old new : VolumeView) (before after : DeviceView) (state : State) (removal : Removal) (others : Residue) (waits : WaitsToRemove old before state (at removal Disowned) others)
-    (makes : MakesStep (step_at old.size removal (pages_gone old removal) Disowned) (EntersAt (at removal Disowned)) old new before after) where
+module _ (old : VolumeView) (before : DeviceView) (state : State) (removal : Removal) (others : Residue) (waits : WaitsToRemove old before state (at removal Disowned) others)
+    (J : List ℕ) (made : (step_at old.size removal (pages_gone old removal) Disowned).Makes before.words J) where
   abbrev P : ℕ
   P = old.size
 
   abbrev I : List ℕ
   I = before.words
-
-  abbrev J : List ℕ
-  J = after.words
 
   abbrev i : ℕ
   i = removal.loss.inode
@@ -150,14 +148,12 @@ module _ (old new : VolumeView) (before after : DeviceView) (state : State) (rem
   K = with_kept (old.kept - spent) old
 
   rest : ClearsRest P I J (Contains all) (goes ≡ true) i
-  rest =
-      let made : ClearsRest P I J (IsCut pages removal.given_back) (goes ≡ true) i = makes.takes.makes in
-      record {
-        size = made.size;
-        rests = λ j f is. made.rests j f (cut_by pages removal.given_back j is);
-        inode = made.inode;
-        others = λ a out kept. made.others a (λ j f cut. out j f (by_cut pages removal.given_back j cut)) kept;
-      }
+  rest = record {
+    size = made.size;
+    rests = λ j f is. made.rests j f (cut_by pages removal.given_back j is);
+    inode = made.inode;
+    others = λ a out kept. made.others a (λ j f cut. out j f (by_cut pages removal.given_back j cut)) kept;
+  }
 
   emptied_unowned : (given : Option ℕ) → MayBeEmptied P I given → (j : ℕ) → given ≡ Some j → page_owner P I j ≡ 0
   emptied_unowned given may j is = let page : WasEmptied P I j = subst (MayBeEmptied P I) is may in page.owner
@@ -292,45 +288,61 @@ module _ (old new : VolumeView) (before after : DeviceView) (state : State) (rem
     pages_listed = subst (λ (l : List ℕ). AreListedAt K l i) (sym (gone_with K removal)) waits.listed.node;
   }
 
-  knows : KnowsBeside new J (joined no_residue others)
-  knows = given_known_law K makes.enters.given new I J (joined (left_at old removal Disowned) others) (joined no_residue others) removal.directory i removal.given_back goes
+  -- where the volume has taken this in, it knows the words
+  knows : (new : VolumeView) → EntersAt (at removal Disowned) K new → KnowsBeside new J (joined no_residue others)
+  knows new enters = given_known_law K enters.given new I J (joined (left_at old removal Disowned) others) (joined no_residue others) removal.directory i removal.given_back goes
       (known_keeping (old.kept - spent) old I (joined (left_at old removal Disowned) others) waits.beside.stands.knows) rest.size
-      waits.losses.directory.0 d_most waits.losses.node.0 i_most (entries_stay P I J may.coherent free_stores) keeps_pages given makes.enters.page makes.enters.inode
+      waits.losses.directory.0 d_most waits.losses.node.0 i_most (entries_stay P I J may.coherent free_stores) keeps_pages given enters.page enters.inode
 
-  -- ---- the volume behind it
+  -- what a volume of this size stands beside then
+  reached : (new : VolumeView) → EntersAt (at removal Disowned) K new → new.size ≡ P → IsReached new J state no_residue others
+  reached new enters size = record {
+    coherent = subst (λ (p : ℕ). IsCoherent p J) (sym size) meaning.coherent;
+    beside = subst (λ (p : ℕ). IsTidyBeside p J (joined no_residue others)) (sym size) tidy;
+    reads = subst (λ (p : ℕ). ReadsAs p J state) (sym size) (reads_same P I J state meaning waits.beside.stands.reads);
+    knows = knows new enters;
+    no_pointer = waits.beside.no_pointer;
+  }
 
-  behind : IsBehind old new spent
+  -- no crash in it changes a meaning
+  pub quiet : KeepsMeaning P I J
+  quiet = standing.quiet P I J (held_by old removal).slots (held_by old removal).pages (held_by old removal).inodes only (waiting.no_mark old before state removal Disowned others waits)
+      (λ M mix. stages.freeing_law P I J M all goes i may rest mix)
+
+-- ---- the volume behind it
+
+module _ (old new : VolumeView) (before after : DeviceView) (state : State) (removal : Removal) (others : Residue) (waits : WaitsToRemove old before state (at removal Disowned) others)
+    (makes : MakesStep (step_at old.size removal (pages_gone old removal) Disowned) (EntersAt (at removal Disowned)) old new before after) where
+  abbrev step : Step
+  step = step_at old.size removal (pages_gone old removal) Disowned
+
+  abbrev R : VolumeView
+  R = with_kept (old.kept - step.events) old
+
+  behind : IsBehind old new step.events
   behind =
-      let one = page_beside K makes.enters.given removal.directory removal.given_back makes.enters.page in
-      let two = node_beside makes.enters.given new goes i makes.enters.inode in
+      let one = page_beside R makes.enters.given removal.directory removal.given_back makes.enters.page in
+      let two = node_beside makes.enters.given new removal.loss.goes removal.loss.inode makes.enters.inode in
       record { size = two.size ∙ one.size; stopped = two.stopped ∙ one.stopped; marked = two.marked ∙ one.marked; kept = two.kept ∙ one.kept }
 
-  beside : (step_at P removal pages Disowned).stores ≡ true → StandsWith new after state no_residue others
-  beside some = standing.behind old new before after state state (left_at old removal Disowned) no_residue others (step_at P removal pages Disowned) (EntersAt (at removal Disowned)) (held_by old removal).slots (held_by old removal).pages (held_by old removal).inodes
-      waits.beside makes some behind only
-      (record {
-        coherent = subst (λ (p : ℕ). IsCoherent p J) (sym behind.size) meaning.coherent;
-        beside = subst (λ (p : ℕ). IsTidyBeside p J (joined no_residue others)) (sym behind.size) tidy;
-        reads = subst (λ (p : ℕ). ReadsAs p J state) (sym behind.size) (reads_same P I J state meaning waits.beside.stands.reads);
-        knows = knows;
-        no_pointer = waits.beside.no_pointer;
-      })
+  stored : StoresIn old.size before.words after.words (held_by old removal).slots (held_by old removal).pages (held_by old removal).inodes
+  stored = only old before state removal others waits after.words makes.takes.makes
+
+  some : step.stores ≡ true
+  some = waiting.some_left old removal waits.losses waits.words.some
+
+  beside : StandsWith new after state no_residue others
+  beside = standing.behind old new before after state state (left_at old removal Disowned) no_residue others step (EntersAt (at removal Disowned)) (held_by old removal).slots (held_by old removal).pages (held_by old removal).inodes
+      waits.beside makes some behind stored (reached old before state removal others waits after.words makes.takes.makes new makes.enters behind.size)
 
   affects : Affects old new (held_by old removal)
   affects = record {
     size = behind.size;
     others = λ x out.
-        node_others makes.enters.given new goes i makes.enters.inode x (λ same. out (inl same))
-        ∙ page_others K makes.enters.given removal.directory removal.given_back makes.enters.page x (λ same. out (inr (inl same)));
-    lists = λ x j there. inl (page_gone K makes.enters.given removal.directory removal.given_back makes.enters.page x j (node_gone makes.enters.given new goes i makes.enters.inode x j there));
+        node_others makes.enters.given new removal.loss.goes removal.loss.inode makes.enters.inode x (λ same. out (inl same))
+        ∙ page_others R makes.enters.given removal.directory removal.given_back makes.enters.page x (λ same. out (inr (inl same)));
+    lists = λ x j there. inl (page_gone R makes.enters.given removal.directory removal.given_back makes.enters.page x j (node_gone makes.enters.given new removal.loss.goes removal.loss.inode makes.enters.inode x j there));
   }
 
-  some : (step_at P removal pages Disowned).stores ≡ true
-  some = waiting.some_left old removal waits.losses waits.words.some
-
-  pub frees : Leaves old new before after state no_residue others (held_by old removal) × KeepsMeaning P I J
-  frees = (
-    record { beside = beside some; stores = only; affects = affects },
-    standing.quiet P I J (held_by old removal).slots (held_by old removal).pages (held_by old removal).inodes only (waiting.no_mark old before state removal Disowned others waits)
-        (λ M mix. stages.freeing_law P I J M all goes i may rest mix),
-  )
+  pub frees : Leaves old new before after state no_residue others (held_by old removal) × KeepsMeaning old.size before.words after.words
+  frees = (record { beside = beside; stores = stored; affects = affects }, quiet old before state removal others waits after.words makes.takes.makes)

@@ -3,6 +3,7 @@ use Rattle.std.proofs.Common.{◌≡◌, ◌≢◌, ◌↔◌, inl, inr, ℕ, �
 use Rattle.std.specs.Prelude.{Contains, slice_index}
 use Rattle.std.proofs.lemmas.List.{get_or_default}
 use Rattle.pm_trait.specs.DeviceView.{DeviceView}
+use Rattle.pm_trait.specs.Unfolds.{Step}
 use Rattle.layout.specs.Geometry.{inodes_of, data_pages_of, page_of_slot}
 use Rattle.layout.proofs.GeometryLaws.{slot_below}
 use Rattle.layout.specs.Fields.{inode_kind, page_owner, page_kind, page_offset}
@@ -17,7 +18,7 @@ use Rattle.image_laws.specs.Frame.{SameMeaning}
 use Rattle.image_laws.specs.Free.{Stores}
 use Rattle.image_laws.specs.Stages.{MayGive}
 use Rattle.image_laws.proofs.Stages as stages
-use Rattle.removal_steps.specs.Steps.{MayEmpty, IsEmptied, IsCut}
+use Rattle.removal_steps.specs.Steps.{MayEmpty, IsEmptied}
 use Rattle.weave_laws.specs.Beside.{StoresIn}
 use Rattle.weave_laws.specs.Joined.{joined}
 use Rattle.weave_laws.specs.Removing.{IsLeftPage}
@@ -39,20 +40,19 @@ use Rattle.waiting_laws.specs.Beside.{StandsWith, MakesStep, KeepsMeaning}
 use Rattle.waiting_laws.specs.Removing.{held_by, left_at, HasItsPage, IsPlaced, WaitsToRemove, WaitsOn}
 use Rattle.waiting_laws.proofs.RemovingKnows.{reads_same, entries_stay, unused_as, same_numbers, known_still}
 use Rattle.waiting_laws.proofs.RemovingWaits as waiting
-use Rattle.waiting_laws.proofs.RemovingWaits.{at, same_next, all_left, left_given, given_left, cut_by, by_cut, goes_by, given_here, stores_cut, behind_kept}
+use Rattle.waiting_laws.proofs.RemovingWaits.{KeepsPlace, at, same_next, all_left, cut_by, by_cut, goes_by, stores_cut, behind_kept}
 use Rattle.waiting_laws.proofs.Standing as standing
+use Rattle.waiting_laws.proofs.Standing.{IsReached}
 
-module _ (old : VolumeView) (before after : DeviceView) (state : State) (removal : Removal) (others : Residue) (waits : WaitsToRemove old before state (at removal Cleared) others)
-    (N : VolumeView) (same : N ≡ with_kept (old.kept - (step_at old.size removal (pages_gone old removal) Cleared).events) old)
-    (makes : MakesStep (step_at old.size removal (pages_gone old removal) Cleared) (EntersAt (at removal Cleared)) old N before after) where
+-- ---- the words J of the step
+
+module _ (old : VolumeView) (before : DeviceView) (state : State) (removal : Removal) (others : Residue) (waits : WaitsToRemove old before state (at removal Cleared) others)
+    (J : List ℕ) (made : (step_at old.size removal (pages_gone old removal) Cleared).Makes before.words J) where
   abbrev P : ℕ
   P = old.size
 
   abbrev I : List ℕ
   I = before.words
-
-  abbrev J : List ℕ
-  J = after.words
 
   abbrev s : ℕ
   s = removal.slot
@@ -67,13 +67,11 @@ module _ (old : VolumeView) (before after : DeviceView) (state : State) (removal
   left = left_at old removal Cleared
 
   gives : GivesPages P I J (Contains all)
-  gives =
-      let made : GivesPages P I J (IsCut pages removal.given_back) = makes.takes.makes in
-      record {
-        size = made.size;
-        owners = λ j is. made.owners j (cut_by pages removal.given_back j is);
-        others = λ a out. made.others a (λ j cut. out j (by_cut pages removal.given_back j cut));
-      }
+  gives = record {
+    size = made.size;
+    owners = λ j is. made.owners j (cut_by pages removal.given_back j is);
+    others = λ a out. made.others a (λ j cut. out j (by_cut pages removal.given_back j cut));
+  }
 
   -- ---- the pages
 
@@ -168,18 +166,18 @@ module _ (old : VolumeView) (before after : DeviceView) (state : State) (removal
   abbrev K : VolumeView
   K = with_kept (old.kept - spent) old
 
-  beside : (step_at P removal pages Cleared).stores ≡ true → StandsWith K after state left others
-  beside some = standing.behind old K before after state state left left others (step_at P removal pages Cleared) (EntersAt (at removal Cleared)) (held_by old removal).slots (held_by old removal).pages (held_by old removal).inodes
-      waits.beside (subst (λ (v : VolumeView). MakesStep (step_at P removal pages Cleared) (EntersAt (at removal Cleared)) old v before after) same makes) some (behind_kept old spent) only
-      (record {
-        coherent = meaning.coherent;
-        beside = tidy;
-        reads = reads_same P I J state meaning waits.beside.stands.reads;
-        knows = known_still (old.kept - spent) old I J (joined left others) (joined left others) waits.beside.stands.knows gives.size (entries_stay P I J law.0.coherent free_stores) keeps_pages numbers;
-        no_pointer = waits.beside.no_pointer;
-      })
+  -- what the volume stands beside then
+  reached : IsReached K J state left others
+  reached = record {
+    coherent = meaning.coherent;
+    beside = tidy;
+    reads = reads_same P I J state meaning waits.beside.stands.reads;
+    knows = known_still (old.kept - spent) old I J (joined left others) (joined left others) waits.beside.stands.knows gives.size (entries_stay P I J law.0.coherent free_stores) keeps_pages numbers;
+    no_pointer = waits.beside.no_pointer;
+  }
 
-  quiet : KeepsMeaning P I J
+  -- no crash in it changes a meaning
+  pub quiet : KeepsMeaning P I J
   quiet = standing.quiet P I J (held_by old removal).slots (held_by old removal).pages (held_by old removal).inodes only (waiting.no_mark old before state removal Cleared others waits)
       (λ M mix. stages.giving_law P I J M all law.0 gives mix)
 
@@ -214,14 +212,37 @@ module _ (old : VolumeView) (before after : DeviceView) (state : State) (removal
     | inr out ↦ waits.alone j among (sym (owner_kept j out) ∙ is)
   ]
 
-  some : (step_at P removal pages Cleared).stores ≡ true
+  keeps : KeepsPlace old I J removal others
+  keeps = record { page = page_kept removal.given_back refl waits.page; place = place_kept; alone = alone_kept; stores = only }
+
+-- ---- where it waits behind the step
+
+module _ (old : VolumeView) (before after : DeviceView) (state : State) (removal : Removal) (others : Residue) (waits : WaitsToRemove old before state (at removal Cleared) others)
+    (N : VolumeView) (same : N ≡ with_kept (old.kept - (step_at old.size removal (pages_gone old removal) Cleared).events) old)
+    (makes : MakesStep (step_at old.size removal (pages_gone old removal) Cleared) (EntersAt (at removal Cleared)) old N before after) where
+  abbrev step : Step
+  step = step_at old.size removal (pages_gone old removal) Cleared
+
+  abbrev R : VolumeView
+  R = with_kept (old.kept - step.events) old
+
+  kept_place : KeepsPlace old before.words after.words removal others
+  kept_place = keeps old before state removal others waits after.words makes.takes.makes
+
+  some : step.stores ≡ true
   some = waiting.some_pages old removal waits.losses waits.words.some
 
-  waits_disowned : StandsStage K after (at removal Disowned) → WaitsOn old K before after state (at removal Disowned) others
-  waits_disowned stands = waiting.waits_again old before state removal Cleared others waits (old.kept - spent) after Disowned (beside some) stands tt (page_kept removal.given_back refl waits.page) place_kept alone_kept only
+  beside : StandsWith R after state (left_at old removal Disowned) others
+  beside = standing.behind old R before after state state (left_at old removal Cleared) (left_at old removal Disowned) others step (EntersAt (at removal Cleared)) (held_by old removal).slots (held_by old removal).pages (held_by old removal).inodes
+      waits.beside (subst (λ (v : VolumeView). MakesStep step (EntersAt (at removal Cleared)) old v before after) same makes) some (behind_kept old step.events) kept_place.stores
+      (reached old before state removal others waits after.words makes.takes.makes)
 
-  pub on_disowned : (next : RunningView) → next_of removal Cleared ≡ More next → StandsStage N after next → WaitsOn old N before after state next others × KeepsMeaning P I J
+  waits_disowned : StandsStage R after (at removal Disowned) → WaitsOn old R before after state (at removal Disowned) others
+  waits_disowned stands = waiting.waits_again old before state removal Cleared others waits (old.kept - step.events) after Disowned beside stands tt kept_place
+
+  pub on_disowned : (next : RunningView) → next_of removal Cleared ≡ More next → StandsStage N after next → WaitsOn old N before after state next others × KeepsMeaning old.size before.words after.words
   on_disowned next is stands =
-      subst (λ (v : VolumeView). StandsStage v after next → WaitsOn old v before after state next others × KeepsMeaning P I J) (sym same)
-      (subst (λ (r : RunningView). StandsStage K after r → WaitsOn old K before after state r others × KeepsMeaning P I J) (same_next (at removal Disowned) next is) (λ stood. (waits_disowned stood, quiet)))
+      let crash = quiet old before state removal others waits after.words makes.takes.makes in
+      subst (λ (v : VolumeView). StandsStage v after next → WaitsOn old v before after state next others × KeepsMeaning old.size before.words after.words) (sym same)
+      (subst (λ (r : RunningView). StandsStage R after r → WaitsOn old R before after state r others × KeepsMeaning old.size before.words after.words) (same_next (at removal Disowned) next is) (λ stood. (waits_disowned stood, crash)))
       stands

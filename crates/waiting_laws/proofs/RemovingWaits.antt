@@ -40,7 +40,7 @@ use Rattle.unlink_ops.proofs.Passing.{as_planned}
 use Rattle.waiting_laws.specs.Beside.{StandsWith, Affects}
 use Rattle.waiting_laws.specs.Removing.{held_by, falling_of, left_at, HasFalling, HasItsPage, IsPlaced, AreListed, WaitsToRemove, WaitsOn}
 use Rattle.waiting_laws.proofs.Standing as standing
-use Rattle.waiting_laws.proofs.Standing.{IsBehind, IsReached}
+use Rattle.waiting_laws.proofs.Standing.{IsBehind}
 
 abbrev pub at : Removal → Stage → RunningView
 at removal stage = record { removal = removal; stage = stage }
@@ -174,6 +174,13 @@ behind_kept old k = record { size = refl; stopped = refl; marked = refl; kept = 
 pub affects_none : (old : VolumeView) (k : ℕ) (removal : Removal) → Affects old (with_kept k old) (held_by old removal)
 affects_none old k removal = record { size = refl; others = λ i other. refl; lists = λ i j there. inl there }
 
+-- What a step leaves, whose words are J: the slot with its page, and nothing of the node at others. It stored to words of what the removal holds.
+pub record KeepsPlace (old : VolumeView) (I J : List ℕ) (removal : Removal) (others : Residue) : Type 0 where
+  pub page : HasItsPage old.size J removal removal.given_back
+  pub place : IsPlaced old.size J removal
+  pub alone : HasNoPageOf old.size J others removal.loss.inode
+  pub stores : StoresIn old.size I J (held_by old removal).slots (held_by old removal).pages (held_by old removal).inodes
+
 module _ (old : VolumeView) (before : DeviceView) (state : State) (removal : Removal) (stage : Stage) (others : Residue) (waits : WaitsToRemove old before state (at removal stage) others) where
   abbrev P : ℕ
   P = old.size
@@ -228,21 +235,20 @@ module _ (old : VolumeView) (before : DeviceView) (state : State) (removal : Rem
     listed_still : AreListed N removal
     listed_still = record { node = waits.listed.node; directory = waits.listed.directory }
 
-    pub waits_again : StandsWith N after state (left_at N removal to) others → StandsStage N after (at removal to) → HasFalling after.words state removal to → HasItsPage P after.words removal removal.given_back
-        → IsPlaced P after.words removal → HasNoPageOf P after.words others removal.loss.inode → StoresIn P I after.words (held_by old removal).slots (held_by old removal).pages (held_by old removal).inodes
+    pub waits_again : StandsWith N after state (left_at N removal to) others → StandsStage N after (at removal to) → HasFalling after.words state removal to → KeepsPlace old I after.words removal others
         → WaitsOn old N before after state (at removal to) others
-    waits_again beside stands falling page place alone stores = record {
+    waits_again beside stands falling keeps = record {
       waits = record {
         beside = beside;
         words = stands.words;
         losses = stands.losses;
         falling = falling;
-        page = page;
-        place = place;
+        page = keeps.page;
+        place = keeps.place;
         stays = waits.stays;
         parent = waits.parent;
         listed = listed_still;
-        alone = alone;
+        alone = keeps.alone;
       };
-      leaves = record { beside = beside; stores = stores; affects = affects_none old k removal };
+      leaves = record { beside = beside; stores = keeps.stores; affects = affects_none old k removal };
     }

@@ -103,17 +103,13 @@ same_directories T i bytes file x = elim (cases_eq x i) [
 
 -- ---- the step
 
-module _ (volume new : VolumeView) (before after : DeviceView) (state : State) (path : Route) (writing : Writing) (bytes : List ℕ) (n : ℕ) (others : Residue)
-    (ready : IsReady volume before state (Write path writing.offset bytes) (WriteBytes writing) others) (inside : writing.offset + writing.count ≤ writing.old_size)
-    (makes : MakesStep (step_of volume.size bytes (Inside writing)) (EntersAt (Inside writing)) (keeping volume (WriteBytes writing)) new before after) where
+module _ (volume : VolumeView) (before : DeviceView) (state : State) (path : Route) (writing : Writing) (bytes : List ℕ) (n : ℕ) (others : Residue)
+    (ready : IsReady volume before state (Write path writing.offset bytes) (WriteBytes writing) others) (inside : writing.offset + writing.count ≤ writing.old_size) where
   abbrev P : ℕ
   P = volume.size
 
   abbrev I : List ℕ
   I = before.words
-
-  abbrev J : List ℕ
-  J = after.words
 
   abbrev i : ℕ
   i = writing.inode
@@ -134,28 +130,11 @@ module _ (volume new : VolumeView) (before after : DeviceView) (state : State) (
   may = waiting_writing_law P I state i writing.offset bytes others (waits (keeping volume (WriteBytes writing)) before state no_residue others with)
       (writes.file volume before state path writing bytes others ready) ends_inside
 
-  stored : WritesInside P I J i writing.offset bytes
-  stored = makes.takes.makes.writes
-
-  law : LeavesInside P I J i writing.offset bytes
-  law = inside_laws.leaves_inside P I J i writing.offset bytes may stored
-
   named : id_at state.tree path ≡ Some i
   named = (writes.for_writing volume before state path writing bytes others ready).inode_is
 
-  pub stepped : IsStepped P J state (Write path writing.offset bytes) n
-  stepped = inside_write_law P I J state path i writing.offset n bytes may stored (writes.some volume before state path writing bytes others ready) named ready.prepared.stands.reads
-
-  -- ---- what is stored
-
   has_pages : HasPagesOf P I i own
   has_pages = files.all_pages volume before state others ready.prepared.stands i (writes.file volume before state path writing bytes others ready) (writes.untouched volume before state path writing bytes others ready)
-
-  stores : StoresIn P I J [] (own ++ []) (i ∷ [])
-  stores = wider_law P I J [] own [] [] (own ++ []) (i ∷ []) (record { of_slots = λ s among. absurd among; of_pages = λ j among. in_front j own [] among; of_inodes = λ x among. absurd among })
-      (inside_words_law P I J i writing.offset bytes own has_pages stored)
-
-  -- ---- what is torn
 
   unmarked : has_mark I ≡ false
   unmarked = no_mark volume before state others ready.prepared.stands ready.unmarked
@@ -163,54 +142,83 @@ module _ (volume new : VolumeView) (before after : DeviceView) (state : State) (
   was_size : length (bytes_of state.tree i) ≡ inode_size I i
   was_size = (content_of P I state.tree i may.coherent ready.prepared.stands.reads.tree may.reached may.file).size
 
-  tree_is : stepped.new.tree ≡ with_bytes state.tree i (resized (overwritten (bytes_of state.tree i) writing.offset bytes) (inode_size I i))
-  tree_is = stepped.tree ∙ written_tree state.tree path i writing.offset (inode_size I i) n bytes (writes.some_test volume before state path writing bytes others ready) named was_size ends_inside
-
   no_directory : is_directory state.tree i ≡ false
   no_directory = ap is_directory_node (file_node P I state.tree may.coherent ready.prepared.stands.reads.tree i may.reached may.file).1
 
-  room_is : stepped.new.room ≡ state.room
-  room_is =
-      let (gives, is, fits) = stepped.room in
-      is ∙ room_after-same n state.tree state.room (Write path writing.offset bytes) gives (is_room P I state.tree may.coherent ready.prepared.stands.reads.tree state.room ready.prepared.stands.reads.room) refl refl
-      (λ x. ap (λ T. is_directory T x) (sym stepped.tree ∙ tree_is) ∙ same_directories state.tree i (resized (overwritten (bytes_of state.tree i) writing.offset bytes) (inode_size I i)) no_directory x)
+  -- ---- the volume behind the step, which has lost the step's events alone
 
-  pub tears : TearsFile P I J state stepped.new i writing.offset bytes
-  tears = record {
-    crash = λ M mix. let torn = law.torn M mix in (mixed_sound P I J M [] (own ++ []) (i ∷ []) stores unmarked mix torn.coherent, torn);
-    file = ap is_file_node (file_node P I state.tree may.coherent ready.prepared.stands.reads.tree i may.reached may.file).1;
-    tree = tree_is;
-    room = room_is;
-  }
+  abbrev spent : ℕ → VolumeView
+  spent kept = record (keeping volume (WriteBytes writing)) { kept = kept }
 
-  -- ---- the volume behind it, which has lost the step's events alone
+  -- ---- the words
 
-  abbrev spent : VolumeView
-  spent = record (keeping volume (WriteBytes writing)) { kept = (keeping volume (WriteBytes writing)).kept - (step_of volume.size bytes (Inside writing)).events }
+  module _ (J : List ℕ) (made : (step_of volume.size bytes (Inside writing)).Makes I J) where
+    stored : WritesInside P I J i writing.offset bytes
+    stored = made.writes
 
-  reached : IsReached spent J stepped.new no_residue others
-  reached = record {
-    coherent = law.coherent;
-    beside = written_inside_law P I J i writing.offset bytes others may stored ready.prepared.stands.beside;
-    reads = stepped.reads;
-    knows = known_filled spent I J others others (change P I J i writing.offset bytes may stored) stored.size (known_keeping spent.kept volume I others ready.prepared.stands.knows) [] (λ j none. none) (λ j none. (none, λ is. is)) (λ j none. absurd none) spent refl;
-    no_pointer = ready.no_pointer;
-  }
+    law : LeavesInside P I J i writing.offset bytes
+    law = inside_laws.leaves_inside P I J i writing.offset bytes may stored
 
-  beside : StandsWith spent after stepped.new no_residue others
-  beside = behind (keeping volume (WriteBytes writing)) spent before after state stepped.new no_residue no_residue others (step_of volume.size bytes (Inside writing)) (EntersAt (Inside writing)) [] (own ++ []) (i ∷ [])
-      with (record { kept = makes.kept; takes = makes.takes; enters = refl }) refl (record { size = refl; stopped = refl; marked = refl; kept = refl }) stores reached
+    pub stepped : IsStepped P J state (Write path writing.offset bytes) n
+    stepped = inside_write_law P I J state path i writing.offset n bytes may stored (writes.some volume before state path writing bytes others ready) named ready.prepared.stands.reads
 
-  pub leaves : Leaves volume new before after stepped.new no_residue others (file_held_by volume i [])
-  leaves = subst (λ v. Leaves volume v before after stepped.new no_residue others (file_held_by volume i [])) (sym makes.enters)
-      (record { beside = beside; stores = stores; affects = record { size = refl; others = λ x none. refl; lists = λ x j listed. inl listed } })
+    -- ---- what is stored
+
+    stores : StoresIn P I J [] (own ++ []) (i ∷ [])
+    stores = wider_law P I J [] own [] [] (own ++ []) (i ∷ []) (record { of_slots = λ s among. absurd among; of_pages = λ j among. in_front j own [] among; of_inodes = λ x among. absurd among })
+        (inside_words_law P I J i writing.offset bytes own has_pages stored)
+
+    -- ---- what is torn
+
+    tree_is : stepped.new.tree ≡ with_bytes state.tree i (resized (overwritten (bytes_of state.tree i) writing.offset bytes) (inode_size I i))
+    tree_is = stepped.tree ∙ written_tree state.tree path i writing.offset (inode_size I i) n bytes (writes.some_test volume before state path writing bytes others ready) named was_size ends_inside
+
+    room_is : stepped.new.room ≡ state.room
+    room_is =
+        let (gives, is, fits) = stepped.room in
+        is ∙ room_after-same n state.tree state.room (Write path writing.offset bytes) gives (is_room P I state.tree may.coherent ready.prepared.stands.reads.tree state.room ready.prepared.stands.reads.room) refl refl
+        (λ x. ap (λ T. is_directory T x) (sym stepped.tree ∙ tree_is) ∙ same_directories state.tree i (resized (overwritten (bytes_of state.tree i) writing.offset bytes) (inode_size I i)) no_directory x)
+
+    pub tears : TearsFile P I J state stepped.new i writing.offset bytes
+    tears = record {
+      crash = λ M mix. let torn = law.torn M mix in (mixed_sound P I J M [] (own ++ []) (i ∷ []) stores unmarked mix torn.coherent, torn);
+      file = ap is_file_node (file_node P I state.tree may.coherent ready.prepared.stands.reads.tree i may.reached may.file).1;
+      tree = tree_is;
+      room = room_is;
+    }
+
+    reached : (kept : ℕ) → IsReached (spent kept) J stepped.new no_residue others
+    reached kept = record {
+      coherent = law.coherent;
+      beside = written_inside_law P I J i writing.offset bytes others may stored ready.prepared.stands.beside;
+      reads = stepped.reads;
+      knows = known_filled (spent kept) I J others others (change P I J i writing.offset bytes may stored) stored.size (known_keeping kept volume I others ready.prepared.stands.knows) [] (λ j none. none) (λ j none. (none, λ is. is)) (λ j none. absurd none) (spent kept) refl;
+      no_pointer = ready.no_pointer;
+    }
+
+  -- ---- behind the step
+
+  module _ (new : VolumeView) (after : DeviceView) (makes : MakesStep (step_of volume.size bytes (Inside writing)) (EntersAt (Inside writing)) (keeping volume (WriteBytes writing)) new before after) where
+    abbrev later : IsStepped P after.words state (Write path writing.offset bytes) n
+    later = stepped after.words makes.takes.makes
+
+    abbrev kept_then : ℕ
+    kept_then = (keeping volume (WriteBytes writing)).kept - (step_of volume.size bytes (Inside writing)).events
+
+    beside : StandsWith (spent kept_then) after later.new no_residue others
+    beside = behind (keeping volume (WriteBytes writing)) (spent kept_then) before after state later.new no_residue no_residue others (step_of volume.size bytes (Inside writing)) (EntersAt (Inside writing)) [] (own ++ []) (i ∷ [])
+        with (record { kept = makes.kept; takes = makes.takes; enters = refl }) refl (record { size = refl; stopped = refl; marked = refl; kept = refl }) (stores after.words makes.takes.makes) (reached after.words makes.takes.makes kept_then)
+
+    pub leaves : Leaves volume new before after later.new no_residue others (file_held_by volume i [])
+    leaves = subst (λ v. Leaves volume v before after later.new no_residue others (file_held_by volume i [])) (sym makes.enters)
+        (record { beside = beside; stores = stores after.words makes.takes.makes; affects = record { size = refl; others = λ x none. refl; lists = λ x j listed. inl listed } })
 
 -- ---- where the plan begins inside
 
 not_growing : (writing : Writing) → ◌≡◌ {A = Stage} (Growing writing Begun) (Inside writing) → ⊥
 not_growing writing e = cc
 
-begins_inside : (writing : Writing) → begun_writing writing ≡ Inside writing → writing.offset + writing.count ≤ writing.old_size
+pub begins_inside : (writing : Writing) → begun_writing writing ≡ Inside writing → writing.offset + writing.count ≤ writing.old_size
 begins_inside writing begins = by_test (nat_le (writing.offset + writing.count) writing.old_size) refl begins
   where
     by_test : (inside : Bool) → nat_le (writing.offset + writing.count) writing.old_size ≡ inside → ◌≡◌ {A = Stage} (if inside then Inside writing else Growing writing Begun) (Inside writing) → writing.offset + writing.count ≤ writing.old_size
@@ -220,7 +228,7 @@ begins_inside writing begins = by_test (nat_le (writing.offset + writing.count) 
 pub writing_inside_law : WritingInsideLaw
 writing_inside_law volume new before after state path writing bytes n others ready begins makes =
     let inside = begins_inside writing begins in (
-      stepped volume new before after state path writing bytes n others ready inside makes,
-      tears volume new before after state path writing bytes n others ready inside makes,
-      leaves volume new before after state path writing bytes n others ready inside makes,
+      stepped volume before state path writing bytes n others ready inside after.words makes.takes.makes,
+      tears volume before state path writing bytes n others ready inside after.words makes.takes.makes,
+      leaves volume before state path writing bytes n others ready inside new after makes,
     )

@@ -13,6 +13,7 @@ use Rattle.naming_laws.specs.Still.{KeepsNode}
 use Rattle.image_reading.specs.Counts.{IsIn}
 use Rattle.image_reading.specs.Reading.{IsHeld}
 use Rattle.image_reading.specs.Residue.{Residue}
+use Rattle.image_reading.specs.Soundness.{Sound}
 use Rattle.image_counts.specs.Laws.{supply_beside}
 use Rattle.image_laws.specs.CreateStep.{IsStepped}
 use Rattle.image_laws.specs.Frame.{IsSoundAs}
@@ -101,9 +102,11 @@ pub record Leaves (old new : VolumeView) (before after : DeviceView) (later : St
 abbrev pub KeepsMeaning : ℕ → List ℕ → List ℕ → Type 0
 KeepsMeaning P I J = (M : List ℕ) → IsMix I J M → IsSoundAs P I M
 
--- A crash in a step that commits a command leaves the words before or those after, and these read as a state that the command leaves.
+-- A crash in a step that commits a command leaves the words before or those after, and these are sound and read as a state that the command
+-- leaves.
 pub record Commits (P : ℕ) (I J : List ℕ) (old : State) (command : Command) (i : ℕ) : Type 0 where
   pub crash : (M : List ℕ) → IsMix I J M → (M ≡ I) ⊎ (M ≡ J)
+  pub sound : Sound P J
   pub stepped : IsStepped P J old command i
 
 -- ---- what a step of another call leaves

@@ -9,3 +9,4 @@ pub mod Cutting
 pub mod Moving
 pub mod Preparing
 pub mod Begins
+pub mod Crashes

@@ -3,6 +3,7 @@
 
 ghost use Rattle.waiting_laws.specs.Beside.{HoldsApartLaw, PassesByLaw};
 ghost use Rattle.waiting_laws.specs.Begins.{BeginsApartLaw, OwnEnoughLaw, TornKeepsLaw, NothingWrittenLaw, SizeKeptLaw, NamesKeptLaw, IdleLaw};
+ghost use Rattle.waiting_laws.specs.Crashes.{MakingFirstCrashLaw, MakingQuietLaw, MakingCommitsLaw, LinkingFirstCrashLaw, LinkingQuietLaw, LinkingCommitsLaw, RemovingFirstCrashLaw, RemovingQuietLaw, GrowthFirstCrashLaw, GrowthQuietLaw, GrowthCommitsLaw, WritingCrashLaw, CutFirstCrashLaw, CutQuietLaw, MovingQuietLaw, MovingCommitLaw};
 ghost use Rattle.waiting_laws.specs.Cutting.{CutLoweredLaw, CutAtOnceLaw, CutHoldsLaw, CutStillLaw, CutStandsLaw, CutTrimmedLaw, CutEndsLaw};
 ghost use Rattle.waiting_laws.specs.Growing.{GrowthFilledLaw, GrowthHoldsLaw, GrowthStillLaw, GrowthStandsLaw, GrowthOwnedLaw, GrowthEndsLaw};
 ghost use Rattle.waiting_laws.specs.Linking.{LinkingBeginsLaw, LinkingWrittenLaw, LinkingHoldsLaw, LinkingStillLaw, LinkingStandsLaw, LinkingClaimedLaw, LinkingEndsLaw};
@@ -110,4 +111,33 @@ pub fn moving_law()
     ensures steps { MovingStepsLaw }
     ensures commits { MovingCommitsLaw }
     ensures ends { MovingEndsLaw }
+{}
+
+/// What a crash in a step leaves follows from where its call waits and from the words that the step makes, also where its fence fails: of an entry
+/// and of one more name,
+pub fn named_crash_law()
+    ensures made_first { MakingFirstCrashLaw }
+    ensures made_quiet { MakingQuietLaw }
+    ensures made { MakingCommitsLaw }
+    ensures linked_first { LinkingFirstCrashLaw }
+    ensures linked_quiet { LinkingQuietLaw }
+    ensures linked { LinkingCommitsLaw }
+{}
+
+/// of a name that goes or moves,
+pub fn unnamed_crash_law()
+    ensures removed { RemovingFirstCrashLaw }
+    ensures removed_quiet { RemovingQuietLaw }
+    ensures moved_quiet { MovingQuietLaw }
+    ensures moved { MovingCommitLaw }
+{}
+
+/// and of a file's bytes and size.
+pub fn content_crash_law()
+    ensures filled { GrowthFirstCrashLaw }
+    ensures grown_quiet { GrowthQuietLaw }
+    ensures grown { GrowthCommitsLaw }
+    ensures written { WritingCrashLaw }
+    ensures cut { CutFirstCrashLaw }
+    ensures cut_quiet { CutQuietLaw }
 {}
