@@ -84,3 +84,10 @@ pub mod MovingEntries
 pub mod MovingTaken
 pub mod MovingCommits
 pub mod UnnamedCrash
+pub mod CostsSteps
+pub mod CostsNaming
+pub mod CostsRemoving
+pub mod CostsMoving
+pub mod CostsGrowth
+pub mod CostsWriting
+pub mod CostsResizing

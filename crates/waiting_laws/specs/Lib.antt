@@ -10,3 +10,4 @@ pub mod Moving
 pub mod Preparing
 pub mod Begins
 pub mod Crashes
+pub mod Costs

@@ -3,6 +3,7 @@
 
 ghost use Rattle.waiting_laws.specs.Beside.{HoldsApartLaw, PassesByLaw};
 ghost use Rattle.waiting_laws.specs.Begins.{BeginsApartLaw, OwnEnoughLaw, TornKeepsLaw, NothingWrittenLaw, SizeKeptLaw, NamesKeptLaw, IdleLaw};
+ghost use Rattle.waiting_laws.specs.Costs.{MakingCosts, LinkingCosts, RemovingCosts, MovingCosts, WritingCosts, ResizingCosts};
 ghost use Rattle.waiting_laws.specs.Crashes.{MakingFirstCrashLaw, MakingQuietLaw, MakingCommitsLaw, LinkingFirstCrashLaw, LinkingQuietLaw, LinkingCommitsLaw, RemovingFirstCrashLaw, RemovingQuietLaw, GrowthFirstCrashLaw, GrowthQuietLaw, GrowthCommitsLaw, WritingCrashLaw, CutFirstCrashLaw, CutQuietLaw, MovingQuietLaw, MovingCommitLaw};
 ghost use Rattle.waiting_laws.specs.Cutting.{CutLoweredLaw, CutAtOnceLaw, CutHoldsLaw, CutStillLaw, CutStandsLaw, CutTrimmedLaw, CutEndsLaw};
 ghost use Rattle.waiting_laws.specs.Growing.{GrowthFilledLaw, GrowthHoldsLaw, GrowthStillLaw, GrowthStandsLaw, GrowthOwnedLaw, GrowthEndsLaw};
@@ -140,4 +141,14 @@ pub fn content_crash_law()
     ensures written { WritingCrashLaw }
     ensures cut { CutFirstCrashLaw }
     ensures cut_quiet { CutQuietLaw }
+{}
+
+/// What is left of a call takes the events and fences of its next step and those of what is left behind it, from all of its plan's on.
+pub fn costs_law()
+    ensures making { MakingCosts }
+    ensures linking { LinkingCosts }
+    ensures removing { RemovingCosts }
+    ensures moving { MovingCosts }
+    ensures writing { WritingCosts }
+    ensures resizing { ResizingCosts }
 {}
