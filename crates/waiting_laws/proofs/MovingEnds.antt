@@ -21,7 +21,7 @@ use Rattle.volume.specs.Entered.{pages_of_option, LeavesPageOf, LeavesInodeIf}
 use Rattle.volume.specs.Moves.{falling_of}
 use Rattle.volume.specs.Planned.{IsGivenBack, IsEmptiedBy}
 use Rattle.volume.specs.Volume.{VolumeView}
-use Rattle.volume.specs.Beside.{KnowsBeside, StandsBeside}
+use Rattle.volume.specs.Beside.{KnowsBeside}
 use Rattle.volume.specs.declared.next.Next.{Next}
 use Rattle.volume.specs.declared.next.Next.TheVariants.{More, Ended}
 use Rattle.volume.specs.declared.plan.Loss.{Loss}
@@ -41,7 +41,7 @@ use Rattle.rename_ptr.specs.declared.rename.Stage.{Stage}
 use Rattle.rename_ptr.specs.declared.rename.Stage.TheVariants.{Moving as Stepping}
 use Rattle.rename_ptr.proofs.Ahead.{gives_none}
 use Rattle.rename_ptr.proofs.Moves
-use Rattle.waiting_laws.specs.Beside.{MakesStep, KeepsMeaning}
+use Rattle.waiting_laws.specs.Beside.{StandsWith, MakesStep, KeepsMeaning}
 use Rattle.waiting_laws.specs.Moving.{WaitsToMove, left_by, MovingEndsLaw}
 use Rattle.waiting_laws.proofs.MovingQuiet.{reads_same}
 use Rattle.waiting_laws.proofs.MovingCourse.{left_with, no_next, has_pointed, ready_at, left_is}
@@ -240,9 +240,14 @@ module _ (old : VolumeView) (before : DeviceView) (state : State) (from to : Rou
         (stepping.knows_kept old before state from to moving progress waits) waits.stands.sound.coherent left_pages (directory.0, omega (arith, directory, each)) (no_file after.words moving.from_directory behind_it.1) apart
         page_listed pages_listed (gives_by moving progress kept new e makes.enters)
 
-    pub ends : StandsBeside new after state no_residue × KeepsMeaning P before.words after.words
+    pub ends : StandsWith new after state no_residue no_residue × KeepsMeaning P before.words after.words
     ends = (
-      stepping.stands_again old before state from to moving progress waits new after makes state no_residue behind_it.0.means.coherent behind_it.0.beside (reads_same P before.words after.words behind_it.0.means state waits.stands.reads) knows_new,
+      record {
+        stands = stepping.stands_again old before state from to moving progress waits new after makes state no_residue behind_it.0.means.coherent behind_it.0.beside (reads_same P before.words after.words behind_it.0.means state waits.stands.reads) knows_new;
+        going = (stepping.goes_again old before state from to moving progress waits new after makes).0;
+        unmarked = (stepping.goes_again old before state from to moving progress waits new after makes).1;
+        no_pointer = refl;
+      },
       crash_last after.words makes.takes.makes,
     )
 

@@ -1,5 +1,5 @@
 -- A move that waits makes a step that commits nothing and isn't its last: it waits at the next stage, and no crash in the step changes a meaning.
-use Rattle.std.proofs.Common.{◌≡◌, inl, inr, ℕ, ◌-◌, ◌≤◌, List, length, Contains, refl, sym, subst, ◌∙◌}
+use Rattle.std.proofs.Common.{◌≡◌, inl, inr, ℕ, ◌-◌, ◌≤◌, false, List, length, Contains, refl, sym, subst, ◌∙◌}
 use Rattle.pm_trait.specs.DeviceView.{DeviceView}
 use Rattle.pm_trait.specs.Unfolds.{Step, Through}
 use Rattle.layout.specs.Fields.{page_owner}
@@ -106,7 +106,11 @@ module _ (old : VolumeView) (before : DeviceView) (state : State) (from to : Rou
     same_beside : IsSameBeside kept new
     same_beside = enters_beside kept new moving progress makes.enters
 
-    -- Behind a step the volume stands for a state that these words read as, beside what they are tidy beside.
+    -- Behind a step the volume goes on without a mark,
+    pub goes_again : (new.stopped ≡ false) × (new.marked ≡ false)
+    goes_again = (same_beside.stopped ∙ waits.going, same_beside.marked ∙ waits.unmarked)
+
+    -- and stands for a state that these words read as, beside what they are tidy beside.
     pub stands_again : (later : State) (residue : Residue) → IsCoherent P after.words → IsTidyBeside P after.words residue → ReadsAs P after.words later → KnowsBeside new after.words residue → StandsBeside new after later residue
     stands_again later residue fit beside reads knows =
         stands_behind old new before after state later (left_by old moving progress) residue step (EntersAt (Stepping moving progress)) waits.stands waits.unmarked makes (stores P moving pages count_is progress waits.at.store)
@@ -147,8 +151,8 @@ module _ (old : VolumeView) (before : DeviceView) (state : State) (from to : Rou
       pub waits_on : (later : State) → StandsBeside new after later (left_with moving pages next) → AreListed P first pages → WaitsToMove new after later from to moving next
       waits_on later stood listed = let (at, planned, lists) = has_begun listed in record {
         stands = subst (λ (l : List ℕ). StandsBeside new after later (left_with moving l next)) (sym gone_on.gone) stood;
-        going = same_beside.stopped ∙ waits.going;
-        unmarked = same_beside.marked ∙ waits.unmarked;
+        going = goes_again.0;
+        unmarked = goes_again.1;
         at = at;
         knows = stands.at.1;
         start = waits.start;
