@@ -1,6 +1,8 @@
--- What the walks refuse the row refuses, and a plan has few events.
-use Rattle.std.proofs.Common.{◌≡◌, ℕ, List, [], ◌∷◌, ◌++◌, drop, Option, Some, None, refl, sym, subst}
+-- What the walks refuse the row refuses, a plan has few events, and what comes between steps passes by.
+use Rattle.std.proofs.Common.{◌≡◌, ℕ, List, [], ◌∷◌, ◌++◌, drop, Option, Some, None, refl, sym, ap, subst, ◌∙◌, arith}
 use Rattle.std.specs.Prelude.{Contains}
+use Rattle.pm_trait.proofs.AckLaws.{settled_ack}
+use Rattle.layout.specs.Superblock.{has_mark}
 use Rattle.tree_model.specs.Capacity.{Supply}
 use Rattle.tree_model.specs.Step.{first, at, walk_faults, later_faults, refusal_with}
 use Rattle.tree_model.specs.Run.{State}
@@ -9,11 +11,16 @@ use Rattle.tree_model.specs.declared.command.Command.TheVariants.{Create, Mkdir,
 use Rattle.tree_model.specs.declared.reply.Refusal.{Refusal}
 use Rattle.tree_model.specs.declared.reply.Refusal.TheVariants.{Root}
 use Rattle.image_reading.specs.Counts.{IsIn}
+use Rattle.image_reading.specs.Reading.{ReadsAs}
+use Rattle.image_reading.specs.Residue.{IsTidyBeside}
+use Rattle.image_reading.specs.Soundness.{Sound}
 use Rattle.weave_laws.specs.Beside.{Keeps}
 use Rattle.weave_laws.proofs.Ordered.{any_order_law}
+use Rattle.volume.specs.Beside.{KnowsBeside}
 use Rattle.volume.specs.Named.{is_at_root, refusal_of_walks}
 use Rattle.volume.proofs.KeptEvents.{events_few}
-use Rattle.waiting_laws.specs.Preparing.{WalksRefuseLaw, FewEventsLaw, PreparedPassesLaw, StandsInOrderLaw}
+use Rattle.waiting_laws.specs.Beside.{KeepsNodes}
+use Rattle.waiting_laws.specs.Preparing.{WalksRefuseLaw, FewEventsLaw, PreparedPassesLaw, StandsInOrderLaw, AcknowledgedLaw}
 use Rattle.waiting_laws.proofs.ReadyStands.{bounded}
 
 -- what doesn't change is kept
@@ -23,6 +30,13 @@ kept_itself P I slots pages inodes = record {
   of_slots = λ s among. record { number = refl; pointer = refl; words = refl; name = refl };
   of_pages = λ j among. record { owner = refl; kind = refl; offset = refl; bytes = λ o below. refl };
   of_inodes = λ i among. record { kind = refl; links = refl; size = refl; own = refl };
+}
+
+nodes_themselves : (state : State) (inodes : List ℕ) → KeepsNodes inodes state state
+nodes_themselves state inodes = record {
+  nodes = λ id named. record { node = refl; names = refl; links = refl; paths = refl; pages = refl };
+  paths = λ path id named is. is;
+  names = λ path id named is. refl;
 }
 
 -- the first fault of the front of a row is that of the row
@@ -70,11 +84,7 @@ prepared_passes old new before after state command result held prepares =
     record {
       size = view.same_size;
       words = subst (λ (words : List ℕ). Keeps old.size before.words words held.slots held.pages held.inodes) (sym same) (kept_itself old.size before.words held.slots held.pages held.inodes);
-      nodes = record {
-        nodes = λ id named. record { node = refl; names = refl; links = refl; paths = refl; pages = refl };
-        paths = λ path id named is. is;
-        names = λ path id named is. refl;
-      };
+      nodes = nodes_themselves state held.inodes;
       index = λ i named. record { entries = view.index.entries i; pages = view.index.pages i; place = view.index.place i; page_places = view.index.page_places i };
       lists = λ i j among listed. subst (λ (pages : List ℕ). Contains pages j) (view.index.pages i) listed;
     }
@@ -107,3 +117,24 @@ stands_in_order volume device state one other same stands =
       mark = stands.mark;
       room = stands.room;
     }
+
+pub acknowledged : AcknowledgedLaw
+acknowledged volume before after state residue held stands acks =
+    let same = acks.words in (
+      record {
+        settled = settled_ack same acks.trail stands.settled;
+        sound = subst (λ (words : List ℕ). Sound volume.size words) (sym same) stands.sound;
+        beside = subst (λ (words : List ℕ). IsTidyBeside volume.size words residue) (sym same) stands.beside;
+        reads = subst (λ (words : List ℕ). ReadsAs volume.size words state) (sym same) stands.reads;
+        knows = subst (λ (words : List ℕ). KnowsBeside volume words residue) (sym same) stands.knows;
+        mark = stands.mark ∙ ap (λ (words : List ℕ). has_mark words) (sym same);
+        room = let least = stands.room in let room = acks.room in omega (arith, least, room);
+      },
+      record {
+        size = refl;
+        words = subst (λ (words : List ℕ). Keeps volume.size before.words words held.slots held.pages held.inodes) (sym same) (kept_itself volume.size before.words held.slots held.pages held.inodes);
+        nodes = nodes_themselves state held.inodes;
+        index = λ i named. record { entries = refl; pages = refl; place = λ there. there; page_places = omega arith };
+        lists = λ i j among listed. listed;
+      },
+    )

@@ -1,6 +1,6 @@
--- What calls beside one another ask of a command before it begins.
+-- What calls beside one another ask of a command before it begins, and of what comes between their steps.
 use Rattle.std.specs.Prelude.{◌≡◌, ◌^◌, ◌<◌, Some, Result}
-use Rattle.pm_trait.specs.DeviceView.{DeviceView}
+use Rattle.pm_trait.specs.DeviceView.{DeviceView, Acknowledges}
 use Rattle.tree_model.specs.Capacity.{Supply}
 use Rattle.tree_model.specs.Step.{refusal_with}
 use Rattle.tree_model.specs.Run.{State}
@@ -34,3 +34,8 @@ PreparedPassesLaw = (old new : VolumeView) (before after : DeviceView) (state : 
 -- In which order calls have left places doesn't matter.
 abbrev pub StandsInOrderLaw : Type 0
 StandsInOrderLaw = (volume : VolumeView) (device : DeviceView) (state : State) (one other : Residue) → HasSamePlaces one other → StandsBeside volume device state one → StandsBeside volume device state other
+
+-- An acknowledgement changes no word: the volume stands as it did, and it passes by what waits.
+abbrev pub AcknowledgedLaw : Type 0
+AcknowledgedLaw = (volume : VolumeView) (before after : DeviceView) (state : State) (residue : Residue) (held : Holding) → StandsBeside volume before state residue → Acknowledges before after
+    → StandsBeside volume after state residue × PassesBy volume volume before after state state held

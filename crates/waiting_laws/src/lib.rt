@@ -10,7 +10,7 @@ ghost use Rattle.waiting_laws.specs.Growing.{GrowthFilledLaw, GrowthHoldsLaw, Gr
 ghost use Rattle.waiting_laws.specs.Linking.{LinkingBeginsLaw, LinkingWrittenLaw, LinkingHoldsLaw, LinkingStillLaw, LinkingStandsLaw, LinkingClaimedLaw, LinkingEndsLaw};
 ghost use Rattle.waiting_laws.specs.Making.{MakingBeginsLaw, MakingWrittenLaw, MakingHoldsLaw, MakingStillLaw, MakingStandsLaw, MakingClaimedLaw, MakingEndsLaw};
 ghost use Rattle.waiting_laws.specs.Moving.{MovingBeginsLaw, MovingStartsLaw, MovingStepsLaw, MovingCommitsLaw, MovingEndsLaw};
-ghost use Rattle.waiting_laws.specs.Preparing.{WalksRefuseLaw, FewEventsLaw, PreparedPassesLaw, StandsInOrderLaw};
+ghost use Rattle.waiting_laws.specs.Preparing.{WalksRefuseLaw, FewEventsLaw, PreparedPassesLaw, StandsInOrderLaw, AcknowledgedLaw};
 ghost use Rattle.waiting_laws.specs.Removing.{RemovingBeginsLaw, RemovingCommitsLaw, RemovingHoldsLaw, RemovingStillLaw, RemovingStandsLaw, RemovingStepsLaw, RemovingEndsLaw};
 ghost use Rattle.waiting_laws.specs.Writing.{WritingBeginsLaw, ResizingBeginsLaw, WritingInsideLaw, WritingStandsLaw, ResizingStandsLaw};
 
@@ -21,12 +21,13 @@ pub fn apart_law()
 {}
 
 /// What the walks of a command refuse its whole row refuses, whatever others hold; the events of a plan are few; its preparing passes by what
-/// waits; and the order doesn't matter in which calls have left places.
+/// waits, and so does an acknowledgement; and the order doesn't matter in which calls have left places.
 pub fn preparing_law()
     ensures walks { WalksRefuseLaw }
     ensures events { FewEventsLaw }
     ensures passes { PreparedPassesLaw }
     ensures order { StandsInOrderLaw }
+    ensures acknowledged { AcknowledgedLaw }
 {}
 
 /// A call that begins holds nothing that another one holds, where its command names nothing of that; what a call has left fits into what is free

@@ -1,4 +1,4 @@
-use Rattle.waiting_laws.proofs.Preparing.{walks_refuse, few_events, prepared_passes, stands_in_order}
+use Rattle.waiting_laws.proofs.Preparing.{walks_refuse, few_events, prepared_passes, stands_in_order, acknowledged}
 use Rattle.waiting_laws.proofs.preparing_law.Goals as goal
 
 pub returns-clause-walks : goal.returns-clause-walks
@@ -12,3 +12,6 @@ returns-clause-passes c = prepared_passes
 
 pub returns-clause-order : goal.returns-clause-order
 returns-clause-order c = stands_in_order
+
+pub returns-clause-acknowledged : goal.returns-clause-acknowledged
+returns-clause-acknowledged c = acknowledged
