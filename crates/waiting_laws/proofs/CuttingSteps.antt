@@ -253,12 +253,10 @@ module _ (old new : VolumeView) (before after : DeviceView) (state : State) (res
     };
   }
 
-  trimmed : StandsStage new after (Cutting resizing Trimmed) → WaitsOn old new before after state resizing Trimmed others × KeepsMeaning old.size before.words J
-  trimmed stands = (
-    subst (λ (v : VolumeView). StandsStage v after (Cutting resizing Trimmed) → StandsWith v after state (left_by old resizing) others → WaitsOn old v before after state resizing Trimmed others)
-        (sym makes.enters) waits_spent stands beside_given,
-    given_keeps old before state resizing Lowered others waiting owned J makes.takes.makes,
-  )
+  trimmed : StandsStage new after (Cutting resizing Trimmed) → WaitsOn old new before after state resizing Trimmed others
+  trimmed stands =
+      subst (λ (v : VolumeView). StandsStage v after (Cutting resizing Trimmed) → StandsWith v after state (left_by old resizing) others → WaitsOn old v before after state resizing Trimmed others)
+      (sym makes.enters) waits_spent stands beside_given
 
 -- A call that waits has lowered the size, where it goes on, or else taken the owners.
 goes_on : (P : ℕ) (I pages : List ℕ) (resizing : Resizing) (progress next : CutProgress) → HasItsCutPages P I resizing.inode pages progress → next_cutting resizing progress ≡ More (Cutting resizing next) → (progress ≡ Lowered) × (next ≡ Trimmed)
@@ -278,7 +276,7 @@ cut_trimmed_law old new before after state resizing progress next others waiting
     let there = trimmed old new before after state resizing others (subst (λ (p : CutProgress). WaitsToCut old before state resizing p others) at waiting)
     (subst (λ (p : CutProgress). MakesStep (step_of old (Cutting resizing p)) (EntersAt (Cutting resizing p)) old new before after) at makes)
     (subst (λ (p : CutProgress). StandsStage new after (Cutting resizing p)) then stands) in
-    (subst (λ (p : CutProgress). WaitsOn old new before after state resizing p others) (sym then) there.0, there.1)
+    subst (λ (p : CutProgress). WaitsOn old new before after state resizing p others) (sym then) there
 
 -- ---- behind the last
 
@@ -309,15 +307,12 @@ module _ (old new : VolumeView) (before after : DeviceView) (state : State) (res
       stores_only
       (cleared_reached old before state resizing Trimmed others waiting unowned after.words makes.takes.makes kept new leaving)
 
-  ended : Leaves old new before after state no_residue others (held_by old resizing) × KeepsMeaning old.size before.words after.words
-  ended = (
-    record {
-      beside = beside_cleared;
-      stores = wider_law old.size before.words after.words [] (pages_cut old resizing) [] [] (pages_of old.index resizing.inode ++ []) (resizing.inode ∷ []) (among_held old resizing) stores_only;
-      affects = affects old before state resizing Trimmed others waiting unowned after.words makes.takes.makes kept new leaving;
-    },
-    cleared_keeps old before state resizing Trimmed others waiting unowned after.words makes.takes.makes,
-  )
+  ended : Leaves old new before after state no_residue others (held_by old resizing)
+  ended = record {
+    beside = beside_cleared;
+    stores = wider_law old.size before.words after.words [] (pages_cut old resizing) [] [] (pages_of old.index resizing.inode ++ []) (resizing.inode ∷ []) (among_held old resizing) stores_only;
+    affects = affects old before state resizing Trimmed others waiting unowned after.words makes.takes.makes kept new leaving;
+  }
 
 pub cut_ends_law : CutEndsLaw
 cut_ends_law old new before after state resizing progress others waiting makes is =

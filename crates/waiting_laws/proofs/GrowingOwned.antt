@@ -143,8 +143,6 @@ pub growth_owned_law : GrowthOwnedLaw
 growth_owned_law old new before after state growth bytes pages Begun next others waiting makes follows stands = absurd waiting.new_pages
 growth_owned_law old new before after state growth bytes pages Filled next others waiting makes follows stands =
     let owned = owned_next next follows in
-    let stands_owned = subst (λ p. StandsGrowth new after growth bytes pages p) (sym owned) stands in (
-      subst (λ p. WaitsOn old new before after state growth bytes pages p others) owned (waits_on old before state growth bytes pages others waiting new after makes stands_owned),
-      keeps_meaning old before state growth bytes pages others waiting after.words makes.takes.makes,
-    )
+    let stands_owned = subst (λ p. StandsGrowth new after growth bytes pages p) (sym owned) stands in
+    subst (λ p. WaitsOn old new before after state growth bytes pages p others) owned (waits_on old before state growth bytes pages others waiting new after makes stands_owned)
 growth_owned_law old new before after state growth bytes pages Owned next others waiting makes follows stands = absurd (no_next next follows)

@@ -53,7 +53,6 @@ module _ (old : VolumeView) (before after : DeviceView) (state : State) (from pa
           knows = record { place = stands.place; unlisted = on.knows.unlisted };
         };
         leaves = leaves;
-        quiet = claims.crash_claimed on.beside on.name on.words.1 on.place after.words makes.takes.makes;
       }
 
 -- ---- by its stage

@@ -150,7 +150,6 @@ module _ (volume : VolumeView) (before : DeviceView) (state : State) (from path 
             knows = record { place = stands.place; unlisted = placed.unlisted coming };
           };
           leaves = leaves;
-          quiet = crash_written after.words makes.takes.makes;
         }
 
 pub next_is : (one other : RunningView) → ◌≡◌ {A = Next RunningView} (More one) (More other) → one ≡ other

@@ -79,7 +79,6 @@ module _ (old : VolumeView) (before after : DeviceView) (state : State) (path : 
           knows = record { place = stands.place; unlisted = on.knows.unlisted };
         };
         leaves = leaves;
-        quiet = claims.crash_claimed on.beside on.name on.words.1 on.place after.words makes.takes.makes;
       }
 
 -- ---- by its stage

@@ -198,7 +198,6 @@ module _ (volume : VolumeView) (before : DeviceView) (state : State) (path : Rou
             knows = record { place = stands.place; unlisted = placed.unlisted coming };
           };
           leaves = leaves;
-          quiet = crash_written J makes.takes.makes;
         }
 
 pub next_is : (one other : RunningView) → ◌≡◌ {A = Next RunningView} (More one) (More other) → one ≡ other

@@ -240,16 +240,13 @@ module _ (old : VolumeView) (before : DeviceView) (state : State) (from to : Rou
         (stepping.knows_kept old before state from to moving progress waits) waits.stands.sound.coherent left_pages (directory.0, omega (arith, directory, each)) (no_file after.words moving.from_directory behind_it.1) apart
         page_listed pages_listed (gives_by moving progress kept new e makes.enters)
 
-    pub ends : StandsWith new after state no_residue no_residue × KeepsMeaning P before.words after.words
-    ends = (
-      record {
-        stands = stepping.stands_again old before state from to moving progress waits new after makes state no_residue behind_it.0.means.coherent behind_it.0.beside (reads_same P before.words after.words behind_it.0.means state waits.stands.reads) knows_new;
-        going = (stepping.goes_again old before state from to moving progress waits new after makes).0;
-        unmarked = (stepping.goes_again old before state from to moving progress waits new after makes).1;
-        no_pointer = refl;
-      },
-      crash_last after.words makes.takes.makes,
-    )
+    pub ends : StandsWith new after state no_residue no_residue
+    ends = record {
+      stands = stepping.stands_again old before state from to moving progress waits new after makes state no_residue behind_it.0.means.coherent behind_it.0.beside (reads_same P before.words after.words behind_it.0.means state waits.stands.reads) knows_new;
+      going = (stepping.goes_again old before state from to moving progress waits new after makes).0;
+      unmarked = (stepping.goes_again old before state from to moving progress waits new after makes).1;
+      no_pointer = refl;
+    }
 
 pub moving_ends : MovingEndsLaw
 moving_ends old new before after state from to moving progress waits makes e = ends old before state from to moving progress waits e new after makes

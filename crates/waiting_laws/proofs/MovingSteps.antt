@@ -191,12 +191,10 @@ module _ (old : VolumeView) (before : DeviceView) (state : State) (from to : Rou
             let was : Contains (pages_of old.index i) j = subst (λ (v : VolumeView). Contains (pages_of v.index i) j) takes there in
             elim (quietly.left j among) [ inl left ↦ waits.listed i j least most left was | inr new_page ↦ taken_listed progress waits.at.made waits.stands.knows i j least most new_page was ]
 
-        pub steps : WaitsToMove new after state from to moving next × KeepsMeaning P before.words after.words
+        pub steps : WaitsToMove new after state from to moving next
         steps =
-            let same = step_means quietly.step in (
-              waits_on state (stands_again state (left_with moving pages next) same.coherent quietly.step.beside (reads_same P before.words after.words same state waits.stands.reads) knows_new) listed_new,
-              crash_quiet after.words makes.takes.makes next e other,
-            )
+            let same = step_means quietly.step in
+            waits_on state (stands_again state (left_with moving pages next) same.coherent quietly.step.beside (reads_same P before.words after.words same state waits.stands.reads) knows_new) listed_new
 
 pub moving_steps : MovingStepsLaw
 moving_steps old new before after state from to moving progress next waits other makes e stands = steps old before state from to moving progress waits new after makes next e stands other

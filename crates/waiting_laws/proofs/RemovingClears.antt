@@ -181,12 +181,11 @@ module _ (old : VolumeView) (before after : DeviceView) (state : State) (removal
   waits_disowned : StandsStage R after (at removal Disowned) → WaitsOn old R before after state (at removal Disowned) others
   waits_disowned stands = waiting.waits_again old before state removal Unnamed others waits (old.kept - step.events) after Disowned beside stands tt kept_place
 
-  pub on_cleared : (next : RunningView) → next_of removal Unnamed ≡ More next → StandsStage N after next → WaitsOn old N before after state next others × KeepsMeaning old.size before.words after.words
+  pub on_cleared : (next : RunningView) → next_of removal Unnamed ≡ More next → StandsStage N after next → WaitsOn old N before after state next others
   on_cleared next is stands =
-      let crash = quiet old before state removal others waits after.words makes.takes.makes in
-      subst (λ (v : VolumeView). StandsStage v after next → WaitsOn old v before after state next others × KeepsMeaning old.size before.words after.words) (sym same)
+      subst (λ (v : VolumeView). StandsStage v after next → WaitsOn old v before after state next others) (sym same)
       (elim (after_clearing removal next is) [
-        | inl cleared ↦ subst (λ (r : RunningView). StandsStage R after r → WaitsOn old R before after state r others × KeepsMeaning old.size before.words after.words) cleared (λ stood. (waits_cleared stood, crash))
-        | inr disowned ↦ subst (λ (r : RunningView). StandsStage R after r → WaitsOn old R before after state r others × KeepsMeaning old.size before.words after.words) disowned (λ stood. (waits_disowned stood, crash))
+        | inl cleared ↦ subst (λ (r : RunningView). StandsStage R after r → WaitsOn old R before after state r others) cleared waits_cleared
+        | inr disowned ↦ subst (λ (r : RunningView). StandsStage R after r → WaitsOn old R before after state r others) disowned waits_disowned
       ])
       stands

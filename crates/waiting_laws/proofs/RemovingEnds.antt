@@ -16,7 +16,7 @@ use Rattle.volume.proofs.Moments.{with_kept}
 use Rattle.unlink_ops.specs.declared.removal.Stage.{Stage}
 use Rattle.unlink_ops.specs.declared.removal.Stage.TheVariants.{Begun, Unnamed, Cleared, Disowned}
 use Rattle.unlink_ops.specs.RemovalStages.{pages_gone, step_at, step_of, next_of, EntersAt}
-use Rattle.waiting_laws.specs.Beside.{StandsWith, MakesStep, Leaves, KeepsMeaning}
+use Rattle.waiting_laws.specs.Beside.{StandsWith, MakesStep, Leaves}
 use Rattle.waiting_laws.specs.Removing.{held_by, WaitsToRemove, RemovingEndsLaw}
 use Rattle.waiting_laws.proofs.RemovingWaits.{at, all_left, ended_clearing, not_ended, affects_none}
 use Rattle.waiting_laws.proofs.RemovingClears as clears
@@ -43,19 +43,17 @@ module _ (old new : VolumeView) (before after : DeviceView) (state : State) (rem
   abbrev K : VolumeView
   K = with_kept (old.kept - (step_at old.size removal (pages_gone old removal) Unnamed).events) old
 
-  ends_cleared : next_of removal Unnamed ≡ Ended Done → Leaves old new before after state no_residue others (held_by old removal) × KeepsMeaning old.size before.words after.words
+  ends_cleared : next_of removal Unnamed ≡ Ended Done → Leaves old new before after state no_residue others (held_by old removal)
   ends_cleared is =
       let (none, stays) = ended_clearing removal is in
       let stands : StandsWith K after state no_residue others =
       subst (λ (r : Residue). StandsWith K after state r others) (nothing_left old removal none stays) (clears.beside old before after state removal others waits new makes.enters makes) in
-      subst (λ (v : VolumeView). Leaves old v before after state no_residue others (held_by old removal) × KeepsMeaning old.size before.words after.words) (sym makes.enters) (
-        record { beside = stands; stores = (clears.kept_place old before after state removal others waits new makes.enters makes).stores; affects = affects_none old K.kept removal },
-        clears.quiet old before state removal others waits after.words makes.takes.makes,
-      )
+      subst (λ (v : VolumeView). Leaves old v before after state no_residue others (held_by old removal)) (sym makes.enters)
+      (record { beside = stands; stores = (clears.kept_place old before after state removal others waits new makes.enters makes).stores; affects = affects_none old K.kept removal })
 
 by_stage : (old new : VolumeView) (before after : DeviceView) (state : State) (removal : Removal) (stage : Stage) (others : Residue) → WaitsToRemove old before state (at removal stage) others
     → MakesStep (step_of old (at removal stage)) (EntersAt (at removal stage)) old new before after → next_of removal stage ≡ Ended Done
-    → Leaves old new before after state no_residue others (held_by old removal) × KeepsMeaning old.size before.words after.words
+    → Leaves old new before after state no_residue others (held_by old removal)
 by_stage old new before after state removal Begun others waits makes is = absurd waits.falling
 by_stage old new before after state removal Unnamed others waits makes is = ends_cleared old new before after state removal others waits makes is
 by_stage old new before after state removal Cleared others waits makes is = absurd (not_ended (at removal Disowned) is)

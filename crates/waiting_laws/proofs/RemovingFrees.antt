@@ -344,5 +344,5 @@ module _ (old new : VolumeView) (before after : DeviceView) (state : State) (rem
     lists = λ x j there. inl (page_gone R makes.enters.given removal.directory removal.given_back makes.enters.page x j (node_gone makes.enters.given new removal.loss.goes removal.loss.inode makes.enters.inode x j there));
   }
 
-  pub frees : Leaves old new before after state no_residue others (held_by old removal) × KeepsMeaning old.size before.words after.words
-  frees = (record { beside = beside; stores = stored; affects = affects }, quiet old before state removal others waits after.words makes.takes.makes)
+  pub frees : Leaves old new before after state no_residue others (held_by old removal)
+  frees = record { beside = beside; stores = stored; affects = affects }

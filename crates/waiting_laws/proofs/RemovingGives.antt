@@ -240,9 +240,8 @@ module _ (old : VolumeView) (before after : DeviceView) (state : State) (removal
   waits_disowned : StandsStage R after (at removal Disowned) → WaitsOn old R before after state (at removal Disowned) others
   waits_disowned stands = waiting.waits_again old before state removal Cleared others waits (old.kept - step.events) after Disowned beside stands tt kept_place
 
-  pub on_disowned : (next : RunningView) → next_of removal Cleared ≡ More next → StandsStage N after next → WaitsOn old N before after state next others × KeepsMeaning old.size before.words after.words
+  pub on_disowned : (next : RunningView) → next_of removal Cleared ≡ More next → StandsStage N after next → WaitsOn old N before after state next others
   on_disowned next is stands =
-      let crash = quiet old before state removal others waits after.words makes.takes.makes in
-      subst (λ (v : VolumeView). StandsStage v after next → WaitsOn old v before after state next others × KeepsMeaning old.size before.words after.words) (sym same)
-      (subst (λ (r : RunningView). StandsStage R after r → WaitsOn old R before after state r others × KeepsMeaning old.size before.words after.words) (same_next (at removal Disowned) next is) (λ stood. (waits_disowned stood, crash)))
+      subst (λ (v : VolumeView). StandsStage v after next → WaitsOn old v before after state next others) (sym same)
+      (subst (λ (r : RunningView). StandsStage R after r → WaitsOn old R before after state r others) (same_next (at removal Disowned) next is) waits_disowned)
       stands

@@ -1,13 +1,12 @@
 -- What a crash in a step leaves, of the words alone: also where the step's fence fails, and nothing else is known of what comes behind it. P is
 -- the number of pages, J the words that the step makes. (Where a step commits a command that makes no node, id n is not read.)
-use Rattle.std.specs.Prelude.{◌≡◌, ℕ, Bool, true, false, List}
+use Rattle.std.specs.Prelude.{◌≡◌, ℕ, Bool, true, false, List, Some}
 use Rattle.pm_trait.specs.DeviceView.{DeviceView}
 use Rattle.tree_model.specs.PathText.{Route}
 use Rattle.tree_model.specs.Tree.{id_at}
 use Rattle.tree_model.specs.Run.{State}
 use Rattle.tree_model.specs.declared.command.Command.{Command}
 use Rattle.tree_model.specs.declared.command.Command.TheVariants.{Link, Rename, Write, Truncate}
-use Rattle.std.specs.Prelude.{Some}
 use Rattle.fence_token.specs.declared.states.Clean.{Clean}
 use Rattle.image_reading.specs.Residue.{Residue}
 use Rattle.image_laws.specs.CreateStep.{IsStepped}

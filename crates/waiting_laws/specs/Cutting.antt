@@ -22,7 +22,7 @@ use Rattle.data_ops.specs.declared.truncate.CutProgress.TheVariants.{Begun, Lowe
 use Rattle.data_ops.specs.declared.truncate.Stage.TheVariants.{Cutting}
 use Rattle.data_ops.specs.Cutting.{gone_pages}
 use Rattle.data_ops.specs.ResizeStages.{begun_resizing, left_of, step_of, IsAt, next_of, EntersAt, StandsStage}
-use Rattle.waiting_laws.specs.Beside.{Holding, Holds, IsReady, StandsWith, MakesStep, Leaves, KeepsMeaning, Commits, PassesBy}
+use Rattle.waiting_laws.specs.Beside.{Holding, Holds, IsReady, StandsWith, MakesStep, Leaves, Commits, PassesBy}
 use Rattle.waiting_laws.specs.Growing.{file_held_by, pages_left_by}
 
 -- ---- what it holds, and what it has left
@@ -107,11 +107,11 @@ abbrev pub CutTrimmedLaw : Type 0
 CutTrimmedLaw = (old new : VolumeView) (before after : DeviceView) (state : State) (resizing : Resizing) (progress next : CutProgress) (others : Residue)
     → WaitsToCut old before state resizing progress others → MakesStep (step_of old (Cutting resizing progress)) (EntersAt (Cutting resizing progress)) old new before after
     → next_of (Cutting resizing progress) ≡ More (Cutting resizing next) → StandsStage new after (Cutting resizing next)
-    → WaitsOn old new before after state resizing next others × KeepsMeaning old.size before.words after.words
+    → WaitsOn old new before after state resizing next others
 
 -- Behind its last step nothing of it is left.
 abbrev pub CutEndsLaw : Type 0
 CutEndsLaw = (old new : VolumeView) (before after : DeviceView) (state : State) (resizing : Resizing) (progress : CutProgress) (others : Residue)
     → WaitsToCut old before state resizing progress others → MakesStep (step_of old (Cutting resizing progress)) (EntersAt (Cutting resizing progress)) old new before after
     → next_of (Cutting resizing progress) ≡ Ended Done
-    → Leaves old new before after state no_residue others (held_by old resizing) × KeepsMeaning old.size before.words after.words
+    → Leaves old new before after state no_residue others (held_by old resizing)

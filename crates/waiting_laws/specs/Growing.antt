@@ -33,7 +33,7 @@ use Rattle.data_ops.specs.Growing.{IsGrowing}
 use Rattle.data_ops.specs.GrowthStages.{IsGrowthAt, KnowsGrowth, EntersGrowth, left_of_growth, step_of_growth, next_of_growth}
 use Rattle.data_ops.specs.GrowthSteps.{StandsGrowth}
 use Rattle.data_ops.specs.Writing.{growth_of}
-use Rattle.waiting_laws.specs.Beside.{Holding, Holds, IsReady, StandsWith, MakesStep, Leaves, KeepsMeaning, Commits, PassesBy}
+use Rattle.waiting_laws.specs.Beside.{Holding, Holds, IsReady, StandsWith, MakesStep, Leaves, Commits, PassesBy}
 
 -- ---- what the call holds, and what it has left
 
@@ -128,7 +128,7 @@ abbrev pub GrowthOwnedLaw : Type 0
 GrowthOwnedLaw = (old new : VolumeView) (before after : DeviceView) (state : State) (growth : Growth) (bytes pages : List ℕ) (progress next : Progress) (others : Residue)
     → WaitsToGrow old before state growth bytes pages progress others → MakesStep (step_of_growth old.size growth bytes pages progress) (EntersGrowth growth.inode pages progress) old new before after
     → next_of_growth progress pages ≡ Some next → StandsGrowth new after growth bytes pages next
-    → WaitsOn old new before after state growth bytes pages next others × KeepsMeaning old.size before.words after.words
+    → WaitsOn old new before after state growth bytes pages next others
 
 -- The step that commits it is its last (no node is new: id n is not read).
 abbrev pub GrowthEndsLaw : Type 0

@@ -20,7 +20,7 @@ use Rattle.volume.specs.declared.plan.Action.TheVariants.{Name}
 use Rattle.unlink_ops.specs.declared.link.Stage.{Stage}
 use Rattle.unlink_ops.specs.declared.link.Stage.TheVariants.{Begun, Written, Claimed}
 use Rattle.unlink_ops.specs.LinkStages.{RunningView, begun, left_of, step_of, IsAt, IsNext, EntersAt, StandsStage, MayBegin}
-use Rattle.waiting_laws.specs.Beside.{Holding, Holds, IsReady, StandsWith, MakesStep, Leaves, KeepsMeaning, Commits, PassesBy}
+use Rattle.waiting_laws.specs.Beside.{Holding, Holds, IsReady, StandsWith, MakesStep, Leaves, Commits, PassesBy}
 use Rattle.waiting_laws.specs.Naming.{IsNameIn, KnowsPlace}
 
 -- ---- what it holds, and what it has left
@@ -58,7 +58,6 @@ pub record WaitsToLink (volume : VolumeView) (device : DeviceView) (state : Stat
 pub record WaitsOn (old new : VolumeView) (before after : DeviceView) (state : State) (from path : Route) (next : RunningView) (others : Residue) : Type 0 where
   pub waits : WaitsToLink new after state from path next others
   pub leaves : Leaves old new before after state (left_by next.link) others (held_by next.link)
-  pub quiet : KeepsMeaning old.size before.words after.words
 
 -- ---- it begins
 

@@ -20,7 +20,7 @@ use Rattle.create_ops.specs.declared.run.Stage.{Stage}
 use Rattle.create_ops.specs.declared.run.Stage.TheVariants.{Begun, Written, Claimed}
 use Rattle.create_ops.specs.Making.{node_of}
 use Rattle.create_ops.specs.Stages.{RunningView, begun, left_of, step_of, IsAt, IsNext, EntersAt, StandsStage, MayBegin}
-use Rattle.waiting_laws.specs.Beside.{Holding, Holds, IsReady, StandsWith, MakesStep, Leaves, KeepsMeaning, Commits, PassesBy}
+use Rattle.waiting_laws.specs.Beside.{Holding, Holds, IsReady, StandsWith, MakesStep, Leaves, Commits, PassesBy}
 use Rattle.waiting_laws.specs.Naming.{IsNameIn, KnowsPlace}
 
 -- ---- what it holds, and what it has left
@@ -58,7 +58,6 @@ pub record WaitsToMake (volume : VolumeView) (device : DeviceView) (state : Stat
 pub record WaitsOn (old new : VolumeView) (before after : DeviceView) (state : State) (path : Route) (next : RunningView) (others : Residue) : Type 0 where
   pub waits : WaitsToMake new after state path next others
   pub leaves : Leaves old new before after state (left_by next.entry) others (held_by next.entry)
-  pub quiet : KeepsMeaning old.size before.words after.words
 
 -- ---- it begins
 

@@ -30,7 +30,7 @@ use Rattle.rename_ptr.specs.declared.rename.Progress.TheVariants.{Begun, Filled,
 use Rattle.rename_ptr.specs.declared.rename.Stage.TheVariants.{Moving as Moves}
 use Rattle.rename_ptr.specs.Steps.{target_of}
 use Rattle.rename_ptr.specs.Stages.{IsPlannedMove, IsAt, KnowsMove, step_of, next_moving, EntersAt, StandsStage, MayBegin}
-use Rattle.waiting_laws.specs.Beside.{IsReady, StandsWith, MakesStep, KeepsMeaning, Commits}
+use Rattle.waiting_laws.specs.Beside.{IsReady, StandsWith, MakesStep, Commits}
 
 -- ---- what it has left
 
@@ -88,7 +88,7 @@ abbrev pub MovingStepsLaw : Type 0
 MovingStepsLaw = (old new : VolumeView) (before after : DeviceView) (state : State) (from to : Route) (moving : Moving) (progress next : Progress) → WaitsToMove old before state from to moving progress
     → (progress ≡ Pointed → ⊥) → MakesStep (step_of old (Moves moving progress)) (EntersAt (Moves moving progress)) old new before after
     → next_moving moving progress ≡ More (Moves moving next) → StandsStage new after (Moves moving next)
-    → WaitsToMove new after state from to moving next × KeepsMeaning old.size before.words after.words
+    → WaitsToMove new after state from to moving next
 
 -- the commit (no node is new: id n is not read)
 abbrev pub MovingCommitsLaw : Type 0
@@ -100,4 +100,4 @@ MovingCommitsLaw = (old new : VolumeView) (before after : DeviceView) (state : S
 abbrev pub MovingEndsLaw : Type 0
 MovingEndsLaw = (old new : VolumeView) (before after : DeviceView) (state : State) (from to : Route) (moving : Moving) (progress : Progress) → WaitsToMove old before state from to moving progress
     → MakesStep (step_of old (Moves moving progress)) (EntersAt (Moves moving progress)) old new before after → next_moving moving progress ≡ Ended Done
-    → StandsWith new after state no_residue no_residue × KeepsMeaning old.size before.words after.words
+    → StandsWith new after state no_residue no_residue

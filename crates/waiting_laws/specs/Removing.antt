@@ -25,7 +25,7 @@ use Rattle.volume.specs.declared.plan.Action.TheVariants.{Remove}
 use Rattle.unlink_ops.specs.declared.removal.Stage.{Stage}
 use Rattle.unlink_ops.specs.declared.removal.Stage.TheVariants.{Begun, Unnamed, Cleared, Disowned}
 use Rattle.unlink_ops.specs.RemovalStages.{RunningView, begun, pages_gone, left_of, step_of, IsAt, HasLosses, next_of, EntersAt, StandsStage, MayBegin}
-use Rattle.waiting_laws.specs.Beside.{Holding, Holds, IsReady, StandsWith, MakesStep, NamesNothing, Leaves, KeepsMeaning, Commits, PassesBy}
+use Rattle.waiting_laws.specs.Beside.{Holding, Holds, IsReady, StandsWith, MakesStep, NamesNothing, Leaves, Commits, PassesBy}
 
 -- the command that takes a node of this kind away
 abbrev pub of_kind : NodeKind → Route → Command
@@ -139,10 +139,10 @@ RemovingStandsLaw = (volume : VolumeView) (device : DeviceView) (state : State) 
 abbrev pub RemovingStepsLaw : Type 0
 RemovingStepsLaw = (old new : VolumeView) (before after : DeviceView) (state : State) (running next : RunningView) (others : Residue) → WaitsToRemove old before state running others
     → MakesStep (step_of old running) (EntersAt running) old new before after → next_of running.removal running.stage ≡ More next → StandsStage new after next
-    → WaitsOn old new before after state next others × KeepsMeaning old.size before.words after.words
+    → WaitsOn old new before after state next others
 
 -- Behind its last step nothing of it is left.
 abbrev pub RemovingEndsLaw : Type 0
 RemovingEndsLaw = (old new : VolumeView) (before after : DeviceView) (state : State) (running : RunningView) (others : Residue) → WaitsToRemove old before state running others
     → MakesStep (step_of old running) (EntersAt running) old new before after → next_of running.removal running.stage ≡ Ended Done
-    → Leaves old new before after state no_residue others (held_by old running.removal) × KeepsMeaning old.size before.words after.words
+    → Leaves old new before after state no_residue others (held_by old running.removal)
