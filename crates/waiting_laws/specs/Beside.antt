@@ -30,7 +30,7 @@ use Rattle.volume.specs.declared.plan.Action.{Action}
 
 -- ---- what a call holds
 
--- the slots, pages and inodes to whose words its steps store, and the nodes that its command names
+-- the slots, pages and inodes to whose words its steps store, with the page of each slot, and the nodes that its command names
 pub record Holding : Type 0 where
   pub slots : List ℕ
   pub pages : List ℕ

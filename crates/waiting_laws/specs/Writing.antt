@@ -1,4 +1,4 @@
--- A write and a truncation to more, beside other calls: how they begin, and that they may go on with their growths. P is the number of pages.
+-- A write and a truncation, beside other calls: how they begin, and that one by which a file grows may go on. P is the number of pages.
 use Rattle.std.specs.Prelude.{◌≡◌, ℕ, List, []}
 use Rattle.pm_trait.specs.DeviceView.{DeviceView}
 use Rattle.pm_trait.specs.Unfolds.{events_in}

@@ -86,7 +86,7 @@ pub fn growing_law()
     ensures ends { GrowthEndsLaw }
 {}
 
-/// by a write or by a truncation. A write inside the size has one step.
+/// by a write or by a truncation. Both begin beside other calls, a truncation to less too; a write inside the size has one step.
 pub fn writing_law()
     ensures begins { WritingBeginsLaw }
     ensures resizing { ResizingBeginsLaw }
