@@ -6,7 +6,8 @@ ghost use Rattle.tree_model.specs.Run.{State};
 ghost use Rattle.tree_model.specs.Step.{Answer};
 ghost use Rattle.tree_model.specs.Tree.{bytes_of};
 ghost use Rattle.data_ops.specs.Reading.{HasFile};
-ghost use Rattle.volume.specs.Stands.{StandsFor};
+ghost use Rattle.image_reading.specs.Residue.{Residue};
+ghost use Rattle.volume.specs.Beside.{StandsBeside};
 ghost use Rattle.volume.specs.declared.prepare.contents.TheConstants.{LONGEST_READ};
 ghost use Rattle.engine.specs.declared.last_read.TheConstants.{REPLY_BYTES};
 
@@ -21,7 +22,7 @@ use volume::{LONGEST_READ, Reading, Volume};
 // What the longest reply to a read has room in: two digits for each byte, and what stands around them.
 const REPLY_BYTES: usize = 2 * LONGEST_READ as usize + 32;
 
-// The bytes that were read last, and room for the text of the reply, in buffers that are made once.
+/// The bytes that were read last, and room for the text of the reply, in buffers that are made once.
 #[derive(Drop)]
 pub struct LastRead {
     buffer: Vec<u8>,
@@ -41,7 +42,7 @@ impl Model for LastRead {
 }
 
 impl LastRead {
-    // Nothing is read yet. All the memory is taken here.
+    /// Nothing is read yet. All the memory is taken here.
     pub fn new(alloc: Global) -> Result<LastRead, NoMemory>
         ensures { IfOk result (λ last. last ≡ []) }
     {
@@ -54,19 +55,20 @@ impl LastRead {
         })
     }
 
-    // The bytes.
+    /// The bytes.
     pub fn as_slice(&self) -> &[u8]
         ensures { result.now ≡ self.now }
     {
         &self.buffer[..self.count]
     }
 
-    // Reads bytes of a file, and gives their number.
+    /// Reads bytes of a file, which no running call touches, and gives their number: as many as are asked for, at most 16,384, and the file
+    /// has from the offset on.
     pub fn fill<P: Pm>(&mut self, volume: &Volume, reading: &Reading, pm: &P) -> u64
         requires going { volume.now.stopped ≡ false }
         requires file { HasFile volume.now (P.view pm.now) reading.now.inode }
         requires short { reading.now.count ≤ LONGEST_READ }
-        ensures bytes { (state : State) → StandsFor volume.now (P.view pm.now) state →
+        ensures bytes { (state : State) (residue : Residue) → StandsBeside volume.now (P.view pm.now) state residue →
             self.new ≡ take reading.now.count (drop reading.now.offset (bytes_of state.tree reading.now.inode)) }
         ensures count { result ≡ length self.new }
     {
@@ -77,7 +79,7 @@ impl LastRead {
         count
     }
 
-    // Writes the line of the bytes.
+    /// Writes the line of the bytes: two hexadecimal digits for each.
     pub fn write<K: Sink>(&mut self, sink: &mut K) -> Result<(), WriteFault>
         ensures same { self.new ≡ self.old }
         ensures writes { Writes (K.took sink.old) (K.took sink.new) (K.faults sink.old) (K.faults sink.new)

@@ -10,6 +10,7 @@ mod session;
 mod tree;
 mod turns;
 
+pub use last_read::LastRead;
 pub use laws::plain_runs_are_runs;
 pub use session::Session;
 pub use turns::run;

@@ -89,7 +89,7 @@ fill-requires-clause-short g c = (file_read c.requires.planned.1 (sym c.action.e
 pub returns-in-Read-clause-does : goal.returns-in-Read-clause-does
 returns-in-Read-clause-does g c = λ state plan_for.
     let is = sym c.action.ensures ∙ c.in-Read.is in
-    does_told plan_for (changes_as plan_for is) (read_replied plan_for is (c.fill.ensures.bytes state plan_for.stands) c.fill.ensures.count)
+    does_told plan_for (changes_as plan_for is) (read_replied plan_for is (c.fill.ensures.bytes state no_residue (stands_beside plan_for.stands)) c.fill.ensures.count)
 
 pub returns-in-Read-clause-bytes : goal.returns-in-Read-clause-bytes
 returns-in-Read-clause-bytes g c not = absurd (not _ refl)

@@ -4,8 +4,6 @@ use Rattle.std.specs.Vec.{with_items}
 use Rattle.std.proofs.lemmas.List.{length-take, length-take-le}
 use Rattle.tree_model.specs.Tree.{bytes_of}
 use Rattle.script.proofs.Windows.{window_of_filled}
-use Rattle.image_reading.specs.Residue.{no_residue}
-use Rattle.volume.proofs.Beside.{stands_beside}
 use Rattle.engine.proofs.last_read.LastRead.fill.Goals as goal
 
 pub invariant_of-self-inside : goal.invariant_of-self-inside
@@ -16,12 +14,12 @@ invariant_of-self-inside g c =
     (c.self.inside.whole, (omega (arith, count, short, length-take (c.args.reading.now.count - 0) c.deref_mut.result.now), (c.self.inside.text_whole, tt)))
 
 pub returns-clause-bytes : goal.returns-clause-bytes
-returns-clause-bytes g c = λ state stands.
+returns-clause-bytes g c = λ state residue stands.
     let k = c.args.reading.now.count - 0 in
     let xs = c.deref_mut.result.now in
     let ys = c.read-count.new.buf in
     let count = c.read-count.result in
-    let read = c.read-count.ensures state no_residue (stands_beside stands) in
+    let read = c.read-count.ensures state residue stands in
     let whole = c.self.inside.whole in
     let short = c.requires.short in
     let len = c.deref_mut.ensures.len in

@@ -1,0 +1,4 @@
+pub mod Waits
+pub mod Steps
+pub mod Crashes
+pub mod Numbers
