@@ -32,7 +32,7 @@ use Rattle.session_laws.proofs.GoingCosts.{goes_costs}
 use Rattle.session_laws.proofs.GoingLists.{below_others, put_again}
 use Rattle.session_laws.proofs.GoingNext.{GoesOn, goes_on}
 use Rattle.session_laws.proofs.GoingOthers.{call_holds, same_state, steps_beside}
-use Rattle.session_laws.proofs.GoingStored.{enters_beside, same_inodes}
+use Rattle.session_laws.proofs.GoingStored.{enters_same, same_inodes}
 
 -- ---- how many fences are left behind the step
 
@@ -109,7 +109,7 @@ module _ (take_out : TakeOutLaw) (put_in : PutInLaw) (others_wait : OthersWaitLa
         (omega (arith, all, kept)) between new after next refl refl makes.enters is stands
 
     kept_less : new.kept ≡ old.kept - step.events
-    kept_less = (enters_beside old between new before words call.command (left_of_all old others) call.running taken.call_waits.waits makes.enters).kept
+    kept_less = (enters_same between new call.running makes.enters).kept
 
     kept_now : new.kept ≡ events_left new bytes next + events_of_all new others
     kept_now =

@@ -40,6 +40,8 @@ use Rattle.data_ops.specs.WriteStages as writes
 use Rattle.running_calls.specs.declared.running.Running.{Running}
 use Rattle.running_calls.specs.declared.running.Running.TheVariants.{Makes, Links, Removes, Moves, Writes, Resizes}
 use Rattle.running_calls.specs.Stages.{StandsStage, EntersAt, left_of, step_of}
+use Rattle.rename_ptr.specs.declared.rename.Stage.TheVariants.{Nothing as NamesKept, Moving as MovesName}
+use Rattle.rename_ptr.proofs.Known.{enters_beside as move_enters}
 use Rattle.waiting_laws.proofs.CostsResizing.{resizing_costs}
 use Rattle.waiting_laws.proofs.CostsSteps.{costs_first}
 use Rattle.running_laws.specs.Waits.{held_by, Waits}
@@ -97,14 +99,15 @@ module _ (old new : VolumeView) where
   resize_enters (Cutting resizing Lowered) enters = same_beside enters
   resize_enters (Cutting resizing Trimmed) enters = cut_beside old new resizing.inode resizing.cut enters
 
-pub enters_beside : (volume old new : VolumeView) (device : DeviceView) (state : State) (command : Command) (others : Residue) (running : Running)
-    → Waits volume device state command running others → EntersAt running old new → IsSameBeside old new
-enters_beside volume old new device state command others (Makes running) waits enters = entry_enters old new running.entry running.stage enters
-enters_beside volume old new device state command others (Links running) waits enters = link_enters old new running.link running.stage enters
-enters_beside volume old new device state command others (Removes running) waits enters = removal_enters old new running.removal running.stage enters
-enters_beside volume old new device state command others (Moves running) waits enters = absurd waits
-enters_beside volume old new device state command others (Writes running) waits enters = write_enters old new running enters
-enters_beside volume old new device state command others (Resizes running) waits enters = resize_enters old new running enters
+-- of whatever call, a rename too
+pub enters_same : (old new : VolumeView) (running : Running) → EntersAt running old new → IsSameBeside old new
+enters_same old new (Makes running) enters = entry_enters old new running.entry running.stage enters
+enters_same old new (Links running) enters = link_enters old new running.link running.stage enters
+enters_same old new (Removes running) enters = removal_enters old new running.removal running.stage enters
+enters_same old new (Moves NamesKept) enters = same_beside old new enters
+enters_same old new (Moves (MovesName moving progress)) enters = move_enters old new moving progress enters
+enters_same old new (Writes running) enters = write_enters old new running enters
+enters_same old new (Resizes running) enters = resize_enters old new running enters
 
 -- ---- its store
 

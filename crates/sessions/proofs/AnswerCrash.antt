@@ -1,0 +1,50 @@
+-- Where calls wait the device is settled, and its words mean the history but for bytes of running writes' ranges. So does all that a crash leaves there,
+-- also around an acknowledgement.
+use Rattle.std.proofs.Common.{◌≡◌, inl, false, refl}
+use Rattle.pm_trait.specs.Device.{LeavesOnly}
+use Rattle.pm_trait.specs.DeviceView.{DeviceView, Acknowledges}
+use Rattle.pm_trait.proofs.AckLaws.{leaves_ack}
+use Rattle.tree_model.specs.Run.{State, Line}
+use Rattle.image_reading.specs.Residue.{Residue}
+use Rattle.volume.specs.Beside.{StandsBeside}
+use Rattle.volume.specs.Volume.{VolumeView}
+use Rattle.session_laws.specs.Calls.{Calls, ranges_of_all}
+use Rattle.session_laws.specs.Histories.{IsCrashOf}
+use Rattle.session_laws.proofs.CrashLeaves.{crash_before}
+use Rattle.sessions.specs.Interleave.{InterleaveView, AllWait, idle, beside, alone, IsWeaving}
+use Rattle.sessions.specs.Steps.{MayBeLeft}
+
+-- the volume goes on, and stands for the words' state beside what the calls have left
+pub record StandsThere (volume : VolumeView) (device : DeviceView) (words : State) : Type 0 where
+  pub going : volume.stopped ≡ false
+  pub residue : Residue
+  pub stands : StandsBeside volume device words residue
+
+pub stands_there : (volume : VolumeView) (device : DeviceView) (words : State) (calls : Calls) → AllWait volume device words calls → StandsThere volume device words
+stands_there volume device words calls (idle none going kept stands) = record { going = going; residue = _; stands = stands }
+stands_there volume device words calls (beside wait kept) = record { going = wait.beside.going; residue = _; stands = wait.beside.stands }
+stands_there volume device words calls (alone s call waits begun) = record { going = waits.waits.going; residue = _; stands = waits.waits.stands }
+
+module _ (weave : InterleaveView) (device : DeviceView) (calls : Calls) (history : State) (weaving : IsWeaving weave device calls history) where
+  pub weaving_stands : StandsThere weave.volume device weaving.words
+  weaving_stands = stands_there weave.volume device weaving.words calls weaving.waits
+
+  -- the words themselves are what a crash may leave
+  pub weaving_crash : IsCrashOf weave.volume.size device.words (ranges_of_all calls) history
+  weaving_crash =
+      let stands = weaving_stands.stands in
+      crash_before weave.volume.size device.words weaving.words (ranges_of_all calls) history stands.sound stands.reads weaving.history_is
+
+  pub weaving_left : (line : Line) → MayBeLeft weave.volume.size calls history line device.words
+  weaving_left line = record {
+    entered = history;
+    entered_is = inl refl;
+    ranges = ranges_of_all calls;
+    running = λ range among. inl among;
+    crash = weaving_crash;
+  }
+
+  pub weaving_acked : (after : DeviceView) (line : Line) → Acknowledges device after
+      → LeavesOnly device.trail after.trail (λ acks image. MayBeLeft weave.volume.size calls history line image)
+  weaving_acked after line acks =
+      leaves_ack (λ count image. MayBeLeft weave.volume.size calls history line image) weaving_stands.stands.settled acks.trail (weaving_left line) (weaving_left line)

@@ -1,0 +1,82 @@
+-- A step of a command from behind its preparing, which takes places and room alone, is one from before it.
+use Rattle.std.proofs.Common.{None, sym, ◌≡◌, ℕ, ◌+◌, ◌≤◌, Bool, true, false, not, ◌&&◌, length, Option, ap, subst, ◌∙◌}
+use Rattle.pm_trait.specs.Device.{LeavesOnly, HasRisen}
+use Rattle.pm_trait.specs.DeviceView.{DeviceView}
+use Rattle.pm_trait.specs.Trail.{Trail}
+use Rattle.tree_model.specs.Run.{State, Line}
+use Rattle.image_reading.specs.Residue.{Residue}
+use Rattle.volume.specs.Volume.{VolumeView}
+use Rattle.volume.specs.Prepared.{IsSameButRoom}
+use Rattle.session_laws.specs.Calls.{Call, Calls, call_at, without, left_of_all}
+use Rattle.sessions.specs.History.{IsLegal}
+use Rattle.sessions.specs.Interleave.{InterleaveView}
+use Rattle.sessions.specs.Steps.{Enters, HasFenced, StepsOn, StepFails, MayBeLeft, Steps, acks_of, is_entered_before, is_entered_behind, GetsOn}
+use Rattle.sessions.specs.declared.entry.StepReply.{StepReply}
+
+module _ (old new : InterleaveView) (volume : VolumeView) (before between after : DeviceView) (calls : Calls) (history : State) (session : ℕ) (line : Line) (reply : StepReply)
+    (idle : call_at calls session ≡ None) (size : volume.size ≡ old.volume.size) (marked : volume.marked ≡ old.volume.marked) (left : left_of_all volume (without calls session) ≡ left_of_all old.volume (without calls session))
+    (room : IsSameButRoom before between) where
+  abbrev behind : InterleaveView
+  behind = record old { volume = volume }
+
+  enters_back : (enters : Bool) (later : State) → Enters enters behind new calls session line history later reply → Enters enters old new calls session line history later reply
+  enters_back true later entered = record {
+    entry = entered.entry;
+    added = entered.added;
+    session_is = entered.session_is;
+    number_is = entered.number_is;
+    held = record {
+      inodes = entered.held.inodes ∙ ap (λ (left : Residue). length left.inodes) left;
+      pages = entered.held.pages ∙ ap (λ (left : Residue). length left.pages) left;
+    };
+    legal = subst (λ (P : ℕ). IsLegal P entered.entry line history later) size entered.legal;
+    told = entered.told;
+  }
+  enters_back false later none = record { told = none.told; same = none.same; history_same = none.history_same }
+
+  fenced_back : (ran : Option Call) → HasFenced between after reply ran → HasFenced before after reply ran
+  fenced_back ran fenced = record {
+    most = subst (λ (n : ℕ). after.fences ≤ n + 1) room.fences fenced.most;
+    goes_on = λ call runs. fenced.goes_on call runs ∙ ap (λ (n : ℕ). n + 1) room.fences;
+    left = λ number is. fenced.left number is ∙ ap (λ (n : ℕ). n + 1) room.fences;
+  }
+
+  on_back : StepsOn behind new between after calls history session line reply → StepsOn old new before after calls history session line reply
+  on_back on = record {
+    later_calls = on.later_calls;
+    later = on.later;
+    weaving = on.weaving;
+    others = on.others;
+    begun = on.begun;
+    left = on.left;
+    enters = enters_back (not (is_entered_before (call_at calls session)) && is_entered_behind (call_at on.later_calls session)) on.later on.enters;
+    call_is = on.call_is;
+    gets_on = subst (λ (ran : Option Call). GetsOn old.volume new.volume ran (call_at on.later_calls session)) (sym idle) tt;
+    busy = on.busy;
+    bytes = on.bytes;
+    fences = fenced_back (call_at calls session) on.fences;
+    acks = on.acks ∙ ap (λ (n : ℕ). n + acks_of reply) room.acks;
+    faults = on.faults ∙ room.faults;
+  }
+
+  fails_back : StepFails behind new between after calls session reply → StepFails old new before after calls session reply
+  fails_back fails = record {
+    told = fails.told;
+    cause = subst (λ (n : ℕ). HasRisen n after.faults) room.faults fails.cause;
+    entries = fails.entries;
+    tasks = fails.tasks;
+    begun = fails.begun;
+    bytes = fails.bytes;
+    fences = fails.fences ∙ room.fences;
+    no_ack = fails.no_ack ∙ room.acks;
+  }
+
+  pub steps_back : Steps behind new between after calls history session line reply → Steps old new before after calls history session line reply
+  steps_back steps = record {
+    frame = record { size = steps.frame.size ∙ size; marked = steps.frame.marked ∙ marked; sessions = steps.frame.sessions };
+    going = λ goes. on_back (steps.going goes);
+    failed = λ stopped. fails_back (steps.failed stopped);
+    any_moment =
+        subst (λ (trail : Option Trail). LeavesOnly trail after.trail (λ acks image. MayBeLeft old.volume.size calls history line image)) room.trail
+        (subst (λ (P : ℕ). LeavesOnly between.trail after.trail (λ acks image. MayBeLeft P calls history line image)) size steps.any_moment);
+  }

@@ -1,0 +1,258 @@
+-- What a step of a session does: to the calls that run, to the history, and to the device.
+use Rattle.std.specs.Prelude.{◌≡◌, ◌≢◌, ◌⊎◌, ℕ, ◌+◌, ◌≤◌, Bool, true, false, not, ◌&&◌, List, [], ◌∷◌, ◌++◌, length, set, take, drop, Option, None, Some, Ok, Err, Contains}
+use Rattle.pm_trait.specs.Device.{LeavesOnly, HasRisen}
+use Rattle.pm_trait.specs.DeviceView.{DeviceView}
+use Rattle.tree_model.specs.Run.{State, Line, is_changing}
+use Rattle.tree_model.specs.PathText.{Route}
+use Rattle.tree_model.specs.Tree.{Tree, id_at, bytes_of}
+use Rattle.tree_model.specs.Step.{id_of}
+use Rattle.tree_model.specs.declared.command.Command.{Command}
+use Rattle.tree_model.specs.declared.command.Command.TheVariants.{Read, Write, Truncate}
+use Rattle.tree_model.specs.declared.reply.Reply.TheVariants.{Done, Bytes, Stopped, Fault}
+use Rattle.image_reading.specs.Residue.{Residue}
+use Rattle.mixing_laws.specs.Mixed.{Range}
+use Rattle.volume.specs.Volume.{VolumeView}
+use Rattle.volume.specs.Named.{AreNamedBy, refusal_of_walks}
+use Rattle.volume.specs.declared.named.NamedNodes.{NamedNodes}
+use Rattle.running_laws.specs.Steps.{has_committed}
+use Rattle.session_laws.specs.Calls.{Call, Calls, call_at, without, left_of_all, ranges_of_all, fences_of_call}
+use Rattle.session_laws.specs.Histories.{IsCrashOf}
+use Rattle.sessions.specs.Busy.{AreBothNamed}
+use Rattle.sessions.specs.History.{IsLegal}
+use Rattle.sessions.specs.Interleave.{InterleaveView, IsWeaving}
+use Rattle.sessions.specs.Tasks.{task_in}
+use Rattle.sessions.specs.declared.task.Task.{Task}
+use Rattle.sessions.specs.declared.entry.Entry.{Entry}
+use Rattle.sessions.specs.declared.entry.StepReply.{StepReply}
+use Rattle.sessions.specs.declared.entry.StepReply.TheVariants.{Running, Ended}
+use Rattle.sessions.specs.declared.entry.WeaveReply.{WeaveReply}
+use Rattle.sessions.specs.declared.entry.WeaveReply.TheVariants.{Plain, Busy}
+
+-- ---- which call makes the step
+
+-- the one that the session runs, or the next one that begins
+abbrev pub number_of : ℕ → Option Call → ℕ
+number_of begun None = begun + 1
+number_of begun (Some call) = call.number
+
+abbrev pub begun_after : ℕ → Option Call → ℕ
+begun_after begun None = begun + 1
+begun_after begun (Some call) = begun
+
+-- the same of what the code has
+abbrev pub number_in : ℕ → Option Task → ℕ
+number_in begun None = begun + 1
+number_in begun (Some task) = task.number
+
+abbrev pub begun_in : ℕ → Option Task → ℕ
+begun_in begun None = begun + 1
+begun_in begun (Some task) = begun
+
+-- A session gives the same call until it has ended.
+abbrev pub GivesSame : Calls → ℕ → Line → Type 0
+GivesSame calls session line = (call : Call) → call_at calls session ≡ Some call → line ≡ Ok call.command
+
+-- ---- its entry
+
+-- what the other running calls hold, which isn't free for it
+pub record HasHeld (entry : Entry) (others : Residue) : Type 0 where
+  pub inodes : entry.inodes ≡ length others.inodes
+  pub pages : entry.pages ≡ length others.pages
+
+-- a call that ends with its entry is answered as that says
+abbrev pub IsToldAs : StepReply → WeaveReply → Type 0
+IsToldAs (Running number) answer = Unit {0}
+IsToldAs (Ended number reply) answer = reply ≡ answer
+
+-- Its entry came, legal from the history before.
+pub record HasEntered (old new : InterleaveView) (calls : Calls) (session : ℕ) (line : Line) (history later : State) (reply : StepReply) : Type 0 where
+  pub entry : Entry
+  pub added : new.entries ≡ old.entries ++ entry ∷ []
+  pub session_is : entry.session ≡ session
+  pub number_is : entry.number ≡ number_of old.begun (call_at calls session)
+  pub held : HasHeld entry (left_of_all old.volume (without calls session))
+  pub legal : IsLegal old.volume.size entry line history later
+  pub told : IsToldAs reply entry.reply
+
+-- None came; a call whose entry came before ends with what that says: a command that commits before its last step is `Done`.
+pub record HasNoEntry (old new : InterleaveView) (history later : State) (reply : StepReply) : Type 0 where
+  pub told : IsToldAs reply (Plain Done)
+  pub same : new.entries ≡ old.entries
+  pub history_same : later ≡ history
+
+-- it has an entry before the step where it has committed, and behind it where it has committed or ended
+abbrev pub is_entered_before : Option Call → Bool
+is_entered_before None = false
+is_entered_before (Some call) = has_committed call.running
+
+abbrev pub is_entered_behind : Option Call → Bool
+is_entered_behind None = true
+is_entered_behind (Some call) = has_committed call.running
+
+-- the entry comes exactly in that step
+abbrev pub Enters : Bool → InterleaveView → InterleaveView → Calls → ℕ → Line → State → State → StepReply → Type 0
+Enters true old new calls session line history later reply = HasEntered old new calls session line history later reply
+Enters false old new calls session line history later reply = HasNoEntry old new history later reply
+
+-- ---- its reply
+
+-- the call that runs on has its number, and one that has ended has no call
+abbrev pub IsLeftAs : StepReply → ℕ → Option Call → Type 0
+IsLeftAs (Running number) own left = (call : Call) × (left ≡ Some call) × (call.number ≡ own) × (number ≡ own)
+IsLeftAs (Ended number reply) own left = (left ≡ None) × (number ≡ own)
+
+-- The least inode that the command and a running call name both, and the number of that call.
+pub record IsInTheWay (calls : Calls) (history : State) (command : Command) (inode holder : ℕ) : Type 0 where
+  pub named : NamedNodes
+  pub names : AreNamedBy history.tree command named
+  pub session : ℕ
+  pub other : Call
+  pub runs : call_at calls session ≡ Some other
+  pub holder_is : other.number ≡ holder
+  pub both : AreBothNamed named other.named inode
+  pub least : (s : ℕ) (any : Call) → call_at calls s ≡ Some any → (i : ℕ) → AreBothNamed named any.named i → inode ≤ i
+
+abbrev pub IsFreeOfOthers : Calls → State → Command → Type 0
+IsFreeOfOthers calls history command =
+    (named : NamedNodes) → AreNamedBy history.tree command named → (s : ℕ) (other : Call) → call_at calls s ≡ Some other → (i : ℕ) → ¬ AreBothNamed named other.named i
+
+-- A call that begins is Busy exactly where its walks lead somewhere and a running call is in its way.
+abbrev pub IsBusyWhere : WeaveReply → Calls → State → Command → Type 0
+IsBusyWhere (Plain reply) calls history command = (refusal_of_walks history.tree command ≢ None) ⊎ IsFreeOfOthers calls history command
+IsBusyWhere (Busy inode holder) calls history command = (refusal_of_walks history.tree command ≡ None) × IsInTheWay calls history command inode holder
+
+abbrev pub IsBusyRightly : StepReply → Option Call → Calls → State → Line → Type 0
+IsBusyRightly (Running number) (Some call) calls history line = Unit {0}
+IsBusyRightly (Running number) None calls history (Ok command) = IsFreeOfOthers calls history command
+IsBusyRightly (Running number) None calls history (Err fault) = ⊥
+IsBusyRightly (Ended number reply) (Some call) calls history line = (inode holder : ℕ) → reply ≢ Busy inode holder
+IsBusyRightly (Ended number reply) None calls history (Ok command) = IsBusyWhere reply calls history command
+IsBusyRightly (Ended number reply) None calls history (Err fault) = (inode holder : ℕ) → reply ≢ Busy inode holder
+
+-- ---- the bytes of the last read
+
+-- After a read they are those of the entry's tree; else they are as they were.
+pub record HasReadBytes (old new : List ℕ) (tree : Tree) (line : Line) (reply : WeaveReply) : Type 0 where
+  pub kept : ((count : ℕ) → reply ≢ Plain (Bytes count)) → new ≡ old
+  pub read : (path : Route) (offset count read : ℕ) → line ≡ Ok (Read path offset count) → reply ≡ Plain (Bytes read) → new ≡ take count (drop offset (bytes_of tree (id_of tree path)))
+
+abbrev pub BytesBehind : List ℕ → List ℕ → Tree → Line → StepReply → Type 0
+BytesBehind old new tree line (Running number) = new ≡ old
+BytesBehind old new tree line (Ended number reply) = HasReadBytes old new tree line reply
+
+-- ---- what the session runs behind it
+
+-- A call that begins is its line's, and names what that names in the history; one that goes on is the same call.
+abbrev pub IsCallAt : Option Call → Option Call → Line → Tree → Type 0
+IsCallAt None None line T = Unit {0}
+IsCallAt (Some ran) None line T = Unit {0}
+IsCallAt None (Some call) line T = (line ≡ Ok call.command) × AreNamedBy T call.command call.named
+IsCallAt (Some ran) (Some call) line T = (call.command ≡ ran.command) × (call.named ≡ ran.named)
+
+abbrev pub fences_of_left : VolumeView → Option Call → ℕ
+fences_of_left volume None = 0
+fences_of_left volume (Some call) = fences_of_call volume call
+
+-- a call that goes on has a fence less
+abbrev pub GetsOn : VolumeView → VolumeView → Option Call → Option Call → Type 0
+GetsOn old new None left = Unit {0}
+GetsOn old new (Some ran) left = fences_of_call old ran ≡ 1 + fences_of_left new left
+
+-- ---- its fences and acknowledgement
+
+-- At most one fence; and one where the call goes on, or has fences left.
+pub record HasFenced (before after : DeviceView) (reply : StepReply) (ran : Option Call) : Type 0 where
+  pub most : after.fences ≤ before.fences + 1
+  pub goes_on : (call : Call) → ran ≡ Some call → after.fences ≡ before.fences + 1
+  pub left : (number : ℕ) → reply ≡ Running number → after.fences ≡ before.fences + 1
+
+-- at its end an acknowledgement
+abbrev pub acks_of : StepReply → ℕ
+acks_of (Running number) = 0
+acks_of (Ended number reply) = 1
+
+-- ---- the step
+
+-- The fence succeeded, or there was none: the calls run on and wait, the history goes on.
+pub record StepsOn (old new : InterleaveView) (before after : DeviceView) (calls : Calls) (history : State) (session : ℕ) (line : Line) (reply : StepReply) : Type 0 where
+  pub later_calls : Calls
+  pub later : State
+  pub weaving : IsWeaving new after later_calls later
+  pub others : (s : ℕ) → s ≢ session → call_at later_calls s ≡ call_at calls s
+  pub begun : new.begun ≡ begun_after old.begun (call_at calls session)
+  pub left : IsLeftAs reply (number_of old.begun (call_at calls session)) (call_at later_calls session)
+  pub enters : Enters (not (is_entered_before (call_at calls session)) && is_entered_behind (call_at later_calls session)) old new calls session line history later reply
+  pub call_is : IsCallAt (call_at calls session) (call_at later_calls session) line history.tree
+  pub gets_on : GetsOn old.volume new.volume (call_at calls session) (call_at later_calls session)
+  pub busy : IsBusyRightly reply (call_at calls session) calls history line
+  pub bytes : BytesBehind old.bytes new.bytes history.tree line reply
+  pub fences : HasFenced before after reply (call_at calls session)
+  pub acks : after.acks ≡ before.acks + acks_of reply
+  pub faults : after.faults ≡ before.faults
+
+-- The fence failed: the call has ended so, and nothing is done any more.
+pub record StepFails (old new : InterleaveView) (before after : DeviceView) (calls : Calls) (session : ℕ) (reply : StepReply) : Type 0 where
+  pub told : reply ≡ Ended (number_of old.begun (call_at calls session)) (Plain Fault)
+  pub cause : HasRisen before.faults after.faults
+  pub entries : new.entries ≡ old.entries
+  pub tasks : new.tasks ≡ set old.tasks session None
+  pub begun : new.begun ≡ begun_after old.begun (call_at calls session)
+  pub bytes : new.bytes ≡ old.bytes
+  pub fences : after.fences ≡ before.fences
+  pub no_ack : after.acks ≡ before.acks
+
+-- ---- a crash
+
+-- the range that a line writes, or that a growth by it begins
+pub data IsRangeOf (history : State) : Line → Range → Type 0 where
+  write : (path : Route) (range : Range) → id_at history.tree path ≡ Some range.file → IsRangeOf history (Ok (Write path range.offset range.bytes)) range
+  truncate : (path : Route) (size : ℕ) (range : Range) → range.bytes ≡ [] → IsRangeOf history (Ok (Truncate path size)) range
+
+-- Ranges of running writes, this line's among them.
+abbrev pub AreRunning : Calls → State → Line → List Range → Type 0
+AreRunning calls history line ranges = (range : Range) → Contains ranges range → Contains (ranges_of_all calls) range ⊎ IsRangeOf history line range
+
+-- It is sound, and reads as the history so far or with this call's entry, but for bytes of these ranges.
+pub record MayBeLeft (P : ℕ) (calls : Calls) (history : State) (line : Line) (image : List ℕ) : Type 0 where
+  pub entered : State
+  pub entered_is : (entered ≡ history) ⊎ ((entry : Entry) × IsLegal P entry line history entered)
+  pub ranges : List Range
+  pub running : AreRunning calls history line ranges
+  pub crash : IsCrashOf P image ranges entered
+
+-- It is the volume that it was, with or without the mark, and there are as many sessions.
+pub record KeepsFrame (old new : InterleaveView) : Type 0 where
+  pub size : new.volume.size ≡ old.volume.size
+  pub marked : new.volume.marked ≡ old.volume.marked
+  pub sessions : length new.tasks ≡ length old.tasks
+
+pub record Steps (old new : InterleaveView) (before after : DeviceView) (calls : Calls) (history : State) (session : ℕ) (line : Line) (reply : StepReply) : Type 0 where
+  pub frame : KeepsFrame old new
+  pub going : new.volume.stopped ≡ false → StepsOn old new before after calls history session line reply
+  pub failed : new.volume.stopped ≡ true → StepFails old new before after calls session reply
+  pub any_moment : LeavesOnly before.trail after.trail (λ acks image. MayBeLeft old.volume.size calls history line image)
+
+-- An earlier step's fence failed: the call has ended so, and nothing is done.
+pub record IsStopped (old new : InterleaveView) (session : ℕ) (reply : StepReply) : Type 0 where
+  pub told : reply ≡ Ended (number_in old.begun (task_in old.tasks session)) (Plain Stopped)
+  pub volume : new.volume ≡ old.volume
+  pub tasks : new.tasks ≡ set old.tasks session None
+  pub entries : new.entries ≡ old.entries
+  pub begun : new.begun ≡ begun_in old.begun (task_in old.tasks session)
+  pub bytes : new.bytes ≡ old.bytes
+
+-- ---- what a step asks for
+
+-- the line doesn't change, or the volume has no mark
+abbrev pub MayChange : VolumeView → Line → Type 0
+MayChange volume (Ok command) = is_changing command ≡ true → volume.marked ≡ false
+MayChange volume (Err fault) = Unit {0}
+
+-- The calls wait, the session gives the same call as before, and a call that changes finds no mark.
+pub record MayStep (weave : InterleaveView) (device : DeviceView) (calls : Calls) (history : State) (session : ℕ) (line : Line) : Type 0 where
+  pub weaving : IsWeaving weave device calls history
+  pub same : GivesSame calls session line
+  pub change : MayChange weave.volume line
+
+abbrev pub IsAsked : InterleaveView → DeviceView → ℕ → Line → Type 0
+IsAsked weave device session line = (calls : Calls) × (history : State) × MayStep weave device calls history session line

@@ -1,0 +1,110 @@
+// Many sessions on one volume: one call of each runs, cut at its fences.
+ghost use Rattle.std.specs.Prelude.{◌≡◌, ◌+◌, ◌^◌, ◌<◌, ◌≤◌, ℕ, false, true, length, vec_len, IfOk, None};
+ghost use Rattle.std.specs.Vec.{vec_capacity};
+ghost use Rattle.tree_model.specs.Run.{State};
+ghost use Rattle.script.specs.Calls.{line_of_call};
+ghost use Rattle.session_laws.specs.Calls.{Calls};
+ghost use Rattle.sessions.specs.Interleave.{started};
+ghost use Rattle.sessions.specs.Tasks.{task_in};
+ghost use Rattle.sessions.specs.declared.interleave.TheConstants.{MOST_CALLS};
+ghost use Rattle.sessions.specs.Steps.{IsAsked, MayStep, Steps, IsStopped};
+
+use crate::entry::{Entry, StepReply};
+use crate::task::Task;
+use engine::LastRead;
+use pm_trait::{NoMemory, Pm};
+use script::Call;
+use std::alloc::Global;
+use std::marker::Model;
+use std::mem;
+use volume::Volume;
+
+/// How many calls may begin.
+pub const MOST_CALLS: usize = 65536;
+
+/// Sessions on one volume, each of which runs at most one call, and the history of their calls.
+#[derive(Drop)]
+pub struct Interleave {
+    pub(crate) volume: Volume,
+    pub(crate) last: LastRead,
+    // What each session runs.
+    pub(crate) tasks: Vec<Option<Task>>,
+    pub(crate) entries: Vec<Entry>,
+    // How many calls have begun.
+    pub(crate) begun: u64,
+    ghost room: { 65536 ≤ vec_capacity entries },
+    ghost most: { begun ≤ 65536 },
+}
+
+impl Model for Interleave {
+    ghost use Rattle.sessions.specs.Interleave.{InterleaveView};
+
+    ghost Value = { InterleaveView };
+
+    ghost view = { λ weave. record { volume = weave.volume; tasks = weave.tasks.items; entries = weave.entries.items; begun = weave.begun; bytes = weave.last } };
+}
+
+impl Interleave {
+    /// So many sessions on the volume, from 1 to 16, none of which runs a call. Room for the entries of 65,536 calls is made here, and for the
+    /// bytes of a read.
+    pub fn start(alloc: Global, volume: Volume, sessions: u64) -> Result<Interleave, NoMemory>
+        requires some { 1 ≤ sessions }
+        requires few { sessions ≤ 16 }
+        ensures { IfOk result (λ weave. weave ≡ started volume sessions) }
+    {
+        let last = LastRead::new(alloc)?;
+        let mut tasks = Vec::with_capacity(alloc, sessions as usize).map_err(|_| NoMemory)?;
+        for _session in 0..sessions {
+            tasks.push(None).map_err(|_| NoMemory)?;
+        }
+        let entries = Vec::with_capacity(alloc, MOST_CALLS).map_err(|_| NoMemory)?;
+        Ok(Interleave {
+            volume,
+            last,
+            tasks,
+            entries,
+            begun: 0,
+        })
+    }
+
+    /// The volume.
+    pub fn volume(&self) -> &Volume
+        ensures { result.now ≡ self.now.volume }
+    {
+        &self.volume
+    }
+
+    /// The entries of the history, in their order.
+    pub fn entries(&self) -> &[Entry]
+        ensures { result.now ≡ self.now.entries }
+    {
+        self.entries.as_slice()
+    }
+
+    /// The bytes of the last read of any session.
+    pub fn bytes(&self) -> &[u8]
+        ensures { result.now ≡ self.now.bytes }
+    {
+        self.last.as_slice()
+    }
+
+    /// Makes the next step of a session: of the call that it runs, or of this one, which then begins. A step is one interval with its fence;
+    /// a call without a fence has one step. A session gives the same call until it has ended; fewer than 65,536 calls have begun where one
+    /// begins, and one that changes finds a volume without the mark.
+    pub fn step<P: Pm>(&mut self, session: u64, call: &Call, pm: &mut P) -> StepReply
+        requires session { session < length self.old.tasks }
+        requires stands { self.old.volume.stopped ≡ false → IsAsked self.old (P.view pm.old) session (line_of_call call.now) }
+        requires calls { task_in self.old.tasks session ≡ None → self.old.begun < MOST_CALLS }
+        requires fences { (P.view pm.old).fences < 2 ^ 62 }
+        requires acks { (P.view pm.old).acks < 2 ^ 62 }
+        ensures stopped { self.old.volume.stopped ≡ true → IsStopped self.old self.new session result × (pm.new ≡ pm.old) }
+        ensures steps { (calls : Calls) (history : State) → self.old.volume.stopped ≡ false →
+            MayStep self.old (P.view pm.old) calls history session (line_of_call call.now) →
+            Steps self.old self.new (P.view pm.old) (P.view pm.new) calls history session (line_of_call call.now) result }
+    {
+        match mem::replace(&mut self.tasks[session as usize], None) {
+            None => self.begin(session, call, pm),
+            Some(task) => self.go_on(session, task, call, pm),
+        }
+    }
+}
