@@ -15,7 +15,7 @@ use Rattle.session_laws.proofs.ReadyPassed.{acknowledged_among_law}
 use Rattle.sessions.specs.Advanced.{entry_of}
 use Rattle.sessions.specs.Interleave.{InterleaveView, AllWait, idle, beside, alone, AreNumbered, IsWeaving, tasks_of}
 use Rattle.sessions.specs.Laws.{OthersHoldLaw, IsAnswered, AnswersLaw}
-use Rattle.sessions.specs.Steps.{Steps, StepsOn, MayBeLeft, HasEntered, HasHeld, IsBusyRightly, Enters, begun_after, number_of, is_entered_before, is_entered_behind, IsCallAt, GetsOn}
+use Rattle.sessions.specs.Steps.{Steps, StepsOn, MayBeLeft, HasEntered, HasHeld, IsBusyRightly, Enters, begun_after, number_of, is_entered_before, is_entered_behind, IsCallAt, GetsOn, IsQuietWhere}
 use Rattle.sessions.specs.Tasks.{held_by_all}
 use Rattle.sessions.specs.declared.entry.Entry.{Entry}
 use Rattle.sessions.specs.declared.entry.StepReply.TheVariants.{Ended}
@@ -99,6 +99,8 @@ module _ (others_hold : OthersHoldLaw) (old new : InterleaveView) (before betwee
     gets_on = subst (λ (ran : Option Call). GetsOn old.volume new.volume ran ran) (sym is.idle) tt;
     busy = subst (λ (ran : Option Call). IsBusyRightly (Ended (old.begun + 1) answer) ran calls history line) (sym is.idle) is.busy;
     bytes = is.bytes;
+    quiet = subst (λ (ran : Option Call). IsQuietWhere (Ended (old.begun + 1) answer) ran line before after) (sym is.idle)
+        (λ none. record { between = between; room = is.room; acked = is.acked });
     fences = record {
       most = let same = is.acked.fences in let was = is.room.fences in omega (arith, same, was);
       goes_on = λ call ran. cc (is.idle, ran);

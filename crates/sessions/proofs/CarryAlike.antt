@@ -114,7 +114,8 @@ command_in : Command → Line → Command
 command_in other (Ok command) = command
 command_in other _ = other
 
-pub bytes_alike : (supply : Supply) (T U : Tree) (room other : Room) (command : Command) (old new : List ℕ) (told : WeaveReply) → answer_of supply T room command ≡ answer_of supply U other command
+pub bytes_alike : (supply : Supply) (T U : Tree) (room other : Room) (command : Command) (old new : List ℕ) (told : WeaveReply)
+    → answer_of supply T room command ≡ answer_of supply U other command
     → HasReadBytes old new U (Ok command) told → HasReadBytes old new T (Ok command) told
 unfolding read_of command_in
 bytes_alike supply T U room other command old new told alike bytes = record {
@@ -150,7 +151,8 @@ module _ (weave : InterleaveView) (device : DeviceView) (calls : Calls) (history
   among : CallsWait weave.volume device words no_residue calls → ReadsAlike supply history words command
   among wait =
       let is = planned.weaving.history_is in
-      let (entered, new, now) = free_enters weave.volume device supply words history calls command named wait is planned.named_is planned.free planned.planned.accepted words after in
+      let (entered, new, now) = free_enters weave.volume device supply words history calls command named wait is planned.named_is planned.free planned.planned.accepted words
+      after in
       let tree : entered.tree ≡ history.tree = new.after.tree ∙ reads_tree 0 history.tree command reads in
       let room : entered.room ≡ history.room = sym now.room ∙ is.room in
       let same : entered ≡ history = (λ k. record { tree = tree k; room = room k }) in

@@ -9,7 +9,8 @@ use Rattle.volume.specs.Prepared.{IsChange}
 use Rattle.volume.specs.Stages.{keeping}
 use Rattle.volume.specs.declared.named.NamedNodes.{NamedNodes}
 use Rattle.volume.specs.declared.plan.Action.{Action}
-use Rattle.volume.specs.declared.plan.Action.TheVariants.{Make, Name, Remove, Move, Write as WriteBytes, WriteNothing, Resize, KeepSize, KeepNames, Read as ReadBytes, Status, Names, Space}
+use Rattle.volume.specs.declared.plan.Action.TheVariants.{Make, Name, Remove, Move, Write as WriteBytes, WriteNothing, Resize, KeepSize, KeepNames}
+use Rattle.volume.specs.declared.plan.Action.TheVariants.{Read as ReadBytes, Status, Names, Space}
 use Rattle.volume.specs.declared.plan.Moving.{Moving}
 use Rattle.volume.proofs.PlanActions.{planned_moving}
 use Rattle.volume.proofs.Plans.{change_is}
@@ -71,7 +72,8 @@ module _ (old new : InterleaveView) (before after : DeviceView) (calls : Calls) 
     (planned : IsPlannedAmong old before calls history session call.command call.named action) (change : IsChange action) (name : HasName action)
     (within_tasks : session < length old.tasks) (number : call.number ≡ old.begun + 1) (plan_behind : call.behind ≡ behind_commit action)
     (starts : begun action ≡ Some call.running)
-    (advanced : HasAdvanced (record old { volume = keeping old.volume action; begun = old.begun + 1 }) new before after session (task_of call) (bytes_of_command call.command) reply) where
+    (advanced : HasAdvanced (record old { volume = keeping old.volume action; begun = old.begun + 1 }) new before after session (task_of call) (bytes_of_command call.command)
+    reply) where
   changing : is_changing call.command ≡ true
   changing = change_is old.volume.size before.words planned.weaving.words call.command action planned.planned.plan_is ∙ change
 
@@ -81,7 +83,8 @@ module _ (old new : InterleaveView) (before after : DeviceView) (calls : Calls) 
   known : (enters : Bool) → BeginsAt old before calls history session action call enters → Steps old new before after calls history session (Ok call.command) reply
   known enters at =
       begins old new before after calls history session action call enters planned.weaving planned.idle within number changing
-      (planned_free old before calls history session call.command call.named action planned) (planned_names old before calls history session call.command call.named action planned) at reply advanced
+      (planned_free old before calls history session call.command call.named action planned)
+      (planned_names old before calls history session call.command call.named action planned) at reply advanced
 
   moves : 0 < events_of action → (moving : Moving) × (action ≡ Move moving) → Steps old new before after calls history session (Ok call.command) reply
   moves some (moving, is) =

@@ -53,15 +53,19 @@ use Rattle.sessions.specs.declared.entry.WeaveReply.TheVariants.{Plain}
 use Rattle.sessions.proofs.CarryEntry.{entry_legal}
 use Rattle.sessions.proofs.CarryFree.{planned_beside, planned_ready, planned_may}
 use Rattle.sessions.proofs.CarryMade.{BeginsAt, first_step}
-use Rattle.sessions.proofs.CarryPlans.{StoresFirst, CommitsFirst, plan_first, plan_commits, enters_with_commit, committed_behind, ends_with_commit}
+use Rattle.sessions.proofs.CarryPlans.{CommitsFirst, plan_first, plan_commits, enters_with_commit, committed_behind, ends_with_commit}
 use Rattle.sessions.proofs.CarryRanges.{ranges_running}
-use Rattle.sessions.proofs.CarryReplies.{IsReplyTo, told_of_plan, told_behind, plan_told, plan_makes, first_told}
+use Rattle.sessions.proofs.CarryReplies.{told_of_plan, plan_told, plan_makes, first_told}
 use Rattle.sessions.proofs.CarrySteps.{Began}
+use Rattle.sessions.proofs.GoesFirst.{IsFirst}
+use Rattle.sessions.proofs.GoesMade.{told_next}
+use Rattle.sessions.proofs.GoesReplies.{AnswersAs}
 use Rattle.sessions.proofs.WeavesOne.{WaitBeside}
 
 begins_among : BeginAmongLaw
 begins_among =
-    begin_among_law (put_in_law still_waits_law holds_law) (others_wait_law still_waits_law holds_law) begins_law first_step_law holds_law names_held_law begun_holds_law next_holds_law
+    begin_among_law (put_in_law still_waits_law holds_law) (others_wait_law still_waits_law holds_law) begins_law first_step_law holds_law names_held_law begun_holds_law
+    next_holds_law
     plan_costs_law step_costs_law
 
 same_running : (one other : Running) → ◌≡◌ {A = Option Running} (Some one) (Some other) → one ≡ other
@@ -104,7 +108,7 @@ module _ (old : InterleaveView) (before : DeviceView) (calls : Calls) (history :
   stands : StandsStage kept before bytes call.running
   stands = begun_stands old.volume before bytes action call.running may starts
 
-  pub stores_first : StoresFirst (left_of kept bytes call.running) step
+  pub stores_first : IsFirst (left_of kept bytes call.running) step
   stores_first = plan_first kept bytes action call.running starts some
 
   pub fits : step.events ≤ kept.kept
@@ -145,7 +149,7 @@ module _ (old : InterleaveView) (before : DeviceView) (calls : Calls) (history :
     makes_none commits_now one =
         makes_later action call.running starts commits_now (plan_makes old.volume.size before.words words call.command action one planned.planned.plan_is)
 
-    told : IsReplyTo call.command (told_of_plan action)
+    told : AnswersAs call.command (told_of_plan action)
     told = plan_told old.volume.size before.words words call.command action changing planned.planned.plan_is
 
     -- ---- a crash
@@ -153,7 +157,8 @@ module _ (old : InterleaveView) (before : DeviceView) (calls : Calls) (history :
     same_paths : (path : Route) → id_at history.tree path ≡ id_at words.tree path
     same_paths path = ap (λ (names : Table route_cmp ℕ). get names path) (sym planned.weaving.history_is.tree.names)
 
-    crash_told : (M : List ℕ) → LeftBeside old.volume.size (range_of_call call ++ ranges_of_all calls) (supply_beside old.volume.size (left_of_all old.volume calls)) (commits call.running)
+    crash_told : (M : List ℕ) → LeftBeside old.volume.size (range_of_call call ++ ranges_of_all calls) (supply_beside old.volume.size (left_of_all old.volume calls))
+        (commits call.running)
         call.command (given_inode call.running) history M
         → MayBeLeft old.volume.size calls history (Ok call.command) M
     crash_told M (inl crash) = record {
@@ -188,7 +193,8 @@ module _ (old : InterleaveView) (before : DeviceView) (calls : Calls) (history :
 
       among : BeganAmong new after words calls session call next
       among =
-          begins_among old.volume new before after words calls session call.command action call next wait.calls_wait idle within wait.kept ready of makes_step made.next_is made.stands
+          begins_among old.volume new before after words calls session call.command action call next wait.calls_wait idle within wait.kept ready of makes_step made.next_is
+          made.stands
 
       goes : HistoryGoesOn (supply_beside old.volume.size (left_of_all old.volume calls)) (commits call.running) call.command (given_inode call.running)
           (ranges_of_all (set calls session (next_call call next))) history among.later
@@ -211,7 +217,7 @@ module _ (old : InterleaveView) (before : DeviceView) (calls : Calls) (history :
       waits_on : AllWait new after among.later (set calls session (next_call call next))
       waits_on = beside among.calls_wait among.kept
 
-      reply_is : commits call.running ≡ true → IsReplyTo call.command (told_behind next)
+      reply_is : commits call.running ≡ true → AnswersAs call.command (told_next next)
       reply_is commits_now supply T room = first_told action call.running next starts made.next_is commits_now ∙ told supply T room
 
       began_if : (b : Bool) → commits call.running ≡ b → Began old new after calls history session call next b

@@ -1,12 +1,11 @@
 -- The entry of a call whose command the history carries out: it is legal, with what the running calls hold.
-use Rattle.std.proofs.Common.{◌≡◌, inl, ℕ, List, length, Option, None, Ok, sym, ap, subst, ◌∙◌}
+use Rattle.std.proofs.Common.{◌≡◌, ℕ, List, length, Option, None, Ok, sym, ap, ◌∙◌}
 use Rattle.pm_trait.specs.DeviceView.{DeviceView}
 use Rattle.tree_model.specs.Capacity.{Supply}
 use Rattle.tree_model.specs.Replies.{reply_of}
 use Rattle.tree_model.specs.Run.{State}
-use Rattle.tree_model.specs.Step.{refusal_with, answer_of, outcome_of, RoomAfterWith}
+use Rattle.tree_model.specs.Step.{answer_of}
 use Rattle.tree_model.specs.declared.command.Command.{Command}
-use Rattle.tree_model.specs.declared.reply.Refusal.{Refusal}
 use Rattle.tree_model.specs.declared.reply.Reply.{Reply}
 use Rattle.naming_laws.specs.Naming.{inode_need}
 use Rattle.image_counts.specs.Laws.{supply_beside}
@@ -21,7 +20,8 @@ use Rattle.sessions.specs.Tasks.{held_by_all}
 use Rattle.sessions.specs.declared.entry.WeaveReply.{WeaveReply}
 use Rattle.sessions.specs.declared.entry.WeaveReply.TheVariants.{Plain}
 use Rattle.sessions.specs.declared.task.Task.{Task}
-use Rattle.sessions.proofs.CarryReplies.{IsReplyTo}
+use Rattle.sessions.proofs.GoesLegal.{is_legal}
+use Rattle.sessions.proofs.GoesReplies.{AnswersAs}
 use Rattle.sessions.proofs.WeavesHeld.{others_hold_law}
 
 module _ (old : InterleaveView) (before : DeviceView) (calls : Calls) (history : State) (session : ℕ) (weaving : IsWeaving old before calls history)
@@ -52,22 +52,13 @@ module _ (old : InterleaveView) (before : DeviceView) (calls : Calls) (history :
   abbrev supply : Supply
   supply = supply_of old.volume.size (entry_of old.tasks session number (Plain reply))
 
-  accepted : refusal_with supply history.tree history.room command ≡ None
-  accepted =
-      ap (λ (s : Supply). refusal_with s history.tree history.room command) (entry_supply old before calls history session weaving idle number (Plain reply))
-      ∙ enters.accepted
-
   -- a command that makes no node, and is told this there,
   pub entry_legal_by : (inode_need command ≡ 1 → ⊥) → reply ≡ reply_of (answer_of supply history.tree history.room command)
       → IsLegal old.volume.size (entry_of old.tasks session number (Plain reply)) (Ok command) history entered
-  entry_legal_by makes_none told = inl (record {
-    id = id;
-    new_id = λ accepted. record { unused = enters.unused; in_range = λ one. absurd (makes_none one) };
-    reply_is = ap Plain (told ∙ ap (λ (o : Option Refusal). reply_of (outcome_of o supply id history.tree history.room command).answer) (sym accepted));
-    tree = enters.after.tree ∙ ap (λ (o : Option Refusal). (outcome_of o supply id history.tree history.room command).tree) (sym accepted);
-    room = subst (λ (o : Option Refusal). RoomAfterWith o id history.tree history.room command entered.room) (sym accepted) enters.after.room;
-  })
+  entry_legal_by makes_none told =
+      is_legal old.volume.size (entry_of old.tasks session number (Plain reply)) (supply_beside old.volume.size (left_of_all old.volume calls)) command id history entered
+      (entry_supply old before calls history session weaving idle number (Plain reply)) enters (λ one. absurd (makes_none one)) (ap Plain told)
 
   -- or everywhere
-  pub entry_legal : (inode_need command ≡ 1 → ⊥) → IsReplyTo command reply → IsLegal old.volume.size (entry_of old.tasks session number (Plain reply)) (Ok command) history entered
+  pub entry_legal : (inode_need command ≡ 1 → ⊥) → AnswersAs command reply → IsLegal old.volume.size (entry_of old.tasks session number (Plain reply)) (Ok command) history entered
   entry_legal makes_none told = entry_legal_by makes_none (told supply history.tree history.room)

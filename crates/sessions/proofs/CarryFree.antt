@@ -32,6 +32,7 @@ use Rattle.session_laws.proofs.ReadyAsked.{ready_law}
 use Rattle.sessions.specs.Interleave.{InterleaveView, AllWait, idle, beside, alone}
 use Rattle.sessions.specs.Planned.{IsPlannedAmong}
 use Rattle.sessions.specs.Steps.{IsFreeOfOthers}
+use Rattle.sessions.proofs.CommandTasks.{same_named}
 use Rattle.sessions.proofs.WeavesOn.{weaves_on_law}
 use Rattle.sessions.proofs.WeavesOne.{WaitBeside, weaves_beside}
 
@@ -44,18 +45,25 @@ names_found : (T : Tree) (command : Command) (path : Route) → IsFound T comman
 names_found T command path (inl (i, there, named)) = (i, named)
 names_found T command path (inr (holder, absent, held, named)) = (holder, named)
 
-names_one : (T : Tree) → IsTree T → (supply : Supply) (room : Room) (command : Command) → is_changing command ≡ true → refusal_with supply T room command ≡ None → NamesOne T command
-names_one T t supply room (Create path) changing accepted = names_found T (Create path) path (found_at T t supply room (Create path) accepted path (at_first path (parent path ∷ [])))
+names_one : (T : Tree) → IsTree T → (supply : Supply) (room : Room) (command : Command) → is_changing command ≡ true → refusal_with supply T room command ≡ None
+    → NamesOne T command
+names_one T t supply room (Create path) changing accepted =
+    names_found T (Create path) path
+    (found_at T t supply room (Create path) accepted path (at_first path (parent path ∷ [])))
 names_one T t supply room (Mkdir path) changing accepted = names_found T (Mkdir path) path (found_at T t supply room (Mkdir path) accepted path (at_first path (parent path ∷ [])))
 names_one T t supply room (Link from to) changing accepted =
     names_found T (Link from to) from (found_at T t supply room (Link from to) accepted from (at_first from (to ∷ parent to ∷ [])))
-names_one T t supply room (Unlink path) changing accepted = names_found T (Unlink path) path (found_at T t supply room (Unlink path) accepted path (at_first path (parent path ∷ [])))
+names_one T t supply room (Unlink path) changing accepted =
+    names_found T (Unlink path) path
+    (found_at T t supply room (Unlink path) accepted path (at_first path (parent path ∷ [])))
 names_one T t supply room (Rmdir path) changing accepted = names_found T (Rmdir path) path (found_at T t supply room (Rmdir path) accepted path (at_first path (parent path ∷ [])))
 names_one T t supply room (Rename from to) changing accepted =
     names_found T (Rename from to) from (found_at T t supply room (Rename from to) accepted from (at_first from (parent from ∷ to ∷ parent to ∷ [])))
 names_one T t supply room (Write path offset bytes) changing accepted =
     names_found T (Write path offset bytes) path (found_at T t supply room (Write path offset bytes) accepted path (at_first path []))
-names_one T t supply room (Truncate path size) changing accepted = names_found T (Truncate path size) path (found_at T t supply room (Truncate path size) accepted path (at_first path []))
+names_one T t supply room (Truncate path size) changing accepted =
+    names_found T (Truncate path size) path
+    (found_at T t supply room (Truncate path size) accepted path (at_first path []))
 names_one T t supply room (Read path offset count) changing accepted = absurd (true≢false (sym changing))
 names_one T t supply room (Tell path) changing accepted = absurd (true≢false (sym changing))
 names_one T t supply room (Show path) changing accepted = absurd (true≢false (sym changing))
@@ -70,22 +78,17 @@ free_none volume device words calls s call T command (These inodes) i waits name
 
 -- ---- none is in its way
 
--- what a command names is named alike, however it is told
-same_named : (T : Tree) (command : Command) (one other : NamedNodes) → AreNamedBy T command one → AreNamedBy T command other → (i : ℕ) → IsNamed one i → IsNamed other i
-same_named T command All All all too i is = is
-same_named T command All (These inodes) all some i is = let none = some.0 in cc
-same_named T command (These inodes) All some all i is = let none = some.0 in cc
-same_named T command (These inodes) (These others) some too i is = (too.1 i).1 ((some.1 i).0 is)
-
 module _ (old : InterleaveView) (before : DeviceView) (calls : Calls) (history : State) (session : ℕ) (command : Command) (named : NamedNodes) (action : Action)
     (planned : IsPlannedAmong old before calls history session command named action) where
   pub planned_names : AreNamedBy history.tree command named
   planned_names =
-      (answers_alike_law (supply_beside old.volume.size (left_of_all old.volume calls)) (ranges_of_all calls) history planned.weaving.words command planned.weaving.history_is).named named planned.named_is
+      (answers_alike_law (supply_beside old.volume.size (left_of_all old.volume calls)) (ranges_of_all calls) history planned.weaving.words command
+      planned.weaving.history_is).named named planned.named_is
 
   pub planned_free : IsFreeOfOthers calls history command
   planned_free other names s call runs i both =
-      let alike = answers_alike_law (supply_beside old.volume.size (left_of_all old.volume calls)) (ranges_of_all calls) history planned.weaving.words command planned.weaving.history_is in
+      let alike = answers_alike_law (supply_beside old.volume.size (left_of_all old.volume calls)) (ranges_of_all calls) history planned.weaving.words command
+      planned.weaving.history_is in
       free_of named calls planned.free s call runs i
       (same_named history.tree command other named names (alike.named named planned.named_is) i both.named) both.named_too
 

@@ -14,7 +14,8 @@ use Rattle.volume.specs.Volume.{VolumeView}
 use Rattle.volume.specs.declared.next.Next.{Next}
 use Rattle.volume.specs.declared.next.Next.TheVariants.{More, Ended as HasEnded}
 use Rattle.volume.specs.declared.plan.Action.{Action}
-use Rattle.volume.specs.declared.plan.Action.TheVariants.{Make, Name, Remove, Move, Write as WriteBytes, WriteNothing, Resize, KeepSize, KeepNames, Read as ReadBytes, Status, Names, Space}
+use Rattle.volume.specs.declared.plan.Action.TheVariants.{Make, Name, Remove, Move, Write as WriteBytes, WriteNothing, Resize, KeepSize, KeepNames}
+use Rattle.volume.specs.declared.plan.Action.TheVariants.{Read as ReadBytes, Status, Names, Space}
 use Rattle.volume.specs.declared.plan.NewEntry.{NewEntry}
 use Rattle.data_ops.specs.declared.truncate.Stage.TheVariants.{Nothing as SizeKept}
 use Rattle.data_ops.specs.declared.write.Stage.TheVariants.{Nothing as NothingWritten}

@@ -1,13 +1,14 @@
 -- A session that ran no call runs one: its number is new, and it is to come or has come.
-use Rattle.std.proofs.Common.{◌≡◌, inl, inr, ℕ, zero, suc, ◌+◌, ◌<◌, if◌then◌else◌, List, [], ◌∷◌, ◌++◌, length, set, Option, None, Some, refl, sym, ap, subst, ◌∙◌, arith}
+use Rattle.std.proofs.Common.{◌≡◌, inl, inr, ℕ, suc, ◌+◌, ◌<◌, List, [], ◌∷◌, ◌++◌, length, set, Option, None, Some, refl, sym, ap, subst, ◌∙◌, arith}
 use Rattle.tree_model.specs.Run.{State}
 use Rattle.mixing_laws.specs.Mixed.{Range}
 use Rattle.mixing_laws.proofs.Ranges.{none_mixed_law}
 use Rattle.session_laws.specs.Calls.{Call, Calls, call_at, range_of_call, ranges_of_all}
 use Rattle.session_laws.specs.Histories.{IsHistory}
-use Rattle.session_laws.proofs.Lists.{call_set}
+use Rattle.session_laws.proofs.Lists.{call_set, without_idle}
 use Rattle.sessions.specs.Interleave.{to_come, AreNumbered}
 use Rattle.sessions.specs.Steps.{is_entered_behind}
+use Rattle.sessions.proofs.GoesLists.{to_come_put, to_enter}
 
 -- ---- its number
 
@@ -44,17 +45,10 @@ numbered_begun begun calls s call now numbered new same = record {
 
 -- ---- whether it is to come
 
-abbrev pub coming : Option Call → ℕ
-coming call = if is_entered_behind call then 0 else 1
-
-pub to_come_begun : (calls : Calls) (s : ℕ) (call : Option Call) → call_at calls s ≡ None → s < length calls → to_come (set calls s call) ≡ coming call + to_come calls
-to_come_begun [] s call idle within = absurd (omega (arith, within))
-to_come_begun (None ∷ calls) zero None idle within = omega arith
-to_come_begun (None ∷ calls) zero (Some call) idle within = refl
-to_come_begun (Some first ∷ calls) zero call idle within = cc
-to_come_begun (None ∷ calls) (suc s) call idle within = to_come_begun calls s call idle (omega (arith, within))
-to_come_begun (Some first ∷ calls) (suc s) call idle within =
-    let rest = to_come_begun calls s call idle (omega (arith, within)) in omega (arith, rest)
+pub to_come_begun : (calls : Calls) (s : ℕ) (call : Option Call) → call_at calls s ≡ None → s < length calls
+    → to_come (set calls s call) ≡ to_enter (is_entered_behind call) + to_come calls
+to_come_begun calls s call idle within =
+    to_come_put calls s call within ∙ ap (λ (others : Calls). to_enter (is_entered_behind call) + to_come others) (without_idle calls s idle)
 
 -- ---- where none writes
 

@@ -43,7 +43,8 @@ pub record BeginsAt (old : InterleaveView) (before : DeviceView) (calls : Calls)
   pub settled : IsSettledView before
   pub stores : (running : Running) → IsNext call.running (More running) → (first_step old action call).stores ≡ true
   pub crash : (J M : List ℕ) → (first_step old action call).Makes before.words J → IsMix before.words J M → MayBeLeft old.volume.size calls history (Ok call.command) M
-  pub began : (new : VolumeView) (after : DeviceView) (next : Next Running) → MadeStep (keeping old.volume action) new before after (bytes_of_command call.command) call.running next
+  pub began : (new : VolumeView) (after : DeviceView) (next : Next Running)
+      → MadeStep (keeping old.volume action) new before after (bytes_of_command call.command) call.running next
       → Began old new after calls history session call next enters
 
 module _ (old new : InterleaveView) (before after : DeviceView) (calls : Calls) (history : State) (session : ℕ) (action : Action) (call : Call) (enters : Bool)
@@ -62,9 +63,13 @@ module _ (old new : InterleaveView) (before after : DeviceView) (calls : Calls) 
   abbrev line : Line
   line = Ok call.command
 
-  -- the entries behind the step
+  -- whether its entry comes with the step
+  abbrev comes : Bool
+  comes = enters_now (fences_in (left_of (keeping old.volume action) bytes call.running)) call.behind
+
+  -- the entries behind it
   entries_are : (reply : Reply) (added : List Entry)
-      → added ≡ (if enters_now (fences_in (left_of (keeping old.volume action) bytes call.running)) call.behind then with_entry old session call.number (Plain reply) else old.entries)
+      → added ≡ (if comes then with_entry old session call.number (Plain reply) else old.entries)
       → added ≡ (if enters then with_entry old session call.number (Plain reply) else old.entries)
   entries_are reply added is = is ∙ ap (λ (b : Bool). if b then with_entry old session call.number (Plain reply) else old.entries) at.enters_is
 
@@ -85,7 +90,7 @@ module _ (old new : InterleaveView) (before after : DeviceView) (calls : Calls) 
       (new_is : new ≡ record keeps {
         volume = new.volume;
         tasks = set old.tasks session (Some (task_of (record call { running = running })));
-        entries = (if enters_now (fences_in (left_of (keeping old.volume action) bytes call.running)) call.behind then with_entry old session call.number (Plain Done) else old.entries);
+        entries = (if comes then with_entry old session call.number (Plain Done) else old.entries);
       }) where
     costs : MakesIntervals {T = Unit {0}} {E = Unit {0}} before after (step_events step) (step_fences step) (Ok tt)
     costs = step_intervals step before after (Ok tt) at.settled made.takes
@@ -112,18 +117,21 @@ module _ (old new : InterleaveView) (before after : DeviceView) (calls : Calls) 
 
     went : Steps old new before after calls history session line (RunsOn call.number)
     went = record {
-      frame = frame (More running) after made (ap (λ (w : InterleaveView). length w.tasks) new_is ∙ length-set old.tasks session (Some (task_of (record call { running = running }))));
+      frame = frame (More running) after made (ap (λ (w : InterleaveView). length w.tasks) new_is ∙ length-set old.tasks session
+          (Some (task_of (record call { running = running }))));
       going = λ going. stepped_on old new before after calls history session call (More running) enters weaving idle within number changing free names went_began went_did;
       failed = λ stopped. absurd (true≢false (sym stopped ∙ went_began.going));
-      any_moment = step_leaves (MayBeLeft old.volume.size calls history line) step before after (Ok tt) at.settled made.takes (λ image mix. at.crash after.words image made.takes.makes mix);
+      any_moment = step_leaves (MayBeLeft old.volume.size calls history line) step before after (Ok tt) at.settled made.takes
+          (λ image mix. at.crash after.words image made.takes.makes mix);
     }
 
   -- ---- it ends, and is acknowledged
 
-  module _ (told : Reply) (fenced : DeviceView) (made : MadeStep (keeping old.volume action) new.volume before fenced bytes call.running (HasEnded told)) (acks : Acknowledges fenced after)
+  module _ (told : Reply) (fenced : DeviceView) (made : MadeStep (keeping old.volume action) new.volume before fenced bytes call.running (HasEnded told))
+      (acks : Acknowledges fenced after)
       (new_is : new ≡ record keeps {
         volume = new.volume;
-        entries = (if enters_now (fences_in (left_of (keeping old.volume action) bytes call.running)) call.behind then with_entry old session call.number (Plain told) else old.entries);
+        entries = (if comes then with_entry old session call.number (Plain told) else old.entries);
       }) where
     end_costs : MakesIntervals {T = Unit {0}} {E = Unit {0}} before fenced (step_events step) (step_fences step) (Ok tt)
     end_costs = step_intervals step before fenced (Ok tt) at.settled made.takes
@@ -159,7 +167,8 @@ module _ (old new : InterleaveView) (before after : DeviceView) (calls : Calls) 
       frame = frame (HasEnded told) fenced made (ap (λ (w : InterleaveView). length w.tasks) new_is);
       going = λ going. stepped_on old new before after calls history session call (HasEnded told) enters weaving idle within number changing free names end_began end_did;
       failed = λ stopped. absurd (true≢false (sym stopped ∙ end_began.going));
-      any_moment = end_leaves (MayBeLeft old.volume.size calls history line) step before fenced after at.settled made.takes acks (λ image mix. at.crash fenced.words image made.takes.makes mix);
+      any_moment = end_leaves (MayBeLeft old.volume.size calls history line) step before fenced after at.settled made.takes acks
+          (λ image mix. at.crash fenced.words image made.takes.makes mix);
     }
 
   -- ---- its fence failed

@@ -96,7 +96,8 @@ same_progress moving other progress next is = cc
 module _ (old : InterleaveView) (before : DeviceView) (calls : Calls) (history : State) (session : ℕ) (action : Action) (call : Call)
     (planned : IsPlannedAmong old before calls history session call.command call.named action) (changing : is_changing call.command ≡ true)
     (plan_behind : call.behind ≡ behind_commit action) (starts : begun action ≡ Some call.running) (some : 0 < events_of action)
-    (within : session < length calls) (from to : Route) (moving : Moving) (command_is : call.command ≡ Rename from to) (action_is : action ≡ Move moving) (name : HasName action) where
+    (within : session < length calls) (from to : Route) (moving : Moving) (command_is : call.command ≡ Rename from to) (action_is : action ≡ Move moving)
+    (name : HasName action) where
   abbrev words : State
   words = planned.weaving.words
 
@@ -174,7 +175,8 @@ module _ (old : InterleaveView) (before : DeviceView) (calls : Calls) (history :
 
   crash : (J M : List ℕ) → step.Makes before.words J → IsMix before.words J M → MayBeLeft old.volume.size calls history (Ok call.command) M
   crash J M makes mix =
-      crash_told M (move_crash_law kept before words with_call session call J M moves_on (subst (λ (b : List ℕ). (step_of kept b call.running).Makes before.words J) no_bytes makes) mix)
+      crash_told M (move_crash_law kept before words with_call session call J M moves_on
+      (subst (λ (b : List ℕ). (step_of kept b call.running).Makes before.words J) no_bytes makes) mix)
 
   -- ---- behind the step
 
@@ -199,7 +201,7 @@ module _ (old : InterleaveView) (before : DeviceView) (calls : Calls) (history :
         let now = record call { running = running } in
         let goes = went (More running) made in
         let waits = subst (λ (c : Calls). MoveWaits new after goes.later c session now) (set-set calls session (Some call) (Some now)) goes.waits in
-        let no_ranges = ranges_alone now (moves_range now moving progress is) in
+        let no_range = ranges_alone now (moves_range now moving progress is) in
         record {
           words = goes.later;
           later = history;
@@ -207,7 +209,7 @@ module _ (old : InterleaveView) (before : DeviceView) (calls : Calls) (history :
           going = waits.waits.going;
           history_is = subst (λ (state : State). IsHistory (ranges_of_all (set calls session (Some now))) history state)
               (same_state ∙ sym (same_later goes.later goes.means))
-              (subst (λ (ranges : List Range). IsHistory ranges history words) (sym no_ranges) no_history);
+              (subst (λ (ranges : List Range). IsHistory ranges history words) (sym no_range) no_history);
           goes = refl;
           entered = ap has_committed is ∙ uncommitted;
           told = λ entered. absurd (true≢false (sym entered));

@@ -1,11 +1,12 @@
 -- The first step of a plan with an event: it has a store, and whether it commits is told by how many fences the plan has. One that commits enters the history.
-use Rattle.std.proofs.Common.{◌≡◌, ℕ, ◌+◌, ◌<◌, ◌≤◌, Bool, true, false, if◌then◌else◌, ◌||◌, ◌==◌, nat_le, nat_lt, List, [], ◌∷◌, ◌++◌, Option, None, Some, refl, sym, ap, subst, ◌∙◌, arith}
+use Rattle.std.proofs.Common.{◌≡◌, ℕ, ◌+◌, ◌<◌, Bool, true, false, if◌then◌else◌, ◌||◌, ◌==◌, nat_le, nat_lt, List, [], ◌∷◌, ◌++◌, Option, None, Some, refl, sym, ap}
+use Rattle.std.proofs.Common.{subst, ◌∙◌, arith}
 use Rattle.std.proofs.lemmas.Bool.{eq-eqb, ne_eqb, le-leb, lt-leb}
-use Rattle.pm_trait.specs.Unfolds.{Step, events_in, fences_in}
 use Rattle.volume.specs.Costs.{events_of, fences_of_plan, fences_for_growth, fences_for_loss}
 use Rattle.volume.specs.Volume.{VolumeView}
 use Rattle.volume.specs.declared.plan.Action.{Action}
-use Rattle.volume.specs.declared.plan.Action.TheVariants.{Make, Name, Remove, Move, Write as WriteBytes, WriteNothing, Resize, KeepSize, KeepNames, Read as ReadBytes, Status, Names, Space}
+use Rattle.volume.specs.declared.plan.Action.TheVariants.{Make, Name, Remove, Move, Write as WriteBytes, WriteNothing, Resize, KeepSize, KeepNames}
+use Rattle.volume.specs.declared.plan.Action.TheVariants.{Read as ReadBytes, Status, Names, Space}
 use Rattle.volume.specs.declared.plan.Moving.{Moving}
 use Rattle.volume.specs.declared.plan.Resizing.{Resizing}
 use Rattle.volume.specs.declared.plan.Writing.{Writing}
@@ -22,52 +23,39 @@ use Rattle.data_ops.specs.declared.truncate.Stage.TheVariants.{Growing as GrowsB
 use Rattle.data_ops.specs.declared.write.Stage.TheVariants.{Inside, Growing as GrowsByWrite}
 use Rattle.running_calls.specs.declared.running.Running.{Running}
 use Rattle.running_calls.specs.Stages.{begun, left_of, step_of}
-use Rattle.waiting_laws.proofs.CostsSteps.{costs_first}
 use Rattle.running_laws.specs.Steps.{commits, commits_write, commits_resize}
 use Rattle.session_laws.specs.Going.{behind_commit}
 use Rattle.sessions.specs.Advanced.{enters_now}
+use Rattle.sessions.proofs.GoesFirst.{IsFirst, is_first}
 
 -- ---- it has a store
-
--- The step stands first among those that are left, and has a store.
-pub record StoresFirst (left : List Step) (step : Step) : Type 0 where
-  pub stores : step.stores ≡ true
-  pub fits : step.events ≤ events_in left
-  pub some : 0 < fences_in left
-
-stores_first : (step : Step) (later : List Step) → step.stores ≡ true → StoresFirst (step ∷ later) step
-stores_first step later stores =
-    let costs = costs_first step later stores in
-    let events = costs.events in
-    let fences = costs.fences in
-    record { stores = stores; fits = omega (arith, events); some = omega (arith, fences) }
 
 module _ (volume : VolumeView) (bytes : List ℕ) where
   abbrev FirstOf : Option Running → Type 0
   FirstOf None = Unit {0}
-  FirstOf (Some running) = StoresFirst (left_of volume bytes running) (step_of volume bytes running)
+  FirstOf (Some running) = IsFirst (left_of volume bytes running) (step_of volume bytes running)
 
   move_first : (moving : Moving) (pages : List ℕ) (page : Option ℕ)
-      → StoresFirst (opening volume.size moving page ++ moving_steps volume.size moving pages) (moves.first_step volume.size moving page)
-  move_first moving pages None = stores_first (moves.first_step volume.size moving None) _ refl
-  move_first moving pages (Some page) = stores_first (moves.first_step volume.size moving (Some page)) _ refl
+      → IsFirst (opening volume.size moving page ++ moving_steps volume.size moving pages) (moves.first_step volume.size moving page)
+  move_first moving pages None = is_first (moves.first_step volume.size moving None) _ refl
+  move_first moving pages (Some page) = is_first (moves.first_step volume.size moving (Some page)) _ refl
 
   write_first : (writing : Writing) (inside : Bool)
-      → StoresFirst (writes.left_of volume.size bytes (if inside then Inside writing else GrowsByWrite writing Begun))
+      → IsFirst (writes.left_of volume.size bytes (if inside then Inside writing else GrowsByWrite writing Begun))
       (writes.step_of volume.size bytes (if inside then Inside writing else GrowsByWrite writing Begun))
-  write_first writing true = stores_first (writes.step_of volume.size bytes (Inside writing)) [] refl
-  write_first writing false = stores_first (writes.step_of volume.size bytes (GrowsByWrite writing Begun)) _ refl
+  write_first writing true = is_first (writes.step_of volume.size bytes (Inside writing)) [] refl
+  write_first writing false = is_first (writes.step_of volume.size bytes (GrowsByWrite writing Begun)) _ refl
 
   resize_first : (resizing : Resizing) (grows : Bool)
-      → StoresFirst (resizes.left_of volume (if grows then GrowsBySize resizing Begun else Cutting resizing CutBegun))
+      → IsFirst (resizes.left_of volume (if grows then GrowsBySize resizing Begun else Cutting resizing CutBegun))
       (resizes.step_of volume (if grows then GrowsBySize resizing Begun else Cutting resizing CutBegun))
-  resize_first resizing true = stores_first (resizes.step_of volume (GrowsBySize resizing Begun)) _ refl
-  resize_first resizing false = stores_first (resizes.step_of volume (Cutting resizing CutBegun)) _ refl
+  resize_first resizing true = is_first (resizes.step_of volume (GrowsBySize resizing Begun)) _ refl
+  resize_first resizing false = is_first (resizes.step_of volume (Cutting resizing CutBegun)) _ refl
 
   first_of : (action : Action) → 0 < events_of action → FirstOf (begun action)
-  first_of (Make entry) some = stores_first (making.writing volume.size entry) _ refl
-  first_of (Name link) some = stores_first (linking.writing volume.size link) _ refl
-  first_of (Remove removal) some = stores_first (removals.step_of volume (removals.begun removal)) _ refl
+  first_of (Make entry) some = is_first (making.writing volume.size entry) _ refl
+  first_of (Name link) some = is_first (linking.writing volume.size link) _ refl
+  first_of (Remove removal) some = is_first (removals.step_of volume (removals.begun removal)) _ refl
   first_of (Move moving) some = move_first moving _ moving.new_page
   first_of (WriteBytes writing) some = write_first writing (nat_le (writing.offset + writing.count) writing.old_size)
   first_of WriteNothing some = absurd (omega (arith, some))
@@ -80,7 +68,7 @@ module _ (volume : VolumeView) (bytes : List ℕ) where
   first_of Space some = tt
 
   pub plan_first : (action : Action) (running : Running) → begun action ≡ Some running → 0 < events_of action
-      → StoresFirst (left_of volume bytes running) (step_of volume bytes running)
+      → IsFirst (left_of volume bytes running) (step_of volume bytes running)
   plan_first action running begins some = subst FirstOf begins (first_of action some)
 
 -- ---- whether it commits

@@ -1,5 +1,6 @@
 -- The range that a call writes by its plan is one of its command.
-use Rattle.std.proofs.Common.{◌≡◌, inl, inr, ℕ, zero, suc, ◌+◌, Bool, true, false, if◌then◌else◌, nat_le, nat_lt, List, [], ◌++◌, Option, None, Some, Ok, sym, ap, subst, ◌∙◌, arith}
+use Rattle.std.proofs.Common.{◌≡◌, inl, inr, ℕ, zero, suc, ◌+◌, Bool, true, false, if◌then◌else◌, nat_le, nat_lt, List, [], ◌++◌, Option, None, Some, Ok, sym, ap, subst}
+use Rattle.std.proofs.Common.{◌∙◌, arith}
 use Rattle.std.specs.List.{Contains}
 use Rattle.std.proofs.lemmas.List.Elements.{Contains-append_cases}
 use Rattle.tree_model.specs.PathText.{Route}
@@ -11,7 +12,8 @@ use Rattle.tree_model.proofs.TreeKept.{same_some}
 use Rattle.mixing_laws.specs.Mixed.{Range}
 use Rattle.volume.specs.Planned.{IsPlanOf}
 use Rattle.volume.specs.declared.plan.Action.{Action}
-use Rattle.volume.specs.declared.plan.Action.TheVariants.{Make, Name, Remove, Move, Write as WriteBytes, WriteNothing, Resize, KeepSize, KeepNames, Read as ReadBytes, Status, Names, Space}
+use Rattle.volume.specs.declared.plan.Action.TheVariants.{Make, Name, Remove, Move, Write as WriteBytes, WriteNothing, Resize, KeepSize, KeepNames}
+use Rattle.volume.specs.declared.plan.Action.TheVariants.{Read as ReadBytes, Status, Names, Space}
 use Rattle.volume.specs.declared.plan.Resizing.{Resizing}
 use Rattle.volume.specs.declared.plan.Writing.{Writing}
 use Rattle.volume.proofs.ContentPlans.{planned_writing, planned_resizing}
@@ -31,12 +33,14 @@ abbrev range_begun : List ℕ → Option Running → Option Range
 range_begun bytes None = None
 range_begun bytes (Some running) = range_of bytes running
 
-write_range : (bytes : List ℕ) (writing : Writing) (range : Range) (inside : Bool) → range_of_write bytes (if inside then Inside writing else GrowsByWrite writing Begun) ≡ Some range
+write_range : (bytes : List ℕ) (writing : Writing) (range : Range) (inside : Bool)
+    → range_of_write bytes (if inside then Inside writing else GrowsByWrite writing Begun) ≡ Some range
     → record { file = writing.inode; offset = writing.offset; bytes = bytes } ≡ range
 write_range bytes writing range true is = same_some (record { file = writing.inode; offset = writing.offset; bytes = bytes }) range is
 write_range bytes writing range false is = same_some (record { file = writing.inode; offset = writing.offset; bytes = bytes }) range is
 
-resize_range : (resizing : Resizing) (range : Range) (grows : Bool) → range_of_resize (if grows then GrowsBySize resizing Begun else Cutting resizing CutBegun) ≡ Some range → range.bytes ≡ []
+resize_range : (resizing : Resizing) (range : Range) (grows : Bool) → range_of_resize (if grows then GrowsBySize resizing Begun else Cutting resizing CutBegun) ≡ Some range
+    → range.bytes ≡ []
 resize_range resizing range true is = sym (ap (λ (r : Range). r.bytes) (same_some (record { file = resizing.inode; offset = resizing.old_size; bytes = [] }) range is))
 resize_range resizing range false is = none_is range is
 
@@ -65,7 +69,8 @@ module _ (P : ℕ) (I : List ℕ) (history state : State) (same_paths : (path : 
   range_by (Names inode) plan begins = none_is range begins
   range_by Space plan begins = none_is range begins
 
-  pub plan_range : (action : Action) (running : Running) → IsPlanOf P I state command action → begun action ≡ Some running → range_of (bytes_of_command command) running ≡ Some range
+  pub plan_range : (action : Action) (running : Running) → IsPlanOf P I state command action → begun action ≡ Some running
+      → range_of (bytes_of_command command) running ≡ Some range
       → IsRangeOf history (Ok command) range
   plan_range action running plan begins is = range_by action plan (ap (range_begun (bytes_of_command command)) begins ∙ is)
 

@@ -1,5 +1,5 @@
 -- A plan that reads among running calls: what it asks for is there and untouched, and its reply is that of the words' tree.
-use Rattle.std.proofs.Common.{◌≡◌, ◌≢◌, ℕ, ◌≤◌, true, false, IsTrue, List, [], length, take, drop, Option, None, Some, Ok, is_some, refl, sym, ap, subst, ◌∙◌}
+use Rattle.std.proofs.Common.{◌≡◌, ◌≢◌, ℕ, ◌≤◌, true, IsTrue, List, [], length, take, drop, Option, None, Some, Ok, is_some, refl, sym, ap, subst, ◌∙◌}
 use Rattle.pm_trait.specs.DeviceView.{DeviceView}
 use Rattle.tree_model.specs.Accepted.{Accepted}
 use Rattle.tree_model.specs.Capacity.{Supply}
@@ -106,9 +106,6 @@ module _ (weave : InterleaveView) (device : DeviceView) (calls : Calls) (history
 
   pub reads_as : (other : Action) → action ≡ other → is_changing command ≡ is_change other
   reads_as other is = change_is weave.volume.size device.words words command action planned.planned.plan_is ∙ ap is_change is
-
-  pub reads_going : weave.volume.stopped ≡ false
-  reads_going = on.going
 
   pub reads_stands : IsStandingBeside weave.volume device
   reads_stands = (words, left, on.stands)

@@ -1,11 +1,8 @@
 -- What a call is told by its plan, which its first step tells where it ends; and it makes a node only where its plan is an entry.
 use Rattle.std.proofs.Common.{◌≡◌, ℕ, ◌+◌, Bool, true, false, if◌then◌else◌, ◌==◌, nat_le, nat_lt, List, [], ◌∷◌, length, Option, None, Some, refl, sym, ap, subst, ◌∙◌, arith}
 use Rattle.std.proofs.lemmas.Bool.{eqb-true, true≢false}
-use Rattle.tree_model.specs.Capacity.{Supply}
-use Rattle.tree_model.specs.Replies.{reply_of}
 use Rattle.tree_model.specs.Run.{State, is_changing}
-use Rattle.tree_model.specs.Step.{answer_of, is_same_node}
-use Rattle.tree_model.specs.Tree.{Tree, Room}
+use Rattle.tree_model.specs.Step.{is_same_node}
 use Rattle.tree_model.specs.declared.command.Command.{Command}
 use Rattle.tree_model.specs.declared.command.Command.TheVariants.{Create, Mkdir, Link, Unlink, Rmdir, Rename, Write, Truncate, Read, Stat as Tell, List as Show, Df}
 use Rattle.tree_model.specs.declared.reply.Reply.{Reply}
@@ -15,7 +12,8 @@ use Rattle.volume.specs.Planned.{IsNothingOr, IsPlanOf, IsMovingFor, IsWritingFo
 use Rattle.volume.specs.declared.next.Next.{Next}
 use Rattle.volume.specs.declared.next.Next.TheVariants.{More, Ended}
 use Rattle.volume.specs.declared.plan.Action.{Action}
-use Rattle.volume.specs.declared.plan.Action.TheVariants.{Make, Name, Remove, Move, Write as WriteBytes, WriteNothing, Resize, KeepSize, KeepNames, Read as ReadBytes, Status, Names, Space}
+use Rattle.volume.specs.declared.plan.Action.TheVariants.{Make, Name, Remove, Move, Write as WriteBytes, WriteNothing, Resize, KeepSize, KeepNames}
+use Rattle.volume.specs.declared.plan.Action.TheVariants.{Read as ReadBytes, Status, Names, Space}
 use Rattle.volume.specs.declared.plan.Moving.{Moving}
 use Rattle.volume.specs.declared.plan.NewEntry.{NewEntry}
 use Rattle.volume.specs.declared.plan.NewName.{NewName}
@@ -39,6 +37,8 @@ use Rattle.running_calls.specs.declared.running.Running.{Running}
 use Rattle.running_calls.specs.declared.running.Running.TheVariants.{Makes, Links, Removes, Moves, Writes, Resizes}
 use Rattle.running_calls.specs.Stages.{IsNext, as_call, begun}
 use Rattle.running_laws.specs.Steps.{commits}
+use Rattle.sessions.proofs.GoesMade.{told_next}
+use Rattle.sessions.proofs.GoesReplies.{AnswersAs}
 
 -- ---- by its plan
 
@@ -57,17 +57,14 @@ told_of_plan (Status inode) = Done
 told_of_plan (Names inode) = Done
 told_of_plan Space = Done
 
--- that is the reply of any tree where the command is accepted
-abbrev pub IsReplyTo : Command → Reply → Type 0
-IsReplyTo command reply = (supply : Supply) (T : Tree) (room : Room) → reply ≡ reply_of (answer_of supply T room command)
-
-written_told : (bytes : List ℕ) (action : Action) (none : Bool) (For : Writing → Type 0) → (length bytes == 0) ≡ none → ((writing : Writing) → For writing → writing.count ≡ length bytes)
+written_told : (bytes : List ℕ) (action : Action) (none : Bool) (For : Writing → Type 0) → (length bytes == 0) ≡ none
+    → ((writing : Writing) → For writing → writing.count ≡ length bytes)
     → IsNothingOr none WriteNothing (λ action. (writing : Writing) × (action ≡ WriteBytes writing) × For writing) action → told_of_plan action ≡ Count (length bytes)
 written_told bytes action true For test count is = ap told_of_plan is ∙ ap Count (sym (eqb-true (length bytes) 0 test))
 written_told bytes action false For test count (writing, is, for) = ap told_of_plan is ∙ ap Count (count writing for)
 
 module _ (P : ℕ) (I : List ℕ) (state : State) where
-  pub plan_told : (command : Command) (action : Action) → is_changing command ≡ true → IsPlanOf P I state command action → IsReplyTo command (told_of_plan action)
+  pub plan_told : (command : Command) (action : Action) → is_changing command ≡ true → IsPlanOf P I state command action → AnswersAs command (told_of_plan action)
   plan_told (Create path) action changing (entry, is, for) supply T room = ap told_of_plan is
   plan_told (Mkdir path) action changing (entry, is, for) supply T room = ap told_of_plan is
   plan_told (Link from to) action changing (link, is, for) supply T room = ap told_of_plan is
@@ -103,11 +100,6 @@ module _ (P : ℕ) (I : List ℕ) (state : State) where
 
 -- ---- by its first step
 
--- what it is told where it ends, and where it goes on behind its commit
-abbrev pub told_behind : Next Running → Reply
-told_behind (More running) = Done
-told_behind (Ended reply) = reply
-
 abbrev TellsFirst : Action → Running → Next Running → Type 0
 TellsFirst action running (More next) = commits running ≡ true → Done ≡ told_of_plan action
 TellsFirst action running (Ended reply) = reply ≡ told_of_plan action
@@ -121,7 +113,8 @@ tells_so action running next left is tells = subst (TellsFirst action running) (
 
 entry_tells : (entry : NewEntry) (next : Next Running) → IsNext (Makes (entries.begun entry)) next → TellsFirst (Make entry) (Makes (entries.begun entry)) next
 entry_tells entry next (left, (node, is), same) =
-    tells_so (Make entry) (Makes (entries.begun entry)) next (as_call Makes (More (record { entry = entry; stage = EntryWritten node }))) (same ∙ ap (as_call Makes) is) (λ commit. refl)
+    tells_so (Make entry) (Makes (entries.begun entry)) next (as_call Makes (More (record { entry = entry; stage = EntryWritten node }))) (same ∙ ap (as_call Makes) is)
+    (λ commit. refl)
 
 link_tells : (link : NewName) (next : Next Running) → IsNext (Links (links.begun link)) next → TellsFirst (Name link) (Links (links.begun link)) next
 link_tells link next (left, (file, is), same) =
@@ -180,13 +173,13 @@ tells_by (Status inode) next = tt
 tells_by (Names inode) next = tt
 tells_by Space next = tt
 
-told_so : (action : Action) (running : Running) (next : Next Running) → commits running ≡ true → TellsFirst action running next → told_behind next ≡ told_of_plan action
+told_so : (action : Action) (running : Running) (next : Next Running) → commits running ≡ true → TellsFirst action running next → told_next next ≡ told_of_plan action
 told_so action running (More next) commit tells = tells commit
 told_so action running (Ended reply) commit tells = tells
 
 -- one that commits first is told so,
 pub first_told : (action : Action) (running : Running) (next : Next Running) → begun action ≡ Some running → IsNext running next → commits running ≡ true
-    → told_behind next ≡ told_of_plan action
+    → told_next next ≡ told_of_plan action
 first_told action running next begins is commit =
     told_so action running next commit (subst (λ (o : Option Running). TellsBegun action o next) begins (tells_by action next) is)
 

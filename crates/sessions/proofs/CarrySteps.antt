@@ -1,14 +1,17 @@
 -- The first step of a call was made: what it leaves of the calls, the history, the entries and the device.
-use Rattle.std.proofs.Common.{◌≡◌, inr, ℕ, ◌+◌, ◌<◌, ◌≤◌, Bool, true, false, not, ◌&&◌, if◌then◌else◌, [], ◌∷◌, length, length-append, set, Option, None, Some, Ok}
+use Rattle.std.proofs.Common.{◌≡◌, inr, ℕ, ◌+◌, ◌<◌, ◌≤◌, Bool, true, false, not, ◌&&◌, ◌||◌, if◌then◌else◌, [], ◌∷◌, length, length-append, set, Option, None, Some, Ok}
 use Rattle.std.proofs.Common.{refl, sym, ap, subst, ◌∙◌, arith}
 use Rattle.std.proofs.lemmas.Bool.{true≢false}
 use Rattle.std.proofs.lemmas.List.{length-set}
 use Rattle.pm_trait.specs.DeviceView.{DeviceView}
 use Rattle.tree_model.specs.Capacity.{Supply}
 use Rattle.tree_model.specs.PathText.{Route}
+use Rattle.tree_model.specs.Replies.{reply_of}
+use Rattle.tree_model.specs.Step.{answer_of}
+use Rattle.tree_model.specs.Tree.{Tree, Room}
 use Rattle.tree_model.specs.Run.{State, Line, is_changing}
 use Rattle.tree_model.specs.declared.command.Command.{Command}
-use Rattle.tree_model.specs.declared.command.Command.TheVariants.{Read}
+use Rattle.tree_model.specs.declared.command.Command.TheVariants.{Create, Mkdir, Link, Unlink, Rmdir, Rename, Write, Truncate, Read, Stat as Tell, List as Show, Df}
 use Rattle.tree_model.specs.declared.reply.Reply.TheVariants.{Done}
 use Rattle.naming_laws.specs.Naming.{inode_need}
 use Rattle.image_counts.specs.Laws.{supply_beside}
@@ -23,14 +26,16 @@ use Rattle.session_laws.proofs.Lists.{call_put, call_other}
 use Rattle.sessions.specs.Advanced.{entry_of, with_entry}
 use Rattle.sessions.specs.Interleave.{InterleaveView, AllWait, AreNumbered, IsWeaving, tasks_of, to_come}
 use Rattle.volume.specs.Named.{AreNamedBy}
-use Rattle.sessions.specs.Steps.{StepsOn, BytesBehind, Enters, IsFreeOfOthers, IsBusyRightly, IsLeftAs, IsToldAs, IsCallAt, GetsOn}
+use Rattle.sessions.specs.Steps.{StepsOn, BytesBehind, Enters, IsFreeOfOthers, IsBusyRightly, IsLeftAs, IsToldAs, IsCallAt, GetsOn, IsQuietWhere, is_refused}
 use Rattle.sessions.specs.Steps.{begun_after, number_of, is_entered_before, is_entered_behind, acks_of}
 use Rattle.sessions.specs.declared.entry.StepReply.{StepReply}
-use Rattle.sessions.specs.declared.entry.StepReply.TheVariants.{Running as RunsOn, Ended}
+use Rattle.sessions.specs.declared.entry.StepReply.TheVariants.{Running as RunsOn}
 use Rattle.sessions.specs.declared.entry.WeaveReply.TheVariants.{Plain}
 use Rattle.sessions.proofs.CarryEntry.{entry_held, entry_legal}
-use Rattle.sessions.proofs.CarryLists.{numbered_begun, to_come_begun, coming}
-use Rattle.sessions.proofs.CarryReplies.{IsReplyTo, told_behind}
+use Rattle.sessions.proofs.CarryLists.{numbered_begun, to_come_begun}
+use Rattle.sessions.proofs.GoesLists.{to_enter}
+use Rattle.sessions.proofs.GoesMade.{told_next, reply_next}
+use Rattle.sessions.proofs.GoesReplies.{AnswersAs}
 
 -- ---- what is known behind it
 
@@ -40,7 +45,8 @@ GoesTo true supply command history later = (id : ℕ) × EntersHistory supply hi
 GoesTo false supply command history later = later ≡ history
 
 -- All wait, the words are those of the history, and the call has its entry where that came with this step.
-pub record Began (old : InterleaveView) (volume : VolumeView) (after : DeviceView) (calls : Calls) (history : State) (s : ℕ) (call : Call) (next : Next Running) (enters : Bool) : Type 0 where
+pub record Began (old : InterleaveView) (volume : VolumeView) (after : DeviceView) (calls : Calls) (history : State) (s : ℕ) (call : Call) (next : Next Running)
+    (enters : Bool) : Type 0 where
   pub words : State
   pub later : State
   pub waits : AllWait volume after words (set calls s (next_call call next))
@@ -48,12 +54,7 @@ pub record Began (old : InterleaveView) (volume : VolumeView) (after : DeviceVie
   pub history_is : IsHistory (ranges_of_all (set calls s (next_call call next))) later words
   pub goes : GoesTo enters (supply_beside old.volume.size (left_of_all old.volume calls)) call.command history later
   pub entered : is_entered_behind (next_call call next) ≡ enters
-  pub told : enters ≡ true → IsReplyTo call.command (told_behind next)
-
--- the call runs on, or has ended so
-abbrev pub reply_behind : ℕ → Next Running → StepReply
-reply_behind number (More running) = RunsOn number
-reply_behind number (HasEnded reply) = Ended number (Plain reply)
+  pub told : enters ≡ true → AnswersAs call.command (told_next next)
 
 -- a fence where it goes on
 abbrev pub HasFenceBehind : DeviceView → DeviceView → Next Running → Type 0
@@ -63,12 +64,12 @@ HasFenceBehind before after (HasEnded reply) = Unit {0}
 -- what it did to the code's view and to the device, with the acknowledgement of a call that has ended
 pub record DidStep (old new : InterleaveView) (before after : DeviceView) (calls : Calls) (s : ℕ) (call : Call) (next : Next Running) (enters : Bool) : Type 0 where
   pub tasks : new.tasks ≡ tasks_of (set calls s (next_call call next))
-  pub entries : new.entries ≡ (if enters then with_entry old s call.number (Plain (told_behind next)) else old.entries)
+  pub entries : new.entries ≡ (if enters then with_entry old s call.number (Plain (told_next next)) else old.entries)
   pub begun : new.begun ≡ old.begun + 1
   pub bytes : new.bytes ≡ old.bytes
   pub most : after.fences ≤ before.fences + 1
   pub fence : HasFenceBehind before after next
-  pub acks : after.acks ≡ before.acks + acks_of (reply_behind call.number next)
+  pub acks : after.acks ≡ before.acks + acks_of (reply_next call next)
   pub faults : after.faults ≡ before.faults
 
 -- ---- the clauses
@@ -80,10 +81,26 @@ changing_of : Line → Bool
 changing_of (Ok command) = is_changing command
 changing_of _ = false
 
+-- a change that ends isn't refused
+never_refused : (command : Command) → is_changing command ≡ true → (supply : Supply) (T : Tree) (room : Room) → is_refused (reply_of (answer_of supply T room command)) ≡ false
+never_refused (Create path) changing supply T room = refl
+never_refused (Mkdir path) changing supply T room = refl
+never_refused (Link from to) changing supply T room = refl
+never_refused (Unlink path) changing supply T room = refl
+never_refused (Rmdir path) changing supply T room = refl
+never_refused (Rename from to) changing supply T room = refl
+never_refused (Write path offset bytes) changing supply T room = refl
+never_refused (Truncate path size) changing supply T room = refl
+never_refused (Read path offset count) changing supply T room = refl
+never_refused (Tell path) changing supply T room = refl
+never_refused (Show path) changing supply T room = refl
+never_refused Df changing supply T room = refl
+
 module _ (old new : InterleaveView) (before after : DeviceView) (calls : Calls) (history : State) (session : ℕ) (call : Call) (next : Next Running) (enters : Bool)
     (weaving : IsWeaving old before calls history) (idle : call_at calls session ≡ None) (within : session < length calls) (number : call.number ≡ old.begun + 1)
     (changing : is_changing call.command ≡ true) (free : IsFreeOfOthers calls history call.command)
-    (names : AreNamedBy history.tree call.command call.named) (began : Began old new.volume after calls history session call next enters) (did : DidStep old new before after calls session call next enters) where
+    (names : AreNamedBy history.tree call.command call.named) (began : Began old new.volume after calls history session call next enters)
+    (did : DidStep old new before after calls session call next enters) where
   abbrev left_calls : Calls
   left_calls = set calls session (next_call call next)
 
@@ -91,7 +108,7 @@ module _ (old new : InterleaveView) (before after : DeviceView) (calls : Calls) 
   line = Ok call.command
 
   abbrev reply : StepReply
-  reply = reply_behind call.number next
+  reply = reply_next call next
 
   own_number : call.number ≡ number_of old.begun (call_at calls session)
   own_number = number ∙ sym (ap (number_of old.begun) idle)
@@ -110,21 +127,22 @@ module _ (old new : InterleaveView) (before after : DeviceView) (calls : Calls) 
       subst (λ (begun : ℕ). AreNumbered begun left_calls) (sym did.begun)
       (numbered_begun old.begun calls session call (next_call call next) weaving.numbered number (same_number next))
 
-  entries_long : (entered : Bool) → new.entries ≡ (if entered then with_entry old session call.number (Plain (told_behind next)) else old.entries) → is_entered_behind (next_call call next) ≡ entered
+  entries_long : (entered : Bool) → new.entries ≡ (if entered then with_entry old session call.number (Plain (told_next next)) else old.entries)
+      → is_entered_behind (next_call call next) ≡ entered
       → length new.entries + to_come left_calls ≤ new.begun
   entries_long true added is =
       let was = weaving.entered in
       let begun = did.begun in
-      let long = ap length added ∙ length-append old.entries (entry_of old.tasks session call.number (Plain (told_behind next)) ∷ []) in
+      let long = ap length added ∙ length-append old.entries (entry_of old.tasks session call.number (Plain (told_next next)) ∷ []) in
       let all = to_come_begun calls session (next_call call next) idle within in
-      let come : coming (next_call call next) ≡ 0 = ap (λ (b : Bool). if b then 0 else 1) is in
+      let come : to_enter (is_entered_behind (next_call call next)) ≡ 0 = ap (λ (b : Bool). if b then 0 else 1) is in
       omega (arith, was, begun, long, all, come)
   entries_long false added is =
       let was = weaving.entered in
       let begun = did.begun in
       let long = ap length added in
       let all = to_come_begun calls session (next_call call next) idle within in
-      let come : coming (next_call call next) ≡ 1 = ap (λ (b : Bool). if b then 0 else 1) is in
+      let come : to_enter (is_entered_behind (next_call call next)) ≡ 1 = ap (λ (b : Bool). if b then 0 else 1) is in
       omega (arith, was, begun, long, all, come)
 
   weaves : IsWeaving new after left_calls began.later
@@ -140,24 +158,24 @@ module _ (old new : InterleaveView) (before after : DeviceView) (calls : Calls) 
 
   -- ---- its entry
 
-  told_as : (behind : Next Running) → IsToldAs (reply_behind call.number behind) (Plain (told_behind behind))
+  told_as : (behind : Next Running) → IsToldAs (reply_next call behind) (Plain (told_next behind))
   told_as (More running) = tt
   told_as (HasEnded told) = refl
 
-  told_none : (behind : Next Running) → is_entered_behind (next_call call behind) ≡ false → IsToldAs (reply_behind call.number behind) (Plain Done)
+  told_none : (behind : Next Running) → is_entered_behind (next_call call behind) ≡ false → IsToldAs (reply_next call behind) (Plain Done)
   told_none (More running) none = tt
   told_none (HasEnded told) none = absurd (true≢false none)
 
   enters_so : (entered : Bool) → GoesTo entered (supply_beside old.volume.size (left_of_all old.volume calls)) call.command history began.later
-      → new.entries ≡ (if entered then with_entry old session call.number (Plain (told_behind next)) else old.entries) → is_entered_behind (next_call call next) ≡ entered
-      → (entered ≡ true → IsReplyTo call.command (told_behind next)) → Enters entered old new calls session line history began.later reply
+      → new.entries ≡ (if entered then with_entry old session call.number (Plain (told_next next)) else old.entries) → is_entered_behind (next_call call next) ≡ entered
+      → (entered ≡ true → AnswersAs call.command (told_next next)) → Enters entered old new calls session line history began.later reply
   enters_so true (id, entering, makes_none) added is told = record {
-    entry = entry_of old.tasks session call.number (Plain (told_behind next));
+    entry = entry_of old.tasks session call.number (Plain (told_next next));
     added = added;
     session_is = refl;
     number_is = own_number;
-    held = entry_held old before calls history session weaving idle call.number (Plain (told_behind next));
-    legal = entry_legal old before calls history session weaving idle call.number (told_behind next) call.command id began.later entering makes_none (told refl);
+    held = entry_held old before calls history session weaving idle call.number (Plain (told_next next));
+    legal = entry_legal old before calls history session weaving idle call.number (told_next next) call.command id began.later entering makes_none (told refl);
     told = told_as next;
   }
   enters_so false same added is told = record { told = told_none next is; same = added; history_same = same }
@@ -172,11 +190,11 @@ module _ (old new : InterleaveView) (before after : DeviceView) (calls : Calls) 
   -- ---- its reply
 
   left_as : (behind : Next Running) → call_at left_calls session ≡ next_call call behind
-      → IsLeftAs (reply_behind call.number behind) (number_of old.begun (call_at calls session)) (call_at left_calls session)
+      → IsLeftAs (reply_next call behind) (number_of old.begun (call_at calls session)) (call_at left_calls session)
   left_as (More running) is = (record call { running = running }, is, own_number, own_number)
   left_as (HasEnded told) is = (is, own_number)
 
-  busy_none : (behind : Next Running) → IsBusyRightly (reply_behind call.number behind) None calls history line
+  busy_none : (behind : Next Running) → IsBusyRightly (reply_next call behind) None calls history line
   busy_none (More running) = free
   busy_none (HasEnded told) = inr free
 
@@ -184,13 +202,23 @@ module _ (old new : InterleaveView) (before after : DeviceView) (calls : Calls) 
   unfolding changing_of
   no_read path offset count is = let reads : is_changing call.command ≡ false = ap changing_of is in true≢false (sym changing ∙ reads)
 
-  bytes_behind : (behind : Next Running) → BytesBehind old.bytes new.bytes history.tree line (reply_behind call.number behind)
+  bytes_behind : (behind : Next Running) → BytesBehind old.bytes new.bytes history.tree line (reply_next call behind)
   bytes_behind (More running) = did.bytes
   bytes_behind (HasEnded told) = record { kept = λ others. did.bytes; read = λ path offset count read is told. absurd (no_read path offset count is) }
 
-  fenced_if : (behind : Next Running) → HasFenceBehind before after behind → (own : ℕ) → reply_behind call.number behind ≡ RunsOn own → after.fences ≡ before.fences + 1
+  fenced_if : (behind : Next Running) → HasFenceBehind before after behind → (own : ℕ) → reply_next call behind ≡ RunsOn own → after.fences ≡ before.fences + 1
   fenced_if (More running) fence own is = fence
   fenced_if (HasEnded told) fence own is = cc
+
+  quiet_behind : (behind : Next Running) → is_entered_behind (next_call call behind) ≡ enters → (enters ≡ true → AnswersAs call.command (told_next behind))
+      → IsQuietWhere (reply_next call behind) None line before after
+  quiet_behind (More running) entered told = tt
+  quiet_behind (HasEnded answer) entered told = λ none.
+      let supply = supply_beside old.volume.size (left_of_all old.volume calls) in
+      let refused : is_refused answer ≡ true = sym (ap (λ (b : Bool). not b || is_refused answer) changing) ∙ none in
+      let not_refused : is_refused answer ≡ false =
+      ap is_refused (told (sym entered) supply history.tree history.room) ∙ never_refused call.command changing supply history.tree history.room in
+      absurd (true≢false (sym refused ∙ not_refused))
 
   -- ---- what the session runs
 
@@ -214,6 +242,7 @@ module _ (old new : InterleaveView) (before after : DeviceView) (calls : Calls) 
     gets_on = subst (λ (ran : Option Call). GetsOn old.volume new.volume ran (call_at left_calls session)) (sym idle) tt;
     busy = subst (λ (ran : Option Call). IsBusyRightly reply ran calls history line) (sym idle) (busy_none next);
     bytes = bytes_behind next;
+    quiet = subst (λ (ran : Option Call). IsQuietWhere reply ran line before after) (sym idle) (quiet_behind next began.entered began.told);
     fences = record {
       most = did.most;
       goes_on = λ ran runs. cc (idle, runs);

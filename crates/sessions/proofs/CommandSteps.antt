@@ -1,5 +1,5 @@
 -- A step of a command from behind its preparing, which takes places and room alone, is one from before it.
-use Rattle.std.proofs.Common.{None, sym, ◌≡◌, ℕ, ◌+◌, ◌≤◌, Bool, true, false, not, ◌&&◌, length, Option, ap, subst, ◌∙◌}
+use Rattle.std.proofs.Common.{None, Some, arith, sym, ◌≡◌, ℕ, ◌+◌, ◌≤◌, Bool, true, false, not, ◌&&◌, length, Option, ap, subst, ◌∙◌}
 use Rattle.pm_trait.specs.Device.{LeavesOnly, HasRisen}
 use Rattle.pm_trait.specs.DeviceView.{DeviceView}
 use Rattle.pm_trait.specs.Trail.{Trail}
@@ -10,8 +10,9 @@ use Rattle.volume.specs.Prepared.{IsSameButRoom}
 use Rattle.session_laws.specs.Calls.{Call, Calls, call_at, without, left_of_all}
 use Rattle.sessions.specs.History.{IsLegal}
 use Rattle.sessions.specs.Interleave.{InterleaveView}
-use Rattle.sessions.specs.Steps.{Enters, HasFenced, StepsOn, StepFails, MayBeLeft, Steps, acks_of, is_entered_before, is_entered_behind, GetsOn}
+use Rattle.sessions.specs.Steps.{Enters, HasFenced, StepsOn, StepFails, MayBeLeft, Steps, acks_of, is_entered_before, is_entered_behind, GetsOn, IsQuietWhere}
 use Rattle.sessions.specs.declared.entry.StepReply.{StepReply}
+use Rattle.sessions.specs.declared.entry.StepReply.TheVariants.{Running as RunsOn, Ended}
 
 module _ (old new : InterleaveView) (volume : VolumeView) (before between after : DeviceView) (calls : Calls) (history : State) (session : ℕ) (line : Line) (reply : StepReply)
     (idle : call_at calls session ≡ None) (size : volume.size ≡ old.volume.size) (marked : volume.marked ≡ old.volume.marked) (left : left_of_all volume (without calls session) ≡ left_of_all old.volume (without calls session))
@@ -41,6 +42,22 @@ module _ (old new : InterleaveView) (volume : VolumeView) (before between after 
     left = λ number is. fenced.left number is ∙ ap (λ (n : ℕ). n + 1) room.fences;
   }
 
+  quiet_back : (reply : StepReply) (ran : Option Call) → IsQuietWhere reply ran line between after → IsQuietWhere reply ran line before after
+  quiet_back (RunsOn number) ran quiet = tt
+  quiet_back (Ended number answer) (Some call) quiet = tt
+  quiet_back (Ended number answer) None quiet = λ none. let was = quiet none in record { between = was.between; room = room_then was.between was.room; acked = was.acked }
+    where
+      room_then : (last : DeviceView) → IsSameButRoom between last → IsSameButRoom before last
+      room_then last more = record {
+        words = more.words ∙ room.words;
+        trail = more.trail ∙ room.trail;
+        room = (let one = room.room in let other = more.room in omega (arith, one, other));
+        faults = more.faults ∙ room.faults;
+        refused = (let one = room.refused in let other = more.refused in omega (arith, one, other));
+        fences = more.fences ∙ room.fences;
+        acks = more.acks ∙ room.acks;
+      }
+
   on_back : StepsOn behind new between after calls history session line reply → StepsOn old new before after calls history session line reply
   on_back on = record {
     later_calls = on.later_calls;
@@ -54,6 +71,7 @@ module _ (old new : InterleaveView) (volume : VolumeView) (before between after 
     gets_on = subst (λ (ran : Option Call). GetsOn old.volume new.volume ran (call_at on.later_calls session)) (sym idle) tt;
     busy = on.busy;
     bytes = on.bytes;
+    quiet = quiet_back reply (call_at calls session) on.quiet;
     fences = fenced_back (call_at calls session) on.fences;
     acks = on.acks ∙ ap (λ (n : ℕ). n + acks_of reply) room.acks;
     faults = on.faults ∙ room.faults;

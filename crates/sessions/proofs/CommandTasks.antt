@@ -38,7 +38,7 @@ by_option calls s None is = is
 by_option calls s (Some call) is = (call, is, refl)
 
 -- what a command names is named alike, however it is told
-same_named : (T : Tree) (command : Command) (one other : NamedNodes) → AreNamedBy T command one → AreNamedBy T command other → (i : ℕ) → IsNamed one i → IsNamed other i
+pub same_named : (T : Tree) (command : Command) (one other : NamedNodes) → AreNamedBy T command one → AreNamedBy T command other → (i : ℕ) → IsNamed one i → IsNamed other i
 same_named T command All All all too i is = is
 same_named T command All (These inodes) all some i is = let none = some.0 in cc
 same_named T command (These inodes) All some all i is = let none = some.0 in cc

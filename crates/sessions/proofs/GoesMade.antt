@@ -24,7 +24,7 @@ use Rattle.sessions.specs.Advanced.{MadeStep, entry_of, with_entry, enters_now, 
 use Rattle.sessions.specs.History.{supply_of}
 use Rattle.sessions.specs.Interleave.{InterleaveView, AllWait, AreNumbered, IsWeaving, task_of, tasks_of, to_come, with_task}
 use Rattle.sessions.specs.Laws.{OthersHold}
-use Rattle.sessions.specs.Steps.{Enters, IsLeftAs, IsToldAs, IsBusyRightly, BytesBehind, HasFenced, StepsOn, IsCallAt, GetsOn, fences_of_left, number_of, begun_after, is_entered_before, is_entered_behind, acks_of}
+use Rattle.sessions.specs.Steps.{Enters, IsLeftAs, IsToldAs, IsBusyRightly, BytesBehind, HasFenced, StepsOn, IsCallAt, GetsOn, fences_of_left, number_of, begun_after, is_entered_before, is_entered_behind, acks_of, IsQuietWhere}
 use Rattle.sessions.specs.Tasks.{held_by_all}
 use Rattle.sessions.specs.declared.entry.Entry.{Entry}
 use Rattle.sessions.specs.declared.entry.StepReply.{StepReply}
@@ -280,6 +280,10 @@ module _ (old new : InterleaveView) (before : DeviceView) (calls : Calls) (histo
           let more : after.fences ≡ before.fences + 1 = there.fences ∙ counted in
           record { most = omega (arith, more); goes_on = λ one is. more; left = λ number is. more }
 
+      quiet_so : (left : Next Running) → IsQuietWhere (reply_next call left) (Some call) (Ok call.command) before after
+      quiet_so (More running) = tt
+      quiet_so (HasEnded told) = tt
+
       pub steps_on : StepsOn weave new before after calls history s (Ok call.command) (reply_next call next)
       steps_on = record {
         later_calls = now;
@@ -296,6 +300,7 @@ module _ (old new : InterleaveView) (before : DeviceView) (calls : Calls) (histo
             (subst (λ (one : Option Call). GetsOn old.volume new.volume (Some call) one) (sym put) (costs.fences ∙ ap (λ (n : ℕ). 1 + n) (fences_so next)));
         busy = subst (λ (one : Option Call). IsBusyRightly (reply_next call next) one calls history (Ok call.command)) (sym runs) (busy_so next);
         bytes = bytes_so next tells;
+        quiet = subst (λ (one : Option Call). IsQuietWhere (reply_next call next) one (Ok call.command) before after) (sym runs) (quiet_so next);
         fences = fenced_so;
         acks = there.acks ∙ ap (λ (n : ℕ). n + acks_of (reply_next call next)) stores.acks;
         faults = there.faults ∙ stores.no_fault;

@@ -49,3 +49,4 @@ pub mod GoesAmong
 pub mod GoesAsked
 pub mod CarryOut
 pub mod CarrySeen
+pub mod EndStands

@@ -70,6 +70,10 @@ pub record IsWeaving (weave : InterleaveView) (device : DeviceView) (calls : Cal
   pub numbered : AreNumbered weave.begun calls
   pub entered : length weave.entries + to_come calls ≤ weave.begun
 
+-- They wait so, and no session runs a call.
+abbrev pub HaveEnded : InterleaveView → DeviceView → State → Type 0
+HaveEnded weave device history = (calls : Calls) × IsWeaving weave device calls history × AreIdle calls
+
 -- ---- what a step asks for
 
 -- So many sessions on the volume, none of which runs a call.

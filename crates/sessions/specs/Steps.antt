@@ -1,17 +1,19 @@
 -- What a step of a session does: to the calls that run, to the history, and to the device.
-use Rattle.std.specs.Prelude.{◌≡◌, ◌≢◌, ◌⊎◌, ℕ, ◌+◌, ◌≤◌, Bool, true, false, not, ◌&&◌, List, [], ◌∷◌, ◌++◌, length, set, take, drop, Option, None, Some, Ok, Err, Contains}
+use Rattle.std.specs.Prelude.{◌≡◌, ◌≢◌, ◌⊎◌, ℕ, ◌+◌, ◌≤◌, Bool, true, false, not, ◌&&◌, ◌||◌, List, [], ◌∷◌, ◌++◌, length, set, take, drop, Option, None, Some, Ok, Err, Contains}
 use Rattle.pm_trait.specs.Device.{LeavesOnly, HasRisen}
-use Rattle.pm_trait.specs.DeviceView.{DeviceView}
+use Rattle.pm_trait.specs.DeviceView.{DeviceView, Acknowledges}
 use Rattle.tree_model.specs.Run.{State, Line, is_changing}
 use Rattle.tree_model.specs.PathText.{Route}
 use Rattle.tree_model.specs.Tree.{Tree, id_at, bytes_of}
 use Rattle.tree_model.specs.Step.{id_of}
 use Rattle.tree_model.specs.declared.command.Command.{Command}
 use Rattle.tree_model.specs.declared.command.Command.TheVariants.{Read, Write, Truncate}
-use Rattle.tree_model.specs.declared.reply.Reply.TheVariants.{Done, Bytes, Stopped, Fault}
+use Rattle.tree_model.specs.declared.reply.Reply.{Reply}
+use Rattle.tree_model.specs.declared.reply.Reply.TheVariants.{Done, Count, Status, Bytes, Names, Space, Refused, Unread, Stopped, Fault}
 use Rattle.image_reading.specs.Residue.{Residue}
 use Rattle.mixing_laws.specs.Mixed.{Range}
 use Rattle.volume.specs.Volume.{VolumeView}
+use Rattle.volume.specs.Prepared.{IsSameButRoom}
 use Rattle.volume.specs.Named.{AreNamedBy, refusal_of_walks}
 use Rattle.volume.specs.declared.named.NamedNodes.{NamedNodes}
 use Rattle.running_laws.specs.Steps.{has_committed}
@@ -158,6 +160,38 @@ abbrev pub GetsOn : VolumeView → VolumeView → Option Call → Option Call �
 GetsOn old new None left = Unit {0}
 GetsOn old new (Some ran) left = fences_of_call old ran ≡ 1 + fences_of_left new left
 
+-- ---- a call without a plan
+
+abbrev pub is_refused : Reply → Bool
+is_refused Done = false
+is_refused (Count count) = false
+is_refused (Status stat) = false
+is_refused (Bytes count) = false
+is_refused (Names inode count) = false
+is_refused (Space free) = false
+is_refused (Refused refusal) = true
+is_refused (Unread fault) = false
+is_refused Fault = false
+is_refused Stopped = false
+
+-- it is Busy, faulty or refused, or it reads
+abbrev pub has_no_plan : Line → WeaveReply → Bool
+has_no_plan line (Busy inode holder) = true
+has_no_plan (Err fault) (Plain reply) = true
+has_no_plan (Ok command) (Plain reply) = not (is_changing command) || is_refused reply
+
+-- Space for events alone was taken, and then it was acknowledged.
+pub record IsAckedAlone (before after : DeviceView) : Type 0 where
+  pub between : DeviceView
+  pub room : IsSameButRoom before between
+  pub acked : Acknowledges between after
+
+-- So a call that begins and has none stores nothing.
+abbrev pub IsQuietWhere : StepReply → Option Call → Line → DeviceView → DeviceView → Type 0
+IsQuietWhere (Running number) ran line before after = Unit {0}
+IsQuietWhere (Ended number answer) (Some call) line before after = Unit {0}
+IsQuietWhere (Ended number answer) None line before after = has_no_plan line answer ≡ true → IsAckedAlone before after
+
 -- ---- its fences and acknowledgement
 
 -- At most one fence; and one where the call goes on, or has fences left.
@@ -186,6 +220,7 @@ pub record StepsOn (old new : InterleaveView) (before after : DeviceView) (calls
   pub gets_on : GetsOn old.volume new.volume (call_at calls session) (call_at later_calls session)
   pub busy : IsBusyRightly reply (call_at calls session) calls history line
   pub bytes : BytesBehind old.bytes new.bytes history.tree line reply
+  pub quiet : IsQuietWhere reply (call_at calls session) line before after
   pub fences : HasFenced before after reply (call_at calls session)
   pub acks : after.acks ≡ before.acks + acks_of reply
   pub faults : after.faults ≡ before.faults

@@ -4,7 +4,8 @@ ghost use Rattle.std.specs.Vec.{vec_capacity};
 ghost use Rattle.tree_model.specs.Run.{State};
 ghost use Rattle.script.specs.Calls.{line_of_call};
 ghost use Rattle.session_laws.specs.Calls.{Calls};
-ghost use Rattle.sessions.specs.Interleave.{started};
+ghost use Rattle.mark_ops.specs.Marking.{Closes};
+ghost use Rattle.sessions.specs.Interleave.{started, HaveEnded};
 ghost use Rattle.sessions.specs.Tasks.{task_in};
 ghost use Rattle.sessions.specs.declared.interleave.TheConstants.{MOST_CALLS};
 ghost use Rattle.sessions.specs.Steps.{IsAsked, MayStep, Steps, IsStopped};
@@ -12,7 +13,8 @@ ghost use Rattle.sessions.specs.Steps.{IsAsked, MayStep, Steps, IsStopped};
 use crate::entry::{Entry, StepReply};
 use crate::task::Task;
 use engine::LastRead;
-use pm_trait::{NoMemory, Pm};
+use mark_ops::close;
+use pm_trait::{NoMemory, Pm, PmFault};
 use script::Call;
 use std::alloc::Global;
 use std::marker::Model;
@@ -106,5 +108,19 @@ impl Interleave {
             None => self.begin(session, call, pm),
             Some(task) => self.go_on(session, task, call, pm),
         }
+    }
+
+    /// Ends the sessions, none of which runs a call, and gives the volume the mark of one that was closed, where it doesn't have it. It takes
+    /// no memory.
+    ///
+    /// A crash at any moment leaves the tree of the history. Where the fence fails, the volume may have the mark or not.
+    pub fn close<P: Pm>(self, pm: &mut P) -> Result<(), PmFault>
+        requires going { self.volume.stopped ≡ false }
+        requires ended { (history : State) × HaveEnded self (P.view pm.old) history }
+        requires fences { (P.view pm.old).fences < 2 ^ 62 }
+        ensures { (history : State) → HaveEnded self (P.view pm.old) history →
+            Closes self.volume.marked self.volume.size history (P.view pm.old) (P.view pm.new) result }
+    {
+        close(self.volume, pm)
     }
 }

@@ -37,7 +37,8 @@ answer-requires-clause-room g c =
     let all = planned_all c.args.self.now (g.P.Pm.view c.args.pm.now) c.args.session c.args.command.now c.args.named c.args.plan c.requires.begun calls history planned in
     let read = c.in-Some.ensures calls history c.args.session c.args.command.now c.args.named all in
     subst (λ (w : InterleaveView). length w.entries < MOST_CALLS) (sym read.2)
-    (planned_room c.args.self.now (g.P.Pm.view c.args.pm.now) c.args.session c.args.command.now c.args.named c.args.plan c.requires.begun calls history planned MOST_CALLS c.requires.calls)
+    (planned_room c.args.self.now (g.P.Pm.view c.args.pm.now) c.args.session c.args.command.now c.args.named c.args.plan c.requires.begun calls history planned MOST_CALLS
+    c.requires.calls)
 
 pub returns-in-Some : goal.returns-in-Some
 returns-in-Some g c = record {

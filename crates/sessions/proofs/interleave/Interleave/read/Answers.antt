@@ -8,7 +8,8 @@ use Rattle.volume.specs.declared.plan.Action.TheVariants.{Read, Status, Names, S
 use Rattle.data_ops.specs.Reading.{HasFile}
 use Rattle.session_laws.specs.Calls.{left_of_all}
 use Rattle.sessions.specs.Interleave.{InterleaveView}
-use Rattle.sessions.proofs.CarryReads.{reads_as, reads_stands, reads_beside, read_file, read_short, read_told, status_there, status_told, names_directory, names_within, names_told, space_told}
+use Rattle.sessions.proofs.CarryReads.{reads_as, reads_stands, reads_beside, read_file, read_short, read_told, status_there, status_told, names_directory, names_within}
+use Rattle.sessions.proofs.CarryReads.{names_told, space_told}
 use Rattle.sessions.proofs.interleave.Interleave.read.Goals as goal
 
 -- ---- bytes
