@@ -1,11 +1,10 @@
 -- A call that has made its first step and goes on waits beside the others, and is apart from them.
 use Rattle.std.proofs.Common.{◌≡◌, ◌⊎◌, inl, inr, ℕ, ◌+◌, ◌≤◌, ◌==◌, false, nat_le, length, None, sym, subst, ◌∙◌, arith}
 use Rattle.pm_trait.specs.DeviceView.{DeviceView}
-use Rattle.tree_model.specs.Tree.{Tree, node_at}
+use Rattle.tree_model.specs.Tree.{node_at}
 use Rattle.tree_model.specs.Step.{need, refusal_with}
 use Rattle.tree_model.specs.Run.{State}
-use Rattle.tree_model.specs.declared.command.Command.{Command}
-use Rattle.naming_laws.specs.Naming.{names_inode, inode_need}
+use Rattle.naming_laws.specs.Naming.{inode_need}
 use Rattle.image_reading.specs.Counts.{IsIn}
 use Rattle.image_reading.specs.Residue.{Residue, no_residue}
 use Rattle.image_counts.specs.Laws.{supply_beside}
@@ -13,9 +12,6 @@ use Rattle.mixing_laws.specs.Mixed.{FindsAlike}
 use Rattle.mixing_laws.proofs.Finds.{finds_alike_law}
 use Rattle.volume.specs.Volume.{VolumeView}
 use Rattle.volume.specs.Costs.{events_of, fences_of_plan}
-use Rattle.volume.specs.Named.{AreNamedBy}
-use Rattle.volume.specs.declared.named.NamedNodes.{NamedNodes}
-use Rattle.volume.specs.declared.named.NamedNodes.TheVariants.{All, These}
 use Rattle.volume.specs.declared.next.Next.{Next}
 use Rattle.volume.specs.declared.next.Next.TheVariants.{More}
 use Rattle.volume.specs.declared.plan.Action.{Action}
@@ -28,6 +24,7 @@ use Rattle.running_laws.specs.Steps.{MeansFirst, MeansUncommitted, commits, has_
 use Rattle.session_laws.specs.Calls.{Call, Calls, left_of_all, listed_range, IsNamed, IsApartFrom, IsToCome, HasBehind, CallWaits, CallsWait}
 use Rattle.session_laws.specs.Going.{IsReadyAmong, IsCallOf, behind_commit}
 use Rattle.session_laws.specs.Others.{OthersWait}
+use Rattle.session_laws.proofs.Named.{named_still}
 use Rattle.session_laws.proofs.BeginBeside.{free_of, next_inodes, names_its, apart_held, stays}
 use Rattle.session_laws.proofs.BeginFirst.{IsBegun, first_goes}
 use Rattle.session_laws.proofs.BeginMeans.{uncommitted_mixed, uncommitted_room}
@@ -47,12 +44,6 @@ pub record HasBegun (old new : VolumeView) (after : DeviceView) (words : State) 
   pub few : events_left new (bytes_of_command call.command) next ≤ events_of action
   pub kept : new.kept ≡ old.kept + events_left new (bytes_of_command call.command) next
   pub fences : fences_of_plan action ≡ 1 + fences_left new (bytes_of_command call.command) next
-
--- a command that names the same inodes in both trees
-named_alike : (T U : Tree) (command : Command) (named : NamedNodes) → ((i : ℕ) → names_inode U command i ≡ names_inode T command i) → AreNamedBy T command named
-    → AreNamedBy U command named
-named_alike T U command All same is = is
-named_alike T U command (These inodes) same is = (is.0, λ i. ((λ here. same i ∙ (is.1 i).0 here), (λ names. (is.1 i).1 (sym (same i) ∙ names))))
 
 module _ (holds_law : HoldsLaw) (names_held : NamesHeldLaw) (begun_holds : BegunHoldsLaw) (next_holds : NextHoldsLaw) (old new : VolumeView) (before after : DeviceView)
     (words : State) (calls : Calls) (action : Action) (call : Call) (running : Running) (wait : CallsWait old before words no_residue calls)
@@ -108,7 +99,7 @@ module _ (holds_law : HoldsLaw) (names_held : NamesHeldLaw) (begun_holds : Begun
         let enough = plan_enough old before words call.command action call.running before_all ready.ready of.running of.beside of.some in
         let left = begun_is.left coming in
         record {
-          named = named_alike words.tree first.later.tree call.command call.named alike.named of.named;
+          named = named_still words.tree first.later.tree call.command call.named alike.named of.named;
           accepted = (λ k. refusal_with (supply_beside (first.size k) (first.others.left k)) first.later.tree (same_room k) call.command) ∙ alike.refusal
               ∙ ready.ready.planned.accepted;
           inodes = subst (λ (own : Residue). inode_need call.command ≤ length own.inodes) (sym left) enough.inodes;

@@ -1,5 +1,5 @@
 -- Where a call that begins isn't ended by its first step: what it has left then, and how many of its fences come behind its commit.
-use Rattle.std.proofs.Common.{◌≡◌, ℕ, ◌+◌, Bool, true, false, ◌==◌, nat_le, nat_lt, if◌then◌else◌, List, [], ◌∷◌, Option, Some, refl, sym, ap, subst, ◌∙◌, arith, true≢false}
+use Rattle.std.proofs.Common.{◌≡◌, ℕ, ◌+◌, Bool, true, false, nat_le, nat_lt, if◌then◌else◌, List, [], ◌∷◌, Option, Some, refl, sym, ap, subst, ◌∙◌, arith, true≢false}
 use Rattle.std.proofs.lemmas.Bool.{le-leb, ne_eqb}
 use Rattle.pm_trait.specs.DeviceView.{DeviceView}
 use Rattle.fence_token.specs.declared.states.Clean.{Clean}
@@ -50,11 +50,7 @@ use Rattle.running_laws.specs.Steps.{commits, has_committed, runs_beside}
 use Rattle.session_laws.specs.Going.{behind_commit}
 use Rattle.session_laws.proofs.BeginKept.{none_begins, alone}
 use Rattle.session_laws.proofs.BeginNeeds.{left_of_plan}
-
--- So many fences are left behind the first, and so many behind the commit.
-pub record IsBehind (left behind : ℕ) (is_commit has_been : Bool) : Type 0 where
-  pub commit : is_commit ≡ (left == behind + 1)
-  pub committed : has_been ≡ nat_le left behind
+use Rattle.session_laws.proofs.MoveBehind.{IsBehind}
 
 -- Until it has committed it has left what is its own by its plan, which has so many fences, and so many of them behind its commit.
 pub record IsBegun (new : VolumeView) (own : Residue) (fences behind : ℕ) (first next : Running) : Type 0 where

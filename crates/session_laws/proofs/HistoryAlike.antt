@@ -2,7 +2,6 @@
 use Rattle.std.proofs.Common.{◌≡◌, ℕ, true, [], ◌∷◌, ◌++◌, None, sym, ap, ◌∙◌}
 use Rattle.pm_trait.specs.DeviceView.{DeviceView}
 use Rattle.tree_model.specs.Capacity.{Supply}
-use Rattle.tree_model.specs.Tree.{Tree}
 use Rattle.tree_model.specs.Step.{first, at, refusal_with, answer_of}
 use Rattle.tree_model.specs.Run.{State, IsVolumeState}
 use Rattle.tree_model.specs.declared.command.Command.{Command}
@@ -16,7 +15,6 @@ use Rattle.mixing_laws.proofs.Finds.{finds_alike_law}
 use Rattle.volume.specs.Volume.{VolumeView}
 use Rattle.volume.specs.Named.{AreNamedBy, is_at_root}
 use Rattle.volume.specs.declared.named.NamedNodes.{NamedNodes}
-use Rattle.volume.specs.declared.named.NamedNodes.TheVariants.{All, These}
 use Rattle.running_laws.specs.Steps.{IsAfter}
 use Rattle.session_laws.specs.Calls.{Calls, ranges_of_all, CallsWait}
 use Rattle.session_laws.specs.Going.{AreFree}
@@ -24,20 +22,16 @@ use Rattle.session_laws.specs.Histories.{IsHistory, AnswersAlikeLaw, ReadsAlikeL
 use Rattle.session_laws.proofs.HistoryApart.{named_by, volume_state, free_file}
 use Rattle.session_laws.proofs.HistoryBegins.{zero_unused}
 use Rattle.session_laws.proofs.HistoryEnters.{Enters, enters}
+use Rattle.session_laws.proofs.Named.{named_still}
 
 -- ---- refusals and names
-
-named_alike : (T U : Tree) (command : Command) → ((id : ℕ) → names_inode U command id ≡ names_inode T command id) → (named : NamedNodes) → AreNamedBy U command named
-    → AreNamedBy T command named
-named_alike T U command same All all = all
-named_alike T U command same (These inodes) these = (these.0, λ i. ((λ held. sym (same i) ∙ (these.1 i).0 held), (λ names. (these.1 i).1 (same i ∙ names))))
 
 pub answers_alike_law : AnswersAlikeLaw
 answers_alike_law supply ranges history words command is =
     let finds = finds_alike_law supply words.room command ranges history.tree words.tree is.tree in
     record {
       refusal = ap (λ room. refusal_with supply history.tree room command) (sym is.room) ∙ sym finds.refusal;
-      named = named_alike history.tree words.tree command finds.named;
+      named = λ named names. named_still words.tree history.tree command named (λ i. sym (finds.named i)) names;
       walks = ap (λ faults. first (faults ++ at Root (is_at_root command) ∷ [])) (sym finds.walks);
     }
 

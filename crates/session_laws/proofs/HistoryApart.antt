@@ -1,6 +1,6 @@
 -- The file of a running range is held by its call, and named by it. So a command that is free of the calls names none of these files, and two
 -- ranges have two files.
-use Rattle.std.proofs.Common.{◌≡◌, inl, inr, ℕ, true, false, [], Option, Some, None, refl, sym, subst, true≢false}
+use Rattle.std.proofs.Common.{◌≡◌, inl, inr, ℕ, true, [], Option, Some, None, refl, sym, subst, true≢false}
 use Rattle.pm_trait.specs.DeviceView.{DeviceView}
 use Rattle.tree_model.specs.PathText.{Route}
 use Rattle.tree_model.specs.Tree.{Node, id_at, node_at, is_file, is_file_node}

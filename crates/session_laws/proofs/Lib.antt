@@ -1,3 +1,4 @@
+pub mod Named
 pub mod MoveCalls
 pub mod MoveBehind
 pub mod MoveBegins

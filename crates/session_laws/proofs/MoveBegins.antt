@@ -35,7 +35,7 @@ events_at volume call running is = ap (λ (r : Running). events_in (left_of volu
 
 module _ (volume : VolumeView) (device : DeviceView) (words : State) (calls : Calls) (s : ℕ) (from to : Route) (moving : Moving) (call : Call)
     (none : (r : ℕ) → call_at calls r ≡ None) (within : s < length calls)
-    (empty : volume.kept ≡ 0) (ready : IsReadyAmong volume device words (Rename from to) (Move moving) calls) (is : IsMoveOf (Rename from to) from to moving call) where
+    (empty : volume.kept ≡ 0) (ready : IsReadyAmong volume device words (Rename from to) (Move moving) calls) (is : IsMoveOf from to moving call) where
   abbrev keeps : VolumeView
   keeps = keeping volume (Move moving)
 

@@ -22,7 +22,7 @@ use Rattle.session_laws.specs.Calls.{Call, HasBehind}
 use Rattle.session_laws.specs.Going.{behind_commit}
 
 -- So many fences are left, and so many of them behind the commit.
-record IsBehind (fences behind : ℕ) (is_commit has_been : Bool) : Type 0 where
+pub record IsBehind (fences behind : ℕ) (is_commit has_been : Bool) : Type 0 where
   pub commit : is_commit ≡ (fences == behind + 1)
   pub committed : has_been ≡ nat_le fences behind
 

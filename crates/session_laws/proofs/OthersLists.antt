@@ -1,26 +1,9 @@
 -- What all calls have left where each has left the same, and a volume that stands beside it in another order.
 use Rattle.std.proofs.Common.{◌≡◌, ℕ, zero, suc, ◌+◌, [], ◌∷◌, Some, None, refl}
-use Rattle.pm_trait.specs.DeviceView.{DeviceView}
-use Rattle.tree_model.specs.Run.{State}
-use Rattle.image_reading.specs.Residue.{Residue}
 use Rattle.weave_laws.specs.Joined.{joined}
 use Rattle.volume.specs.Volume.{VolumeView}
-use Rattle.waiting_laws.specs.Beside.{StandsWith}
-use Rattle.waiting_laws.proofs.Preparing.{stands_in_order}
 use Rattle.running_laws.specs.Waits.{left_by}
 use Rattle.session_laws.specs.Calls.{Call, Calls, call_at, events_of_call, left_of_all, events_of_all}
-use Rattle.session_laws.proofs.Lists.{HasSameLeft, same_places}
-
--- A volume that stands beside calls stands beside them in whatever order.
-pub stands_reordered : (volume : VolumeView) (device : DeviceView) (state : State) (own others mine rest : Residue) → HasSameLeft (joined own others) (joined mine rest)
-    → StandsWith volume device state own others → StandsWith volume device state mine rest
-stands_reordered volume device state own others mine rest same with = record {
-  stands = stands_in_order volume device state (joined own others) (joined mine rest)
-      (same_places volume.size device.words (joined own others) (joined mine rest) same with.stands.beside with.no_pointer) with.stands;
-  going = with.going;
-  unmarked = with.unmarked;
-  no_pointer = same.pointer.0 with.no_pointer;
-}
 
 module _ (old new : VolumeView) where
   -- Where each call has left the same, so have all,

@@ -3,10 +3,8 @@ use Rattle.std.proofs.Common.{◌≡◌, ◌⊎◌, inl, inr, ℕ, ◌+◌, ◌=
 use Rattle.pm_trait.specs.DeviceView.{DeviceView}
 use Rattle.layout.specs.Geometry.{page_of_slot}
 use Rattle.layout.specs.Fields.{page_owner, slot_inode}
-use Rattle.tree_model.specs.Tree.{Tree, node_at}
+use Rattle.tree_model.specs.Tree.{node_at}
 use Rattle.tree_model.specs.Run.{State}
-use Rattle.tree_model.specs.declared.command.Command.{Command}
-use Rattle.naming_laws.specs.Naming.{names_inode}
 use Rattle.naming_laws.specs.Still.{FindsSame, IsStillAccepted}
 use Rattle.naming_laws.proofs.Still.{still_law}
 use Rattle.image_reading.specs.Counts.{IsIn}
@@ -19,9 +17,6 @@ use Rattle.weave_laws.specs.Beside.{KeepsPage}
 use Rattle.weave_laws.specs.Joined.{joined}
 use Rattle.weave_laws.specs.Waiting.{HasNoPageOf}
 use Rattle.volume.specs.Volume.{VolumeView}
-use Rattle.volume.specs.Named.{AreNamedBy}
-use Rattle.volume.specs.declared.named.NamedNodes.{NamedNodes}
-use Rattle.volume.specs.declared.named.NamedNodes.TheVariants.{All, These}
 use Rattle.waiting_laws.specs.Beside.{Holding, Holds, NamesNothing, StandsWith, PassesBy}
 use Rattle.waiting_laws.proofs.ApartHeld.{passes_by_law}
 use Rattle.waiting_laws.proofs.BeginsEnough.{own_enough_law}
@@ -30,18 +25,14 @@ use Rattle.running_laws.specs.Steps.{has_committed}
 use Rattle.session_laws.specs.Calls.{Call, Calls, call_at, without, left_of_all, IsNamed, AreApartCalls, IsToCome, HasBehind, CallWaits, CallsWait}
 use Rattle.session_laws.specs.Others.{StepsBeside, OthersWait, OthersWaitLaw}
 use Rattle.session_laws.proofs.Lists.{call_kept, page_left, left_moved_past}
-use Rattle.session_laws.proofs.OthersLists.{stands_reordered, all_left_same, all_events_same}
+use Rattle.session_laws.proofs.Named.{named_still}
+use Rattle.session_laws.proofs.OrderAlone.{stands_same}
+use Rattle.session_laws.proofs.OthersLists.{all_left_same, all_events_same}
 
 -- a slot whose page stays is held where it was
 held_before : (P : ℕ) (I J : List ℕ) (t : ℕ) → KeepsPage P I J (page_of_slot t) → IsHeld P J t → IsHeld P I t
 unfolding slot_owner
 held_before P I J t page slot = record { in_range = slot.in_range; kind = sym page.kind ∙ slot.kind; owned = λ none. slot.owned (page.owner ∙ none) }
-
--- a command that finds the same names the same
-named_still : (T U : Tree) (command : Command) (named : NamedNodes) → ((i : ℕ) → names_inode U command i ≡ names_inode T command i) → AreNamedBy T command named
-    → AreNamedBy U command named
-named_still T U command All same is = is
-named_still T U command (These inodes) same is = (is.0, λ i. ((λ here. same i ∙ (is.1 i).0 here), (λ names. (is.1 i).1 (sym (same i) ∙ names))))
 
 module _ (still_waits : StillWaitsLaw) (holds_law : HoldsLaw) (old new : VolumeView) (before after : DeviceView) (words later : State) (own next : Residue) (held : Holding)
     (calls : Calls) (wait : CallsWait old before words own calls) (steps : StepsBeside old new before after words later next held calls) where
@@ -65,7 +56,7 @@ module _ (still_waits : StillWaitsLaw) (holds_law : HoldsLaw) (old new : VolumeV
 
     stands_in_front : StandsWith new after later (left_by old call.running) (others_of s)
     stands_in_front =
-        stands_reordered new after later next (left_of_all old calls) (left_by old call.running) (others_of s) (left_moved_past old next calls s call is) steps.leaves.beside
+        stands_same new after later next (left_of_all old calls) (left_by old call.running) (others_of s) (left_moved_past old next calls s call is) steps.leaves.beside
 
   -- a page that one of the others has left has the owner that it had
   module _ (r : ℕ) (other : Call) (there : call_at calls r ≡ Some other) (j : ℕ) (left : IsIn j (left_by old other.running).pages) where

@@ -1,8 +1,8 @@
 -- The running calls of sessions, and where they wait beside one another. P is the number of pages, I the words.
-use Rattle.std.specs.Prelude.{◌≡◌, ◌⊎◌, ℕ, zero, suc, ◌+◌, ◌^◌, ◌<◌, ◌≤◌, true, false, nat_le, ◌==◌, List, [], ◌∷◌, ◌++◌, length, set, Option, None, Some, Contains}
+use Rattle.std.specs.Prelude.{◌≡◌, ◌⊎◌, ℕ, zero, suc, ◌+◌, ◌^◌, ◌<◌, ◌≤◌, false, nat_le, ◌==◌, List, [], ◌∷◌, ◌++◌, length, set, Option, None, Some, Contains}
 use Rattle.pm_trait.specs.DeviceView.{DeviceView}
 use Rattle.pm_trait.specs.Unfolds.{events_in, fences_in}
-use Rattle.tree_model.specs.Tree.{Tree, node_at}
+use Rattle.tree_model.specs.Tree.{node_at}
 use Rattle.tree_model.specs.Step.{need, refusal_with}
 use Rattle.tree_model.specs.Run.{State}
 use Rattle.tree_model.specs.declared.command.Command.{Command}
@@ -18,7 +18,7 @@ use Rattle.volume.specs.declared.named.NamedNodes.{NamedNodes}
 use Rattle.volume.specs.declared.named.NamedNodes.TheVariants.{All, These}
 use Rattle.running_calls.specs.declared.running.Running.{Running}
 use Rattle.running_calls.specs.Stages.{left_of}
-use Rattle.waiting_laws.specs.Beside.{Holding, StandsWith}
+use Rattle.waiting_laws.specs.Beside.{StandsWith}
 use Rattle.running_laws.specs.Waits.{left_by, held_by, bytes_of_command, Waits}
 use Rattle.running_laws.specs.Steps.{commits, has_committed, range_of}
 
@@ -38,6 +38,10 @@ abbrev pub call_at : Calls → ℕ → Option Call
 call_at [] s = None
 call_at (call ∷ calls) zero = call
 call_at (call ∷ calls) (suc s) = call_at calls s
+
+-- no session runs one
+abbrev pub AreIdle : Calls → Type 0
+AreIdle calls = (s : ℕ) → call_at calls s ≡ None
 
 -- what the other sessions run
 abbrev pub without : Calls → ℕ → Calls

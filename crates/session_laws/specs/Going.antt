@@ -25,13 +25,13 @@ use Rattle.running_calls.specs.Stages.{StandsNext, IsNext, EntersAt, begun, step
 use Rattle.waiting_laws.specs.Beside.{IsReady, MakesStep}
 use Rattle.running_laws.specs.Waits.{bytes_of_command}
 use Rattle.running_laws.specs.Steps.{Means, MeansFirst, commits, given_inode, range_of, runs_beside}
-use Rattle.session_laws.specs.Calls.{Call, Calls, call_at, left_of_all, events_of_all, IsNamed, CallsWait}
+use Rattle.session_laws.specs.Calls.{Call, Calls, call_at, AreIdle, left_of_all, events_of_all, IsNamed, CallsWait}
 
 -- ---- before it begins
 
 -- No running call names what it names; where it names all, none runs.
 abbrev pub AreFree : NamedNodes → Calls → Type 0
-AreFree All calls = (s : ℕ) → call_at calls s ≡ None
+AreFree All calls = AreIdle calls
 AreFree (These inodes) calls = (s : ℕ) (other : Call) → call_at calls s ≡ Some other → (i : ℕ) → IsNamed (These inodes) i → ¬ IsNamed other.named i
 
 -- It may be prepared,

@@ -5,7 +5,6 @@ use Rattle.tree_model.specs.Capacity.{untaken}
 use Rattle.tree_model.specs.PathText.{Route}
 use Rattle.tree_model.specs.Step.{refusal_with}
 use Rattle.tree_model.specs.Run.{State}
-use Rattle.tree_model.specs.declared.command.Command.{Command}
 use Rattle.tree_model.specs.declared.command.Command.TheVariants.{Rename}
 use Rattle.image_reading.specs.Residue.{no_residue}
 use Rattle.image_laws.specs.Quiet.{IsMix}
@@ -26,9 +25,9 @@ use Rattle.running_calls.specs.Stages.{StandsStage, StandsNext, IsNext, EntersAt
 use Rattle.waiting_laws.specs.Beside.{MakesStep}
 use Rattle.waiting_laws.specs.Moving.{WaitsToMove}
 use Rattle.running_laws.specs.Steps.{Means, commits, has_committed}
-use Rattle.session_laws.specs.Calls.{Call, Calls, call_at, HasBehind, CallsWait, events_of_call}
-use Rattle.session_laws.specs.Going.{IsReadyAmong, behind_commit, next_call}
-use Rattle.session_laws.specs.Histories.{EntersHistory, IsCrashOf, MayBeLeft}
+use Rattle.session_laws.specs.Calls.{Call, Calls, call_at, AreIdle, HasBehind, CallsWait, events_of_call}
+use Rattle.session_laws.specs.Going.{IsReadyAmong, behind_commit}
+use Rattle.session_laws.specs.Histories.{EntersHistory, MayBeLeft}
 
 -- no session runs a call but this one
 abbrev pub RunsAlone : Calls → ℕ → Type 0
@@ -56,7 +55,7 @@ pub record MoveWaits (volume : VolumeView) (device : DeviceView) (words : State)
 -- ---- it begins
 
 -- as the only one, from its begin on
-pub record IsMoveOf (command : Command) (from to : Route) (moving : Moving) (call : Call) : Type 0 where
+pub record IsMoveOf (from to : Route) (moving : Moving) (call : Call) : Type 0 where
   pub command_is : call.command ≡ Rename from to
   pub named : call.named ≡ All
   pub behind : call.behind ≡ behind_commit (Move moving)
@@ -66,8 +65,8 @@ pub record IsMoveOf (command : Command) (from to : Route) (moving : Moving) (cal
 
 abbrev pub MoveBeginsLaw : Type 0
 MoveBeginsLaw = (volume : VolumeView) (device : DeviceView) (words : State) (calls : Calls) (s : ℕ) (from to : Route) (moving : Moving) (call : Call)
-    → CallsWait volume device words no_residue calls → ((r : ℕ) → call_at calls r ≡ None) → s < length calls → volume.kept ≡ 0
-    → IsReadyAmong volume device words (Rename from to) (Move moving) calls → IsMoveOf (Rename from to) from to moving call
+    → CallsWait volume device words no_residue calls → AreIdle calls → s < length calls → volume.kept ≡ 0
+    → IsReadyAmong volume device words (Rename from to) (Move moving) calls → IsMoveOf from to moving call
     → MoveWaits (keeping volume (Move moving)) device words (set calls s (Some call)) s call
 
 -- ---- it goes on

@@ -137,7 +137,7 @@ module _ (old : InterleaveView) (before : DeviceView) (calls : Calls) (history :
       (subst (λ (a : Action). IsReadyAmong old.volume before words call.command a calls) action_is
       (planned_ready old before calls history session call.command call.named action planned changing))
 
-  is_move : IsMoveOf (Rename from to) from to moving call
+  is_move : IsMoveOf from to moving call
   is_move = record { command_is = command_is; named = named_is; behind = plan_behind ∙ ap behind_commit action_is; running = running_is; name = name moving action_is }
 
   moves_on : MoveWaits kept before words with_call session call

@@ -7,9 +7,9 @@ use Rattle.volume.specs.Volume.{VolumeView}
 use Rattle.volume.specs.Beside.{StandsBeside}
 use Rattle.volume.specs.Stands.{StandsFor}
 use Rattle.volume.proofs.Beside.{beside_stands}
-use Rattle.session_laws.specs.Calls.{Calls, ranges_of_all}
+use Rattle.session_laws.specs.Calls.{AreIdle, Calls, ranges_of_all}
 use Rattle.session_laws.proofs.Lists.{left_idle, events_idle}
-use Rattle.sessions.specs.Interleave.{InterleaveView, AllWait, idle, beside, alone, AreIdle, HaveEnded}
+use Rattle.sessions.specs.Interleave.{InterleaveView, AllWait, idle, beside, alone, HaveEnded}
 use Rattle.sessions.proofs.CarryLists.{ranges_idle, same_history}
 
 words_stand : (volume : VolumeView) (device : DeviceView) (words : State) (calls : Calls) → AllWait volume device words calls → AreIdle calls → StandsFor volume device words

@@ -3,28 +3,29 @@ use Rattle.std.proofs.Common.{◌≡◌, inl, inr, ℕ, ◌+◌, ◌<◌, ◌≤
 use Rattle.std.proofs.lemmas.Bool.{cases_eq, cases_lt, false≢true}
 use Rattle.std.proofs.lemmas.List.{get_or_default}
 use Rattle.volume.specs.declared.named.NamedNodes.{NamedNodes}
+use Rattle.volume.specs.declared.named.NamedNodes.TheVariants.{These}
 use Rattle.session_laws.specs.Calls.{IsNamed}
-use Rattle.sessions.specs.Busy.{IsBoth, AreNoneOf, IsLeastOf}
+use Rattle.sessions.specs.Busy.{AreBothNamed, AreNoneOfBoth, IsLeastOfBoth}
 
 -- ---- what is known of the places below one
 
 abbrev pub AreNoneBelow : List (Option ℕ) → NamedNodes → ℕ → Type 0
-AreNoneBelow inodes nodes k = (inode : ℕ) → (also : IsBoth inodes nodes inode) → also.listed.0 < k → ⊥
+AreNoneBelow inodes nodes k = (inode : ℕ) → (also : AreBothNamed (These inodes) nodes inode) → also.named.0 < k → ⊥
 
 pub record IsLeastBelow (inodes : List (Option ℕ)) (nodes : NamedNodes) (k inode : ℕ) : Type 0 where
-  pub both : IsBoth inodes nodes inode
-  pub least : (other : ℕ) → (also : IsBoth inodes nodes other) → also.listed.0 < k → inode ≤ other
+  pub both : AreBothNamed (These inodes) nodes inode
+  pub least : (other : ℕ) → (also : AreBothNamed (These inodes) nodes other) → also.named.0 < k → inode ≤ other
 
 abbrev pub IsFoundBelow : List (Option ℕ) → NamedNodes → ℕ → Option ℕ → Type 0
 IsFoundBelow inodes nodes k found = MatchOption found (AreNoneBelow inodes nodes k) (IsLeastBelow inodes nodes k)
 
 -- all places are below the end
 pub found_of_all : (inodes : List (Option ℕ)) (nodes : NamedNodes) (k : ℕ) (found : Option ℕ) → length inodes ≤ k → IsFoundBelow inodes nodes k found
-    → MatchOption found (AreNoneOf inodes nodes) (IsLeastOf inodes nodes)
-found_of_all inodes nodes k None end before = λ inode also. let below = also.listed.1 in before inode also (omega (arith, below))
+    → MatchOption found (AreNoneOfBoth (These inodes) nodes) (IsLeastOfBoth (These inodes) nodes)
+found_of_all inodes nodes k None end before = λ inode also. let below = also.named.1 in before inode also (omega (arith, below))
 found_of_all inodes nodes k (Some least) end before = record {
   both = before.both;
-  least = λ other also. let below = also.listed.1 in before.least other also (omega (arith, below));
+  least = λ other also. let below = also.named.1 in before.least other also (omega (arith, below));
 }
 
 -- ---- one more place
@@ -34,19 +35,19 @@ abbrev pub IsNoLess : List (Option ℕ) → NamedNodes → ℕ → Option ℕ �
 IsNoLess inodes nodes k found = (inode : ℕ) → get_or inodes k (Some inode) ≡ Some inode → IsNamed nodes inode → MatchOption found ⊥ (λ least. least ≤ inode)
 
 -- the place of an inode that is both
-place_is : (inodes : List (Option ℕ)) (nodes : NamedNodes) (k inode : ℕ) → (also : IsBoth inodes nodes inode) → also.listed.0 ≡ k → get_or inodes k (Some inode) ≡ Some inode
-place_is inodes nodes k inode also here = ap (λ (place : ℕ). get_or inodes place (Some inode)) (sym here) ∙ also.listed.2
+place_is : (inodes : List (Option ℕ)) (nodes : NamedNodes) (k inode : ℕ) → (also : AreBothNamed (These inodes) nodes inode) → also.named.0 ≡ k → get_or inodes k (Some inode) ≡ Some inode
+place_is inodes nodes k inode also here = ap (λ (place : ℕ). get_or inodes place (Some inode)) (sym here) ∙ also.named.2
 
 pub found_still : (inodes : List (Option ℕ)) (nodes : NamedNodes) (k : ℕ) (found : Option ℕ) → IsFoundBelow inodes nodes k found → IsNoLess inodes nodes k found
     → IsFoundBelow inodes nodes (k + 1) found
-found_still inodes nodes k None before more = λ inode also below. elim (cases_eq also.listed.0 k) [
-  | inl here ↦ more inode (place_is inodes nodes k inode also here) also.named
+found_still inodes nodes k None before more = λ inode also below. elim (cases_eq also.named.0 k) [
+  | inl here ↦ more inode (place_is inodes nodes k inode also here) also.named_too
   | inr there ↦ before inode also (omega (arith, there, below))
 ]
 found_still inodes nodes k (Some least) before more = record {
   both = before.both;
-  least = λ other also below. elim (cases_eq also.listed.0 k) [
-    | inl here ↦ more other (place_is inodes nodes k other also here) also.named
+  least = λ other also below. elim (cases_eq also.named.0 k) [
+    | inl here ↦ more other (place_is inodes nodes k other also here) also.named_too
     | inr there ↦ before.least other also (omega (arith, there, below))
   ];
 }
@@ -77,8 +78,8 @@ not_less inode (Some least) not = elim (cases_lt inode least) [
 pub found_less : (inodes : List (Option ℕ)) (nodes : NamedNodes) (k inode : ℕ) (found : Option ℕ) → IsFoundBelow inodes nodes k found → k < length inodes
     → get_or inodes k None ≡ Some inode → IsNamed nodes inode → MatchOption found (Unit {0}) (λ least. inode < least) → IsFoundBelow inodes nodes (k + 1) (Some inode)
 found_less inodes nodes k inode found before within is named less = record {
-  both = record { listed = (k, within, get_or_default inodes k (Some inode) None within ∙ is); named = named };
-  least = λ other also below. elim (cases_eq also.listed.0 k) [
+  both = record { named = (k, within, get_or_default inodes k (Some inode) None within ∙ is); named_too = named };
+  least = λ other also below. elim (cases_eq also.named.0 k) [
     | inl here ↦
         let place = place_is inodes nodes k other also here in
         let same = get_or_default inodes k None (Some other) within in
@@ -88,6 +89,6 @@ found_less inodes nodes k inode found before within is named less = record {
   ];
 } where
   least_before : (found : Option ℕ) → IsFoundBelow inodes nodes k found → MatchOption found (Unit {0}) (λ least. inode < least)
-      → (other : ℕ) → (also : IsBoth inodes nodes other) → also.listed.0 < k → inode ≤ other
+      → (other : ℕ) → (also : AreBothNamed (These inodes) nodes other) → also.named.0 < k → inode ≤ other
   least_before None before less other also below = absurd (before other also below)
   least_before (Some least) before less other also below = let no_less = before.least other also below in omega (arith, less, no_less)

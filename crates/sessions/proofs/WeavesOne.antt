@@ -5,10 +5,10 @@ use Rattle.tree_model.specs.Run.{State}
 use Rattle.image_reading.specs.Residue.{no_residue}
 use Rattle.volume.specs.Volume.{VolumeView}
 use Rattle.volume.specs.Beside.{StandsBeside}
-use Rattle.session_laws.specs.Calls.{Call, Calls, call_at, without, events_of_all, CallsWait}
+use Rattle.session_laws.specs.Calls.{AreIdle, Call, Calls, call_at, without, events_of_all, CallsWait}
 use Rattle.session_laws.proofs.Lists.{events_idle}
 use Rattle.session_laws.proofs.MoveCalls.{none_wait}
-use Rattle.sessions.specs.Interleave.{AreIdle, task_of, tasks_of}
+use Rattle.sessions.specs.Interleave.{task_of, tasks_of}
 use Rattle.sessions.specs.Tasks.{task_in}
 use Rattle.sessions.specs.declared.task.Task.{Task}
 

@@ -4,9 +4,9 @@ use Rattle.std.proofs.lemmas.List.{length-replicate}
 use Rattle.mixing_laws.specs.Mixed.{Range}
 use Rattle.mixing_laws.proofs.Ranges.{none_mixed_law}
 use Rattle.volume.proofs.Beside.{stands_beside}
-use Rattle.session_laws.specs.Calls.{Call, Calls, call_at, ranges_of_all}
+use Rattle.session_laws.specs.Calls.{AreIdle, Call, Calls, call_at, ranges_of_all}
 use Rattle.session_laws.specs.Histories.{IsHistory}
-use Rattle.sessions.specs.Interleave.{AllWait, AreIdle, AreNumbered, tasks_of, to_come}
+use Rattle.sessions.specs.Interleave.{AllWait, AreNumbered, tasks_of, to_come}
 use Rattle.sessions.specs.Laws.{StartsLaw}
 use Rattle.sessions.specs.declared.task.Task.{Task}
 

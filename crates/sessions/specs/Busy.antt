@@ -1,23 +1,10 @@
 -- Which nodes two calls name both.
-use Rattle.std.specs.Prelude.{◌≡◌, ℕ, ◌≤◌, nat_le, if◌then◌else◌, List, Option, None, Some, Contains}
+use Rattle.std.specs.Prelude.{◌≡◌, ℕ, ◌≤◌, nat_le, if◌then◌else◌, List, Option, None, Some}
 use Rattle.volume.specs.declared.named.NamedNodes.{NamedNodes}
 use Rattle.session_laws.specs.Calls.{IsNamed}
 use Rattle.sessions.specs.Tasks.{task_in}
 use Rattle.sessions.specs.declared.going.InTheWay.{InTheWay}
 use Rattle.sessions.specs.declared.task.Task.{Task}
-
--- ---- of a list of inodes
-
-pub record IsBoth (inodes : List (Option ℕ)) (nodes : NamedNodes) (inode : ℕ) : Type 0 where
-  pub listed : Contains inodes (Some inode)
-  pub named : IsNamed nodes inode
-
-abbrev pub AreNoneOf : List (Option ℕ) → NamedNodes → Type 0
-AreNoneOf inodes nodes = (inode : ℕ) → ¬ IsBoth inodes nodes inode
-
-pub record IsLeastOf (inodes : List (Option ℕ)) (nodes : NamedNodes) (inode : ℕ) : Type 0 where
-  pub both : IsBoth inodes nodes inode
-  pub least : (other : ℕ) → IsBoth inodes nodes other → inode ≤ other
 
 -- ---- of two calls
 

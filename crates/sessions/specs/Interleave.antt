@@ -10,7 +10,7 @@ use Rattle.rename_ptr.specs.declared.rename.Progress.TheVariants.{Begun}
 use Rattle.rename_ptr.specs.declared.rename.Stage.TheVariants.{Moving as MovesName}
 use Rattle.running_calls.specs.declared.running.Running.TheVariants.{Moves}
 use Rattle.running_laws.specs.Steps.{has_committed}
-use Rattle.session_laws.specs.Calls.{Call, Calls, call_at, events_of_all, ranges_of_all, CallsWait}
+use Rattle.session_laws.specs.Calls.{Call, Calls, call_at, AreIdle, events_of_all, ranges_of_all, CallsWait}
 use Rattle.session_laws.specs.Histories.{IsHistory}
 use Rattle.session_laws.specs.Moving.{MoveWaits}
 use Rattle.sessions.specs.declared.entry.Entry.{Entry}
@@ -39,10 +39,6 @@ abbrev pub to_come : Calls → ℕ
 to_come [] = 0
 to_come (None ∷ calls) = to_come calls
 to_come (Some call ∷ calls) = (if has_committed call.running then 0 else 1) + to_come calls
-
--- no session runs one
-abbrev pub AreIdle : Calls → Type 0
-AreIdle calls = (s : ℕ) → call_at calls s ≡ None
 
 -- ---- where they wait
 

@@ -2,7 +2,7 @@
 ghost use Rattle.std.specs.Prelude.{◌≡◌, ◌↔◌, ◌<◌, MatchOption, IsTrue};
 ghost use Rattle.session_laws.specs.Calls.{IsNamed};
 ghost use Rattle.session_laws.specs.Going.{behind_commit as fences_behind};
-ghost use Rattle.sessions.specs.Busy.{IsLeastOfBoth, AreNoneOfBoth, IsLeastOf, AreNoneOf};
+ghost use Rattle.sessions.specs.Busy.{IsLeastOfBoth, AreNoneOfBoth};
 
 use layout::ROOT;
 use running_calls::Running;
@@ -63,7 +63,7 @@ fn names(nodes: &NamedNodes, inode: u64) -> bool
 
 // The least of these inodes that is among the nodes.
 fn least_of(inodes: &[Option<u64>; MOST_NAMED], nodes: &NamedNodes) -> Option<u64>
-    ensures { MatchOption result (AreNoneOf inodes.now nodes.now) (IsLeastOf inodes.now nodes.now) }
+    ensures { MatchOption result (AreNoneOfBoth (NamedNodes.These inodes.now) nodes.now) (IsLeastOfBoth (NamedNodes.These inodes.now) nodes.now) }
 {
     let mut least = None;
     for k in 0..MOST_NAMED {
