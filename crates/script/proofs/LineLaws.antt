@@ -1,11 +1,13 @@
 -- How the lines of a script follow from what a reader gives.
-use Rattle.std.specs.Prelude.{◌≡◌, ℕ, ◌<◌, Bool, true, false, nat_lt, List, [], ◌∷◌, ◌++◌, length, flat_map, cond, Err}
+use Rattle.std.specs.Prelude.{◌≡◌, ℕ, ◌+◌, ◌-◌, ◌<◌, Bool, true, false, nat_lt, List, [], ◌∷◌, ◌++◌, length, take, drop, flat_map, cond, Err}
 use Rattle.std.specs.List.{All, onto_first}
 use Rattle.std.proofs.Common.{refl, sym, ap, ◌∙◌, inl, inr, arith, append_assoc}
 use Rattle.std.proofs.lemmas.Bool.Decides.{nat_tests}
+use Rattle.std.proofs.lemmas.List.{drop_all, take_rest}
 use Rattle.std.proofs.lemmas.List.Elements.{All-head, All-tail}
 use Rattle.tree_model.specs.declared.reply.LineFault.TheVariants.{BadLine}
 use Rattle.script.specs.Lines.{newline, is_newline, IsUnbroken, lines_of, onto_line, complete_lines_of, line_limit, call_of, of_words, words_of}
+use Rattle.script.specs.Places.{BreaksAt}
 use Rattle.script.specs.Reading.{TakesLine}
 
 -- ---- whole lines
@@ -30,6 +32,18 @@ lines_of-taken line read seen old new takes = elim takes.taken [
   | inl front ↦ ap lines_of front ∙ lines_of-front line new takes.unbroken
   | inr last ↦ ap lines_of last.whole ∙ lines_of-last line takes.unbroken last.some ∙ ap (λ n. line ∷ lines_of n) (sym last.ended)
 ]
+
+-- the line before a newline, and the rest as a slice shows it
+pub lines_of-place : (script : List ℕ) (place : ℕ) → BreaksAt newline script place
+    → lines_of script ≡ take place script ∷ lines_of (take (length script - (place + 1)) (drop (place + 1) script))
+lines_of-place script place found =
+    ap lines_of found.split ∙ lines_of-front (take place script) (drop (place + 1) script) found.before
+    ∙ ap (λ rest. take place script ∷ lines_of rest) (sym (take_rest script (place + 1)))
+
+pub lines_of-whole : (script : List ℕ) → IsUnbroken script → 0 < length script
+    → lines_of script ≡ script ∷ lines_of (take (length script - length script) (drop (length script) script))
+lines_of-whole script unbroken some =
+    lines_of-last script unbroken some ∙ ap (λ rest. script ∷ lines_of rest) (sym (take_rest script (length script) ∙ drop_all (length script) script (omega arith)))
 
 -- ---- lines that end at a newline
 

@@ -2,8 +2,8 @@ use crate::lines::Lines;
 use pm_trait::NoMemory;
 use std::alloc::Global;
 
-// How many bytes the longest line, of 65,536 bytes, gives at the most: each stands in two hexadecimal digits.
-const SCRATCH_BYTES: usize = 32_768;
+/// How many bytes the longest line, of 65,536 bytes, gives at the most: each stands in two hexadecimal digits.
+pub const SCRATCH_BYTES: usize = 32_768;
 
 /// What a run reads lines with: the lines, and room for the bytes that a line gives, of 32,768 bytes.
 #[derive(Drop)]

@@ -2,7 +2,7 @@ ghost use Rattle.std.specs.Prelude.{◌≡◌, ◌≤◌, ◌+◌, ◌++◌, ◌
 ghost use Rattle.arrayvec.specs.ArrayVec.{array_vec_len};
 ghost use Rattle.io_edge.specs.Bytes.{Writes};
 ghost use Rattle.script.specs.Lines.{newline, space};
-ghost use Rattle.script.specs.Texts.{name_text, byte_text, refusal_text, fault_text, stands_for_itself as stands_for_itself_of, answer_text, formatted_text, not_a_volume_text, damaged_text, acked_text};
+ghost use Rattle.script.specs.Texts.{name_text, byte_text, refusal_text, fault_text, stands_for_itself as stands_for_itself_of, answer_text, formatted_text, not_a_volume_text, damaged_text, acked_text, session_text, busy_text};
 ghost use Rattle.script.specs.Replies.{IsPlain, reply_text};
 ghost use Rattle.tree_model.specs.Step.{Answer};
 
@@ -88,6 +88,22 @@ pub fn write_acked<K: Sink>(acked: u64, sink: &mut K) -> Result<(), WriteFault>
         (acked_text acked) result }
 {
     write_all(sink, acked_line(acked).as_slice())
+}
+
+/// Writes whose the answer is that follows: the number of its session and a space.
+pub fn write_session<K: Sink>(session: u64, sink: &mut K) -> Result<(), WriteFault>
+    ensures { Writes (K.took sink.old) (K.took sink.new) (K.faults sink.old) (K.faults sink.new)
+        (session_text session) result }
+{
+    write_all(sink, session_start(session).as_slice())
+}
+
+/// Writes the line that tells that a running call is in the way: the inode of a node that both name, and the number of that call.
+pub fn write_busy<K: Sink>(inode: u64, holder: u64, sink: &mut K) -> Result<(), WriteFault>
+    ensures { Writes (K.took sink.old) (K.took sink.new) (K.faults sink.old) (K.faults sink.new)
+        (busy_text inode holder) result }
+{
+    write_all(sink, busy_line(inode, holder).as_slice())
 }
 
 // The line of a plain reply.
@@ -215,6 +231,27 @@ fn acked_line(acked: u64) -> LineText
     let mut line = ArrayVec::new();
     push_text(&mut line, b"acked ");
     push_number(&mut line, acked);
+    line.push(b'\n');
+    line
+}
+
+fn session_start(session: u64) -> LineText
+    ensures { result.items ≡ session_text session }
+{
+    let mut start = ArrayVec::new();
+    push_number(&mut start, session);
+    start.push(b' ');
+    start
+}
+
+fn busy_line(inode: u64, holder: u64) -> LineText
+    ensures { result.items ≡ busy_text inode holder }
+{
+    let mut line = ArrayVec::new();
+    push_text(&mut line, b"error Busy ");
+    push_number(&mut line, inode);
+    push_text(&mut line, b" ");
+    push_number(&mut line, holder);
     line.push(b'\n');
     line
 }
