@@ -15,7 +15,10 @@ use Rattle.layout.specs.Superblock.{has_mark}
 use Rattle.volume.specs.Volume.{VolumeView}
 use Rattle.volume.specs.Stands.{StandsFor, Knows}
 use Rattle.image_reading.specs.Reading.{ReadsAs}
+use Rattle.image_reading.specs.Residue.{Residue, IsTidyBeside}
+use Rattle.image_reading.specs.Soundness.{Sound}
 use Rattle.image_reading.specs.Tidy.{Tidy}
+use Rattle.volume.specs.Beside.{StandsBeside, KnowsBeside}
 use Rattle.pm_trait.specs.DeviceView.{Acknowledges}
 use Rattle.volume.specs.Crashes.{MayReadAs}
 use Rattle.engine.specs.Exec.{Executed, HasAnswered}
@@ -29,7 +32,7 @@ use Rattle.engine.proofs.Marks.{keeps_after}
 use Rattle.engine.proofs.Quiet.{acts_answered}
 
 -- an acknowledgement is one
-ack_counts : (old : Option Trail) {new : Option Trail} → new ≡ with_event old Ack → Acked old new 1
+pub ack_counts : (old : Option Trail) {new : Option Trail} → new ≡ with_event old Ack → Acked old new 1
 ack_counts None appended told is = absurd (cc (appended, is))
 ack_counts (Some trail) {new} appended told is =
     ap (λ (t : Option Trail). acks_from (Some trail) t (moment_of t)) appended ∙ acks_from-all trail (Ack ∷ [])
@@ -71,6 +74,17 @@ module _ (session : SessionView) (device acked : DeviceView) (same : acked.words
     no_call = stands.no_call;
   }
 
+  beside_acked : {state : State} {residue : Residue} → StandsBeside session.volume device state residue → StandsBeside session.volume acked state residue
+  beside_acked {state} {residue} stands = record {
+    settled = settled_ack same appended stands.settled;
+    sound = subst (λ (w : List ℕ). Sound session.volume.size w) (sym same) stands.sound;
+    beside = subst (λ (w : List ℕ). IsTidyBeside session.volume.size w residue) (sym same) stands.beside;
+    reads = subst (λ (w : List ℕ). ReadsAs session.volume.size w state) (sym same) stands.reads;
+    knows = subst (λ (w : List ℕ). KnowsBeside session.volume w residue) (sym same) stands.knows;
+    mark = stands.mark ∙ ap (λ (w : List ℕ). has_mark w) (sym same);
+    room = let least = stands.room in omega (arith, least, room);
+  }
+
   -- and the session has what is written of an answer
   pub told_acked : (answer : Answer) → IsTold session device answer → IsTold session acked answer
   told_acked Done told = told
@@ -79,11 +93,11 @@ module _ (session : SessionView) (device acked : DeviceView) (same : acked.words
   told_acked (Bytes bytes) told = told
   told_acked (Listed inode names) told = record {
     state = told.state;
-    stands = stands_acked told.stands;
+    residue = told.residue;
+    stands = beside_acked told.stands;
     going = told.going;
     directory = told.directory;
     names_are = told.names_are;
-    all = told.all;
   }
   told_acked (Space free) told = told
   told_acked (Refused refusal) told = told

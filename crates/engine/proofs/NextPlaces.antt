@@ -55,7 +55,7 @@ module _ (places : Vec Place Global) {len : ℕ} {place : Place} (some : 1 ≤ v
   -- a volume has its directory, and a next name there where it hasn't passed as many as there are
   module _ {volume : VolumeView} {device : DeviceView} (way : (state : State) × StandsFor volume device state × IsWay state.tree places.items) where
     pub in_index : (1 ≤ place.directory) × (place.directory ≤ inodes_of_index volume.index)
-    in_index = directory_within volume device place.directory way.1 (deepest way.2).directory
+    in_index = directory_within volume device place.directory (stands_beside way.1) (deepest way.2).directory
 
     pub has_next : {count : ℕ} → ((device : DeviceView) (state : State) (residue : Residue) → StandsBeside volume device state residue → is_directory state.tree place.directory ≡ true → count ≡ length (names_in state.tree place.directory))
         → (place.next ≡ count → ⊥) → place.next < count
@@ -106,7 +106,7 @@ module _ (volume : VolumeView) (device : DeviceView) (state : State) (stands : S
   -- each directory is one of the inodes
   pub numbered : (d : ℕ) → is_directory state.tree d ≡ true → (1 ≤ d) × (d ≤ inodes_of volume.size)
   numbered d directory =
-      let within = directory_within volume device d stands directory in
+      let within = directory_within volume device d (stands_beside stands) directory in
       let as_many = stands.knows.nodes.each_inode in
       (within.0, omega (arith, within.1, as_many))
 

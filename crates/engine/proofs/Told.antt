@@ -19,11 +19,14 @@ use Rattle.tree_model.specs.declared.reply.Reply.{Reply}
 use Rattle.tree_model.specs.declared.reply.Reply.TheVariants as reply
 use Rattle.tree_model.specs.declared.reply.Stat.{Stat}
 use Rattle.tree_model.specs.declared.reply.Free.{Free}
+use Rattle.image_reading.specs.Residue.{Residue, no_residue}
 use Rattle.image_reading.proofs.Tidied.{tidied}
 use Rattle.image_counts.proofs.States.{state_law}
-use Rattle.volatile_index.specs.Index.{inodes_of_index, entries_of}
+use Rattle.volatile_index.specs.Index.{inodes_of_index}
 use Rattle.volume.specs.Volume.{VolumeView}
 use Rattle.volume.specs.Stands.{StandsFor, HasNode}
+use Rattle.volume.specs.Beside.{StandsBeside}
+use Rattle.volume.proofs.Beside.{stands_beside}
 use Rattle.volume.specs.declared.plan.Action.TheVariants.{Read as ReadBytes, Status, Names, Space}
 use Rattle.volume.specs.Planned.{IsPlanOf}
 use Rattle.volume.specs.declared.plan.Reading.{Reading}
@@ -175,9 +178,10 @@ module _ (volume : VolumeView) (device : DeviceView) where
   state_is {state} stands = state_law volume.size device.words state (tidied stands.tidy).coherent stands.reads
 
   -- the inode of a directory is one of the volume's
-  pub directory_within : {state : State} (inode : ℕ) → StandsFor volume device state → is_directory state.tree inode ≡ true → (1 ≤ inode) × (inode ≤ inodes_of_index volume.index)
+  pub directory_within : {state : State} {residue : Residue} (inode : ℕ) → StandsBeside volume device state residue → is_directory state.tree inode ≡ true
+      → (1 ≤ inode) × (inode ≤ inodes_of_index volume.index)
   directory_within {state} inode stands directory =
-      let within = (state_is stands).fits.ids inode (is_there (node_at state.tree inode) directory) in
+      let within = (state_law volume.size device.words state stands.sound.coherent stands.reads).fits.ids inode (is_there (node_at state.tree inode) directory) in
       let as_many = stands.knows.nodes.each_inode in
       (within.0, subst (λ (n : ℕ). inode ≤ n) (sym as_many) within.1)
     where
@@ -226,14 +230,14 @@ module _ {volume : VolumeView} {device : DeviceView} {state : State} {c : Comman
       answered_by (ap (answer_of (untaken volume.size) state.tree state.room) c_is ∙ ap (λ (id : ℕ). StatusAnswer (status_of state.tree id)) (sym inode_is) ∙ ap StatusAnswer (sym told))
       (record { reply_is = refl; told = tt })
 
-  pub names_replied : {inode count : ℕ} (bytes : List ℕ) → action ≡ Names inode → volume.stopped ≡ false → count ≡ length (entries_of volume.index inode) → count ≡ length (names_in state.tree inode)
+  pub names_replied : {inode count : ℕ} (bytes : List ℕ) → action ≡ Names inode → volume.stopped ≡ false → count ≡ length (names_in state.tree inode)
       → IsReplyOf (session_of volume bytes) device (step volume.size state.tree state.room c).answer (reply.Names inode count)
-  names_replied {inode} bytes is going indexed counted =
+  names_replied {inode} bytes is going counted =
       let (path, c_is, inode_is) = names_of_plan volume.size device.words state c inode (changes_as is) (plan_as is) in
       answered_by (ap (answer_of (untaken volume.size) state.tree state.room) c_is ∙ ap (λ (id : ℕ). Listed id (names_in state.tree id)) (sym inode_is))
       (record {
         reply_is = ap (λ (n : ℕ). reply.Names inode n) counted;
-        told = record { state = state; stands = planned.stands; going = going; directory = directory_listed is; names_are = refl; all = sym indexed ∙ counted };
+        told = record { state = state; residue = no_residue; stands = stands_beside planned.stands; going = going; directory = directory_listed is; names_are = refl };
       })
 
   -- the inode of the path that is read

@@ -1,5 +1,5 @@
 -- Which answer a reply is: the names of a listing and the bytes of a read are not in the reply itself, and are asked of the session.
-use Rattle.std.specs.Prelude.{◌≡◌, ℕ, true, false, List, length}
+use Rattle.std.specs.Prelude.{◌≡◌, ℕ, true, false, List}
 use Rattle.pm_trait.specs.DeviceView.{DeviceView}
 use Rattle.tree_model.specs.Tree.{is_directory}
 use Rattle.tree_model.specs.Step.{Answer, Done, Count, Status, Bytes, Listed, Space, Refused, Unread, Fault, Stopped, names_in}
@@ -7,19 +7,19 @@ use Rattle.tree_model.specs.Run.{State}
 use Rattle.tree_model.specs.Replies.{reply_of}
 use Rattle.tree_model.specs.declared.reply.Reply.{Reply}
 use Rattle.tree_model.specs.declared.reply.Reply.TheVariants as replies
-use Rattle.volatile_index.specs.Index.{entries_of}
+use Rattle.image_reading.specs.Residue.{Residue}
 use Rattle.volume.specs.Volume.{VolumeView}
-use Rattle.volume.specs.Stands.{StandsFor}
+use Rattle.volume.specs.Beside.{StandsBeside}
 use Rattle.engine.specs.Session.{SessionView}
 
--- the inode is that of a directory with these names, in the tree that the volume stands for, and the index has as many
+-- the inode is that of a directory with these names, in the tree that the volume stands for, beside calls that run or none
 pub record IsListing (volume : VolumeView) (device : DeviceView) (inode : ℕ) (names : List (List ℕ)) : Type 0 where
   pub state : State
-  pub stands : StandsFor volume device state
+  pub residue : Residue
+  pub stands : StandsBeside volume device state residue
   pub going : volume.stopped ≡ false
   pub directory : is_directory state.tree inode ≡ true
   pub names_are : names ≡ names_in state.tree inode
-  pub all : length (entries_of volume.index inode) ≡ length names
 
 -- the session has all that is written of the answer
 abbrev pub IsTold : SessionView → DeviceView → Answer → Type 0

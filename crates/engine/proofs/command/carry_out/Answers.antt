@@ -6,6 +6,7 @@ use Rattle.engine.proofs.Asked.{writes, truncates, either_changes, for_making, f
 use Rattle.engine.proofs.Carried.{does_carried}
 use Rattle.engine.proofs.Commands.{does_told}
 use Rattle.engine.proofs.Ready.{none_made}
+use Rattle.volume.proofs.Beside.{stands_beside}
 use Rattle.engine.proofs.Told.{changes_as, node_told, directory_listed, directory_within, file_read, status_replied, names_replied, space_replied, read_replied}
 use Rattle.engine.proofs.command.carry_out.Goals as goal
 
@@ -106,17 +107,17 @@ returns-in-Status-clause-does g c = λ state plan_for.
 
 pub count-requires-clause-from_one : goal.count-requires-clause-from_one
 count-requires-clause-from_one g c =
-    (directory_within c.args.volume.now (g.P.Pm.view c.args.pm.now) c.in-Names.inode c.requires.planned.1.stands (directory_listed c.requires.planned.1 (sym c.action.ensures ∙ c.in-Names.is))).0
+    (directory_within c.args.volume.now (g.P.Pm.view c.args.pm.now) c.in-Names.inode (stands_beside c.requires.planned.1.stands) (directory_listed c.requires.planned.1 (sym c.action.ensures ∙ c.in-Names.is))).0
 
 pub count-requires-clause-in_range : goal.count-requires-clause-in_range
 count-requires-clause-in_range g c =
-    (directory_within c.args.volume.now (g.P.Pm.view c.args.pm.now) c.in-Names.inode c.requires.planned.1.stands (directory_listed c.requires.planned.1 (sym c.action.ensures ∙ c.in-Names.is))).1
+    (directory_within c.args.volume.now (g.P.Pm.view c.args.pm.now) c.in-Names.inode (stands_beside c.requires.planned.1.stands) (directory_listed c.requires.planned.1 (sym c.action.ensures ∙ c.in-Names.is))).1
 
 pub returns-in-Names-clause-does : goal.returns-in-Names-clause-does
 returns-in-Names-clause-does g c = λ state plan_for.
     let is = sym c.action.ensures ∙ c.in-Names.is in
     let names = c.count.ensures.names (g.P.Pm.view c.args.pm.now) state no_residue (stands_beside plan_for.stands) (directory_listed plan_for is) in
-    does_told plan_for (changes_as plan_for is) (names_replied plan_for c.args.last.now is c.requires.ready.going c.count.ensures.entries names)
+    does_told plan_for (changes_as plan_for is) (names_replied plan_for c.args.last.now is c.requires.ready.going names)
 
 pub free-requires-clause-stands : goal.free-requires-clause-stands
 free-requires-clause-stands g c = (c.requires.planned.0, no_residue, stands_beside c.requires.planned.1.stands)

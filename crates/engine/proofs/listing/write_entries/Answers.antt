@@ -1,8 +1,6 @@
 use Rattle.std.proofs.Common.{◌<◌, ◌≤◌, ◌+◌, ◌++◌, ℕ, List, take, drop, Ok, sym, ap, ◌∙◌, arith, take_all}
 use Rattle.std.specs.Prelude.{slice_get}
 use Rattle.io_edge.proofs.BytesLaws.{writes_none, writes_then, writes_as, writes_broken}
-use Rattle.image_reading.specs.Residue.{no_residue}
-use Rattle.volume.proofs.Beside.{stands_beside}
 use Rattle.engine.specs.Listing.{entry_text, entries_text}
 use Rattle.engine.proofs.ListingLaws.{entries_more, entries_split}
 use Rattle.engine.proofs.Told.{directory_within}
@@ -12,21 +10,20 @@ pub loop-k-init : goal.loop-k-init
 loop-k-init g c = record { writes = λ device names lists counted. writes_none _ _ tt }
 
 pub nth-requires-clause-from_one : goal.nth-requires-clause-from_one
-nth-requires-clause-from_one g c = let (device, names, lists, counted) = c.requires in (directory_within c.args.volume.now device c.args.directory lists.stands lists.directory).0
+nth-requires-clause-from_one g c = let (device, names, lists) = c.requires.listing in (directory_within c.args.volume.now device c.args.directory lists.stands lists.directory).0
 
 pub nth-requires-clause-in_range : goal.nth-requires-clause-in_range
-nth-requires-clause-in_range g c = let (device, names, lists, counted) = c.requires in (directory_within c.args.volume.now device c.args.directory lists.stands lists.directory).1
+nth-requires-clause-in_range g c = let (device, names, lists) = c.requires.listing in (directory_within c.args.volume.now device c.args.directory lists.stands lists.directory).1
 
 pub nth-requires-clause-place : goal.nth-requires-clause-place
 nth-requires-clause-place g c =
-    let (device, names, lists, counted) = c.requires in
-    let all = lists.all in
+    let all = c.requires.all in
     let within : c.loop-k.k < c.args.count = c.loop-k-test.true in
-    omega (arith, all, counted, within)
+    omega (arith, all, within)
 
 pub returns-in_err-write_entry : goal.returns-in_err-write_entry
 returns-in_err-write_entry g c = λ device names lists counted.
-    let name = ap (λ (ns : List (List ℕ)). slice_get ns c.loop-k.k) lists.names_are ∙ c.nth.ensures.name device lists.state no_residue (stands_beside lists.stands) lists.directory in
+    let name = ap (λ (ns : List (List ℕ)). slice_get ns c.loop-k.k) lists.names_are ∙ c.nth.ensures.name device lists.state lists.residue lists.stands lists.directory in
     let first = entries_text (take c.loop-k.k names) in
     let one = entry_text c.nth.result.now.name in
     writes_as _ _ _ _ ((first ++ one) ++ entries_text (drop (c.loop-k.k + 1) names)) (entries_text names) c.from_residual.result (sym (entries_split names c.loop-k.k c.nth.result.now.name name))
@@ -36,7 +33,7 @@ returns-in_err-write_entry g c = λ device names lists counted.
 pub loop-k-preserved : goal.loop-k-preserved
 loop-k-preserved g c = record {
   writes = λ device names lists counted.
-      let name = ap (λ (ns : List (List ℕ)). slice_get ns c.loop-k.k) lists.names_are ∙ c.nth.ensures.name device lists.state no_residue (stands_beside lists.stands) lists.directory in
+      let name = ap (λ (ns : List (List ℕ)). slice_get ns c.loop-k.k) lists.names_are ∙ c.nth.ensures.name device lists.state lists.residue lists.stands lists.directory in
       let first = entries_text (take c.loop-k.k names) in
       let one = entry_text c.nth.result.now.name in
       writes_as _ _ _ _ (first ++ one) (entries_text (take (c.loop-k.k + 1) names)) _ (sym (entries_more names c.loop-k.k c.nth.result.now.name name))

@@ -22,13 +22,13 @@ pub nth-requires-clause-from_one : goal.nth-requires-clause-from_one
 nth-requires-clause-from_one g c =
     let (device, state, stands, way, passed) = c.requires.way in
     let got = element c.args.places.now c.loop-place.place-index (record { directory = 0; next = 0 }) c.loop-place-test.true in
-    (directory_within c.args.volume.now device _ stands (way_at state.tree [] c.args.places.now c.loop-place.place-index _ way got).directory).0
+    (directory_within c.args.volume.now device _ (stands_beside stands) (way_at state.tree [] c.args.places.now c.loop-place.place-index _ way got).directory).0
 
 pub nth-requires-clause-in_range : goal.nth-requires-clause-in_range
 nth-requires-clause-in_range g c =
     let (device, state, stands, way, passed) = c.requires.way in
     let got = element c.args.places.now c.loop-place.place-index (record { directory = 0; next = 0 }) c.loop-place-test.true in
-    (directory_within c.args.volume.now device _ stands (way_at state.tree [] c.args.places.now c.loop-place.place-index _ way got).directory).1
+    (directory_within c.args.volume.now device _ (stands_beside stands) (way_at state.tree [] c.args.places.now c.loop-place.place-index _ way got).directory).1
 
 pub nth-requires-clause-place : goal.nth-requires-clause-place
 nth-requires-clause-place g c =
