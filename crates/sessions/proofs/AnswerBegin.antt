@@ -1,5 +1,5 @@
 -- A call begins: it gets the next number, and where nothing was done for it but its answer, it is answered so; a line that can't be read is.
-use Rattle.std.proofs.Common.{◌≡◌, ℕ, ◌+◌, ◌-◌, List, Option, None, Ok, Err, refl, sym, ap, subst, ◌∙◌, arith}
+use Rattle.std.proofs.Common.{◌≡◌, ℕ, ◌+◌, ◌-◌, true, List, Option, None, Ok, Err, refl, sym, ap, subst, ◌∙◌, arith}
 use Rattle.pm_trait.specs.DeviceView.{DeviceView}
 use Rattle.tree_model.specs.Run.{State, Line}
 use Rattle.tree_model.specs.declared.command.Command.{Command}
@@ -13,7 +13,7 @@ use Rattle.sessions.specs.Advanced.{HasAnsweredAtOnce, entry_of, with_entry}
 use Rattle.sessions.specs.History.{IsLegal}
 use Rattle.sessions.specs.Interleave.{InterleaveView, IsWeaving, tasks_of, unbegun}
 use Rattle.sessions.specs.Laws.{OthersHoldLaw, AnswersLaw, IsAnswered}
-use Rattle.sessions.specs.Steps.{Steps, IsAsked, MayStep, IsStopped, IsBusyRightly, HasReadBytes, number_in, begun_in}
+use Rattle.sessions.specs.Steps.{Steps, IsAsked, MayStep, IsStopped, IsBusyRightly, HasReadBytes, HasReason, has_no_plan, number_in, begun_in}
 use Rattle.sessions.specs.Tasks.{task_in, HoldFew}
 use Rattle.sessions.specs.declared.entry.StepReply.{StepReply}
 use Rattle.sessions.specs.declared.entry.StepReply.TheVariants.{Ended}
@@ -21,6 +21,7 @@ use Rattle.sessions.specs.declared.entry.WeaveReply.{WeaveReply}
 use Rattle.sessions.specs.declared.entry.WeaveReply.TheVariants.{Plain}
 use Rattle.sessions.specs.declared.task.Task.{Task}
 use Rattle.sessions.proofs.AnswerTasks.{idle_call, task_stays}
+use Rattle.sessions.proofs.ReplyReasons.{other_reason}
 
 -- a call more has begun
 abbrev pub begun_more : InterleaveView → InterleaveView
@@ -76,8 +77,9 @@ module _ (old new : InterleaveView) (before after : DeviceView) (calls : Calls) 
 
   pub answered_alone : IsLegal old.volume.size (entry_of old.tasks session (old.begun + 1) answer) line history history
       → IsBusyRightly (Ended (old.begun + 1) answer) None calls history line → HasReadBytes old.bytes old.bytes history.tree line answer
+      → has_no_plan line answer ≡ true → HasReason before after None history line (Ended (old.begun + 1) answer)
       → IsAnswered old new before before after calls history session line answer
-  answered_alone legal busy bytes = record {
+  answered_alone legal busy bytes no_plan reason = record {
     idle = runs_none old before calls history session weaving none;
     weaving = subst (λ (v : VolumeView). IsWeaving (record old { volume = v }) before calls history) (sym volume_is) weaving;
     size = ap (λ (v : VolumeView). v.size) volume_is;
@@ -89,6 +91,8 @@ module _ (old new : InterleaveView) (before after : DeviceView) (calls : Calls) 
     legal = legal;
     busy = busy;
     bytes = subst (λ (bytes : List ℕ). HasReadBytes old.bytes bytes history.tree line answer) (sym bytes_are) bytes;
+    no_plan = no_plan;
+    reason = reason;
   }
 
 -- ---- the same of sessions that these are
@@ -132,7 +136,8 @@ module _ (old new : InterleaveView) (before after : DeviceView) (calls : Calls) 
       subst (λ (told : StepReply). Steps old new before after calls history session (Err fault) told) (sym answered.told)
       (answers old new before before after calls history session (Err fault) (Plain (Unread fault)) may.weaving
       (answered_alone old new before after calls history session (Err fault) (Plain (Unread fault)) reply none may.weaving answered
-      (refl, refl) (λ inode holder is. cc) (record { kept = λ other. refl; read = λ path offset count read is told. cc })))
+      (refl, refl) (λ inode holder is. cc) (record { kept = λ other. refl; read = λ path offset count read is told. cc }) refl
+      (other_reason before after history (Err fault) (old.begun + 1) (Plain (Unread fault)) (λ is. cc))))
 
   pub unread_there : (weave : InterleaveView) (line : Line) → weave ≡ old → line ≡ Err fault → AnswersLaw
       → HasAnsweredAtOnce (begun_more weave) new before after session (weave.begun + 1) (Plain (Unread fault)) reply

@@ -1,9 +1,9 @@
 -- Where calls wait the device is settled, and its words mean the history but for bytes of running writes' ranges. So does all that a crash leaves there,
--- also around an acknowledgement.
-use Rattle.std.proofs.Common.{◌≡◌, inl, false, refl}
-use Rattle.pm_trait.specs.Device.{LeavesOnly}
+-- also around an acknowledgement, and so do the words at it.
+use Rattle.std.proofs.Common.{◌≡◌, inl, inr, ℕ, false, refl}
+use Rattle.pm_trait.specs.Device.{LeavesOnly, AcksSettled}
 use Rattle.pm_trait.specs.DeviceView.{DeviceView, Acknowledges}
-use Rattle.pm_trait.proofs.AckLaws.{leaves_ack}
+use Rattle.pm_trait.proofs.AckLaws.{leaves_ack, acks_ack}
 use Rattle.tree_model.specs.Run.{State, Line}
 use Rattle.image_reading.specs.Residue.{Residue}
 use Rattle.volume.specs.Beside.{StandsBeside}
@@ -12,7 +12,7 @@ use Rattle.session_laws.specs.Calls.{Calls, ranges_of_all}
 use Rattle.session_laws.specs.Histories.{IsCrashOf}
 use Rattle.session_laws.proofs.CrashLeaves.{crash_before}
 use Rattle.sessions.specs.Interleave.{InterleaveView, AllWait, idle, beside, alone, IsWeaving}
-use Rattle.sessions.specs.Steps.{MayBeLeft}
+use Rattle.sessions.specs.Steps.{MayBeLeft, AreRunning, IsBeforeOrBehind}
 
 -- the volume goes on, and stands for the words' state beside what the calls have left
 pub record StandsThere (volume : VolumeView) (device : DeviceView) (words : State) : Type 0 where
@@ -35,16 +35,23 @@ module _ (weave : InterleaveView) (device : DeviceView) (calls : Calls) (history
       let stands = weaving_stands.stands in
       crash_before weave.volume.size device.words weaving.words (ranges_of_all calls) history stands.sound stands.reads weaving.history_is
 
-  pub weaving_left : (line : Line) → MayBeLeft weave.volume.size calls history line device.words
-  weaving_left line = record {
-    entered = history;
-    entered_is = inl refl;
+  -- behind a step of one of earlier calls
+  pub weaving_behind : (earlier : Calls) (was : State) (line : Line) (acks : ℕ) → AreRunning earlier was line (ranges_of_all calls)
+      → MayBeLeft weave.volume.size earlier was line (IsBeforeOrBehind was history acks) device.words
+  weaving_behind earlier was line acks running = record {
+    state = history;
+    state_is = inr refl;
     ranges = ranges_of_all calls;
-    running = λ range among. inl among;
+    running = running;
     crash = weaving_crash;
   }
 
   pub weaving_acked : (after : DeviceView) (line : Line) → Acknowledges device after
-      → LeavesOnly device.trail after.trail (λ acks image. MayBeLeft weave.volume.size calls history line image)
+      → LeavesOnly device.trail after.trail (λ acks image. MayBeLeft weave.volume.size calls history line (IsBeforeOrBehind history history acks) image)
   weaving_acked after line acks =
-      leaves_ack (λ count image. MayBeLeft weave.volume.size calls history line image) weaving_stands.stands.settled acks.trail (weaving_left line) (weaving_left line)
+      leaves_ack (λ count image. MayBeLeft weave.volume.size calls history line (IsBeforeOrBehind history history count) image) weaving_stands.stands.settled acks.trail
+      (weaving_behind calls history line 0 (λ range among. inl among)) (weaving_behind calls history line 1 (λ range among. inl among))
+
+  pub weaving_settled : (after : DeviceView) → Acknowledges device after
+      → AcksSettled device.trail after.trail (λ acks words. IsCrashOf weave.volume.size words (ranges_of_all calls) history)
+  weaving_settled after acks = acks_ack (λ count words. IsCrashOf weave.volume.size words (ranges_of_all calls) history) weaving_stands.stands.settled acks.trail weaving_crash

@@ -1,6 +1,6 @@
 -- A call that is answered at once is an entry which leaves the history, and is acknowledged: all that waits waits on.
 use Rattle.std.proofs.Common.{◌≡◌, ℕ, ◌+◌, not, ◌&&◌, [], ◌∷◌, ◌++◌, length, Option, refl, sym, ap, subst, ◌∙◌, arith, length-append}
-use Rattle.pm_trait.specs.Device.{LeavesOnly}
+use Rattle.pm_trait.specs.Device.{LeavesOnly, AcksSettled}
 use Rattle.pm_trait.specs.Trail.{Trail}
 use Rattle.pm_trait.specs.DeviceView.{DeviceView, Acknowledges}
 use Rattle.tree_model.specs.Run.{State, Line}
@@ -8,19 +8,24 @@ use Rattle.volume.specs.Volume.{VolumeView}
 use Rattle.waiting_laws.proofs.Preparing.{acknowledged}
 use Rattle.running_laws.proofs.StillWaits.{still_waits_law}
 use Rattle.running_laws.proofs.WaitStands.{holds_law}
-use Rattle.session_laws.specs.Calls.{Call, Calls, without, left_of_all}
+use Rattle.session_laws.specs.Calls.{Call, Calls, without, left_of_all, ranges_of_all}
+use Rattle.session_laws.specs.Histories.{IsCrashOf}
 use Rattle.session_laws.proofs.Lists.{without_idle}
 use Rattle.session_laws.proofs.MoveCrashes.{move_acknowledged_law}
 use Rattle.session_laws.proofs.ReadyPassed.{acknowledged_among_law}
+use Rattle.engine.proofs.After.{Acked}
+use Rattle.engine.proofs.Acknowledged.{ack_counts}
 use Rattle.sessions.specs.Advanced.{entry_of}
 use Rattle.sessions.specs.Interleave.{InterleaveView, AllWait, idle, beside, alone, AreNumbered, IsWeaving, tasks_of}
 use Rattle.sessions.specs.Laws.{OthersHoldLaw, IsAnswered, AnswersLaw}
-use Rattle.sessions.specs.Steps.{Steps, StepsOn, MayBeLeft, HasEntered, HasHeld, IsBusyRightly, Enters, begun_after, number_of, is_entered_before, is_entered_behind, IsCallAt, GetsOn, IsQuietWhere}
+use Rattle.sessions.specs.Steps.{Steps, StepsOn, TakesAll, HasReason, MayBeLeft, IsBeforeOrBehind, HasEntered, HasHeld, IsBusyRightly, Enters, begun_after, number_of, is_entered_before, is_entered_behind, IsCallAt, GetsOn, IsQuietWhere}
 use Rattle.sessions.specs.Tasks.{held_by_all}
 use Rattle.sessions.specs.declared.entry.Entry.{Entry}
 use Rattle.sessions.specs.declared.entry.StepReply.TheVariants.{Ended}
 use Rattle.sessions.specs.declared.entry.WeaveReply.{WeaveReply}
-use Rattle.sessions.proofs.AnswerCrash.{weaving_stands, weaving_acked}
+use Rattle.sessions.proofs.FencesOthers.{others_fences}
+use Rattle.sessions.proofs.FencesTakes.{takes_none}
+use Rattle.sessions.proofs.AnswerCrash.{weaving_stands, weaving_acked, weaving_settled}
 
 -- an acknowledgement leaves what waits
 pub acked_wait : (volume : VolumeView) (device after : DeviceView) (words : State) (calls : Calls) → AllWait volume device words calls → Acknowledges device after
@@ -84,12 +89,28 @@ module _ (others_hold : OthersHoldLaw) (old new : InterleaveView) (before betwee
     told = refl;
   }
 
+  any_moment : LeavesOnly before.trail after.trail (λ acks image. MayBeLeft old.volume.size calls history line (IsBeforeOrBehind history history acks) image)
+  any_moment =
+      subst (λ (t : Option Trail). LeavesOnly t after.trail (λ acks image. MayBeLeft old.volume.size calls history line (IsBeforeOrBehind history history acks) image)) is.room.trail
+      (subst (λ (P : ℕ). LeavesOnly between.trail after.trail (λ acks image. MayBeLeft P calls history line (IsBeforeOrBehind history history acks) image)) is.size
+      (weaving_acked (record old { volume = new.volume }) between calls history there after line is.acked))
+
+  settled : AcksSettled before.trail after.trail (λ acks words. IsCrashOf old.volume.size words (ranges_of_all calls) history)
+  settled =
+      subst (λ (t : Option Trail). AcksSettled t after.trail (λ acks words. IsCrashOf old.volume.size words (ranges_of_all calls) history)) is.room.trail
+      (subst (λ (P : ℕ). AcksSettled between.trail after.trail (λ acks words. IsCrashOf P words (ranges_of_all calls) history)) is.size
+      (weaving_settled (record old { volume = new.volume }) between calls history there after is.acked))
+
+  acked : Acked before.trail after.trail 1
+  acked = subst (λ (t : Option Trail). Acked t after.trail 1) is.room.trail (ack_counts between.trail is.acked.trail)
+
   steps_on : StepsOn old new before after calls history session line (Ended (old.begun + 1) answer)
   steps_on = record {
     later_calls = calls;
     later = history;
     weaving = weaves;
     others = λ s other. refl;
+    others_left = others_fences old new before after calls calls history history session weaving weaves (λ s other. refl);
     begun = begun_is ∙ sym (ap (λ (ran : Option Call). begun_after old.begun ran) is.idle);
     left = (is.idle, sym (ap (λ (ran : Option Call). number_of old.begun ran) is.idle));
     enters = subst
@@ -97,7 +118,12 @@ module _ (others_hold : OthersHoldLaw) (old new : InterleaveView) (before betwee
         (sym is.idle) entered;
     call_is = subst (λ (ran : Option Call). IsCallAt ran ran line history.tree) (sym is.idle) tt;
     gets_on = subst (λ (ran : Option Call). GetsOn old.volume new.volume ran ran) (sym is.idle) tt;
+    takes_all = subst
+        (λ (ran : Option Call). TakesAll old.volume.size (left_of_all old.volume calls) new.volume before after ran ran history line history (Ended (old.begun + 1) answer))
+        (sym is.idle)
+        (takes_none old.volume.size (left_of_all old.volume calls) new.volume before after history line (old.begun + 1) answer is.no_plan (is.acked.fences ∙ is.room.fences));
     busy = subst (λ (ran : Option Call). IsBusyRightly (Ended (old.begun + 1) answer) ran calls history line) (sym is.idle) is.busy;
+    reason = subst (λ (ran : Option Call). HasReason before after ran history line (Ended (old.begun + 1) answer)) (sym is.idle) is.reason;
     bytes = is.bytes;
     quiet = subst (λ (ran : Option Call). IsQuietWhere (Ended (old.begun + 1) answer) ran line before after) (sym is.idle)
         (λ none. record { between = between; room = is.room; acked = is.acked });
@@ -107,21 +133,17 @@ module _ (others_hold : OthersHoldLaw) (old new : InterleaveView) (before betwee
       left = λ own told. cc;
     };
     acks = is.acked.acks ∙ ap (λ (n : ℕ). n + 1) is.room.acks;
+    acked = acked;
+    settled = settled;
     faults = is.acked.faults ∙ is.room.faults;
+    any_moment = any_moment;
   }
-
-  any_moment : LeavesOnly before.trail after.trail (λ acks image. MayBeLeft old.volume.size calls history line image)
-  any_moment =
-      subst (λ (t : Option Trail). LeavesOnly t after.trail (λ acks image. MayBeLeft old.volume.size calls history line image)) is.room.trail
-      (subst (λ (P : ℕ). LeavesOnly between.trail after.trail (λ acks image. MayBeLeft P calls history line image)) is.size
-      (weaving_acked (record old { volume = new.volume }) between calls history there after line is.acked))
 
   pub answered : Steps old new before after calls history session line (Ended (old.begun + 1) answer)
   answered = record {
     frame = record { size = is.size; marked = is.marked; sessions = ap length (ap (λ (w : InterleaveView). w.tasks) is.new_is) };
     going = λ going. steps_on;
     failed = λ stopped. let going = (weaving_stands (record old { volume = new.volume }) between calls history there).going in cc;
-    any_moment = any_moment;
   }
 
 pub answers_law : OthersHoldLaw → AnswersLaw

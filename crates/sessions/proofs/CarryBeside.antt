@@ -1,8 +1,9 @@
 -- A plan with an event begins beside the running calls, whatever its command but a rename.
-use Rattle.std.proofs.Common.{◌≡◌, inl, inr, ℕ, ◌+◌, ◌-◌, ◌<◌, ◌≤◌, Bool, true, false, nat_le, List, ◌++◌, length, set, Option, None, Some, Ok, refl, sym, ap, ◌∙◌, arith}
+use Rattle.std.proofs.Common.{◌≡◌, ℕ, ◌+◌, ◌-◌, ◌<◌, ◌≤◌, Bool, true, false, nat_le, List, ◌++◌, length, set, Option, None, Some, Ok, refl, sym, ap, ◌∙◌, arith}
 use Rattle.std.proofs.lemmas.Bool.{true≢false}
 use Rattle.pm_trait.specs.DeviceView.{DeviceView}
 use Rattle.pm_trait.specs.Unfolds.{Step, fences_in}
+use Rattle.tree_model.specs.Capacity.{Supply}
 use Rattle.tree_model.specs.PathText.{Route}
 use Rattle.tree_model.specs.Run.{State, is_changing}
 use Rattle.tree_model.specs.Table.{Table, get}
@@ -37,7 +38,7 @@ use Rattle.running_laws.proofs.WaitNames.{names_held_law}
 use Rattle.running_laws.proofs.WaitStands.{holds_law}
 use Rattle.session_laws.specs.Calls.{Call, Calls, call_at, left_of_all, range_of_call, ranges_of_all, CallsWait}
 use Rattle.session_laws.specs.Going.{BeginAmongLaw, BeganAmong, IsCallOf, IsReadyAmong, behind_commit, next_call}
-use Rattle.session_laws.specs.Histories.{HistoryGoesOn, MayBeLeft as LeftBeside}
+use Rattle.session_laws.specs.Histories.{HistoryGoesOn}
 use Rattle.session_laws.proofs.BeginAmong.{begin_among_law}
 use Rattle.session_laws.proofs.BeginKept.{begun_stands}
 use Rattle.session_laws.proofs.CrashBegins.{begin_crash_law}
@@ -50,9 +51,10 @@ use Rattle.sessions.specs.Interleave.{InterleaveView, AllWait, beside}
 use Rattle.sessions.specs.Planned.{IsPlannedAmong}
 use Rattle.sessions.specs.Steps.{MayBeLeft, is_entered_behind}
 use Rattle.sessions.specs.declared.entry.WeaveReply.TheVariants.{Plain}
+use Rattle.sessions.proofs.CarryCommits.{plan_may_commit}
 use Rattle.sessions.proofs.CarryEntry.{entry_legal}
 use Rattle.sessions.proofs.CarryFree.{planned_beside, planned_ready, planned_may}
-use Rattle.sessions.proofs.CarryMade.{BeginsAt, first_step}
+use Rattle.sessions.proofs.CarryMade.{BeginsAt, IsFirstState, first_step}
 use Rattle.sessions.proofs.CarryPlans.{CommitsFirst, plan_first, plan_commits, enters_with_commit, committed_behind, ends_with_commit}
 use Rattle.sessions.proofs.CarryRanges.{ranges_running}
 use Rattle.sessions.proofs.CarryReplies.{told_of_plan, plan_told, plan_makes, first_told}
@@ -60,6 +62,7 @@ use Rattle.sessions.proofs.CarrySteps.{Began}
 use Rattle.sessions.proofs.GoesFirst.{IsFirst}
 use Rattle.sessions.proofs.GoesMade.{told_next}
 use Rattle.sessions.proofs.GoesReplies.{AnswersAs}
+use Rattle.sessions.proofs.StepCrash.{HasLegalEntry, left_in_step}
 use Rattle.sessions.proofs.WeavesOne.{WaitBeside}
 
 begins_among : BeginAmongLaw
@@ -154,36 +157,25 @@ module _ (old : InterleaveView) (before : DeviceView) (calls : Calls) (history :
 
     -- ---- a crash
 
+    abbrev supply : Supply
+    supply = supply_beside old.volume.size (left_of_all old.volume calls)
+
     same_paths : (path : Route) → id_at history.tree path ≡ id_at words.tree path
     same_paths path = ap (λ (names : Table route_cmp ℕ). get names path) (sym planned.weaving.history_is.tree.names)
 
-    crash_told : (M : List ℕ) → LeftBeside old.volume.size (range_of_call call ++ ranges_of_all calls) (supply_beside old.volume.size (left_of_all old.volume calls))
-        (commits call.running)
-        call.command (given_inode call.running) history M
-        → MayBeLeft old.volume.size calls history (Ok call.command) M
-    crash_told M (inl crash) = record {
-      entered = history;
-      entered_is = inl refl;
-      ranges = range_of_call call ++ ranges_of_all calls;
-      running = ranges_running old.volume.size before.words history words calls call action same_paths planned.planned.plan_is starts;
-      crash = crash;
-    }
-    crash_told M (inr (commits_now, entered, enters, crash)) = record {
-      entered = entered;
-      entered_is = inr (
-        entry_of old.tasks session call.number (Plain (told_of_plan action)),
-        entry_legal old before calls history session planned.weaving idle call.number (told_of_plan action) call.command (given_inode call.running) entered enters
-            (makes_none commits_now) told,
-      );
-      ranges = range_of_call call ++ ranges_of_all calls;
-      running = ranges_running old.volume.size before.words history words calls call action same_paths planned.planned.plan_is starts;
-      crash = crash;
-    }
-
-    crash : (J M : List ℕ) → step.Makes before.words J → IsMix before.words J M → MayBeLeft old.volume.size calls history (Ok call.command) M
+    crash : (J M : List ℕ) → step.Makes before.words J → IsMix before.words J M
+        → MayBeLeft old.volume.size calls history (Ok call.command) (IsFirstState old calls history call) M
     crash J M makes mix =
-        crash_told M
+        left_in_step old.volume.size calls history (Ok call.command) M (commits call.running) supply call.command (given_inode call.running)
+        (range_of_call call ++ ranges_of_all calls) (ranges_running old.volume.size before.words history words calls call action same_paths planned.planned.plan_is starts)
         (begin_crash_law first_crash_law old.volume before words history calls call.command action call J M wait.calls_wait ready of planned.weaving.history_is makes mix)
+
+    legal : HasLegalEntry old.volume.size (commits call.running) supply history call.command (given_inode call.running) (Ok call.command)
+    legal state commits_now enters = (
+      entry_of old.tasks session call.number (Plain (told_of_plan action)),
+      entry_legal old before calls history session planned.weaving idle call.number (told_of_plan action) call.command (given_inode call.running) state enters
+          (makes_none commits_now) told,
+    )
 
     -- ---- behind the step
 
@@ -196,7 +188,7 @@ module _ (old : InterleaveView) (before : DeviceView) (calls : Calls) (history :
           begins_among old.volume new before after words calls session call.command action call next wait.calls_wait idle within wait.kept ready of makes_step made.next_is
           made.stands
 
-      goes : HistoryGoesOn (supply_beside old.volume.size (left_of_all old.volume calls)) (commits call.running) call.command (given_inode call.running)
+      goes : HistoryGoesOn supply (commits call.running) call.command (given_inode call.running)
           (ranges_of_all (set calls session (next_call call next))) history among.later
       goes =
           history_begins_law old.volume before words among.later history calls session call.command action call next wait.calls_wait idle within ready of made.next_is
@@ -230,6 +222,7 @@ module _ (old : InterleaveView) (before : DeviceView) (calls : Calls) (history :
             going = among.calls_wait.beside.going;
             history_is = now;
             goes = (given_inode call.running, enters, makes_none commits_now);
+            tree = λ again. enters.after.tree;
             entered = entered ∙ commits_now;
             told = λ is. reply_is commits_now;
           }
@@ -240,6 +233,7 @@ module _ (old : InterleaveView) (before : DeviceView) (calls : Calls) (history :
         going = among.calls_wait.beside.going;
         history_is = goes.quiet quiet;
         goes = refl;
+        tree = λ commits_now. absurd (true≢false (sym commits_now ∙ quiet));
         entered = entered ∙ quiet;
         told = λ is. absurd (true≢false (sym is));
       }
@@ -250,5 +244,8 @@ module _ (old : InterleaveView) (before : DeviceView) (calls : Calls) (history :
       settled = wait.calls_wait.beside.stands.settled;
       stores = λ running is. stores_first.stores;
       crash = crash;
+      commit = plan_may_commit old.volume.size before.words words (ranges_of_all calls) history call.command action call.running planned.weaving.history_is planned.planned.plan_is
+          starts;
+      legal = legal;
       began = λ new after next made. began_if new after next made (commits call.running) refl;
     }

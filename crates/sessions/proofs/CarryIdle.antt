@@ -1,5 +1,6 @@
 -- A change that has nothing to do begins and ends at once: no word is stored, and its entry leaves the history.
 use Rattle.std.proofs.Common.{◌≡◌, inl, inr, ℕ, ◌+◌, ◌-◌, ◌≤◌, Bool, true, false, cond, nat_le, nat_lt, List, Option, None, Some, Ok, refl, sym, ap, subst, ◌∙◌, arith}
+use Rattle.std.proofs.lemmas.Bool.{true≢false}
 use Rattle.std.proofs.lemmas.List.{ext_get_or}
 use Rattle.pm_trait.specs.DeviceView.{DeviceView}
 use Rattle.pm_trait.specs.Unfolds.{Step, Fenced, fences_in}
@@ -23,6 +24,7 @@ use Rattle.rename_ptr.specs.declared.rename.Stage.TheVariants.{Nothing as NamesK
 use Rattle.running_calls.specs.declared.running.Running.{Running}
 use Rattle.running_calls.specs.declared.running.Running.TheVariants.{Moves, Writes, Resizes}
 use Rattle.running_calls.specs.Stages.{IsNext, EntersAt, begun, left_of, step_of}
+use Rattle.running_laws.specs.Steps.{commits}
 use Rattle.running_laws.specs.Waits.{bytes_of_command}
 use Rattle.session_laws.specs.Calls.{Call, Calls, call_at, without, events_of_all, ranges_of_all, CallsWait}
 use Rattle.session_laws.specs.Going.{IsReadyAmong}
@@ -35,7 +37,7 @@ use Rattle.sessions.specs.Interleave.{InterleaveView, beside}
 use Rattle.sessions.specs.Planned.{IsPlannedAmong}
 use Rattle.sessions.specs.Steps.{MayBeLeft}
 use Rattle.sessions.proofs.CarryFree.{planned_beside, planned_ready}
-use Rattle.sessions.proofs.CarryMade.{BeginsAt, first_step}
+use Rattle.sessions.proofs.CarryMade.{BeginsAt, IsFirstState, first_step}
 use Rattle.sessions.proofs.CarryPlans.{enters_without_fence}
 use Rattle.sessions.proofs.CarryReplies.{plan_told, plan_makes, end_told}
 use Rattle.sessions.proofs.CarrySteps.{Began}
@@ -45,6 +47,7 @@ use Rattle.sessions.proofs.WeavesOne.{WaitBeside}
 
 -- its step stores nothing, and ends it
 pub record IsIdle (volume : VolumeView) (bytes : List ℕ) (running : Running) : Type 0 where
+  pub quiet : commits running ≡ false
   pub stores : (step_of volume bytes running).stores ≡ false
   pub same : (I J : List ℕ) → (step_of volume bytes running).Makes I J → J ≡ I
   pub events : (step_of volume bytes running).events ≡ 0
@@ -61,13 +64,13 @@ module _ (volume : VolumeView) (bytes : List ℕ) where
   IdleOf (Some running) = IsIdle volume bytes running
 
   idle_move : IsIdle volume bytes (Moves NamesKept)
-  idle_move = record { stores = refl; same = λ I J is. is; events = refl; fences = refl; ends = λ next is. no_more _ next is; enters = λ before after is. is }
+  idle_move = record { quiet = refl; stores = refl; same = λ I J is. is; events = refl; fences = refl; ends = λ next is. no_more _ next is; enters = λ before after is. is }
 
   idle_write : IsIdle volume bytes (Writes NothingWritten)
-  idle_write = record { stores = refl; same = λ I J is. is; events = refl; fences = refl; ends = λ next is. no_more _ next is; enters = λ before after is. is }
+  idle_write = record { quiet = refl; stores = refl; same = λ I J is. is; events = refl; fences = refl; ends = λ next is. no_more _ next is; enters = λ before after is. is }
 
   idle_resize : IsIdle volume bytes (Resizes SizeKept)
-  idle_resize = record { stores = refl; same = λ I J is. is; events = refl; fences = refl; ends = λ next is. no_more _ next is; enters = λ before after is. is }
+  idle_resize = record { quiet = refl; stores = refl; same = λ I J is. is; events = refl; fences = refl; ends = λ next is. no_more _ next is; enters = λ before after is. is }
 
   -- of two ways none without an event
   some_either : {X : Type 0} (b : Bool) (m n : ℕ) → 1 ≤ m → 1 ≤ n → cond b m n ≡ 0 → X
@@ -126,13 +129,13 @@ module _ (old : InterleaveView) (before : DeviceView) (calls : Calls) (history :
   idle : IsIdle kept bytes call.running
   idle = plan_idle kept bytes action call.running starts none
 
-  crash : (J M : List ℕ) → step.Makes before.words J → IsMix before.words J M → MayBeLeft old.volume.size calls history (Ok call.command) M
+  crash : (J M : List ℕ) → step.Makes before.words J → IsMix before.words J M → MayBeLeft old.volume.size calls history (Ok call.command) (IsFirstState old calls history call) M
   crash J M makes mix =
       let image = mix_same before.words M (subst (λ (words : List ℕ). IsMix before.words words M) (idle.same before.words J makes) mix) in
-      subst (MayBeLeft old.volume.size calls history (Ok call.command)) (sym image)
+      subst (MayBeLeft old.volume.size calls history (Ok call.command) (IsFirstState old calls history call)) (sym image)
       (record {
-        entered = history;
-        entered_is = inl refl;
+        state = history;
+        state_is = inl refl;
         ranges = ranges_of_all calls;
         running = λ range held. inl held;
         crash = quiet_crash_law old.volume before words history calls wait.calls_wait planned.weaving.history_is;
@@ -173,6 +176,7 @@ module _ (old : InterleaveView) (before : DeviceView) (calls : Calls) (history :
                 planned.weaving.history_is,
             (λ one. no_entry action none (plan_makes old.volume.size before.words words call.command action one planned.planned.plan_is)),
           );
+          tree = λ commit. absurd (true≢false (sym commit ∙ idle.quiet));
           entered = refl;
           told = λ is supply T room. end_told action call.running reply starts made.next_is
               ∙ plan_told old.volume.size before.words words call.command action changing planned.planned.plan_is supply T room;
@@ -184,5 +188,7 @@ module _ (old : InterleaveView) (before : DeviceView) (calls : Calls) (history :
     settled = wait.calls_wait.beside.stands.settled;
     stores = λ running is. absurd (idle.ends running is);
     crash = crash;
+    commit = λ commit. absurd (true≢false (sym commit ∙ idle.quiet));
+    legal = λ state commit enters. absurd (true≢false (sym commit ∙ idle.quiet));
     began = λ new after next made. began new after runs_none next made;
   }

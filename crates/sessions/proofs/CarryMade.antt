@@ -5,9 +5,11 @@ use Rattle.std.proofs.lemmas.List.{length-set}
 use Rattle.pm_trait.specs.DeviceView.{DeviceView, IsSettledView, Acknowledges, MakesIntervals}
 use Rattle.pm_trait.specs.Unfolds.{Step, step_events, step_fences, fences_in}
 use Rattle.pm_trait.proofs.Unfolding.{step_intervals}
+use Rattle.tree_model.specs.Capacity.{Supply}
 use Rattle.tree_model.specs.Run.{State, Line, is_changing}
 use Rattle.tree_model.specs.declared.reply.Reply.{Reply}
 use Rattle.tree_model.specs.declared.reply.Reply.TheVariants.{Done, Fault}
+use Rattle.image_counts.specs.Laws.{supply_beside}
 use Rattle.image_laws.specs.Quiet.{IsMix}
 use Rattle.volume.specs.Stages.{keeping}
 use Rattle.volume.specs.Volume.{VolumeView}
@@ -16,33 +18,48 @@ use Rattle.volume.specs.declared.next.Next.TheVariants.{More, Ended as HasEnded}
 use Rattle.volume.specs.declared.plan.Action.{Action}
 use Rattle.running_calls.specs.declared.running.Running.{Running}
 use Rattle.running_calls.specs.Stages.{IsNext, left_of, step_of}
+use Rattle.running_laws.specs.Steps.{commits, given_inode}
 use Rattle.running_laws.specs.Waits.{bytes_of_command}
-use Rattle.session_laws.specs.Calls.{Call, Calls, call_at}
+use Rattle.session_laws.specs.Calls.{Call, Calls, call_at, left_of_all, ranges_of_all}
+use Rattle.session_laws.specs.Going.{next_call}
+use Rattle.session_laws.specs.Histories.{IsCrashOf}
 use Rattle.session_laws.proofs.Lists.{without_idle}
 use Rattle.sessions.specs.Advanced.{MadeStep, FailedStep, HasAdvanced, goes_on, ends, fails, with_entry, enters_now}
 use Rattle.sessions.specs.Interleave.{InterleaveView, IsWeaving, task_of, tasks_of}
 use Rattle.volume.specs.Named.{AreNamedBy}
 use Rattle.session_laws.proofs.GoingStored.{enters_same}
-use Rattle.sessions.specs.Steps.{Steps, MayBeLeft, IsFreeOfOthers, number_of, KeepsFrame, begun_after}
+use Rattle.sessions.specs.Steps.{Steps, MayBeLeft, IsBeforeOrBehind, IsBeforeOrEntered, may_commit_first, may_commit, IsFreeOfOthers, number_of, KeepsFrame, begun_after}
 use Rattle.sessions.specs.declared.entry.Entry.{Entry}
 use Rattle.sessions.specs.declared.entry.StepReply.{StepReply}
 use Rattle.sessions.specs.declared.entry.StepReply.TheVariants.{Running as RunsOn, Ended}
 use Rattle.sessions.specs.declared.entry.WeaveReply.TheVariants.{Plain}
 use Rattle.sessions.specs.declared.task.Task.{Task}
 use Rattle.sessions.proofs.AnswerLaw.{acked_wait}
-use Rattle.sessions.proofs.CarryCrash.{step_leaves, end_leaves}
+use Rattle.sessions.proofs.CarryCrash.{HoldsOfMixes, step_leaves, step_settled, end_acks, ends_waiting, ends_settled}
 use Rattle.sessions.proofs.CarrySteps.{Began, DidStep, stepped_on}
+use Rattle.sessions.proofs.FencesTakes.{TakesFirst}
+use Rattle.sessions.proofs.StepCrash.{IsStepState, IsTreeBehind, HasLegalEntry, left_behind, left_entered}
 use Rattle.sessions.proofs.WeavesOne.{tasks_set}
 
 abbrev pub first_step : InterleaveView → Action → Call → Step
 first_step old action call = step_of (keeping old.volume action) (bytes_of_command call.command) call.running
 
--- Whether the entry comes with the first step; that it has a store, where the call goes on; what a crash in it leaves, and what is known behind it.
+-- what a crash in it leaves
+abbrev pub IsFirstState : InterleaveView → Calls → State → Call → State → Type 0
+IsFirstState old calls history call state =
+    IsStepState (commits call.running) (supply_beside old.volume.size (left_of_all old.volume calls)) history call.command (given_inode call.running) state
+
+-- Whether the entry comes with the first step; that it has a store, where the call goes on; what a crash in it leaves, with its entry where it commits; and
+-- what is known behind it.
 pub record BeginsAt (old : InterleaveView) (before : DeviceView) (calls : Calls) (history : State) (session : ℕ) (action : Action) (call : Call) (enters : Bool) : Type 0 where
   pub enters_is : enters_now (fences_in (left_of (keeping old.volume action) (bytes_of_command call.command) call.running)) call.behind ≡ enters
   pub settled : IsSettledView before
   pub stores : (running : Running) → IsNext call.running (More running) → (first_step old action call).stores ≡ true
-  pub crash : (J M : List ℕ) → (first_step old action call).Makes before.words J → IsMix before.words J M → MayBeLeft old.volume.size calls history (Ok call.command) M
+  pub crash : (J M : List ℕ) → (first_step old action call).Makes before.words J → IsMix before.words J M
+      → MayBeLeft old.volume.size calls history (Ok call.command) (IsFirstState old calls history call) M
+  pub commit : commits call.running ≡ true → may_commit_first history call.command ≡ true
+  pub legal : HasLegalEntry old.volume.size (commits call.running) (supply_beside old.volume.size (left_of_all old.volume calls)) history call.command (given_inode call.running)
+      (Ok call.command)
   pub began : (new : VolumeView) (after : DeviceView) (next : Next Running)
       → MadeStep (keeping old.volume action) new before after (bytes_of_command call.command) call.running next
       → Began old new after calls history session call next enters
@@ -50,7 +67,8 @@ pub record BeginsAt (old : InterleaveView) (before : DeviceView) (calls : Calls)
 module _ (old new : InterleaveView) (before after : DeviceView) (calls : Calls) (history : State) (session : ℕ) (action : Action) (call : Call) (enters : Bool)
     (weaving : IsWeaving old before calls history) (idle : call_at calls session ≡ None) (within : session < length calls) (number : call.number ≡ old.begun + 1)
     (changing : is_changing call.command ≡ true) (free : IsFreeOfOthers calls history call.command)
-    (names : AreNamedBy history.tree call.command call.named) (at : BeginsAt old before calls history session action call enters) where
+    (names : AreNamedBy history.tree call.command call.named) (at : BeginsAt old before calls history session action call enters)
+    (takes : TakesFirst old before calls history action call) where
   abbrev keeps : InterleaveView
   keeps = record old { volume = keeping old.volume action; begun = old.begun + 1 }
 
@@ -84,6 +102,27 @@ module _ (old new : InterleaveView) (before after : DeviceView) (calls : Calls) 
   few_fences true = omega arith
   few_fences false = omega arith
 
+  -- ---- a crash in it
+
+  abbrev supply : Supply
+  supply = supply_beside old.volume.size (left_of_all old.volume calls)
+
+  abbrev id : ℕ
+  id = given_inode call.running
+
+  abbrev Left : (State → Type 0) → List ℕ → Type 0
+  Left IsOne image = MayBeLeft old.volume.size calls history line IsOne image
+
+  module _ (there : DeviceView) (makes : step.Makes before.words there.words) where
+    leaves_behind : (later : State) → IsTreeBehind (commits call.running) history call.command id later → HoldsOfMixes (Left (IsBeforeOrBehind history later 0)) before there
+    leaves_behind later tree image mix =
+        left_behind old.volume.size calls history line image (commits call.running) supply call.command id later tree (at.crash there.words image makes mix)
+
+    leaves_entered : HoldsOfMixes (Left (IsBeforeOrEntered old.volume.size (call_at calls session) history line)) before there
+    leaves_entered image mix =
+        left_entered old.volume.size calls history line image (commits call.running) supply call.command id (call_at calls session)
+        (λ commit. ap (λ (ran : Option Call). may_commit ran history line) idle ∙ at.commit commit) at.legal (at.crash there.words image makes mix)
+
   -- ---- it goes on
 
   module _ (running : Running) (made : MadeStep (keeping old.volume action) new.volume before after bytes call.running (More running))
@@ -109,6 +148,7 @@ module _ (old new : InterleaveView) (before after : DeviceView) (calls : Calls) 
       most = (let one = one_fence in omega (arith, one));
       fence = one_fence;
       acks = (let same = costs.acks in omega (arith, same));
+      acked = λ told is. costs.no_ack;
       faults = costs.no_fault;
     }
 
@@ -119,10 +159,13 @@ module _ (old new : InterleaveView) (before after : DeviceView) (calls : Calls) 
     went = record {
       frame = frame (More running) after made (ap (λ (w : InterleaveView). length w.tasks) new_is ∙ length-set old.tasks session
           (Some (task_of (record call { running = running }))));
-      going = λ going. stepped_on old new before after calls history session call (More running) enters weaving idle within number changing free names went_began went_did;
+      going = λ going. stepped_on old new before after calls history session call (More running) enters weaving idle within number changing free names went_began went_did
+          (takes new.volume after (More running) made)
+          (λ waiting. step_leaves (λ count image. Left (IsBeforeOrBehind history went_began.later count) image) step before after (Ok tt) at.settled made.takes
+          (leaves_behind after made.takes.makes went_began.later went_began.tree))
+          (λ waiting. step_settled (λ count words. IsCrashOf old.volume.size words (ranges_of_all (set calls session (next_call call (More running)))) went_began.later)
+          step before after at.settled made.takes);
       failed = λ stopped. absurd (true≢false (sym stopped ∙ went_began.going));
-      any_moment = step_leaves (MayBeLeft old.volume.size calls history line) step before after (Ok tt) at.settled made.takes
-          (λ image mix. at.crash after.words image made.takes.makes mix);
     }
 
   -- ---- it ends, and is acknowledged
@@ -145,6 +188,7 @@ module _ (old new : InterleaveView) (before after : DeviceView) (calls : Calls) 
       most = (let counted = end_costs.counted in let few = few_fences step.stores in let same = acks.fences in omega (arith, counted, few, same));
       fence = tt;
       acks = (let same = end_costs.acks in let one = acks.acks in omega (arith, same, one));
+      acked = end_acks step before fenced after at.settled made.takes acks;
       faults = acks.faults ∙ end_costs.no_fault;
     }
 
@@ -158,17 +202,23 @@ module _ (old new : InterleaveView) (before after : DeviceView) (calls : Calls) 
           going = there.going;
           history_is = there.history_is;
           goes = there.goes;
+          tree = there.tree;
           entered = there.entered;
           told = there.told;
         }
 
+    end_frame : KeepsFrame old new
+    end_frame = frame (HasEnded told) fenced made (ap (λ (w : InterleaveView). length w.tasks) new_is)
+
     ended : Steps old new before after calls history session line (Ended call.number (Plain told))
     ended = record {
-      frame = frame (HasEnded told) fenced made (ap (λ (w : InterleaveView). length w.tasks) new_is);
-      going = λ going. stepped_on old new before after calls history session call (HasEnded told) enters weaving idle within number changing free names end_began end_did;
+      frame = end_frame;
+      going = λ going. stepped_on old new before after calls history session call (HasEnded told) enters weaving idle within number changing free names end_began end_did
+          (λ left. acks.fences ∙ takes new.volume fenced (HasEnded told) made left)
+          (λ waiting. ends_waiting step before fenced after at.settled made.takes acks old.volume.size new calls history end_began.later session line waiting end_frame.size
+          (leaves_behind fenced made.takes.makes end_began.later end_began.tree))
+          (λ waiting. ends_settled step before fenced after at.settled made.takes acks old.volume.size new (set calls session None) end_began.later waiting end_frame.size);
       failed = λ stopped. absurd (true≢false (sym stopped ∙ end_began.going));
-      any_moment = end_leaves (MayBeLeft old.volume.size calls history line) step before fenced after at.settled made.takes acks
-          (λ image mix. at.crash fenced.words image made.takes.makes mix);
     }
 
   -- ---- its fence failed
@@ -206,9 +256,11 @@ module _ (old new : InterleaveView) (before after : DeviceView) (calls : Calls) 
         bytes = ap (λ (w : InterleaveView). w.bytes) new_is;
         fences = no_fence failed_costs.fewer failed_costs.least_fences;
         no_ack = failed_costs.acks;
+        none_acked = failed_costs.no_ack;
+        any_moment = step_leaves (λ count image. Left (IsBeforeOrEntered old.volume.size (call_at calls session) history line) image) step before after (Err tt) at.settled
+            failed.takes (leaves_entered after failed.takes.makes);
+        halts = failed_costs.halts;
       };
-      any_moment = step_leaves (MayBeLeft old.volume.size calls history line) step before after (Err tt) at.settled failed.takes
-          (λ image mix. at.crash after.words image failed.takes.makes mix);
     }
 
   -- ---- whichever it was

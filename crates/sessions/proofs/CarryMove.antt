@@ -50,7 +50,7 @@ use Rattle.sessions.specs.Steps.{MayBeLeft}
 use Rattle.sessions.proofs.CarryBeside.{stores_first, fits, enters_is}
 use Rattle.sessions.proofs.CarryFree.{planned_beside, planned_ready}
 use Rattle.sessions.proofs.CarryLists.{ranges_none, ranges_idle, same_history}
-use Rattle.sessions.proofs.CarryMade.{BeginsAt, first_step}
+use Rattle.sessions.proofs.CarryMade.{BeginsAt, IsFirstState, first_step}
 use Rattle.sessions.proofs.CarrySteps.{Began}
 use Rattle.sessions.proofs.WeavesOne.{WaitBeside}
 
@@ -163,17 +163,17 @@ module _ (old : InterleaveView) (before : DeviceView) (calls : Calls) (history :
   -- ---- a crash
 
   crash_told : (M : List ℕ) → LeftAlone old.volume.size [] (untaken old.volume.size) (commits call.running) call.command 0 words M
-      → MayBeLeft old.volume.size calls history (Ok call.command) M
+      → MayBeLeft old.volume.size calls history (Ok call.command) (IsFirstState old calls history call) M
   crash_told M (inl crash) = record {
-    entered = history;
-    entered_is = inl refl;
+    state = history;
+    state_is = inl refl;
     ranges = [];
     running = λ range (k, below, is). absurd (omega arith);
     crash = subst (IsCrashOf old.volume.size M []) same_state crash;
   }
   crash_told M (inr (commits_now, entered, enters, left)) = absurd (true≢false (sym commits_now ∙ quiet))
 
-  crash : (J M : List ℕ) → step.Makes before.words J → IsMix before.words J M → MayBeLeft old.volume.size calls history (Ok call.command) M
+  crash : (J M : List ℕ) → step.Makes before.words J → IsMix before.words J M → MayBeLeft old.volume.size calls history (Ok call.command) (IsFirstState old calls history call) M
   crash J M makes mix =
       crash_told M (move_crash_law kept before words with_call session call J M moves_on
       (subst (λ (b : List ℕ). (step_of kept b call.running).Makes before.words J) no_bytes makes) mix)
@@ -211,6 +211,7 @@ module _ (old : InterleaveView) (before : DeviceView) (calls : Calls) (history :
               (same_state ∙ sym (same_later goes.later goes.means))
               (subst (λ (ranges : List Range). IsHistory ranges history words) (sym no_range) no_history);
           goes = refl;
+          tree = λ commit. absurd (true≢false (sym commit ∙ quiet));
           entered = ap has_committed is ∙ uncommitted;
           told = λ entered. absurd (true≢false (sym entered));
         }
@@ -226,5 +227,7 @@ module _ (old : InterleaveView) (before : DeviceView) (calls : Calls) (history :
     settled = wait.calls_wait.beside.stands.settled;
     stores = λ running is. (stores_first old before calls history session action call planned changing plan_behind starts some).stores;
     crash = crash;
+    commit = λ commit. absurd (true≢false (sym commit ∙ quiet));
+    legal = λ state commit enters. absurd (true≢false (sym commit ∙ quiet));
     began = λ new after next made. began_by new after next (move_goes moving call.running next running_is made.next_is) made;
   }

@@ -1,5 +1,5 @@
 -- The plan of a command is carried out, whose number is given out already: what that asks for, and the answer or the first step as the command's.
-use Rattle.std.proofs.Common.{◌≡◌, ◌⊎◌, inl, inr, ℕ, ◌+◌, ◌-◌, ◌*◌, ◌^◌, ◌<◌, ◌≤◌, Bool, true, nat_lt, List, length, Some, Ok, refl, sym, ap, subst, ◌∙◌, arith}
+use Rattle.std.proofs.Common.{◌≡◌, ◌⊎◌, inl, inr, ℕ, ◌+◌, ◌-◌, ◌*◌, ◌^◌, ◌<◌, ◌≤◌, Bool, true, not, ◌||◌, nat_lt, List, length, Some, Ok, refl, sym, ap, subst, ◌∙◌, arith}
 use Rattle.std.proofs.lemmas.Bool.{lt-ltb}
 use Rattle.pm_trait.specs.DeviceView.{DeviceView}
 use Rattle.pm_trait.specs.Unfolds.{MayFence}
@@ -8,7 +8,9 @@ use Rattle.tree_model.specs.Replies.{reply_of}
 use Rattle.tree_model.specs.Run.{State, is_changing}
 use Rattle.tree_model.specs.Step.{answer_of}
 use Rattle.tree_model.specs.declared.command.Command.{Command}
+use Rattle.tree_model.specs.declared.reply.Refusal.TheVariants.{NoMemory}
 use Rattle.tree_model.specs.declared.reply.Reply.{Reply}
+use Rattle.tree_model.specs.declared.reply.Reply.TheVariants.{Refused}
 use Rattle.image_counts.specs.Laws.{supply_beside}
 use Rattle.volume.specs.Costs.{events_of, kept_events, where_true}
 use Rattle.volume.specs.Prepared.{IsChange}
@@ -29,7 +31,7 @@ use Rattle.sessions.specs.History.{supply_of}
 use Rattle.sessions.specs.Interleave.{InterleaveView, AreNumbered, IsWeaving, tasks_of, unbegun}
 use Rattle.sessions.specs.Laws.{HasName, IsAnswered, IsTaskOf, WeavesOn}
 use Rattle.sessions.specs.Planned.{IsPlannedAmong, IsReadAs}
-use Rattle.sessions.specs.Steps.{Steps, HasReadBytes}
+use Rattle.sessions.specs.Steps.{Steps, HasReadBytes, is_refused}
 use Rattle.sessions.specs.Tasks.{HoldFew}
 use Rattle.sessions.specs.declared.entry.StepReply.{StepReply}
 use Rattle.sessions.specs.declared.entry.StepReply.TheVariants.{Ended}
@@ -42,6 +44,7 @@ use Rattle.sessions.proofs.CarryEntry.{entry_legal_by, entry_supply}
 use Rattle.sessions.proofs.CarryFree.{planned_free, planned_may}
 use Rattle.sessions.proofs.CarryIdle.{plan_idle}
 use Rattle.sessions.proofs.CarryPlans.{plan_first}
+use Rattle.sessions.proofs.ReplyReasons.{other_reason, answer_other}
 use Rattle.sessions.proofs.WeavesHeld.{others_hold_law}
 use Rattle.sessions.proofs.WeavesOn.{weaves_on_law}
 
@@ -152,6 +155,9 @@ module _ (weave : InterleaveView) (device : DeviceView) (session : ℕ) (command
       busy = inr (planned_free old device calls history session command named action planned);
       bytes = subst (λ (bytes : List ℕ). HasReadBytes old.bytes bytes history.tree (Ok command) (Plain reply)) (sym bytes_is)
           (bytes_alike supply history.tree words.tree history.room words.room command old.bytes new_read.bytes (Plain reply) alike.answers read.3);
+      no_plan = ap (λ (changes : Bool). not changes || is_refused reply) read.0;
+      reason = other_reason device after history (Ok command) (old.begun + 1) (Plain reply) (λ short. answer_other supply words.tree words.room command
+          (sym read.1 ∙ (let same : reply ≡ Refused NoMemory = cc in same)));
     }
 
     pub answered_steps : Steps old new device after calls history session (Ok command) told

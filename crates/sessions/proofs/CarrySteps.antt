@@ -3,6 +3,7 @@ use Rattle.std.proofs.Common.{◌≡◌, inr, ℕ, ◌+◌, ◌<◌, ◌≤◌, 
 use Rattle.std.proofs.Common.{refl, sym, ap, subst, ◌∙◌, arith}
 use Rattle.std.proofs.lemmas.Bool.{true≢false}
 use Rattle.std.proofs.lemmas.List.{length-set}
+use Rattle.pm_trait.specs.Device.{LeavesOnly, AcksSettled}
 use Rattle.pm_trait.specs.DeviceView.{DeviceView}
 use Rattle.tree_model.specs.Capacity.{Supply}
 use Rattle.tree_model.specs.PathText.{Route}
@@ -12,22 +13,22 @@ use Rattle.tree_model.specs.Tree.{Tree, Room}
 use Rattle.tree_model.specs.Run.{State, Line, is_changing}
 use Rattle.tree_model.specs.declared.command.Command.{Command}
 use Rattle.tree_model.specs.declared.command.Command.TheVariants.{Create, Mkdir, Link, Unlink, Rmdir, Rename, Write, Truncate, Read, Stat as Tell, List as Show, Df}
-use Rattle.tree_model.specs.declared.reply.Reply.TheVariants.{Done}
 use Rattle.naming_laws.specs.Naming.{inode_need}
 use Rattle.image_counts.specs.Laws.{supply_beside}
 use Rattle.volume.specs.Volume.{VolumeView}
 use Rattle.volume.specs.declared.next.Next.{Next}
 use Rattle.volume.specs.declared.next.Next.TheVariants.{More, Ended as HasEnded}
 use Rattle.running_calls.specs.declared.running.Running.{Running}
+use Rattle.running_laws.specs.Steps.{commits, given_inode}
 use Rattle.session_laws.specs.Calls.{Call, Calls, call_at, left_of_all, ranges_of_all}
 use Rattle.session_laws.specs.Going.{next_call}
-use Rattle.session_laws.specs.Histories.{IsHistory, EntersHistory}
+use Rattle.session_laws.specs.Histories.{IsHistory, IsCrashOf, EntersHistory}
 use Rattle.session_laws.proofs.Lists.{call_put, call_other}
 use Rattle.sessions.specs.Advanced.{entry_of, with_entry}
 use Rattle.sessions.specs.Interleave.{InterleaveView, AllWait, AreNumbered, IsWeaving, tasks_of, to_come}
 use Rattle.volume.specs.Named.{AreNamedBy}
-use Rattle.sessions.specs.Steps.{StepsOn, BytesBehind, Enters, IsFreeOfOthers, IsBusyRightly, IsLeftAs, IsToldAs, IsCallAt, GetsOn, IsQuietWhere, is_refused}
-use Rattle.sessions.specs.Steps.{begun_after, number_of, is_entered_before, is_entered_behind, acks_of}
+use Rattle.sessions.specs.Steps.{StepsOn, TakesAll, HasReason, BytesBehind, Enters, IsFreeOfOthers, IsBusyRightly, IsLeftAs, IsToldAs, IsDoneAtEnd, IsCallAt, GetsOn, IsQuietWhere, is_refused}
+use Rattle.sessions.specs.Steps.{HasAcked, MayBeLeft, IsBeforeOrBehind, begun_after, number_of, is_entered_before, is_entered_behind, acks_of}
 use Rattle.sessions.specs.declared.entry.StepReply.{StepReply}
 use Rattle.sessions.specs.declared.entry.StepReply.TheVariants.{Running as RunsOn}
 use Rattle.sessions.specs.declared.entry.WeaveReply.TheVariants.{Plain}
@@ -35,7 +36,10 @@ use Rattle.sessions.proofs.CarryEntry.{entry_held, entry_legal}
 use Rattle.sessions.proofs.CarryLists.{numbered_begun, to_come_begun}
 use Rattle.sessions.proofs.GoesLists.{to_enter}
 use Rattle.sessions.proofs.GoesMade.{told_next, reply_next}
+use Rattle.sessions.proofs.FencesOthers.{others_fences}
+use Rattle.sessions.proofs.FencesTakes.{TakesNext, takes_begun, begun_reason}
 use Rattle.sessions.proofs.GoesReplies.{AnswersAs}
+use Rattle.sessions.proofs.StepCrash.{IsTreeBehind}
 
 -- ---- what is known behind it
 
@@ -53,6 +57,7 @@ pub record Began (old : InterleaveView) (volume : VolumeView) (after : DeviceVie
   pub going : volume.stopped ≡ false
   pub history_is : IsHistory (ranges_of_all (set calls s (next_call call next))) later words
   pub goes : GoesTo enters (supply_beside old.volume.size (left_of_all old.volume calls)) call.command history later
+  pub tree : IsTreeBehind (commits call.running) history call.command (given_inode call.running) later
   pub entered : is_entered_behind (next_call call next) ≡ enters
   pub told : enters ≡ true → AnswersAs call.command (told_next next)
 
@@ -70,6 +75,7 @@ pub record DidStep (old new : InterleaveView) (before after : DeviceView) (calls
   pub most : after.fences ≤ before.fences + 1
   pub fence : HasFenceBehind before after next
   pub acks : after.acks ≡ before.acks + acks_of (reply_next call next)
+  pub acked : HasAcked before after (reply_next call next)
   pub faults : after.faults ≡ before.faults
 
 -- ---- the clauses
@@ -159,10 +165,10 @@ module _ (old new : InterleaveView) (before after : DeviceView) (calls : Calls) 
   -- ---- its entry
 
   told_as : (behind : Next Running) → IsToldAs (reply_next call behind) (Plain (told_next behind))
-  told_as (More running) = tt
+  told_as (More running) = refl
   told_as (HasEnded told) = refl
 
-  told_none : (behind : Next Running) → is_entered_behind (next_call call behind) ≡ false → IsToldAs (reply_next call behind) (Plain Done)
+  told_none : (behind : Next Running) → is_entered_behind (next_call call behind) ≡ false → IsDoneAtEnd (reply_next call behind)
   told_none (More running) none = tt
   told_none (HasEnded told) none = absurd (true≢false none)
 
@@ -228,19 +234,32 @@ module _ (old new : InterleaveView) (before after : DeviceView) (calls : Calls) 
 
   -- ---- all of them
 
-  pub stepped_on : StepsOn old new before after calls history session line reply
-  stepped_on = record {
+  pub stepped_on : TakesNext old new.volume before after calls history call next → (IsWeaving new after left_calls began.later
+      → LeavesOnly before.trail after.trail (λ acks image. MayBeLeft old.volume.size calls history line (IsBeforeOrBehind history began.later acks) image))
+      → (IsWeaving new after left_calls began.later
+      → AcksSettled before.trail after.trail (λ acks words. IsCrashOf old.volume.size words (ranges_of_all left_calls) began.later))
+      → StepsOn old new before after calls history session line reply
+  stepped_on takes left_at settled_at = record {
     later_calls = left_calls;
     later = began.later;
     weaving = weaves;
     others = λ s other. call_other calls session s (next_call call next) (λ same. other (sym same));
+    others_left = others_fences old new before after calls left_calls history began.later session weaving weaves
+        (λ s other. call_other calls session s (next_call call next) (λ same. other (sym same)));
     begun = did.begun ∙ sym (ap (begun_after old.begun) idle);
     left = left_as next left_is;
     enters = subst EntersIf (sym entered_is) (enters_so enters began.goes did.entries began.entered began.told);
     call_is = subst (λ (ran : Option Call). IsCallAt ran (call_at left_calls session) line history.tree) (sym idle)
         (subst (λ (left : Option Call). IsCallAt None left line history.tree) (sym left_is) (call_behind next));
     gets_on = subst (λ (ran : Option Call). GetsOn old.volume new.volume ran (call_at left_calls session)) (sym idle) tt;
+    takes_all = subst
+        (λ (ran : Option Call). TakesAll old.volume.size (left_of_all old.volume calls) new.volume before after ran (call_at left_calls session) history line began.later reply)
+        (sym idle)
+        (subst (λ (left : Option Call). TakesAll old.volume.size (left_of_all old.volume calls) new.volume before after None left history line began.later reply) (sym left_is)
+        (takes_begun old new.volume before after calls history began.later call next enters changing began.entered began.told takes));
     busy = subst (λ (ran : Option Call). IsBusyRightly reply ran calls history line) (sym idle) (busy_none next);
+    reason = subst (λ (ran : Option Call). HasReason before after ran history line reply) (sym idle)
+        (begun_reason before after history call next enters changing began.entered began.told);
     bytes = bytes_behind next;
     quiet = subst (λ (ran : Option Call). IsQuietWhere reply ran line before after) (sym idle) (quiet_behind next began.entered began.told);
     fences = record {
@@ -249,5 +268,8 @@ module _ (old new : InterleaveView) (before after : DeviceView) (calls : Calls) 
       left = λ own told. fenced_if next did.fence own told;
     };
     acks = did.acks;
+    acked = did.acked;
+    settled = settled_at weaves;
     faults = did.faults;
+    any_moment = left_at weaves;
   }

@@ -1,8 +1,11 @@
 -- A command that begins and is answered at once: its walks are refused, or a running call is in its way, or it is refused as it is prepared.
-use Rattle.std.proofs.Common.{◌≡◌, ◌≢◌, inl, inr, ℕ, ◌+◌, ◌-◌, ◌≤◌, List, length, Option, None, Some, Ok, refl, sym, ap, subst, ◌∙◌, arith}
+use Rattle.std.proofs.Common.{◌≡◌, ◌≢◌, ◌⊎◌, inl, inr, ℕ, ◌+◌, ◌-◌, ◌≤◌, true, List, length, Option, None, Some, Ok, refl, sym, ap, subst, ◌∙◌, arith}
+use Rattle.std.specs.Prelude.{IsTrue}
+use Rattle.pm_trait.specs.Device.{HasRisen}
 use Rattle.pm_trait.specs.DeviceView.{DeviceView, Acknowledges}
 use Rattle.tree_model.specs.Tree.{node_at}
 use Rattle.tree_model.specs.Capacity.{Supply}
+use Rattle.tree_model.specs.Places.{line_needs_places}
 use Rattle.tree_model.specs.Replies.{reply_of}
 use Rattle.tree_model.specs.Step.{refusal_with, outcome_of, RoomAfterWith}
 use Rattle.tree_model.specs.Run.{State}
@@ -25,7 +28,7 @@ use Rattle.sessions.specs.Advanced.{HasAnsweredAtOnce, entry_of, with_entry}
 use Rattle.sessions.specs.History.{IsLegal, supply_of}
 use Rattle.sessions.specs.Interleave.{InterleaveView, IsWeaving, tasks_of, unbegun}
 use Rattle.sessions.specs.Laws.{AnswersLaw, IsAnswered, OthersHold}
-use Rattle.sessions.specs.Steps.{Steps, IsBusyWhere}
+use Rattle.sessions.specs.Steps.{Steps, IsBusyWhere, HasReason, has_no_plan}
 use Rattle.sessions.specs.Tasks.{held_by_all, HoldFew}
 use Rattle.sessions.specs.declared.entry.Entry.{Entry}
 use Rattle.sessions.specs.declared.entry.StepReply.{StepReply}
@@ -103,15 +106,17 @@ prepared_legal P entry left history words command refusal before between unused 
 
 -- ---- the answer
 
--- It may be answered so, and is Busy rightly; no bytes are read.
-pub record MayAnswer (weave : InterleaveView) (calls : Calls) (history : State) (session : ℕ) (command : Command) (answer : WeaveReply) : Type 0 where
+-- It may be answered so, and is Busy rightly; no bytes are read; it has no plan, and where memory was short a cause.
+pub record MayAnswer (weave : InterleaveView) (before between : DeviceView) (calls : Calls) (history : State) (session : ℕ) (command : Command) (answer : WeaveReply) : Type 0 where
   pub idle : call_at calls session ≡ None
   pub legal : IsLegal weave.volume.size (entry_of weave.tasks session weave.begun answer) (Ok command) history history
   pub busy : IsBusyWhere answer calls history command
   pub no_bytes : (count : ℕ) → answer ≢ Plain (Bytes count)
+  pub no_plan : has_no_plan (Ok command) answer ≡ true
+  pub reason : HasReason before between None history (Ok command) (Ended weave.begun answer)
 
 module _ (answers : AnswersLaw) (weave : InterleaveView) (from_one : 1 ≤ weave.begun) (volume : VolumeView) (before between : DeviceView) (calls : Calls) (history : State)
-    (session : ℕ) (command : Command) (answer : WeaveReply) (may : MayAnswer weave calls history session command answer) where
+    (session : ℕ) (command : Command) (answer : WeaveReply) (may : MayAnswer weave before between calls history session command answer) where
   number_is : weave.begun - 1 + 1 ≡ weave.begun
   number_is = omega (arith, from_one)
 
@@ -133,6 +138,8 @@ module _ (answers : AnswersLaw) (weave : InterleaveView) (from_one : 1 ≤ weave
     legal = subst (λ (n : ℕ). IsLegal weave.volume.size (entry_of weave.tasks session n answer) (Ok command) history history) (sym number_is) may.legal;
     busy = may.busy;
     bytes = record { kept = λ other. refl; read = λ path offset count read line told. absurd (may.no_bytes read told) };
+    no_plan = may.no_plan;
+    reason = λ short. subst (λ (n : ℕ). IsTrue (line_needs_places history (Ok command)) ⊎ HasRisen before.refused n) (sym acked.refused) (may.reason short);
   }
 
   pub answer_steps : (new : InterleaveView) (after : DeviceView) (reply : StepReply) → IsWeaving (unbegun weave) before calls history

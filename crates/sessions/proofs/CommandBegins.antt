@@ -1,5 +1,5 @@
 -- A command begins: what is known where its walks end, where none is in its way, and where it is prepared; and in each case it makes its step.
-use Rattle.std.proofs.Common.{◌≡◌, ◌⊎◌, inl, inr, ℕ, ◌^◌, ◌≤◌, Bool, true, false, None, Some, Result, Ok, Err, refl, sym, subst, ◌∙◌, arith}
+use Rattle.std.proofs.Common.{◌≡◌, ◌⊎◌, inl, inr, ℕ, ◌^◌, ◌≤◌, Bool, true, false, not, ◌||◌, None, Some, Result, Ok, Err, refl, sym, subst, ◌∙◌, arith}
 use Rattle.pm_trait.specs.DeviceView.{DeviceView}
 use Rattle.tree_model.specs.Run.{State, is_changing}
 use Rattle.tree_model.specs.declared.command.Command.{Command}
@@ -34,7 +34,13 @@ use Rattle.sessions.proofs.CommandAnswers.{AllHeld, MayAnswer, all_held, held_su
 use Rattle.sessions.proofs.CommandAsked.{each_names, may_prepare, wait_behind}
 use Rattle.sessions.proofs.CommandLeft.{left_behind}
 use Rattle.sessions.proofs.CommandSteps.{steps_back}
+use Rattle.sessions.proofs.FencesOthers.{others_fences}
+use Rattle.sessions.proofs.ReplyReasons.{walks_reason, other_reason, prepared_reason}
 use Rattle.sessions.proofs.CommandTasks.{call_of_task, none_in_the_way, free_of_others, in_the_way}
+
+no_plan_refused : (changes : Bool) → (not changes || true) ≡ true
+no_plan_refused true = refl
+no_plan_refused false = refl
 
 same_room : (device : DeviceView) → IsSameButRoom device device
 same_room device = record { words = refl; trail = refl; room = omega arith; faults = refl; refused = omega arith; fences = refl; acks = refl }
@@ -147,7 +153,9 @@ module _ (weaves_on : WeavesOnLaw) (others_hold : OthersHoldLaw) (weave : Interl
               let none = without_idle calls session runs_none in
               let left = subst (λ (calls : Calls). left_of_all volume calls ≡ left_of_all weave.volume calls) (sym none) (same_left (Ok action) prepares) in
               steps_back (unbegun weave) new volume device between after calls history session (Ok command) reply runs_none prepares.view.same_size prepares.view.same_mark left
-              prepares.device steps
+              prepares.device
+              (others_fences (unbegun weave) (record (unbegun weave) { volume = volume }) device between calls calls history history session weaving
+              (weaving_behind (Ok action) prepares) (λ s other. refl)) steps
 
     -- ---- it is answered at once
 
@@ -157,12 +165,14 @@ module _ (weaves_on : WeavesOnLaw) (others_hold : OthersHoldLaw) (weave : Interl
           → Steps (unbegun weave) new device after calls history session (Ok command) reply
       walks_refused refusal refused at_once =
           let here = alike.walks ∙ refused words (left_of_all weave.volume calls) on.stands in
-          let may_answer : MayAnswer weave calls history session command (Plain (Refused refusal)) = record {
+          let may_answer : MayAnswer weave device device calls history session command (Plain (Refused refusal)) = record {
             idle = runs_none;
             legal = walks_legal weave.volume.size (entry_of weave.tasks session weave.begun (Plain (Refused refusal))) history command refusal
                 (none_at_zero (unbegun weave) device calls history weaving on.stands) here refl;
             busy = inl (λ none. cc);
             no_bytes = λ count is. cc;
+            no_plan = no_plan_refused (is_changing command);
+            reason = walks_reason device device history command refusal weave.begun here;
           } in
           answer_steps answers weave from_one weave.volume device device calls history session command (Plain (Refused refusal)) may_answer new after reply
           weaving weaving refl refl refl (same_room device) at_once
@@ -172,11 +182,13 @@ module _ (weaves_on : WeavesOnLaw) (others_hold : OthersHoldLaw) (weave : Interl
           → Steps (unbegun weave) new device after calls history session (Ok command) reply
       is_in_the_way named names way least at_once =
           let is = found named names in
-          let may_answer : MayAnswer weave calls history session command (Busy way.inode way.holder) = record {
+          let may_answer : MayAnswer weave device device calls history session command (Busy way.inode way.holder) = record {
             idle = runs_none;
             legal = inr (inr (record { inode = way.inode; holder = way.holder; reply_is = refl; same = refl }));
             busy = (alike.walks ∙ is.0, in_the_way weave.tasks calls weaving.tasks named way least history command (alike.named named is.1));
             no_bytes = λ count is. cc;
+            no_plan = refl;
+            reason = other_reason device device history (Ok command) weave.begun (Busy way.inode way.holder) (λ told. cc);
           } in
           answer_steps answers weave from_one weave.volume device device calls history session command (Busy way.inode way.holder) may_answer new after reply
           weaving weaving refl refl refl (same_room device) at_once
@@ -190,13 +202,16 @@ module _ (weaves_on : WeavesOnLaw) (others_hold : OthersHoldLaw) (weave : Interl
           let left = left_of_all weave.volume calls in
           let is = found named names in
           let answer = Plain (Refused refusal) in
-          let may_answer : MayAnswer weave calls history session command (Plain (Refused refusal)) = record {
+          let may_answer : MayAnswer weave device between calls history session command (Plain (Refused refusal)) = record {
             idle = runs_none;
             legal = prepared_legal weave.volume.size (entry_of weave.tasks session weave.begun answer) left history words command refusal device between
                 (none_at_zero (unbegun weave) device calls history weaving on.stands) (held_supply weave.volume.size weave.tasks left session weave.begun answer held) alike.refusal
                 (refused words left (prepares_beside named names none)) refl;
             busy = inr (free_of_others weave.tasks calls weaving.tasks named none history command (alike.named named is.1));
             no_bytes = λ count is. cc;
+            no_plan = no_plan_refused (is_changing command);
+            reason = prepared_reason (supply_beside weave.volume.size left) (ranges_of_all calls) device between between history words command refusal weave.begun weaving.history_is
+                (refused words left (prepares_beside named names none)) refl;
           } in
           answer_steps answers weave from_one volume device between calls history session command answer may_answer new after reply
           weaving (weaving_behind named names none volume between (Err refusal) prepares)

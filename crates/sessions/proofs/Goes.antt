@@ -4,6 +4,7 @@ use Rattle.std.proofs.Common.{◌≡◌, inl, inr, ℕ, ◌<◌, true, List, len
 use Rattle.std.proofs.lemmas.Bool.{cases_eq}
 use Rattle.std.proofs.lemmas.List.{set-set}
 use Rattle.pm_trait.specs.DeviceView.{DeviceView, StoresAndFences, Acknowledges}
+use Rattle.pm_trait.specs.Unfolds.{Step}
 use Rattle.tree_model.specs.Run.{State, Line}
 use Rattle.tree_model.specs.declared.command.Command.{Command}
 use Rattle.tree_model.specs.declared.reply.Reply.{Reply}
@@ -17,14 +18,15 @@ use Rattle.running_calls.specs.Stages.{step_of}
 use Rattle.running_laws.specs.Waits.{bytes_of_command}
 use Rattle.running_laws.proofs.StillWaits.{still_waits_law}
 use Rattle.running_laws.proofs.WaitStands.{holds_law}
-use Rattle.session_laws.specs.Calls.{Call, Calls, call_at, without}
+use Rattle.session_laws.specs.Calls.{Call, Calls, call_at, without, ranges_of_all}
 use Rattle.session_laws.specs.Going.{GoOnAmongLaw, next_call}
+use Rattle.session_laws.specs.Histories.{IsCrashOf}
 use Rattle.session_laws.specs.Moving.{MoveWaits}
 use Rattle.session_laws.proofs.ReadyPassed.{acknowledged_among_law}
 use Rattle.sessions.specs.Advanced.{MadeStep, FailedStep, HasAdvanced, goes_on, ends, fails}
 use Rattle.sessions.specs.Interleave.{InterleaveView, AllWait, idle, beside, alone, IsWeaving, task_of, tasks_of, with_task}
 use Rattle.sessions.specs.Laws.{OthersHold, OthersHoldLaw, GoesOnLaw}
-use Rattle.sessions.specs.Steps.{MayStep, Steps, StepFails, KeepsFrame, MayBeLeft, number_of, begun_after}
+use Rattle.sessions.specs.Steps.{MayStep, Steps, StepFails, KeepsFrame, MayBeLeft, IsBeforeOrBehind, IsBeforeOrEntered, number_of, begun_after}
 use Rattle.sessions.specs.Tasks.{task_in}
 use Rattle.sessions.specs.declared.entry.StepReply.{StepReply}
 use Rattle.sessions.specs.declared.entry.StepReply.TheVariants.{Ended}
@@ -33,11 +35,11 @@ use Rattle.sessions.specs.declared.task.Task.{Task}
 use Rattle.sessions.proofs.GoesAlone.{stands_alone}
 use Rattle.sessions.proofs.GoesBeside.{stands_beside}
 use Rattle.sessions.proofs.GoesKnown.{StandsAt}
-use Rattle.sessions.proofs.CarryCrash.{step_leaves, end_leaves}
-use Rattle.sessions.proofs.GoesLegal.{crash_leaves}
+use Rattle.sessions.proofs.CarryCrash.{step_leaves, step_settled, end_acks, ends_waiting, ends_settled}
+use Rattle.sessions.proofs.GoesLegal.{leaves_behind, leaves_entered}
 use Rattle.sessions.proofs.GoesLists.{IsRun, run_by}
 use Rattle.sessions.proofs.WeavesOne.{task_of_option, task_put, tasks_long, tasks_set, tasks_without}
-use Rattle.sessions.proofs.GoesMade.{IsLeftSo, reply_next, steps_on}
+use Rattle.sessions.proofs.GoesMade.{IsLeftSo, LeftAtAny, SettledAtAny, reply_next, steps_on}
 
 -- ---- where it waits
 
@@ -76,8 +78,11 @@ module _ (old new : InterleaveView) (before : DeviceView) (calls : Calls) (histo
   abbrev Made : DeviceView → Next Running → Type 0
   Made fenced next = MadeStep old.volume new.volume before fenced bytes call.running next
 
-  abbrev Left : List ℕ → Type 0
-  Left image = MayBeLeft old.volume.size calls history (Ok call.command) image
+  abbrev step : Step
+  step = step_of old.volume bytes call.running
+
+  abbrev Left : (State → Type 0) → List ℕ → Type 0
+  Left IsOne image = MayBeLeft old.volume.size calls history (Ok call.command) IsOne image
 
   stores_so : (next : Next Running) (fenced : DeviceView) → Made fenced next
       → StoresAndFences {T = Unit {0}} {E = Unit {0}} before fenced (step_of old.volume bytes call.running).events (Ok tt)
@@ -85,7 +90,7 @@ module _ (old new : InterleaveView) (before : DeviceView) (calls : Calls) (histo
 
   -- a step that was made stops nothing
   going_so : (next : Next Running) (fenced after : DeviceView) (reply : StepReply) → Made fenced next → new.volume.stopped ≡ true
-      → StepFails (with_task old s (task_of call)) new before after calls s reply
+      → StepFails (with_task old s (task_of call)) new before after calls history s (Ok call.command) reply
   going_so next fenced after reply made stopped = absurd (true≢false (sym stopped ∙ (at.goes new.volume fenced next made).going))
 
   -- as many sessions run behind it
@@ -101,6 +106,15 @@ module _ (old new : InterleaveView) (before : DeviceView) (calls : Calls) (histo
 
   -- ---- it goes on
 
+  left_on : (running : Running) (after : DeviceView) → Made after (More running) → LeftAtAny old new before after calls history call (set calls s (next_call call (More running)))
+  left_on running after made later tree weaving =
+      step_leaves (λ count image. Left (IsBeforeOrBehind history later count) image) step before after (Ok tt) at.settled made.takes
+      (leaves_behind old.volume before calls history s call at after made.takes.makes later tree)
+
+  settled_on : (running : Running) (after : DeviceView) → Made after (More running) → SettledAtAny old new before after (set calls s (next_call call (More running)))
+  settled_on running after made later weaving =
+      step_settled (λ count words. IsCrashOf old.volume.size words (ranges_of_all (set calls s (next_call call (More running)))) later) step before after at.settled made.takes
+
   run_on : (running : Running) (after : DeviceView) → Made after (More running) → IsLeftSo old new calls s call (More running)
       → Steps (with_task old s (task_of call)) new before after calls history s (Ok call.command) (reply_next call (More running))
   run_on running after made left =
@@ -109,12 +123,24 @@ module _ (old new : InterleaveView) (before : DeviceView) (calls : Calls) (histo
       record {
         frame = frame_made (More running) after made left;
         going = λ is. steps_on old new before calls history s call (More running) runs weaving others hold at after made left after went_to.waits stores
-            (record { fences = refl; faults = refl; acks = omega arith });
+            (record { fences = refl; faults = refl; acks = omega arith }) (λ told is. stores.fenced.no_ack) (left_on running after made) (settled_on running after made);
         failed = going_so (More running) after after (reply_next call (More running)) made;
-        any_moment = step_leaves Left (step_of old.volume bytes call.running) before after (Ok tt) at.settled made.takes (crash_leaves old.volume before calls history s call at after made.takes.makes);
       }
 
   -- ---- it has ended
+
+  left_ended : (told : Reply) (fenced after : DeviceView) → Made fenced (HasEnded told) → Acknowledges fenced after
+      → LeftAtAny old new before after calls history call (set calls s (next_call call (HasEnded told)))
+  left_ended told fenced after made acks later tree weaving =
+      ends_waiting step before fenced after at.settled made.takes acks old.volume.size new calls history later s (Ok call.command) weaving
+      (at.goes new.volume fenced (HasEnded told) made).size
+      (leaves_behind old.volume before calls history s call at fenced made.takes.makes later tree)
+
+  settled_ended : (told : Reply) (fenced after : DeviceView) → Made fenced (HasEnded told) → Acknowledges fenced after
+      → SettledAtAny old new before after (set calls s (next_call call (HasEnded told)))
+  settled_ended told fenced after made acks later weaving =
+      ends_settled step before fenced after at.settled made.takes acks old.volume.size new (set calls s None) later weaving
+      (at.goes new.volume fenced (HasEnded told) made).size
 
   end : (told : Reply) (fenced after : DeviceView) → Made fenced (HasEnded told) → Acknowledges fenced after → IsLeftSo old new calls s call (HasEnded told)
       → Steps (with_task old s (task_of call)) new before after calls history s (Ok call.command) (reply_next call (HasEnded told))
@@ -125,10 +151,9 @@ module _ (old new : InterleaveView) (before : DeviceView) (calls : Calls) (histo
         frame = frame_made (HasEnded told) fenced made left;
         going = λ is. steps_on old new before calls history s call (HasEnded told) runs weaving others hold at fenced made left after
             (beside (acknowledged_among_law still_waits_law holds_law new.volume fenced after went_to.words (set calls s None) went_to.waits.0 acks) went_to.waits.1) stores
-            (record { fences = acks.fences; faults = acks.faults; acks = acks.acks });
+            (record { fences = acks.fences; faults = acks.faults; acks = acks.acks }) (end_acks step before fenced after at.settled made.takes acks)
+            (left_ended told fenced after made acks) (settled_ended told fenced after made acks);
         failed = going_so (HasEnded told) fenced after (reply_next call (HasEnded told)) made;
-        any_moment = end_leaves Left (step_of old.volume bytes call.running) before fenced after at.settled made.takes acks
-            (crash_leaves old.volume before calls history s call at fenced made.takes.makes);
       }
 
   -- ---- its fence failed
@@ -156,9 +181,11 @@ module _ (old new : InterleaveView) (before : DeviceView) (calls : Calls) (histo
           bytes = ap (λ (weave : InterleaveView). weave.bytes) is;
           fences = let least = stores.least_fences in let fewer = stores.fewer in omega (arith, least, fewer);
           no_ack = stores.acks;
+          none_acked = stores.fenced.no_ack;
+          any_moment = step_leaves (λ count image. Left (IsBeforeOrEntered old.volume.size (call_at calls s) history (Ok call.command)) image) step before after (Err tt) at.settled
+              failed.takes (leaves_entered old.volume before calls history s call at after failed.takes.makes runs);
+          halts = stores.fenced.halts;
         };
-        any_moment = step_leaves Left (step_of old.volume bytes call.running) before after (Err tt) at.settled failed.takes
-            (crash_leaves old.volume before calls history s call at after failed.takes.makes);
       }
 
   -- ---- whatever came of it

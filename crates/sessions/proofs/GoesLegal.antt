@@ -1,5 +1,5 @@
 -- A command that enters the history is a legal entry there, and what a crash leaves of a step reads as the history so far, or with that entry.
-use Rattle.std.proofs.Common.{◌≡◌, inl, inr, ℕ, List, Option, Ok, refl, sym, ap, subst, ◌∙◌}
+use Rattle.std.proofs.Common.{◌≡◌, inl, ℕ, List, Option, Some, Ok, refl, sym, ap, subst, ◌∙◌}
 use Rattle.pm_trait.specs.DeviceView.{DeviceView}
 use Rattle.tree_model.specs.Capacity.{Supply}
 use Rattle.tree_model.specs.Replies.{reply_of}
@@ -8,19 +8,20 @@ use Rattle.tree_model.specs.Step.{RoomAfterWith, answer_of, outcome_of}
 use Rattle.tree_model.specs.declared.command.Command.{Command}
 use Rattle.tree_model.specs.declared.reply.Refusal.{Refusal}
 use Rattle.tree_model.specs.declared.reply.Reply.{Reply}
-use Rattle.image_laws.specs.Quiet.{IsMix}
 use Rattle.volume.specs.Volume.{VolumeView}
 use Rattle.running_calls.specs.Stages.{step_of}
 use Rattle.running_laws.specs.Steps.{commits, given_inode}
 use Rattle.running_laws.specs.Waits.{bytes_of_command}
-use Rattle.session_laws.specs.Calls.{Call, Calls, ranges_of_all}
-use Rattle.session_laws.specs.Histories.{EntersHistory, MayBeLeft as MayLeave}
+use Rattle.session_laws.specs.Calls.{Call, Calls, call_at, ranges_of_all}
+use Rattle.session_laws.specs.Histories.{EntersHistory}
 use Rattle.sessions.specs.History.{StepsTree, IsLegal, supply_of}
-use Rattle.sessions.specs.Steps.{MayBeLeft}
+use Rattle.sessions.specs.Steps.{MayBeLeft, IsBeforeOrBehind, IsBeforeOrEntered, may_commit}
 use Rattle.sessions.specs.declared.entry.Entry.{Entry}
 use Rattle.sessions.specs.declared.entry.WeaveReply.TheVariants.{Plain}
+use Rattle.sessions.proofs.CarryCrash.{HoldsOfMixes}
 use Rattle.sessions.proofs.GoesIds.{IsInRange}
 use Rattle.sessions.proofs.GoesKnown.{StandsAt, supply_for}
+use Rattle.sessions.proofs.StepCrash.{IsStepState, IsTreeBehind, HasLegalEntry, left_in_step, left_behind, left_entered}
 
 -- ---- an entry
 
@@ -57,28 +58,32 @@ module _ (volume : VolumeView) (before : DeviceView) (calls : Calls) (history : 
   abbrev supply : Supply
   supply = supply_for volume calls s
 
-  abbrev LeavesSo : List ℕ → Type 0
-  LeavesSo image = MayBeLeft volume.size calls history (Ok call.command) image
+  abbrev id : ℕ
+  id = given_inode call.running
 
-  may_be_left : (image : List ℕ) → MayLeave volume.size (ranges_of_all calls) supply (commits call.running) call.command (given_inode call.running) history image → LeavesSo image
-  may_be_left image (inl crash) = record {
-    entered = history;
-    entered_is = inl refl;
-    ranges = ranges_of_all calls;
-    running = λ range among. inl among;
-    crash = crash;
-  }
-  may_be_left image (inr (commit, entered, enters, crash)) =
+  abbrev Left : (State → Type 0) → List ℕ → Type 0
+  Left IsOne image = MayBeLeft volume.size calls history (Ok call.command) IsOne image
+
+  abbrev AtStep : State → Type 0
+  AtStep state = IsStepState (commits call.running) supply history call.command id state
+
+  has_entry : HasLegalEntry volume.size (commits call.running) supply history call.command id (Ok call.command)
+  has_entry state commit enters =
       let entry = entry_with s call supply.taken_inodes supply.taken_pages (reply_of (answer_of supply history.tree history.room call.command)) in
-      record {
-        entered = entered;
-        entered_is = inr (entry, is_legal volume.size entry supply call.command (given_inode call.running) history entered refl enters at.id refl);
-        ranges = ranges_of_all calls;
-        running = λ range among. inl among;
-        crash = crash;
-      }
+      (entry, is_legal volume.size entry supply call.command id history state refl enters at.id refl)
 
   -- whatever its fence answered
-  pub crash_leaves : (after : DeviceView) → (step_of volume (bytes_of_command call.command) call.running).Makes before.words after.words → (image : List ℕ)
-      → IsMix before.words after.words image → LeavesSo image
-  crash_leaves after makes image mix = may_be_left image (at.crash after.words image makes mix)
+  module _ (after : DeviceView) (makes : (step_of volume (bytes_of_command call.command) call.running).Makes before.words after.words) where
+    left_so : HoldsOfMixes (Left AtStep) before after
+    left_so image mix =
+        left_in_step volume.size calls history (Ok call.command) image (commits call.running) supply call.command id (ranges_of_all calls) (λ range among. inl among)
+        (at.crash after.words image makes mix)
+
+    pub leaves_behind : (later : State) → IsTreeBehind (commits call.running) history call.command id later → HoldsOfMixes (Left (IsBeforeOrBehind history later 0)) before after
+    leaves_behind later tree image mix =
+        left_behind volume.size calls history (Ok call.command) image (commits call.running) supply call.command id later tree (left_so image mix)
+
+    pub leaves_entered : call_at calls s ≡ Some call → HoldsOfMixes (Left (IsBeforeOrEntered volume.size (call_at calls s) history (Ok call.command))) before after
+    leaves_entered runs image mix =
+        left_entered volume.size calls history (Ok call.command) image (commits call.running) supply call.command id (call_at calls s)
+        (λ commit. ap (λ (ran : Option Call). may_commit ran history (Ok call.command)) runs ∙ commit) has_entry (left_so image mix)

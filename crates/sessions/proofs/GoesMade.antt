@@ -3,6 +3,7 @@ use Rattle.std.proofs.Common.{◌≡◌, ℕ, ◌+◌, ◌-◌, ◌<◌, ◌≤�
 use Rattle.std.proofs.Common.{Option, None, Some, Ok}
 use Rattle.std.proofs.Common.{refl, sym, ap, subst, ◌∙◌, arith, true≢false}
 use Rattle.std.proofs.lemmas.Bool.{le-leb}
+use Rattle.pm_trait.specs.Device.{LeavesOnly, AcksSettled}
 use Rattle.pm_trait.specs.DeviceView.{DeviceView, StoresAndFences}
 use Rattle.tree_model.specs.Run.{State}
 use Rattle.tree_model.specs.declared.reply.Reply.{Reply}
@@ -17,14 +18,14 @@ use Rattle.running_laws.specs.Waits.{bytes_of_command}
 use Rattle.running_laws.proofs.CostStep.{step_costs_law}
 use Rattle.session_laws.specs.Calls.{Call, Calls, call_at, without, left_of_all, ranges_of_all, fences_of_call}
 use Rattle.session_laws.specs.Going.{next_call}
-use Rattle.session_laws.specs.Histories.{IsHistory}
+use Rattle.session_laws.specs.Histories.{IsHistory, IsCrashOf}
 use Rattle.session_laws.proofs.Lists.{call_other}
 use Rattle.session_laws.proofs.MoveCalls.{within_calls, at_set}
 use Rattle.sessions.specs.Advanced.{MadeStep, entry_of, with_entry, enters_now, fences_of_task, entries_behind}
 use Rattle.sessions.specs.History.{supply_of}
 use Rattle.sessions.specs.Interleave.{InterleaveView, AllWait, AreNumbered, IsWeaving, task_of, tasks_of, to_come, with_task}
 use Rattle.sessions.specs.Laws.{OthersHold}
-use Rattle.sessions.specs.Steps.{Enters, IsLeftAs, IsToldAs, IsBusyRightly, BytesBehind, HasFenced, StepsOn, IsCallAt, GetsOn, fences_of_left, number_of, begun_after, is_entered_before, is_entered_behind, acks_of, IsQuietWhere}
+use Rattle.sessions.specs.Steps.{Enters, IsLeftAs, IsToldAs, IsDoneAtEnd, MayBeLeft, IsBeforeOrBehind, HasAcked, IsBusyRightly, BytesBehind, HasFenced, TakesAll, HasReason, StepsOn, IsCallAt, GetsOn, fences_of_left, number_of, begun_after, is_entered_before, is_entered_behind, acks_of, IsQuietWhere}
 use Rattle.sessions.specs.Tasks.{held_by_all}
 use Rattle.sessions.specs.declared.entry.Entry.{Entry}
 use Rattle.sessions.specs.declared.entry.StepReply.{StepReply}
@@ -36,7 +37,10 @@ use Rattle.sessions.proofs.GoesCounts.{enters_at_commit, enters_now_at_commit, c
 use Rattle.sessions.proofs.GoesKnown.{BehindNext, WentTo, StandsAt, supply_for}
 use Rattle.sessions.proofs.GoesLegal.{is_legal}
 use Rattle.sessions.proofs.GoesLists.{to_enter, to_come_put, to_come_at, numbered_put}
+use Rattle.sessions.proofs.FencesOthers.{others_fences}
 use Rattle.sessions.proofs.GoesReplies.{AnswersAs, TellsNext}
+use Rattle.sessions.proofs.ReplyReasons.{is_made, ran_changes}
+use Rattle.sessions.proofs.StepCrash.{IsTreeBehind}
 
 -- ---- what is given and entered
 
@@ -67,7 +71,19 @@ pub record HasCome (old new : InterleaveView) (calls : Calls) (history words : S
   pub later : State
   pub history_is : IsHistory (ranges_of_all (set calls s (next_call call next))) later words
   pub enters : Enters (commits call.running) (with_task old s (task_of call)) new calls s (Ok call.command) history later (reply_next call next)
+  pub tree : IsTreeBehind (commits call.running) history call.command (given_inode call.running) later
   pub many : length new.entries ≡ length old.entries + entry_more (commits call.running)
+
+-- Whichever history the calls wait in behind it, a crash leaves that or the one before it.
+abbrev pub LeftAtAny : InterleaveView → InterleaveView → DeviceView → DeviceView → Calls → State → Call → Calls → Type 0
+LeftAtAny old new before after calls history call now =
+    (later : State) → IsTreeBehind (commits call.running) history call.command (given_inode call.running) later → IsWeaving new after now later
+    → LeavesOnly before.trail after.trail (λ acks image. MayBeLeft old.volume.size calls history (Ok call.command) (IsBeforeOrBehind history later acks) image)
+
+-- and at an acknowledgement the words read as it
+abbrev pub SettledAtAny : InterleaveView → InterleaveView → DeviceView → DeviceView → Calls → Type 0
+SettledAtAny old new before after now =
+    (later : State) → IsWeaving new after now later → AcksSettled before.trail after.trail (λ acks words. IsCrashOf old.volume.size words (ranges_of_all now) later)
 
 module _ (old new : InterleaveView) (before : DeviceView) (calls : Calls) (history : State) (s : ℕ) (call : Call) (next : Next Running)
     (runs : call_at calls s ≡ Some call) (weaving : IsWeaving (with_task old s (task_of call)) before calls history) (others : old.tasks ≡ tasks_of (without calls s))
@@ -146,7 +162,7 @@ module _ (old new : InterleaveView) (before : DeviceView) (calls : Calls) (histo
     answers_so (HasEnded reply) tells commit = tells.answers
 
     told_so : (onward : Next Running) → IsToldAs (reply_next call onward) (Plain (told_next onward))
-    told_so (More running) = tt
+    told_so (More running) = refl
     told_so (HasEnded reply) = refl
 
     -- one that ends without an entry has committed before
@@ -160,7 +176,7 @@ module _ (old new : InterleaveView) (before : DeviceView) (calls : Calls) (histo
             let commit = ap (λ (t : Bool). not false && t) (sym ended) ∙ here ∙ enters_is in
             absurd (true≢false (commit ∙ none))
 
-    done_so : (onward : Next Running) → next ≡ onward → TellsNext call.command call.running onward → commits call.running ≡ false → IsToldAs (reply_next call onward) (Plain Done)
+    done_so : (onward : Next Running) → next ≡ onward → TellsNext call.command call.running onward → commits call.running ≡ false → IsDoneAtEnd (reply_next call onward)
     done_so (More running) is tells none = tt
     done_so (HasEnded reply) is tells none = ap Plain (tells.done (has_been (ap (λ (n : Next Running). is_entered_behind (next_call call n)) is) none))
 
@@ -176,6 +192,7 @@ module _ (old new : InterleaveView) (before : DeviceView) (calls : Calls) (histo
           history_is = went.goes.quiet none;
           enters = subst (λ (b : Bool). Enters b weave new calls s (Ok call.command) history history (reply_next call next)) (sym none)
               (record { told = done_so next refl tells none; same = same; history_same = refl });
+          tree = λ commit. absurd (true≢false (sym commit ∙ none));
           many = ap (λ (entries : List Entry). length entries) same ∙ no_more ∙ ap (λ (b : Bool). length old.entries + entry_more b) (sym none);
         }
 
@@ -199,6 +216,7 @@ module _ (old new : InterleaveView) (before : DeviceView) (calls : Calls) (histo
                     (ap Plain (answers (supply_of old.volume.size entry) history.tree history.room));
                 told = told_so next;
               });
+          tree = λ again. enters.after.tree;
           many = ap (λ (entries : List Entry). length entries) added ∙ length-append old.entries (entry ∷ []) ∙ ap (λ (b : Bool). length old.entries + entry_more b) (sym commit);
         }
 
@@ -233,7 +251,8 @@ module _ (old new : InterleaveView) (before : DeviceView) (calls : Calls) (histo
 
     module _ (after : DeviceView) (waits : AllWait new.volume after went.words now)
         (stores : StoresAndFences {T = Unit {0}} {E = Unit {0}} before fenced (step_of old.volume bytes call.running).events (Ok tt))
-        (there : IsThereSo fenced after (reply_next call next)) where
+        (there : IsThereSo fenced after (reply_next call next)) (acked : HasAcked before after (reply_next call next))
+        (left_at : LeftAtAny old new before after calls history call now) (settled_at : SettledAtAny old new before after now) where
       weaving_on : IsWeaving new after now come.later
       weaving_on = record {
         tasks = left.tasks;
@@ -284,12 +303,18 @@ module _ (old new : InterleaveView) (before : DeviceView) (calls : Calls) (histo
       quiet_so (More running) = tt
       quiet_so (HasEnded told) = tt
 
+      reason_so : (left : Next Running) → TellsNext call.command call.running left → HasReason before after (Some call) history (Ok call.command) (reply_next call left)
+      reason_so (More running) ends = tt
+      reason_so (HasEnded told) ends = is_made call.command told (ran_changes weave before calls history s call weaving runs) ends.answers
+
       pub steps_on : StepsOn weave new before after calls history s (Ok call.command) (reply_next call next)
       steps_on = record {
         later_calls = now;
         later = come.later;
         weaving = weaving_on;
         others = λ r other. call_other calls s r (next_call call next) (λ same. other (sym same));
+        others_left = others_fences weave new before after calls now history come.later s weaving weaving_on
+            (λ r other. call_other calls s r (next_call call next) (λ same. other (sym same)));
         begun = left.begun ∙ sym (ap (begun_after old.begun) runs);
         left = subst (λ (own : ℕ). IsLeftAs (reply_next call next) own (call_at now s)) (sym number_is)
             (subst (IsLeftAs (reply_next call next) call.number) (sym put) (left_as next));
@@ -298,12 +323,20 @@ module _ (old new : InterleaveView) (before : DeviceView) (calls : Calls) (histo
             (subst (λ (one : Option Call). IsCallAt (Some call) one (Ok call.command) history.tree) (sym put) (call_so next));
         gets_on = subst (λ (one : Option Call). GetsOn old.volume new.volume one (call_at now s)) (sym runs)
             (subst (λ (one : Option Call). GetsOn old.volume new.volume (Some call) one) (sym put) (costs.fences ∙ ap (λ (n : ℕ). 1 + n) (fences_so next)));
+        takes_all = subst
+            (λ (one : Option Call). TakesAll old.volume.size (left_of_all old.volume calls) new.volume before after one (call_at now s) history (Ok call.command) come.later
+            (reply_next call next))
+            (sym runs) tt;
         busy = subst (λ (one : Option Call). IsBusyRightly (reply_next call next) one calls history (Ok call.command)) (sym runs) (busy_so next);
+        reason = subst (λ (one : Option Call). HasReason before after one history (Ok call.command) (reply_next call next)) (sym runs) (reason_so next tells);
         bytes = bytes_so next tells;
         quiet = subst (λ (one : Option Call). IsQuietWhere (reply_next call next) one (Ok call.command) before after) (sym runs) (quiet_so next);
         fences = fenced_so;
         acks = there.acks ∙ ap (λ (n : ℕ). n + acks_of (reply_next call next)) stores.acks;
+        acked = acked;
+        settled = settled_at come.later weaving_on;
         faults = there.faults ∙ stores.no_fault;
+        any_moment = left_at come.later come.tree weaving_on;
       }
         where
           when : (not (is_entered_before (call_at calls s)) && is_entered_behind (call_at now s)) ≡ commits call.running

@@ -1,4 +1,5 @@
 mod HistoryRows
+pub mod StepCrash
 pub mod WeavesOne
 pub mod WeavesOn
 pub mod WeavesStarts
@@ -21,6 +22,7 @@ pub mod CommandBegins
 pub mod CommandCases
 pub mod CarryPlans
 pub mod CarryCrash
+pub mod CarryCommits
 pub mod CarryReplies
 pub mod CarryRanges
 pub mod CarryEntry
@@ -50,3 +52,10 @@ pub mod GoesAsked
 pub mod CarryOut
 pub mod CarrySeen
 pub mod EndStands
+pub mod Telling
+pub mod FencesOthers
+pub mod FencesAlike
+pub mod FencesRoom
+pub mod ReplyReasons
+pub mod FencesTakes
+pub mod FencesWhole

@@ -1,5 +1,5 @@
 -- What holds of many sessions whatever step comes: a step's parts lead from calls that wait to calls that wait.
-use Rattle.std.specs.Prelude.{◌≡◌, ℕ, ◌+◌, ◌^◌, ◌<◌, ◌≤◌, false, length, replicate, None, Some, Ok}
+use Rattle.std.specs.Prelude.{◌≡◌, ℕ, ◌+◌, ◌^◌, ◌<◌, ◌≤◌, true, false, length, replicate, None, Some, Ok}
 use Rattle.pm_trait.specs.DeviceView.{DeviceView, Acknowledges}
 use Rattle.tree_model.specs.Run.{State, Line}
 use Rattle.tree_model.specs.declared.command.Command.{Command}
@@ -21,7 +21,8 @@ use Rattle.sessions.specs.Advanced.{HasAdvanced, entry_of, with_entry}
 use Rattle.sessions.specs.History.{IsLegal}
 use Rattle.sessions.specs.Interleave.{InterleaveView, IsWeaving, started, tasks_of, with_task}
 use Rattle.sessions.specs.Planned.{IsPlannedAmong}
-use Rattle.sessions.specs.Steps.{MayStep, Steps, IsBusyRightly, HasReadBytes}
+use Rattle.sessions.specs.Steps.{MayStep, Steps, StepsOn, IsBusyRightly, HasReadBytes, HasReason, has_no_plan}
+use Rattle.sessions.specs.Texts.{IsTold}
 use Rattle.sessions.specs.Tasks.{task_in, held_by_all, HoldFew}
 use Rattle.sessions.specs.declared.entry.StepReply.{StepReply}
 use Rattle.sessions.specs.declared.entry.StepReply.TheVariants.{Ended}
@@ -68,6 +69,8 @@ pub record IsAnswered (old new : InterleaveView) (before between after : DeviceV
   pub legal : IsLegal old.volume.size (entry_of old.tasks session (old.begun + 1) answer) line history history
   pub busy : IsBusyRightly (Ended (old.begun + 1) answer) None calls history line
   pub bytes : HasReadBytes old.bytes new.bytes history.tree line answer
+  pub no_plan : has_no_plan line answer ≡ true
+  pub reason : HasReason before after None history line (Ended (old.begun + 1) answer)
 
 abbrev pub AnswersLaw : Type 0
 AnswersLaw = (old new : InterleaveView) (before between after : DeviceView) (calls : Calls) (history : State) (session : ℕ) (line : Line) (answer : WeaveReply)
@@ -100,3 +103,10 @@ BeginsLaw = (old new : InterleaveView) (before after : DeviceView) (calls : Call
     → IsPlannedAmong old before calls history session command named action → IsChange action → HasName action → session < length old.tasks → IsTaskOf action named (old.begun + 1) task
     → HasAdvanced (record old { volume = keeping old.volume action; begun = old.begun + 1 }) new before after session task (bytes_of_command command) reply
     → Steps old new before after calls history session (Ok command) reply
+
+-- ---- a reply that is written
+
+-- Behind a step that ended its call what is written of the reply is there.
+abbrev pub TellsLaw : Type 0
+TellsLaw = (old new : InterleaveView) (before after : DeviceView) (calls : Calls) (history : State) (session : ℕ) (line : Line) (number : ℕ) (reply : WeaveReply)
+    → StepsOn old new before after calls history session line (Ended number reply) → IsTold new after history.tree line reply

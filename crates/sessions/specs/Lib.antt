@@ -4,5 +4,6 @@ pub mod History
 pub mod Interleave
 pub mod Advanced
 pub mod Steps
+pub mod Texts
 pub mod Planned
 pub mod Laws

@@ -1,24 +1,30 @@
 -- What a step of a session does: to the calls that run, to the history, and to the device.
-use Rattle.std.specs.Prelude.{◌≡◌, ◌≢◌, ◌⊎◌, ℕ, ◌+◌, ◌≤◌, Bool, true, false, not, ◌&&◌, ◌||◌, List, [], ◌∷◌, ◌++◌, length, set, take, drop, Option, None, Some, Ok, Err, Contains}
-use Rattle.pm_trait.specs.Device.{LeavesOnly, HasRisen}
+use Rattle.std.specs.Prelude.{◌≡◌, ◌≢◌, ◌⊎◌, ℕ, ◌+◌, ◌≤◌, nat_le, nat_lt, Bool, true, false, IsTrue, not, ◌&&◌, ◌||◌, List, [], ◌∷◌, ◌++◌, length, set, take, drop, Option, None, Some, Ok, Err, Contains}
+use Rattle.pm_trait.specs.Trail.{Trail}
+use Rattle.pm_trait.specs.Device.{LeavesOnly, AcksSettled, HasRisen, EndsInFault, acks_from, moment_of}
 use Rattle.pm_trait.specs.DeviceView.{DeviceView, Acknowledges}
 use Rattle.tree_model.specs.Run.{State, Line, is_changing}
 use Rattle.tree_model.specs.PathText.{Route}
 use Rattle.tree_model.specs.Tree.{Tree, id_at, bytes_of}
 use Rattle.tree_model.specs.Step.{id_of}
+use Rattle.tree_model.specs.Fences.{fences_of_change, fences_of_accepted, size_before}
+use Rattle.tree_model.specs.Places.{line_needs_places}
 use Rattle.tree_model.specs.declared.command.Command.{Command}
-use Rattle.tree_model.specs.declared.command.Command.TheVariants.{Read, Write, Truncate}
+use Rattle.tree_model.specs.declared.command.Command.TheVariants.{Create, Mkdir, Link, Unlink, Rmdir, Rename, Write, Truncate, Read, Stat as Tell, List as Show, Df}
+use Rattle.tree_model.specs.declared.reply.Refusal.TheVariants.{NoMemory}
 use Rattle.tree_model.specs.declared.reply.Reply.{Reply}
 use Rattle.tree_model.specs.declared.reply.Reply.TheVariants.{Done, Count, Status, Bytes, Names, Space, Refused, Unread, Stopped, Fault}
 use Rattle.image_reading.specs.Residue.{Residue}
+use Rattle.image_counts.specs.Laws.{supply_beside}
 use Rattle.mixing_laws.specs.Mixed.{Range}
 use Rattle.volume.specs.Volume.{VolumeView}
 use Rattle.volume.specs.Prepared.{IsSameButRoom}
 use Rattle.volume.specs.Named.{AreNamedBy, refusal_of_walks}
 use Rattle.volume.specs.declared.named.NamedNodes.{NamedNodes}
-use Rattle.running_laws.specs.Steps.{has_committed}
+use Rattle.running_laws.specs.Steps.{commits, has_committed, given_inode}
 use Rattle.session_laws.specs.Calls.{Call, Calls, call_at, without, left_of_all, ranges_of_all, fences_of_call}
-use Rattle.session_laws.specs.Histories.{IsCrashOf}
+use Rattle.session_laws.specs.Histories.{EntersHistory, IsCrashOf}
+use Rattle.engine.specs.Replies.{IsChangeReply}
 use Rattle.sessions.specs.Busy.{AreBothNamed}
 use Rattle.sessions.specs.History.{IsLegal}
 use Rattle.sessions.specs.Interleave.{InterleaveView, IsWeaving}
@@ -61,9 +67,9 @@ pub record HasHeld (entry : Entry) (others : Residue) : Type 0 where
   pub inodes : entry.inodes ≡ length others.inodes
   pub pages : entry.pages ≡ length others.pages
 
--- a call that ends with its entry is answered as that says
+-- a call that ends with its entry is answered as that says; one that runs on behind it is to be answered `Done`
 abbrev pub IsToldAs : StepReply → WeaveReply → Type 0
-IsToldAs (Running number) answer = Unit {0}
+IsToldAs (Running number) answer = answer ≡ Plain Done
 IsToldAs (Ended number reply) answer = reply ≡ answer
 
 -- Its entry came, legal from the history before.
@@ -76,9 +82,14 @@ pub record HasEntered (old new : InterleaveView) (calls : Calls) (session : ℕ)
   pub legal : IsLegal old.volume.size entry line history later
   pub told : IsToldAs reply entry.reply
 
--- None came; a call whose entry came before ends with what that says: a command that commits before its last step is `Done`.
+-- a call whose entry came before ends with what that says
+abbrev pub IsDoneAtEnd : StepReply → Type 0
+IsDoneAtEnd (Running number) = Unit {0}
+IsDoneAtEnd (Ended number reply) = reply ≡ Plain Done
+
+-- None came.
 pub record HasNoEntry (old new : InterleaveView) (history later : State) (reply : StepReply) : Type 0 where
-  pub told : IsToldAs reply (Plain Done)
+  pub told : IsDoneAtEnd reply
   pub same : new.entries ≡ old.entries
   pub history_same : later ≡ history
 
@@ -205,36 +216,52 @@ abbrev pub acks_of : StepReply → ℕ
 acks_of (Running number) = 0
 acks_of (Ended number reply) = 1
 
--- ---- the step
+-- where the trail is told, it has so many of them more
+abbrev pub HasAcked : DeviceView → DeviceView → StepReply → Type 0
+HasAcked before after reply = (told : Trail) → after.trail ≡ Some told → acks_from before.trail after.trail (moment_of after.trail) ≡ acks_of reply
 
--- The fence succeeded, or there was none: the calls run on and wait, the history goes on.
-pub record StepsOn (old new : InterleaveView) (before after : DeviceView) (calls : Calls) (history : State) (session : ℕ) (line : Line) (reply : StepReply) : Type 0 where
-  pub later_calls : Calls
-  pub later : State
-  pub weaving : IsWeaving new after later_calls later
-  pub others : (s : ℕ) → s ≢ session → call_at later_calls s ≡ call_at calls s
-  pub begun : new.begun ≡ begun_after old.begun (call_at calls session)
-  pub left : IsLeftAs reply (number_of old.begun (call_at calls session)) (call_at later_calls session)
-  pub enters : Enters (not (is_entered_before (call_at calls session)) && is_entered_behind (call_at later_calls session)) old new calls session line history later reply
-  pub call_is : IsCallAt (call_at calls session) (call_at later_calls session) line history.tree
-  pub gets_on : GetsOn old.volume new.volume (call_at calls session) (call_at later_calls session)
-  pub busy : IsBusyRightly reply (call_at calls session) calls history line
-  pub bytes : BytesBehind old.bytes new.bytes history.tree line reply
-  pub quiet : IsQuietWhere reply (call_at calls session) line before after
-  pub fences : HasFenced before after reply (call_at calls session)
-  pub acks : after.acks ≡ before.acks + acks_of reply
-  pub faults : after.faults ≡ before.faults
+-- ---- how many fences its call takes
 
--- The fence failed: the call has ended so, and nothing is done any more.
-pub record StepFails (old new : InterleaveView) (before after : DeviceView) (calls : Calls) (session : ℕ) (reply : StepReply) : Type 0 where
-  pub told : reply ≡ Ended (number_of old.begun (call_at calls session)) (Plain Fault)
-  pub cause : HasRisen before.faults after.faults
-  pub entries : new.entries ≡ old.entries
-  pub tasks : new.tasks ≡ set old.tasks session None
-  pub begun : new.begun ≡ begun_after old.begun (call_at calls session)
-  pub bytes : new.bytes ≡ old.bytes
-  pub fences : after.fences ≡ before.fences
-  pub no_ack : after.acks ≡ before.acks
+-- the fences of a change that was made, or of a call that changes nothing
+abbrev pub fences_of_reply : State → Line → WeaveReply → State → ℕ
+fences_of_reply history line (Busy inode holder) later = 0
+fences_of_reply history line (Plain Done) later = fences_of_change history line later
+fences_of_reply history line (Plain (Count count)) later = fences_of_change history line later
+fences_of_reply history line (Plain (Status stat)) later = 0
+fences_of_reply history line (Plain (Bytes count)) later = 0
+fences_of_reply history line (Plain (Names inode count)) later = 0
+fences_of_reply history line (Plain (Space free)) later = 0
+fences_of_reply history line (Plain (Refused refusal)) later = 0
+fences_of_reply history line (Plain (Unread fault)) later = 0
+fences_of_reply history line (Plain Fault) later = 0
+fences_of_reply history line (Plain Stopped) later = 0
+
+-- A call that begins and runs on has one less left than its command takes between the history and what its entry leaves.
+pub record HasLeft (P : ℕ) (others : Residue) (new : VolumeView) (history : State) (call : Call) : Type 0 where
+  pub entered : State
+  pub enters : EntersHistory (supply_beside P others) history entered call.command (given_inode call.running)
+  pub fences : fences_of_accepted history call.command entered ≡ 1 + fences_of_call new call
+
+-- One that begins and ends has taken them all.
+abbrev pub TakesAll : ℕ → Residue → VolumeView → DeviceView → DeviceView → Option Call → Option Call → State → Line → State → StepReply → Type 0
+TakesAll P others new before after (Some ran) left history line later reply = Unit {0}
+TakesAll P others new before after None (Some call) history line later reply = HasLeft P others new history call
+TakesAll P others new before after None None history line later (Running number) = ⊥
+TakesAll P others new before after None None history line later (Ended number reply) = after.fences ≡ before.fences + fences_of_reply history line reply later
+
+-- ---- which answers have a cause
+
+-- A call that ran ends as a change that was made.
+abbrev pub IsMade : WeaveReply → Type 0
+IsMade (Busy inode holder) = ⊥
+IsMade (Plain reply) = IsChangeReply reply
+
+-- One that begins and needs no place of a table is short of memory only where the device refused room.
+abbrev pub HasReason : DeviceView → DeviceView → Option Call → State → Line → StepReply → Type 0
+HasReason before after ran history line (Running number) = Unit {0}
+HasReason before after (Some call) history line (Ended number reply) = IsMade reply
+HasReason before after None history line (Ended number reply) =
+    reply ≡ Plain (Refused NoMemory) → IsTrue (line_needs_places history line) ⊎ HasRisen before.refused after.refused
 
 -- ---- a crash
 
@@ -247,13 +274,84 @@ pub data IsRangeOf (history : State) : Line → Range → Type 0 where
 abbrev pub AreRunning : Calls → State → Line → List Range → Type 0
 AreRunning calls history line ranges = (range : Range) → Contains ranges range → Contains (ranges_of_all calls) range ⊎ IsRangeOf history line range
 
--- It is sound, and reads as the history so far or with this call's entry, but for bytes of these ranges.
-pub record MayBeLeft (P : ℕ) (calls : Calls) (history : State) (line : Line) (image : List ℕ) : Type 0 where
-  pub entered : State
-  pub entered_is : (entered ≡ history) ⊎ ((entry : Entry) × IsLegal P entry line history entered)
+-- It is sound, and reads as a state that is one of these, but for bytes of such ranges.
+pub record MayBeLeft (P : ℕ) (calls : Calls) (history : State) (line : Line) (IsOne : State → Type 0) (image : List ℕ) : Type 0 where
+  pub state : State
+  pub state_is : IsOne state
   pub ranges : List Range
   pub running : AreRunning calls history line ranges
-  pub crash : IsCrashOf P image ranges entered
+  pub crash : IsCrashOf P image ranges state
+
+-- the history before the step, unless it was acknowledged, or one with the tree behind it
+abbrev pub IsBeforeOrBehind : State → State → ℕ → State → Type 0
+IsBeforeOrBehind history later acks state = (acks ≡ 0) × (state ≡ history) ⊎ (state.tree ≡ later.tree)
+
+-- the first step of the command may be its commit: it takes a name away, writes below the size, or cuts
+abbrev pub may_commit_first : State → Command → Bool
+may_commit_first history (Create path) = false
+may_commit_first history (Mkdir path) = false
+may_commit_first history (Link from to) = false
+may_commit_first history (Unlink path) = true
+may_commit_first history (Rmdir path) = true
+may_commit_first history (Rename from to) = false
+may_commit_first history (Write path offset bytes) = nat_le (offset + length bytes) (size_before history path)
+may_commit_first history (Truncate path size) = nat_lt size (size_before history path)
+may_commit_first history (Read path offset count) = false
+may_commit_first history (Tell path) = false
+may_commit_first history (Show path) = false
+may_commit_first history Df = false
+
+abbrev pub may_commit : Option Call → State → Line → Bool
+may_commit (Some call) history line = commits call.running
+may_commit None history (Ok command) = may_commit_first history command
+may_commit None history (Err fault) = false
+
+-- the history before it, or in a step that may commit what this call's entry leaves
+abbrev pub IsBeforeOrEntered : ℕ → Option Call → State → Line → State → Type 0
+IsBeforeOrEntered P ran history line state = (state ≡ history) ⊎ (may_commit ran history line ≡ true) × ((entry : Entry) × IsLegal P entry line history state)
+
+-- ---- the step
+
+-- The fence succeeded, or there was none: the calls run on and wait, the history goes on.
+pub record StepsOn (old new : InterleaveView) (before after : DeviceView) (calls : Calls) (history : State) (session : ℕ) (line : Line) (reply : StepReply) : Type 0 where
+  pub later_calls : Calls
+  pub later : State
+  pub weaving : IsWeaving new after later_calls later
+  pub others : (s : ℕ) → s ≢ session → call_at later_calls s ≡ call_at calls s
+  pub others_left : (s : ℕ) (other : Call) → s ≢ session → call_at calls s ≡ Some other → fences_of_call new.volume other ≡ fences_of_call old.volume other
+  pub begun : new.begun ≡ begun_after old.begun (call_at calls session)
+  pub left : IsLeftAs reply (number_of old.begun (call_at calls session)) (call_at later_calls session)
+  pub enters : Enters (not (is_entered_before (call_at calls session)) && is_entered_behind (call_at later_calls session)) old new calls session line history later reply
+  pub call_is : IsCallAt (call_at calls session) (call_at later_calls session) line history.tree
+  pub gets_on : GetsOn old.volume new.volume (call_at calls session) (call_at later_calls session)
+  pub takes_all : TakesAll old.volume.size (left_of_all old.volume calls) new.volume before after (call_at calls session) (call_at later_calls session) history line later reply
+  pub busy : IsBusyRightly reply (call_at calls session) calls history line
+  pub reason : HasReason before after (call_at calls session) history line reply
+  pub bytes : BytesBehind old.bytes new.bytes history.tree line reply
+  pub quiet : IsQuietWhere reply (call_at calls session) line before after
+  pub fences : HasFenced before after reply (call_at calls session)
+  pub acks : after.acks ≡ before.acks + acks_of reply
+  pub acked : HasAcked before after reply
+  -- at its acknowledgement every word has one candidate, and the words read as the history behind it
+  pub settled : AcksSettled before.trail after.trail (λ acks words. IsCrashOf old.volume.size words (ranges_of_all later_calls) later)
+  pub faults : after.faults ≡ before.faults
+  -- a crash leaves the history before it, until its acknowledgement, or the one behind it
+  pub any_moment : LeavesOnly before.trail after.trail (λ acks image. MayBeLeft old.volume.size calls history line (IsBeforeOrBehind history later acks) image)
+
+-- The fence failed: the call has ended so, and nothing is done any more.
+pub record StepFails (old new : InterleaveView) (before after : DeviceView) (calls : Calls) (history : State) (session : ℕ) (line : Line) (reply : StepReply) : Type 0 where
+  pub told : reply ≡ Ended (number_of old.begun (call_at calls session)) (Plain Fault)
+  pub cause : HasRisen before.faults after.faults
+  pub entries : new.entries ≡ old.entries
+  pub tasks : new.tasks ≡ set old.tasks session None
+  pub begun : new.begun ≡ begun_after old.begun (call_at calls session)
+  pub bytes : new.bytes ≡ old.bytes
+  pub fences : after.fences ≡ before.fences
+  pub no_ack : after.acks ≡ before.acks
+  pub none_acked : acks_from before.trail after.trail (moment_of after.trail) ≡ 0
+  -- a crash leaves the history before it, or where the step may commit the one with its entry
+  pub any_moment : LeavesOnly before.trail after.trail (λ acks image. MayBeLeft old.volume.size calls history line (IsBeforeOrEntered old.volume.size (call_at calls session) history line) image)
+  pub halts : EndsInFault after.trail
 
 -- It is the volume that it was, with or without the mark, and there are as many sessions.
 pub record KeepsFrame (old new : InterleaveView) : Type 0 where
@@ -264,8 +362,7 @@ pub record KeepsFrame (old new : InterleaveView) : Type 0 where
 pub record Steps (old new : InterleaveView) (before after : DeviceView) (calls : Calls) (history : State) (session : ℕ) (line : Line) (reply : StepReply) : Type 0 where
   pub frame : KeepsFrame old new
   pub going : new.volume.stopped ≡ false → StepsOn old new before after calls history session line reply
-  pub failed : new.volume.stopped ≡ true → StepFails old new before after calls session reply
-  pub any_moment : LeavesOnly before.trail after.trail (λ acks image. MayBeLeft old.volume.size calls history line image)
+  pub failed : new.volume.stopped ≡ true → StepFails old new before after calls history session line reply
 
 -- An earlier step's fence failed: the call has ended so, and nothing is done.
 pub record IsStopped (old new : InterleaveView) (session : ℕ) (reply : StepReply) : Type 0 where

@@ -1,21 +1,28 @@
 // Many sessions on one volume: one call of each runs, cut at its fences.
-ghost use Rattle.std.specs.Prelude.{◌≡◌, ◌+◌, ◌^◌, ◌<◌, ◌≤◌, ℕ, false, true, length, vec_len, IfOk, None};
+ghost use Rattle.std.specs.Prelude.{◌≡◌, ◌+◌, ◌^◌, ◌<◌, ◌≤◌, ℕ, false, true, length, vec_len, IfOk, OnOk, MatchResult, None};
 ghost use Rattle.std.specs.Vec.{vec_capacity};
-ghost use Rattle.tree_model.specs.Run.{State};
+ghost use Rattle.io_edge.specs.Bytes.{Writes};
+ghost use Rattle.layout.specs.Superblock.{open_mark};
+ghost use Rattle.tree_model.specs.Run.{State, Line};
+ghost use Rattle.tree_model.specs.Tree.{Tree};
 ghost use Rattle.script.specs.Calls.{line_of_call};
+ghost use Rattle.volume.specs.Costs.{kept_events};
+ghost use Rattle.volume.specs.Stands.{StandsFor, IsStanding};
 ghost use Rattle.session_laws.specs.Calls.{Calls};
-ghost use Rattle.mark_ops.specs.Marking.{Closes};
+ghost use Rattle.mark_ops.specs.Marking.{Closes, SetsMark};
 ghost use Rattle.sessions.specs.Interleave.{started, HaveEnded};
 ghost use Rattle.sessions.specs.Tasks.{task_in};
 ghost use Rattle.sessions.specs.declared.interleave.TheConstants.{MOST_CALLS};
 ghost use Rattle.sessions.specs.Steps.{IsAsked, MayStep, Steps, IsStopped};
+ghost use Rattle.sessions.specs.Texts.{IsTold, told_text};
 
-use crate::entry::{Entry, StepReply};
+use crate::entry::{Entry, StepReply, WeaveReply};
 use crate::task::Task;
-use engine::LastRead;
-use mark_ops::close;
+use engine::{LastRead, write_reply};
+use io_edge::{Sink, WriteFault};
+use mark_ops::{close, unmark};
 use pm_trait::{NoMemory, Pm, PmFault};
-use script::Call;
+use script::{Call, write_busy, write_session};
 use std::alloc::Global;
 use std::marker::Model;
 use std::mem;
@@ -76,6 +83,13 @@ impl Interleave {
         &self.volume
     }
 
+    /// How many sessions there are.
+    pub fn sessions(&self) -> u64
+        ensures { result ≡ length self.now.tasks }
+    {
+        self.tasks.len() as u64
+    }
+
     /// The entries of the history, in their order.
     pub fn entries(&self) -> &[Entry]
         ensures { result.now ≡ self.now.entries }
@@ -108,6 +122,44 @@ impl Interleave {
             None => self.begin(session, call, pm),
             Some(task) => self.go_on(session, task, call, pm),
         }
+    }
+
+    /// Writes the line of a reply behind the number of its session. The names of a listing are asked of the volume; of a read it is the last one.
+    pub fn write_reply<P: Pm, K: Sink>(
+        &mut self,
+        session: u64,
+        reply: &WeaveReply,
+        sink: &mut K,
+        pm: &P,
+    ) -> Result<(), WriteFault>
+        requires told { (tree : Tree) × (line : Line) × IsTold self.old (P.view pm.now) tree line reply.now }
+        ensures same { self.new ≡ self.old }
+        ensures writes { (tree : Tree) (line : Line) → IsTold self.old (P.view pm.now) tree line reply.now →
+            Writes (K.took sink.old) (K.took sink.new) (K.faults sink.old) (K.faults sink.new) (told_text session tree line reply.now) result }
+    {
+        write_session(session, sink)?;
+        match reply {
+            WeaveReply::Plain(reply) => write_reply(&self.volume, &mut self.last, reply, sink),
+            WeaveReply::Busy { inode, holder } => write_busy(*inode, *holder, sink),
+        }
+    }
+
+    /// Takes the mark of a closed volume away, before a call begins that changes: one fence, for which there is room. Where the fence fails the
+    /// volume is stopped. A crash at any moment leaves the volume with the mark or without it, which mean the same.
+    pub fn unmark<P: Pm>(&mut self, pm: &mut P) -> Result<(), PmFault>
+        requires going { self.old.volume.stopped ≡ false }
+        requires marked { self.old.volume.marked ≡ true }
+        requires stands { IsStanding self.old.volume (P.view pm.old) }
+        requires room { kept_events true ≤ (P.view pm.old).spare }
+        requires countable { (P.view pm.old).fences < 2 ^ 63 }
+        ensures sets { (state : State) → StandsFor self.old.volume (P.view pm.old) state →
+            SetsMark self.old.volume.size open_mark state (P.view pm.old) (P.view pm.new) result }
+        ensures weave { MatchResult result (λ _. self.new ≡ record self.old { volume = record self.old.volume { marked = false } })
+            (λ _. self.new ≡ record self.old { volume = record self.old.volume { stopped = true } }) }
+        ensures stands { (state : State) → StandsFor self.old.volume (P.view pm.old) state →
+            OnOk result (StandsFor self.new.volume (P.view pm.new) state) }
+    {
+        unmark(&mut self.volume, pm)
     }
 
     /// Ends the sessions, none of which runs a call, and gives the volume the mark of one that was closed, where it doesn't have it. It takes

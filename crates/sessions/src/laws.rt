@@ -1,5 +1,5 @@
 // What holds of many sessions whatever step comes.
-ghost use Rattle.sessions.specs.Laws.{WeavesOnLaw, OthersHoldLaw, StartsLaw, AnswersLaw, GoesOnLaw, BeginsLaw};
+ghost use Rattle.sessions.specs.Laws.{WeavesOnLaw, OthersHoldLaw, StartsLaw, AnswersLaw, GoesOnLaw, BeginsLaw, TellsLaw};
 
 /// Where calls wait, the volume stands for the words' state beside what they have left, and they hold as much as that; sessions begin on a
 /// mounted volume.
@@ -14,4 +14,9 @@ pub fn step_law()
     ensures answers { AnswersLaw }
     ensures goes_on { GoesOnLaw }
     ensures begins { BeginsLaw }
+{}
+
+/// The reply to a call that ended may be written.
+pub fn telling_law()
+    ensures { TellsLaw }
 {}

@@ -10,5 +10,5 @@ mod task;
 
 pub use entry::{Entry, StepReply, WeaveReply};
 pub use interleave::{Interleave, MOST_CALLS};
-pub use laws::{step_law, weaving_law};
+pub use laws::{step_law, telling_law, weaving_law};
 pub use task::Task;
