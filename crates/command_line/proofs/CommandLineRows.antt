@@ -8,7 +8,7 @@ use Rattle.clap.proofs.OnLiterals.{clap_on_literals}
 use Rattle.script.specs.Lines.{is_space}
 use Rattle.crash_replay.specs.declared.moment.Moment.TheVariants.{At, Before}
 use Rattle.command_line.specs.declared.job.Job.{Job}
-use Rattle.command_line.specs.declared.job.Job.TheVariants.{Mkfs, Run, Tree, Check, Crash, Work}
+use Rattle.command_line.specs.declared.job.Job.TheVariants.{Mkfs, Run, Tree, Check, Crash, Work, Weave}
 use Rattle.command_line.specs.CommandLine.{Word, split_of}
 use Rattle.command_line.specs.Job.{again_at, image_of, job_of}
 
@@ -65,6 +65,16 @@ works = refl
 no_work : ask_nothing (codes "work" ∷ codes "work v" ∷ codes "work v 1" ∷ codes "work v 1 0" ∷ codes "work v 1 1000001" ∷ codes "work v -1 2" ∷ codes "work v +1 2" ∷ codes "work v 1 2 3" ∷ codes "work v 18446744073709551616 1" ∷ codes "work v --seed 1" ∷ codes "work v 1 2 --keep 00" ∷ codes "work v 1 " ∷ []) ≡ true
 unfolding split_of clap_on_literals hex_on_literals
 no_work = refl
+
+-- sessions to the ends of their range, and schedules of one byte and of more, the option before and behind them
+weaves : map asked (codes "weave v 2 --schedule 0001" ∷ codes "weave --schedule=0001 v 02" ∷ codes "weave v 1 --schedule fF" ∷ codes "weave v 16 --schedule 00" ∷ codes "weave --schedule 00 -- -v 16" ∷ []) ≡ on (Weave 2 (0 ∷ 1 ∷ [])) (codes "v") ∷ on (Weave 2 (0 ∷ 1 ∷ [])) (codes "v") ∷ on (Weave 1 (255 ∷ [])) (codes "v") ∷ on (Weave 16 (0 ∷ [])) (codes "v") ∷ on (Weave 16 (0 ∷ [])) (codes "-v") ∷ []
+unfolding split_of clap_on_literals hex_on_literals
+weaves = refl
+
+-- no number of sessions or none in its range, no schedule, two of them or one that spells no byte, too many words
+no_weave : ask_nothing (codes "weave" ∷ codes "weave v" ∷ codes "weave v 2" ∷ codes "weave v --schedule 00" ∷ codes "weave v 0 --schedule 00" ∷ codes "weave v 17 --schedule 00" ∷ codes "weave v -1 --schedule 00" ∷ codes "weave v 2 00" ∷ codes "weave v 2 --schedule" ∷ codes "weave v 2 --schedule=" ∷ codes "weave v 2 --schedule 0" ∷ codes "weave v 2 --schedule -" ∷ codes "weave v 2 --schedule 0g" ∷ codes "weave v 2 --schedule 00 --schedule 00" ∷ codes "weave v 2 3 --schedule 00" ∷ codes "weave v 2 --keep 00" ∷ []) ≡ true
+unfolding split_of clap_on_literals hex_on_literals
+no_weave = refl
 
 -- 16 pages
 sixteen_pages : map asked (codes "mkfs v 16" ∷ codes "mkfs v 0016" ∷ codes "mkfs v 00000000000000000016" ∷ codes "mkfs -- v 16" ∷ codes "mkfs v -- 16" ∷ []) ≡ on (Mkfs 16) (codes "v") ∷ on (Mkfs 16) (codes "v") ∷ on (Mkfs 16) (codes "v") ∷ on (Mkfs 16) (codes "v") ∷ on (Mkfs 16) (codes "v") ∷ []

@@ -52,6 +52,10 @@ crash_app = command (codes "crash") (argument (codes "IMAGE") ∷ needed_option 
 abbrev pub work_app : App
 work_app = command (codes "work") (argument (codes "IMAGE") ∷ argument (codes "SEED") ∷ argument (codes "COUNT") ∷ [])
 
+-- `weave IMAGE SESSIONS --schedule HEX`
+abbrev pub weave_app : App
+weave_app = command (codes "weave") (argument (codes "IMAGE") ∷ argument (codes "SESSIONS") ∷ needed_option (codes "schedule") ∷ [])
+
 -- The whole command: one of these is needed, and there is no help and no version to ask for.
 abbrev pub squirrel_app : App
 squirrel_app = record {
@@ -62,7 +66,7 @@ squirrel_app = record {
     disable_help_subcommand = true;
     disable_version_flag = true;
   };
-  subs = mkfs_app.top ∷ run_app.top ∷ tree_app.top ∷ check_app.top ∷ crash_app.top ∷ work_app.top ∷ [];
+  subs = mkfs_app.top ∷ run_app.top ∷ tree_app.top ∷ check_app.top ∷ crash_app.top ∷ work_app.top ∷ weave_app.top ∷ [];
 }
 
 -- what was split, where there is no fault

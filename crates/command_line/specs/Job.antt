@@ -7,7 +7,7 @@ use Rattle.crash_replay.specs.declared.moment.Moment.TheVariants.{At, Before}
 use Rattle.command_line.specs.CommandLine.{Word, split_of, value_in}
 use Rattle.command_line.specs.declared.job.Again.{Again}
 use Rattle.command_line.specs.declared.job.Job.{Job}
-use Rattle.command_line.specs.declared.job.Job.TheVariants.{Mkfs, Run, Tree, Check, Crash, Work}
+use Rattle.command_line.specs.declared.job.Job.TheVariants.{Mkfs, Run, Tree, Check, Crash, Work, Weave}
 
 -- both, where there are both
 abbrev pub both : {A B C : Type 0} → (A → B → C) → Option A → Option B → Option C
@@ -30,8 +30,8 @@ if_filled (Some []) = None
 if_filled (Some (byte ∷ rest)) = Some (byte ∷ rest)
 
 -- the bytes that HEX spells, at least one: `-` and an empty word, which spell none, are refused
-abbrev pub keep_of : Word → Option (List ℕ)
-keep_of hex = if_filled (bytes_of_hex hex)
+abbrev pub hex_bytes_of : Word → Option (List ℕ)
+hex_bytes_of hex = if_filled (bytes_of_hex hex)
 
 -- the moment by `--at`, or by `--call` and `--fence`, and not by both
 abbrev pub moment_of : Option Word → Option Word → Option Word → Option Moment
@@ -50,7 +50,7 @@ again_at at keep = record { at = at; keep = keep }
 -- the second crash by `--again` and `--keep2`, or none where neither is given; nothing where only one is, or one can't be read
 abbrev pub again_of : Option Word → Option Word → Option (Option Again)
 again_of None None = Some None
-again_of (Some at) (Some hex) = option_map (λ again. Some again) (both again_at (number_of at) (keep_of hex))
+again_of (Some at) (Some hex) = option_map (λ again. Some again) (both again_at (number_of at) (hex_bytes_of hex))
 again_of None (Some hex) = None
 again_of (Some at) None = None
 
@@ -62,7 +62,7 @@ crash_of moment keep again = option_and_then (λ m. both (Crash m) keep again) m
 abbrev pub crash_in : Option (Word × List Row) → Option Job
 crash_in split = crash_of
     (moment_of (value_in (codes "at") split) (value_in (codes "call") split) (value_in (codes "fence") split))
-    (option_and_then keep_of (value_in (codes "keep") split))
+    (option_and_then hex_bytes_of (value_in (codes "keep") split))
     (again_of (value_in (codes "again") split) (value_in (codes "keep2") split))
 
 -- the lines that may be asked for
@@ -78,6 +78,21 @@ work_of_numbers (Some seed) (Some count) = if is_line_count count then Some (Wor
 abbrev pub work_of : Option Word → Option Word → Option Job
 work_of seed count = work_of_numbers (option_and_then number_of seed) (option_and_then number_of count)
 
+-- the sessions that may be asked for
+abbrev pub is_session_count : ℕ → Bool
+is_session_count sessions = nat_le 1 sessions && nat_le sessions 16
+
+abbrev pub sessions_of_number : Option ℕ → Option ℕ
+sessions_of_number None = None
+sessions_of_number (Some sessions) = if is_session_count sessions then Some sessions else None
+
+abbrev pub sessions_of : Option Word → Option ℕ
+sessions_of sessions = sessions_of_number (option_and_then number_of sessions)
+
+-- `weave` of SESSIONS and its schedule, where each of them could be read
+abbrev pub weave_in : Option (Word × List Row) → Option Job
+weave_in split = both Weave (sessions_of (value_in (codes "SESSIONS") split)) (option_and_then hex_bytes_of (value_in (codes "schedule") split))
+
 -- the job of a subcommand
 abbrev pub job_of_verb : Word → Option (Word × List Row) → Option Job
 job_of_verb verb split =
@@ -87,6 +102,7 @@ job_of_verb verb split =
     else if is_word (codes "check") verb then Some Check
     else if is_word (codes "crash") verb then crash_in split
     else if is_word (codes "work") verb then work_of (value_in (codes "SEED") split) (value_in (codes "COUNT") split)
+    else if is_word (codes "weave") verb then weave_in split
     else None
 
 abbrev pub job_in : Option (Word × List Row) → Option Job
@@ -112,6 +128,7 @@ TakesVolume Tree = Unit {0}
 TakesVolume Check = Unit {0}
 TakesVolume (Crash moment keep again) = Unit {0}
 TakesVolume (Work seed count) = Unit {0}
+TakesVolume (Weave sessions schedule) = Unit {0}
 
 -- the job may change its image
 abbrev pub stores_of : Job → Bool
@@ -121,3 +138,4 @@ stores_of Tree = true
 stores_of Check = false
 stores_of (Crash moment keep again) = false
 stores_of (Work seed count) = true
+stores_of (Weave sessions schedule) = true

@@ -1,9 +1,9 @@
 // What the words of a command line ask for.
 ghost use Rattle.std.specs.Prelude.{◌≡◌, IfOk, option_and_then};
 ghost use Rattle.command_line.specs.CommandLine.{given};
-ghost use Rattle.command_line.specs.Job.{job_of as job_of_words, job_in, mkfs_of, crash_in, moment_of as moment_of_options, again_of as again_of_options, keep_of as keep_of_hex, stores_of, is_volume_size as has_volume_size, is_line_count as may_be_line_count, work_of};
+ghost use Rattle.command_line.specs.Job.{job_of as job_of_words, job_in, mkfs_of, crash_in, moment_of as moment_of_options, again_of as again_of_options, hex_bytes_of, stores_of, is_volume_size as has_volume_size, is_line_count as may_be_line_count, work_of, is_session_count as may_be_session_count, sessions_of, weave_in};
 
-use crate::keep::Keep;
+use crate::hex_bytes::HexBytes;
 use crate::split::Split;
 use crate::words::Words;
 use crash_replay::Moment;
@@ -14,6 +14,9 @@ use std::alloc::Global;
 
 // The most lines that `work` may be asked for, the four before them not counted.
 const MOST_LINES: u64 = 1_000_000;
+
+// The most sessions that `weave` may be asked for.
+const MOST_SESSIONS: u64 = 16;
 
 /// A job on an image.
 #[derive(Drop)]
@@ -31,13 +34,18 @@ pub enum Job {
     /// List what a crash in a script leaves, and maybe a second one in the mount after it.
     Crash {
         moment: Moment,
-        keep: Keep,
+        keep: HexBytes,
         again: Option<Again>,
     },
     /// Run the generated script of this seed, of so many lines and the four before them, and tell its sums.
     Work {
         seed: u64,
         count: u64,
+    },
+    /// Execute the lines of a script of so many sessions step by step, by the bytes of the schedule.
+    Weave {
+        sessions: u64,
+        schedule: HexBytes,
     },
 }
 
@@ -47,7 +55,7 @@ pub struct Again {
     /// After so many events of the mount, or at its end.
     pub at: u64,
     /// What it keeps.
-    pub keep: Keep,
+    pub keep: HexBytes,
 }
 
 impl Job {
@@ -56,7 +64,7 @@ impl Job {
         ensures { result ≡ stores_of self.now }
     {
         match self {
-            Job::Mkfs { .. } | Job::Run | Job::Tree | Job::Work { .. } => true,
+            Job::Mkfs { .. } | Job::Run | Job::Tree | Job::Work { .. } | Job::Weave { .. } => true,
             Job::Check | Job::Crash { .. } => false,
         }
     }
@@ -81,6 +89,7 @@ pub(crate) fn job_of_split(alloc: Global, split: &Split) -> Result<Option<Job>, 
         Some("check") => Ok(Some(Job::Check)),
         Some("crash") => crash_of_split(alloc, split),
         Some("work") => Ok(work_of_texts(split.value("SEED"), split.value("COUNT"))),
+        Some("weave") => weave_of_split(alloc, split),
         _ => Ok(None),
     }
 }
@@ -120,11 +129,40 @@ fn is_line_count(count: u64) -> bool
     count >= 1 && count <= MOST_LINES
 }
 
+fn weave_of_split(alloc: Global, split: &Split) -> Result<Option<Job>, NoMemory>
+    ensures { IfOk result (λ job. job ≡ weave_in split.now) }
+{
+    let sessions = session_count(split.value("SESSIONS"));
+    let schedule = bytes_of(alloc, split.value("schedule"))?;
+    match (sessions, schedule) {
+        (Some(sessions), Some(schedule)) => Ok(Some(Job::Weave { sessions, schedule })),
+        _ => Ok(None),
+    }
+}
+
+// How many sessions there are, where so many may be asked for.
+fn session_count(sessions: Option<&str>) -> Option<u64>
+    ensures { result ≡ sessions_of (given sessions.entry) }
+{
+    let sessions = number_of(sessions?.as_bytes())?;
+    if is_session_count(sessions) {
+        Some(sessions)
+    } else {
+        None
+    }
+}
+
+fn is_session_count(sessions: u64) -> bool
+    ensures { result ≡ may_be_session_count sessions }
+{
+    sessions >= 1 && sessions <= MOST_SESSIONS
+}
+
 fn crash_of_split(alloc: Global, split: &Split) -> Result<Option<Job>, NoMemory>
     ensures { IfOk result (λ job. job ≡ crash_in split.now) }
 {
     let moment = moment_of(split.value("at"), split.value("call"), split.value("fence"));
-    let keep = keep_of(alloc, split.value("keep"))?;
+    let keep = bytes_of(alloc, split.value("keep"))?;
     let again = again_of(alloc, split.value("again"), split.value("keep2"))?;
     match (moment, keep, again) {
         (Some(moment), Some(keep), Some(again)) => Ok(Some(Job::Crash {
@@ -151,12 +189,12 @@ fn moment_of(at: Option<&str>, call: Option<&str>, fence: Option<&str>) -> Optio
     }
 }
 
-// The bytes of `--keep`.
-fn keep_of(alloc: Global, hex: Option<&str>) -> Result<Option<Keep>, NoMemory>
-    ensures { IfOk result (λ keep. keep ≡ option_and_then keep_of_hex (given hex.entry)) }
+// The bytes of an option.
+fn bytes_of(alloc: Global, hex: Option<&str>) -> Result<Option<HexBytes>, NoMemory>
+    ensures { IfOk result (λ bytes. bytes ≡ option_and_then hex_bytes_of (given hex.entry)) }
 {
     match hex {
-        Some(hex) => Keep::of_hex(alloc, hex),
+        Some(hex) => HexBytes::of_word(alloc, hex),
         None => Ok(None),
     }
 }
@@ -173,7 +211,7 @@ fn again_of(
     match (at, hex) {
         (None, None) => Ok(Some(None)),
         (Some(at), Some(hex)) => {
-            let keep = Keep::of_hex(alloc, hex)?;
+            let keep = HexBytes::of_word(alloc, hex)?;
             match (number_of(at.as_bytes()), keep) {
                 (Some(at), Some(keep)) => Ok(Some(Some(Again { at, keep }))),
                 _ => Ok(None),

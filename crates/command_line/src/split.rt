@@ -3,7 +3,7 @@ ghost use Rattle.std.specs.Prelude.{◌≡◌, false, IfOk};
 ghost use Rattle.clap.specs.Simple.{app_of};
 ghost use Rattle.clap.specs.Walk.{rule_of};
 ghost use Rattle.clap.specs.declared.builder.command.Command.TheViews.{out-Command as fields_of};
-ghost use Rattle.command_line.specs.CommandLine.{split_of, verb_in, value_in, given, argument as argument_rule, option as option_rule, needed_option as needed_rule, mkfs_app, run_app, tree_app, check_app, crash_app, work_app, squirrel_app};
+ghost use Rattle.command_line.specs.CommandLine.{split_of, verb_in, value_in, given, argument as argument_rule, option as option_rule, needed_option as needed_rule, mkfs_app, run_app, tree_app, check_app, crash_app, work_app, weave_app, squirrel_app};
 ghost use Rattle.command_line.specs.Job.{image_in};
 
 use crate::words::Words;
@@ -83,7 +83,8 @@ fn squirrel_command<'a>(alloc: Global) -> Result<Command<'a>, AllocError>
         .subcommand(tree_command(alloc)?)?
         .subcommand(check_command(alloc)?)?
         .subcommand(crash_command(alloc)?)?
-        .subcommand(work_command(alloc)?)
+        .subcommand(work_command(alloc)?)?
+        .subcommand(weave_command(alloc)?)
 }
 
 fn mkfs_command<'a>(alloc: Global) -> Result<Command<'a>, AllocError>
@@ -138,6 +139,16 @@ fn work_command<'a>(alloc: Global) -> Result<Command<'a>, AllocError>
         .arg(argument(alloc, "IMAGE"))?
         .arg(argument(alloc, "SEED"))?
         .arg(argument(alloc, "COUNT"))
+}
+
+fn weave_command<'a>(alloc: Global) -> Result<Command<'a>, AllocError>
+    ensures app { IfOk result (λ command. app_of command ≡ weave_app) }
+    ensures local { IfOk result (λ command. (fields_of command).has_globals ≡ false) }
+{
+    Command::new(alloc, "weave")
+        .arg(argument(alloc, "IMAGE"))?
+        .arg(argument(alloc, "SESSIONS"))?
+        .arg(needed_option(alloc, "schedule"))
 }
 
 // An argument that has its place among the words and has to be there.

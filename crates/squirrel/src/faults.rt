@@ -18,6 +18,7 @@ check IMAGE       tells what the next mount will repair, and stores nothing
 crash IMAGE --keep HEX (--at K | --call I --fence F) [--again J --keep2 HEX]  \
 lists what a crash in the script on standard input would leave, and stores nothing
 work IMAGE SEED COUNT  runs COUNT generated commands, 1 to 1000000, and tells their sums
+weave IMAGE SESSIONS --schedule HEX  executes the script of 1 to 16 sessions step by step
 ";
 
 /// The program's exit status.

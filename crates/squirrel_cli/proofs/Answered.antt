@@ -1,5 +1,5 @@
 -- The answered lines of a script, and the session that they leave.
-use Rattle.std.proofs.Common.{◌≡◌, ◌≢◌, inl, inr, ℕ, List, [], refl, sym, ap, subst, ◌∙◌, arith}
+use Rattle.std.proofs.Common.{◌≡◌, ◌≢◌, inr, ℕ, List, refl, sym, ap, subst, ◌∙◌, arith}
 use Rattle.std.specs.Prelude.{Option, Some}
 use Rattle.io_edge.specs.Bytes.{Takes, TakesPrefix, Writes}
 use Rattle.pm_trait.specs.Device.{HasRisen}
@@ -17,7 +17,7 @@ use Rattle.engine.specs.Script.{LeavesRun, RunsScript}
 use Rattle.engine.specs.Session.{Mounted, SessionView, on, session_of}
 use Rattle.squirrel_cli.specs.Causes.{TellsFaults}
 use Rattle.squirrel_cli.specs.Ends.{end_of}
-use Rattle.squirrel_cli.specs.GoingOn.{AnswersLines, GoesOn, LeavesGoing, RunsAndCloses, RunsOn, UnlessShort}
+use Rattle.squirrel_cli.specs.GoingOn.{AnswersLines, GoesOn, LeavesGoing, RunsAndCloses, RunsOn}
 use Rattle.squirrel_cli.specs.Mounts.{ClosesAfter, ClosesAs}
 use Rattle.squirrel_cli.specs.Seen.{Seen, IsUntouched}
 use Rattle.squirrel_cli.specs.declared.scripted.Answered.{Answered}

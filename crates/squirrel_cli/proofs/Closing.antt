@@ -1,10 +1,9 @@
 -- What a close does to a device, and what is promised over it.
-use Rattle.std.proofs.Common.{◌≡◌, ◌≢◌, ◌⊎◌, inl, inr, ℕ, ◌+◌, ◌^◌, ◌<◌, ◌≤◌, Bool, true, false, List, length, refl, sym, ap, subst, ◌∙◌, arith}
+use Rattle.std.proofs.Common.{◌≡◌, ◌≢◌, ◌⊎◌, inl, inr, ℕ, ◌+◌, ◌^◌, ◌≤◌, Bool, true, false, List, length, refl, sym, ap, subst, ◌∙◌, arith}
 use Rattle.std.proofs.lemmas.List.{get_or-set_same, get_or-set_other}
-use Rattle.std.specs.Prelude.{Option, Some, Result, Ok, Err, ◌==◌, slice_get, slice_index}
-use Rattle.pm_trait.specs.Trail.{Trail}
-use Rattle.pm_trait.specs.Device.{HasRisen, LeavesOnly, EndsInFault, acks_from, moment_of}
-use Rattle.pm_trait.specs.DeviceView.{DeviceView, IsSettledView}
+use Rattle.std.specs.Prelude.{Option, Result, Ok, Err, ◌==◌, slice_get, slice_index}
+use Rattle.pm_trait.specs.Device.{HasRisen, LeavesOnly, EndsInFault}
+use Rattle.pm_trait.specs.DeviceView.{DeviceView}
 use Rattle.pm_trait.specs.Unfolds.{Quietly, Step, Takes}
 use Rattle.pm_trait.proofs.AckLaws.{acks_none}
 use Rattle.pm_trait.proofs.ContinuesLaws.{acks_from-here}
@@ -14,8 +13,6 @@ use Rattle.layout.specs.Superblock.{HasMark, KeepsSuperblock, closed_mark, has_m
 use Rattle.tree_model.specs.Run.{Line, State}
 use Rattle.image_reading.specs.Soundness.{pages_in_image}
 use Rattle.image_reading.specs.Soundness.Rule.{head}
-use Rattle.image_reading.specs.Tidy.{Tidy}
-use Rattle.io_edge.specs.Bytes.{Takes as TakesText, TakesPrefix}
 use Rattle.script.specs.Texts.{listing_text}
 use Rattle.script.specs.declared.run_end.RunEnd.{RunEnd}
 use Rattle.script.specs.declared.run_end.RunEnd.TheVariants as run_end
@@ -24,7 +21,7 @@ use Rattle.volume.specs.Stands.{StandsFor}
 use Rattle.volume.specs.Volume.{VolumeView}
 use Rattle.mark_ops.specs.Marking.{Closes, IsSettledIn, SetsMark}
 use Rattle.mount_scan.specs.Mounts.{HasMounted, KeepsState}
-use Rattle.engine.specs.Run.{IsBetween, IsStateAfter, last_state, state_after}
+use Rattle.engine.specs.Run.{IsBetween, IsStateAfter, last_state}
 use Rattle.engine.specs.Script.{ExecutesTold}
 use Rattle.engine.proofs.After.{acked_then, acks_after, leaves_after}
 use Rattle.engine.proofs.Runs.{state_after_last}
@@ -75,7 +72,7 @@ pub record ClosesQuietly (P : ℕ) (state : State) (ran after : DeviceView) : Ty
   pub open keeps use *
   pub beside : KeepsSuperblock ran.words after.words
 
-as_it_was : {P : ℕ} {state : State} {ran after : DeviceView} → IsSettledIn P state ran → after ≡ ran → ClosesQuietly P state ran after
+pub as_it_was : {P : ℕ} {state : State} {ran after : DeviceView} → IsSettledIn P state ran → after ≡ ran → ClosesQuietly P state ran after
 as_it_was {P} {state} {ran} there same =
     let here : LeavesOnly ran.trail ran.trail (Quietly (MeansState P state)) = leaves_here (Quietly (MeansState P state)) there.settled (refl, record { sound = there.tidy.sound; reads = there.reads }) in
     subst (ClosesQuietly P state ran) (sym same) (record {

@@ -4,7 +4,7 @@ use Rattle.std.proofs.lemmas.Bool.{cases_lt}
 use Rattle.std.specs.Prelude.{Option, Some, None, [], ◌∷◌, ◌++◌, take}
 use Rattle.pm_trait.specs.Trail.{Trail, IsCrashImage, trail_at, count_acks}
 use Rattle.pm_memory.specs.Chosen.{IsChosenImage}
-use Rattle.image_laws.specs.Frame.{SameMeaning, IsSoundAs}
+use Rattle.image_laws.specs.Frame.{IsSoundAs}
 use Rattle.image_laws.proofs.Meaning.{meanings_chain}
 use Rattle.pm_trait.specs.Device.{LeavesOnly, MayLeave, moment_of}
 use Rattle.pm_trait.specs.DeviceView.{DeviceView}

@@ -12,4 +12,8 @@ pub mod Besides
 pub mod Checks
 pub mod Jobs
 pub mod Works
+pub mod WovenTurns
+pub mod WovenRows
+pub mod WovenEnds
+pub mod Filling
 pub mod Completes

@@ -1,5 +1,5 @@
 -- The listing of a mounted volume, and its close.
-use Rattle.std.proofs.Common.{◌≡◌, inl, inr, ℕ, ◌+◌, ◌^◌, ◌≤◌, List, refl, sym, ap, subst, ◌∙◌, arith}
+use Rattle.std.proofs.Common.{◌≡◌, inl, inr, refl, sym, ap, subst, ◌∙◌, arith}
 use Rattle.std.specs.Prelude.{Result, Ok, Err}
 use Rattle.io_edge.specs.Bytes.{Writes}
 use Rattle.io_edge.specs.declared.sink.WriteFault.{WriteFault}

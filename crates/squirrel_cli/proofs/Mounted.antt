@@ -37,12 +37,11 @@ use Rattle.engine.proofs.After.{acked_then}
 use Rattle.script.specs.Texts.{acked_text, listing_text}
 use Rattle.squirrel_cli.specs.Causes.{TellsFaults}
 use Rattle.squirrel_cli.specs.Ends.{IsStart, end_of, GaveAll}
-use Rattle.squirrel_cli.specs.GoingOn.{GoesOn, UnlessShort, LeavesGoing, RunsOn}
-use Rattle.squirrel_cli.specs.Mounts.{ActsAfterMount, HasRun, MountsAndRuns}
+use Rattle.squirrel_cli.specs.GoingOn.{GoesOn, UnlessShort, LeavesGoing}
+use Rattle.squirrel_cli.specs.Mounts.{ActsAfterMount, MountsAndRuns}
 use Rattle.squirrel_cli.specs.Rows.{LeavesTidy, MountsAnd}
 use Rattle.squirrel_cli.specs.Seen.{Seen}
-use Rattle.squirrel_cli.specs.Tells.{HasListed}
-use Rattle.squirrel_cli.specs.Told.{IsToldUnlessShort, IsToldOrCut}
+use Rattle.squirrel_cli.specs.Told.{IsToldOrCut}
 use Rattle.squirrel_cli.specs.declared.status.Status.{Status}
 use Rattle.squirrel_cli.specs.declared.status.Status.TheVariants as status
 

@@ -2,13 +2,14 @@
 use Rattle.std.specs.Prelude.{◌≡◌, ℕ, ◌*◌, ◌^◌, ◌<◌, ◌≤◌, ◌++◌, List, length, Option, Some, None}
 use Rattle.pm_trait.specs.DeviceView.{DeviceView, IsSettledView}
 use Rattle.command_line.specs.declared.job.Job.{Job}
-use Rattle.command_line.specs.declared.job.Job.TheVariants.{Mkfs, Run, Tree, Check, Crash, Work}
+use Rattle.command_line.specs.declared.job.Job.TheVariants.{Mkfs, Run, Tree, Check, Crash, Work, Weave}
 use Rattle.script.specs.declared.run_end.RunEnd.{RunEnd}
 use Rattle.script.specs.declared.run_end.RunEnd.TheVariants as ends
 use Rattle.squirrel_cli.specs.declared.status.Status.{Status}
 use Rattle.squirrel_cli.specs.declared.status.Status.TheVariants.{Done, Usage, NoMemory, NotVolume, Damaged, DeviceFault, ReadFault, WriteFault, ScriptLimit}
 use Rattle.mount_scan.specs.Mounting.{IsSound}
 use Rattle.script.specs.Lines.{script_limit}
+use Rattle.squirrel_cli.specs.Whole.{IsShortWhole}
 
 -- a device that a job may begin on: it is settled, and its counts are far from the end of their range
 pub record IsStart (device : DeviceView) : Type 0 where
@@ -43,6 +44,16 @@ abbrev pub IsShortScript : Option (List ℕ) → Type 0
 IsShortScript None = ⊥
 IsShortScript (Some bytes) = length bytes < script_limit
 
+-- the script is within the limits of the job
+abbrev pub IsShortFor : Job → Option (List ℕ) → Type 0
+IsShortFor (Mkfs pages) left = IsShortScript left
+IsShortFor Run left = IsShortScript left
+IsShortFor Tree left = IsShortScript left
+IsShortFor Check left = IsShortScript left
+IsShortFor (Crash moment keep again) left = IsShortScript left
+IsShortFor (Work seed count) left = IsShortScript left
+IsShortFor (Weave sessions schedule) left = IsShortWhole left
+
 -- the device is as the job needs it: of the right length, or a sound volume
 abbrev pub IsReadyFor : Job → List ℕ → Type 0
 IsReadyFor (Mkfs pages) words = length words ≡ 512 * pages
@@ -51,3 +62,4 @@ IsReadyFor Tree words = IsMountable words
 IsReadyFor Check words = IsMountable words
 IsReadyFor (Crash moment keep again) words = IsMountable words
 IsReadyFor (Work seed count) words = IsMountable words
+IsReadyFor (Weave sessions schedule) words = IsMountable words

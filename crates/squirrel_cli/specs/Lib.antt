@@ -1,4 +1,5 @@
 pub mod Status
+pub mod Whole
 pub mod Ends
 pub mod Told
 pub mod Asked
@@ -10,8 +11,10 @@ pub mod Tells
 pub mod Replays
 pub mod ReplaySteps
 pub mod ReplayLaw
+pub mod Weaves
 pub mod Works
 pub mod WorkSteps
+pub mod WeaveSteps
 pub mod GoingOn
 pub mod Rows
 pub mod Complete

@@ -10,15 +10,16 @@ use Rattle.mount_scan.specs.Mounts.{FailsToMount, IsLeftAlone, IsOnlyMounted}
 use Rattle.script.specs.Texts.{not_a_volume_text, damaged_text}
 use Rattle.crash_replay.specs.declared.moment.Moment.{Moment}
 use Rattle.command_line.specs.declared.job.Job.{Job}
-use Rattle.command_line.specs.declared.job.Job.TheVariants.{Mkfs, Run, Tree, Check, Crash, Work}
+use Rattle.command_line.specs.declared.job.Job.TheVariants.{Mkfs, Run, Tree, Check, Crash, Work, Weave}
 use Rattle.squirrel_cli.specs.declared.status.Status.{Status}
-use Rattle.squirrel_cli.specs.declared.status.Status.TheVariants.{Usage, NoMemory, NotVolume, Damaged, DeviceFault}
+use Rattle.squirrel_cli.specs.declared.status.Status.TheVariants.{Usage, NoMemory, NotVolume, Damaged, DeviceFault, WriteFault}
 use Rattle.squirrel_cli.specs.Ends.{IsMountable}
 use Rattle.squirrel_cli.specs.Seen.{Seen, IsSilent, IsUntouched}
 use Rattle.squirrel_cli.specs.Told.{IsToldOrCut}
 use Rattle.squirrel_cli.specs.Formats.{FailsToFormat, HasFormatted}
 use Rattle.squirrel_cli.specs.Mounts.{HasRun}
 use Rattle.squirrel_cli.specs.Tells.{HasListed, HasChecked}
+use Rattle.squirrel_cli.specs.Weaves.{WeavesScript}
 use Rattle.squirrel_cli.specs.Works.{HasWorked}
 use Rattle.squirrel_cli.specs.Replays.{HasReplayed}
 
@@ -56,13 +57,21 @@ pub record FailsInMount {S K : Type 0} (old new : Seen S K) (status : Status) : 
 abbrev pub LeavesTidy : {S K : Type 0} → Seen S K → Seen S K → Type 0
 LeavesTidy old new = HasRisen old.device.faults new.device.faults ⊎ IsTidy new.device.words
 
--- A job that mounts the device: memory is short; or the words are no sound volume, which is told; or they are one, nothing is left to
--- repair in it unless a fence failed, and a fence fails in the mount, or the job goes on as F says.
-abbrev pub MountsAnd : {S K : Type 0} → (Seen S K → Seen S K → Status → Type 0) → Seen S K → Seen S K → Status → Type 0
-MountsAnd F old new status =
+-- where no write failed either
+abbrev pub LeavesTidyUncut : {S K : Type 0} → Seen S K → Seen S K → Status → Type 0
+LeavesTidyUncut old new status = (status ≡ WriteFault) ⊎ LeavesTidy old new
+
+-- A job that mounts the device: memory is short; or the words are no sound volume, which is told; or they are one, it is left as L says,
+-- and a fence fails in the mount, or the job goes on as F says.
+abbrev pub MountsAndLeaves : {S K : Type 0} → (Seen S K → Seen S K → Status → Type 0) → (Seen S K → Seen S K → Status → Type 0) → Seen S K → Seen S K → Status → Type 0
+MountsAndLeaves L F old new status =
     IsShortOfMemory old new status
     ⊎ ¬ IsMountable old.device.words × IsRefused old new status
-    ⊎ IsMountable old.device.words × LeavesTidy old new × (FailsInMount old new status ⊎ F old new status)
+    ⊎ IsMountable old.device.words × L old new status × (FailsInMount old new status ⊎ F old new status)
+
+-- with nothing to repair unless a fence failed
+abbrev pub MountsAnd : {S K : Type 0} → (Seen S K → Seen S K → Status → Type 0) → Seen S K → Seen S K → Status → Type 0
+MountsAnd F old new status = MountsAndLeaves (λ old new status. LeavesTidy old new) F old new status
 
 -- ---- the rows
 
@@ -84,6 +93,11 @@ Lists old new status = MountsAnd HasListed old new status
 -- `work` mounts it, runs the generated script on it, and tells its sums.
 abbrev pub Works : {S K : Type 0} → ℕ → ℕ → Seen S K → Seen S K → Status → Type 0
 Works seed count old new status = MountsAnd (HasWorked seed count) old new status
+
+-- `weave` mounts it, and executes the lines of many sessions: the promise of many calls at once. A write that fails may leave calls in the
+-- words, which the next mount repairs.
+abbrev pub Weaves : {S K : Type 0} → ℕ → List ℕ → Seen S K → Seen S K → Status → Type 0
+Weaves sessions schedule old new status = MountsAndLeaves LeavesTidyUncut (WeavesScript sessions schedule) old new status
 
 -- `check` only reads the device.
 abbrev pub Checks : {S K : Type 0} → Seen S K → Seen S K → Status → Type 0
@@ -119,3 +133,4 @@ DoesJob (Some Tree) old new status = Lists old new status
 DoesJob (Some Check) old new status = Checks old new status
 DoesJob (Some (Crash moment keep again)) old new status = Crashes moment keep old new status
 DoesJob (Some (Work seed count)) old new status = Works seed count old new status
+DoesJob (Some (Weave sessions schedule)) old new status = Weaves sessions schedule old new status

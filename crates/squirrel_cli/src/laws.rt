@@ -9,7 +9,7 @@ pub fn complete_law<S: Source, K: Sink>()
     ensures { CompleteLaw S.Source K.Sink }
 {}
 
-/// A `run`, `tree` or `work` that is done has closed the volume.
+/// A `run`, `tree`, `work` or `weave` that is done has closed the volume.
 pub fn closed_law<S: Source, K: Sink>()
     ensures { ClosedLaw S.Source K.Sink }
 {}

@@ -12,7 +12,10 @@ mod replaying;
 mod scripted;
 mod status;
 mod top_call;
+mod weaving;
+mod whole;
 mod working;
+mod woven;
 
 pub use command_line::{ImagePath, Wanted, Words, device_of};
 pub use laws::{closed_law, complete_law, replay_complete_law, replay_end_law, replay_law};

@@ -24,7 +24,7 @@ pub enum Status {
     ReadFault,
     /// A write of the output failed.
     WriteFault,
-    /// The script has 2^32 bytes or more.
+    /// The script has 2^32 bytes or more; or of `weave` more than 2^24, or more than 65,536 lines.
     ScriptLimit,
 }
 

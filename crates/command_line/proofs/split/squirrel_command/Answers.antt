@@ -27,4 +27,5 @@ returns c =
     let tree = more_commands c.in_ok-subcommand-3.ensures c.in_ok-tree_command.ensures.local c.in_ok-tree_command.ensures.app run in
     let check = more_commands c.in_ok-subcommand-4.ensures c.in_ok-check_command.ensures.local c.in_ok-check_command.ensures.app tree in
     let crash = more_commands c.in_ok-subcommand-5.ensures c.in_ok-crash_command.ensures.local c.in_ok-crash_command.ensures.app check in
-    IfOk-weaker c.subcommand-6.result _ _ (λ command added. more_commands added c.in_ok-work_command.ensures.local c.in_ok-work_command.ensures.app crash) c.subcommand-6.ensures
+    let work = more_commands c.in_ok-subcommand-6.ensures c.in_ok-work_command.ensures.local c.in_ok-work_command.ensures.app crash in
+    IfOk-weaker c.subcommand-7.result _ _ (λ command added. more_commands added c.in_ok-weave_command.ensures.local c.in_ok-weave_command.ensures.app work) c.subcommand-7.ensures

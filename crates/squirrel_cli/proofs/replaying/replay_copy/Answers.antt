@@ -1,4 +1,4 @@
-use Rattle.std.proofs.Common.{List, ℕ, refl, subst, ◌∙◌}
+use Rattle.std.proofs.Common.{refl, subst}
 use Rattle.pm_memory.specs.Fresh.{IsNew}
 use Rattle.squirrel_cli.specs.Seen.{seen}
 use Rattle.squirrel_cli.proofs.ReplayRuns.{crashes_copy}

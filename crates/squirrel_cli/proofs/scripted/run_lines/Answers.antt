@@ -1,6 +1,6 @@
-use Rattle.std.proofs.Common.{inl, inr}
+use Rattle.std.proofs.Common.{inr}
 use Rattle.squirrel_cli.specs.Seen.{seen}
-use Rattle.squirrel_cli.proofs.Answered.{answered_cause, answered_closes, answered_going, answered_left, answered_stands, closed_cause, closed_going, untouched_cause, untouched_going}
+use Rattle.squirrel_cli.proofs.Answered.{answered_cause, answered_closes, answered_going, answered_left, answered_stands, closed_cause, closed_going}
 use Rattle.squirrel_cli.proofs.scripted.run_lines.Goals as goal
 
 pub close_session-requires-clause-stands : goal.close_session-requires-clause-stands

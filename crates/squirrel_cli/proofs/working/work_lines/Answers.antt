@@ -1,4 +1,4 @@
-use Rattle.std.proofs.Common.{inl, inr, refl, ap, ◌∙◌}
+use Rattle.std.proofs.Common.{inl, inr, refl}
 use Rattle.squirrel_cli.specs.Seen.{seen_alone}
 use Rattle.squirrel_cli.specs.declared.status.Status.TheVariants.{WriteFault}
 use Rattle.squirrel_cli.proofs.Answered.{written_cut, written_whole}

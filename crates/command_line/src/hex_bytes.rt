@@ -1,39 +1,39 @@
-// The bytes by which a crash chooses among the words of a device.
+// Bytes that a word of a command line spells.
 ghost use Rattle.std.specs.Prelude.{◌≡◌, ◌≢◌, [], IfOk};
-ghost use Rattle.command_line.specs.Job.{keep_of};
+ghost use Rattle.command_line.specs.Job.{hex_bytes_of};
 
 use hex::{FromHexError, decode};
 use pm_trait::NoMemory;
 use std::alloc::Global;
 use std::marker::Model;
 
-/// The bytes of a keep, at least one, seen as the list of them.
+/// Bytes that a word spells in hexadecimal, at least one, seen as the list of them.
 #[derive(Drop)]
-pub struct Keep {
+pub struct HexBytes {
     bytes: Vec<u8>,
 }
 
-impl Model for Keep {
+impl Model for HexBytes {
     ghost use Rattle.std.specs.Prelude.{◌≢◌, [], List, ℕ};
 
     ghost Value = { List ℕ };
 
-    ghost view = { λ keep. keep.bytes.items };
+    ghost view = { λ spelled. spelled.bytes.items };
 
-    ghost invariant = { λ keep. keep.bytes.items ≢ [] };
+    ghost invariant = { λ spelled. spelled.bytes.items ≢ [] };
 }
 
-impl Keep {
+impl HexBytes {
     /// The bytes that the word spells in hexadecimal. None where it spells none, or can't be read.
-    pub fn of_hex(alloc: Global, word: &str) -> Result<Option<Keep>, NoMemory>
-        ensures { IfOk result (λ keep. keep ≡ keep_of word.now) }
+    pub fn of_word(alloc: Global, word: &str) -> Result<Option<HexBytes>, NoMemory>
+        ensures { IfOk result (λ bytes. bytes ≡ hex_bytes_of word.now) }
     {
         if word == "-" {
             return Ok(None);
         }
         match decode(alloc, word) {
             Ok(bytes) if bytes.is_empty() => Ok(None),
-            Ok(bytes) => Ok(Some(Keep { bytes })),
+            Ok(bytes) => Ok(Some(HexBytes { bytes })),
             Err(FromHexError::OutOfMemory) => Err(NoMemory),
             Err(_) => Ok(None),
         }
