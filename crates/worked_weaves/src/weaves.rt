@@ -1,7 +1,11 @@
 // Calls of many sessions that run beside one another. Bytes of the schedule are sessions' numbers.
+ghost use Rattle.std.specs.Prelude.{◌≡◌};
+ghost use Rattle.pm_trait.specs.Device.{IsSettledAt};
+
 use io_edge::MemSink;
 use mount_scan::mount;
 use pm_memory::RamPm;
+use pm_trait::Pm;
 use schedules::{WeaveEnd, run_schedule};
 use session_lines::count_lines;
 use sessions::{Interleave, MOST_CALLS};
@@ -31,18 +35,34 @@ pub(crate) fn compare_weaves(
 
 fn compare_weave(alloc: Global, volume: &[u64], sessions: u64, row: Row<'_>) -> Result<(), Fail> {
     let (lines, schedule, told) = row;
+    let mut pm = RamPm::new(alloc, volume)?;
+    let (end, written) = weave_on(alloc, &mut pm, sessions, lines, schedule)?;
+    same(text_of(&written), told, told)?;
+    same(end, WeaveEnd::Done, told)
+}
+
+// Runs the lines on a device that did nothing yet, and gives what was told.
+pub(crate) fn weave_on(
+    alloc: Global,
+    pm: &mut RamPm,
+    sessions: u64,
+    lines: &str,
+    schedule: &[u8],
+) -> Result<(WeaveEnd, Vec<u8>), Fail>
+    requires settled { IsSettledAt (⟦<RamPm as Pm>⟧.view pm.old).words (⟦<RamPm as Pm>⟧.view pm.old).trail }
+    requires fences { (⟦<RamPm as Pm>⟧.view pm.old).fences ≡ 0 }
+    requires acks { (⟦<RamPm as Pm>⟧.view pm.old).acks ≡ 0 }
+{
     let lines = lines.as_bytes();
     let counted = count_lines(lines) <= MOST_CALLS as u64 && !schedule.is_empty();
     if !counted || sessions < 1 || sessions > 16 {
         return Err("no such row".into());
     }
-    let mut pm = RamPm::new(alloc, volume)?;
     let mut sink = MemSink::new(alloc, ROOM, Vec::new(alloc))?;
-    let volume = mount(alloc, &mut pm)?;
+    let volume = mount(alloc, pm)?;
     let mut interleave = Interleave::start(alloc, volume, sessions)?;
-    let end = run_schedule(alloc, &mut interleave, lines, schedule, &mut sink, &mut pm)?;
-    same(text_of(sink.bytes()), told, told)?;
-    same(end, WeaveEnd::Done, told)
+    let end = run_schedule(alloc, &mut interleave, lines, schedule, &mut sink, pm)?;
+    Ok((end, sink.bytes().to_vec(alloc)?))
 }
 
 #[test]
