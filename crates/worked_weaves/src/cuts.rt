@@ -4,18 +4,38 @@ use pm_memory::RamPm;
 use schedules::WeaveEnd;
 use std::alloc::Global;
 use std::test::Fail;
-use worked_drivers::jobs::{crash_at, events_of, is_done, job_on, same};
+use worked_drivers::jobs::{
+    crash_at, events_of, is_done, job_on, job_without_script, same, text_of,
+};
 use worked_drivers::volumes::volume_after;
 
 // No more steps are woven.
 const MOST_STEPS: u64 = 8;
 
-// A call, how many fences it takes, and the one that settles its commit word. What a line is told that asks for it, without it and with it.
+// What a mount would repair. No rename is cut, so there is no pointer.
+#[derive(Clone, Copy)]
+struct Repairs {
+    slots: u64,
+    pages: u64,
+    inodes: u64,
+    counts: u64,
+}
+
+const NOTHING: Repairs = Repairs {
+    slots: 0,
+    pages: 0,
+    inodes: 0,
+    counts: 0,
+};
+
+// A call, how many fences it takes, and the one that settles its commit word; what it has left behind its first steps, in their order. What a
+// line is told that asks for it, without it and with it.
 #[derive(Clone, Copy)]
 struct CutCall<'a> {
     line: &'a str,
     fences: u64,
     commit: u64,
+    left: &'a [Repairs],
     asked: &'a str,
     without: &'a str,
     with: &'a str,
@@ -26,6 +46,20 @@ const CREATE: CutCall<'static> = CutCall {
     line: "create /a/x",
     fences: 3,
     commit: 3,
+    left: &[
+        Repairs {
+            slots: 0,
+            pages: 1,
+            inodes: 1,
+            counts: 0,
+        },
+        Repairs {
+            slots: 0,
+            pages: 1,
+            inodes: 1,
+            counts: 0,
+        },
+    ],
     asked: "list /a\n",
     without: "ok 0\n",
     with: "ok 1 x\n",
@@ -35,6 +69,12 @@ const MKDIR: CutCall<'static> = CutCall {
     line: "mkdir /b/y",
     fences: 2,
     commit: 2,
+    left: &[Repairs {
+        slots: 1,
+        pages: 0,
+        inodes: 1,
+        counts: 1,
+    }],
     asked: "list /b\n",
     without: "ok 1 k\n",
     with: "ok 2 k y\n",
@@ -44,6 +84,12 @@ const GROW: CutCall<'static> = CutCall {
     line: "write /c/f 5000 01",
     fences: 2,
     commit: 2,
+    left: &[Repairs {
+        slots: 0,
+        pages: 0,
+        inodes: 0,
+        counts: 0,
+    }],
     asked: "stat /c/f\n",
     without: "ok file inode 6 links 1 size 5000\n",
     with: "ok file inode 6 links 1 size 5001\n",
@@ -53,6 +99,20 @@ const CUT: CutCall<'static> = CutCall {
     line: "truncate /c/f 1",
     fences: 3,
     commit: 1,
+    left: &[
+        Repairs {
+            slots: 0,
+            pages: 1,
+            inodes: 0,
+            counts: 0,
+        },
+        Repairs {
+            slots: 0,
+            pages: 1,
+            inodes: 0,
+            counts: 0,
+        },
+    ],
     asked: "stat /c/f\n",
     without: "ok file inode 6 links 1 size 5000\n",
     with: "ok file inode 6 links 1 size 1\n",
@@ -63,9 +123,105 @@ const UNLINK: CutCall<'static> = CutCall {
     line: "unlink /e/u",
     fences: 4,
     commit: 1,
+    left: &[
+        Repairs {
+            slots: 0,
+            pages: 1,
+            inodes: 1,
+            counts: 0,
+        },
+        Repairs {
+            slots: 0,
+            pages: 1,
+            inodes: 1,
+            counts: 0,
+        },
+        Repairs {
+            slots: 0,
+            pages: 1,
+            inodes: 1,
+            counts: 0,
+        },
+    ],
     asked: "list /e\n",
     without: "ok 1 u\n",
     with: "ok 0\n",
+};
+
+const LINK: CutCall<'static> = CutCall {
+    line: "link /b/k /b/l",
+    fences: 2,
+    commit: 2,
+    left: &[Repairs {
+        slots: 1,
+        pages: 0,
+        inodes: 0,
+        counts: 1,
+    }],
+    asked: "list /b\n",
+    without: "ok 1 k\n",
+    with: "ok 2 k l\n",
+};
+
+const RMDIR: CutCall<'static> = CutCall {
+    line: "rmdir /a",
+    fences: 3,
+    commit: 1,
+    left: &[
+        Repairs {
+            slots: 1,
+            pages: 0,
+            inodes: 1,
+            counts: 1,
+        },
+        Repairs {
+            slots: 0,
+            pages: 0,
+            inodes: 1,
+            counts: 0,
+        },
+    ],
+    asked: "list /\n",
+    without: "ok 4 a b c e\n",
+    with: "ok 3 b c e\n",
+};
+
+const CREATE_IN_PAGE: CutCall<'static> = CutCall {
+    line: "create /b/z",
+    fences: 2,
+    commit: 2,
+    left: &[Repairs {
+        slots: 1,
+        pages: 0,
+        inodes: 1,
+        counts: 0,
+    }],
+    asked: "list /b\n",
+    without: "ok 1 k\n",
+    with: "ok 2 k z\n",
+};
+
+const FIRST_PAGE: CutCall<'static> = CutCall {
+    line: "write /b/k 0 01020304",
+    fences: 3,
+    commit: 3,
+    left: &[
+        Repairs {
+            slots: 0,
+            pages: 1,
+            inodes: 0,
+            counts: 0,
+        },
+        Repairs {
+            slots: 0,
+            pages: 1,
+            inodes: 0,
+            counts: 0,
+        },
+    ],
+    asked: "stat /b/k\n",
+    without: "ok file inode 4 links 1 size 0\n",
+    with: "ok file inode 4 links 1 size 4\n",
 };
 
 fn first_volume(alloc: Global) -> Result<Vec<u64>, Fail> {
@@ -116,8 +272,40 @@ fn told_behind(alloc: Global, calls: &[CutCall<'_>], steps: &[u8]) -> Result<Str
     Ok(told)
 }
 
+impl<'a> CutCall<'a> {
+    // What it has left behind so many of its steps.
+    fn left_behind(&self, steps: u64) -> Repairs {
+        let before = (steps as usize).checked_sub(1);
+        let left = before.and_then(|place| self.left.get(place));
+        *left.unwrap_or(&NOTHING)
+    }
+}
+
+// What `check` tells behind these steps of what a mount would repair: what the calls have left that run.
+fn repairs_behind(alloc: Global, calls: &[CutCall<'_>], steps: &[u8]) -> Result<String, Fail> {
+    let mut all = NOTHING;
+    for (session, call) in calls.iter().enumerate() {
+        let left = call.left_behind(steps_of(steps, session));
+        all = Repairs {
+            slots: all.slots.saturating_add(left.slots),
+            pages: all.pages.saturating_add(left.pages),
+            inodes: all.inodes.saturating_add(left.inodes),
+            counts: all.counts.saturating_add(left.counts),
+        };
+    }
+    let Repairs {
+        slots,
+        pages,
+        inodes,
+        counts,
+    } = all;
+    Ok(format!(in alloc;
+        "repairs pointers 0 slots {slots} pages {pages} inodes {inodes} counts {counts}"
+    )?)
+}
+
 // Lets the fence of each step of the schedule fail in turn, behind that of the mark. Of the words as they were settled a mount finds what the
-// steps before made, and with all that was stored since what that step makes too.
+// steps before made, and with all that was stored since what that step makes too. So does `check` what these steps have left.
 fn compare_cuts(
     alloc: Global,
     volume: &[u64],
@@ -133,9 +321,14 @@ fn compare_cuts(
         let (end, _) = weave_on(alloc, &mut pm, sessions, lines.as_str(), schedule)?;
         same((step, end), (step, WeaveEnd::Faulted), lines.as_str())?;
         for (keep, made) in [([0, 0], step), ([1, 1], step.saturating_add(1))] {
+            let steps = schedule.get(..made).unwrap_or(schedule);
             let image = crash_at(alloc, &pm, events_of(&pm)?, &keep)?;
+            let checked = job_without_script(alloc, "squirrel check v", image.as_slice())?;
+            let repairs = repairs_behind(alloc, calls, steps)?;
+            let told = text_of(&checked.told).lines().nth(2);
+            same(told, Some(repairs.as_str()), lines.as_str())?;
             let left = job_on(alloc, "squirrel run v", image.as_slice(), asked.as_bytes())?;
-            let told = told_behind(alloc, calls, schedule.get(..made).unwrap_or(schedule))?;
+            let told = told_behind(alloc, calls, steps)?;
             is_done(&left, told.as_str(), lines.as_str())?;
         }
     }
@@ -172,17 +365,25 @@ fn compare_pair(
 }
 
 #[test]
-fn two_names_are_made(rt: HostRuntime) -> Result<(), Fail> {
+fn names_are_made_and_go(rt: HostRuntime) -> Result<(), Fail> {
     let volume = first_volume(rt.alloc())?;
     compare_pair(rt.alloc(), volume.as_slice(), CREATE, MKDIR)?;
-    compare_pair(rt.alloc(), volume.as_slice(), GROW, MKDIR)
+    compare_pair(rt.alloc(), volume.as_slice(), LINK, UNLINK)?;
+    compare_pair(rt.alloc(), volume.as_slice(), RMDIR, CREATE_IN_PAGE)
 }
 
 #[test]
-fn two_give_up(rt: HostRuntime) -> Result<(), Fail> {
+fn pages_are_given_up(rt: HostRuntime) -> Result<(), Fail> {
     let volume = first_volume(rt.alloc())?;
     compare_pair(rt.alloc(), volume.as_slice(), CUT, UNLINK)?;
     compare_pair(rt.alloc(), volume.as_slice(), UNLINK, CREATE)
+}
+
+#[test]
+fn files_grow(rt: HostRuntime) -> Result<(), Fail> {
+    let volume = first_volume(rt.alloc())?;
+    compare_pair(rt.alloc(), volume.as_slice(), GROW, FIRST_PAGE)?;
+    compare_pair(rt.alloc(), volume.as_slice(), FIRST_PAGE, CUT)
 }
 
 #[test]
