@@ -19,3 +19,4 @@ pub mod CostPlan
 pub mod CostAlike
 pub mod CostNext
 pub mod CostStep
+pub mod Superblock

@@ -1,6 +1,8 @@
 -- A running call, whatever its command but a rename, makes a step to its fence, beside others: what that leaves.
 use Rattle.std.specs.Prelude.{◌≡◌, ℕ, ◌<◌, true, false, Bool, List, [], length, Option, None, Some}
 use Rattle.pm_trait.specs.DeviceView.{DeviceView}
+use Rattle.pm_trait.specs.Unfolds.{KeepsWords}
+use Rattle.layout.specs.Superblock.{IsSuperblockWord}
 use Rattle.tree_model.specs.Tree.{bytes_of, is_file}
 use Rattle.tree_model.specs.Step.{tree_after, RoomAfterWith, with_bytes, overwritten, resized}
 use Rattle.tree_model.specs.Run.{State, is_changing}
@@ -229,3 +231,9 @@ LaterStepLaw = (old new : VolumeView) (before after : DeviceView) (state : State
     → MakesStep (step_of old (bytes_of_command command) running) (EntersAt running) old new before after
     → IsNext running next → StandsNext new after (bytes_of_command command) next
     → WentOnBeside old new before after state command running next others
+
+-- ---- the superblock
+
+-- No step stores to it.
+abbrev pub SuperblockLaw : Type 0
+SuperblockLaw = (volume : VolumeView) (bytes words next : List ℕ) (running : Running) → (step_of volume bytes running).Makes words next → KeepsWords IsSuperblockWord words next

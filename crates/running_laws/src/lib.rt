@@ -3,7 +3,7 @@
 
 ghost use Rattle.running_laws.specs.Crashes.{FirstCrashLaw, LaterCrashLaw};
 ghost use Rattle.running_laws.specs.Numbers.{PlanCostsLaw, StepCostsLaw, HeldIsLeftLaw};
-ghost use Rattle.running_laws.specs.Steps.{BeginsLaw, FirstStepLaw, LaterStepLaw};
+ghost use Rattle.running_laws.specs.Steps.{BeginsLaw, FirstStepLaw, LaterStepLaw, SuperblockLaw};
 ghost use Rattle.running_laws.specs.Waits.{StandsBesideLaw, HoldsLaw, StandsLaw, StillWaitsLaw, NamesHeldLaw, BegunHoldsLaw, NextHoldsLaw};
 
 /// A call that waits stands beside what it has left and the others, holds what it has left, and may go on.
@@ -34,6 +34,11 @@ pub fn beginning_law()
 /// Behind each later step it waits on or has ended.
 pub fn stepping_law()
     ensures { LaterStepLaw }
+{}
+
+/// No step stores to a word of the superblock.
+pub fn superblock_law()
+    ensures { SuperblockLaw }
 {}
 
 /// What a crash in a step leaves.

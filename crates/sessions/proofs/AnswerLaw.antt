@@ -1,5 +1,5 @@
 -- A call that is answered at once is an entry which leaves the history, and is acknowledged: all that waits waits on.
-use Rattle.std.proofs.Common.{◌≡◌, ℕ, ◌+◌, not, ◌&&◌, [], ◌∷◌, ◌++◌, length, Option, refl, sym, ap, subst, ◌∙◌, arith, length-append}
+use Rattle.std.proofs.Common.{◌≡◌, ℕ, ◌+◌, not, ◌&&◌, [], ◌∷◌, ◌++◌, length, Option, None, Some, refl, sym, ap, subst, ◌∙◌, arith, length-append}
 use Rattle.pm_trait.specs.Device.{LeavesOnly, AcksSettled}
 use Rattle.pm_trait.specs.Trail.{Trail}
 use Rattle.pm_trait.specs.DeviceView.{DeviceView, Acknowledges}
@@ -25,6 +25,7 @@ use Rattle.sessions.specs.declared.entry.StepReply.TheVariants.{Ended}
 use Rattle.sessions.specs.declared.entry.WeaveReply.{WeaveReply}
 use Rattle.sessions.proofs.FencesOthers.{others_fences}
 use Rattle.sessions.proofs.FencesTakes.{takes_none}
+use Rattle.sessions.proofs.StepEvents.{no_interval, beside_same}
 use Rattle.sessions.proofs.AnswerCrash.{weaving_stands, weaving_acked, weaving_settled}
 
 -- an acknowledgement leaves what waits
@@ -86,6 +87,7 @@ module _ (others_hold : OthersHoldLaw) (old new : InterleaveView) (before betwee
     number_is = sym (ap (λ (ran : Option Call). number_of old.begun ran) is.idle);
     held = held;
     legal = is.legal;
+    given = λ ran runs. absurd (let clash : ◌≡◌ {A = Option Call} None (Some ran) = sym is.idle ∙ runs in cc);
     told = refl;
   }
 
@@ -127,6 +129,7 @@ module _ (others_hold : OthersHoldLaw) (old new : InterleaveView) (before betwee
     bytes = is.bytes;
     quiet = subst (λ (ran : Option Call). IsQuietWhere (Ended (old.begun + 1) answer) ran line before after) (sym is.idle)
         (λ none. record { between = between; room = is.room; acked = is.acked });
+    events = record { fenced = between; interval = no_interval before between is.room; acked = is.acked };
     fences = record {
       most = let same = is.acked.fences in let was = is.room.fences in omega (arith, same, was);
       goes_on = λ call ran. cc (is.idle, ran);
@@ -142,6 +145,7 @@ module _ (others_hold : OthersHoldLaw) (old new : InterleaveView) (before betwee
   pub answered : Steps old new before after calls history session line (Ended (old.begun + 1) answer)
   answered = record {
     frame = record { size = is.size; marked = is.marked; sessions = ap length (ap (λ (w : InterleaveView). w.tasks) is.new_is) };
+    beside = beside_same before after (is.acked.words ∙ is.room.words);
     going = λ going. steps_on;
     failed = λ stopped. let going = (weaving_stands (record old { volume = new.volume }) between calls history there).going in cc;
   }

@@ -31,7 +31,7 @@ use Rattle.sessions.proofs.CarryFree.{planned_names, planned_free}
 use Rattle.sessions.proofs.CarryIdle.{begins_idle}
 use Rattle.sessions.proofs.CarryMade.{BeginsAt, begins}
 use Rattle.sessions.proofs.CarryMove.{begins_alone}
-use Rattle.sessions.proofs.FencesWhole.{takes_first}
+use Rattle.sessions.proofs.FencesWhole.{takes_first, fenced_change}
 use Rattle.sessions.proofs.WeavesOne.{tasks_long}
 
 -- ---- which runs alone
@@ -86,7 +86,8 @@ module _ (old new : InterleaveView) (before after : DeviceView) (calls : Calls) 
       begins old new before after calls history session action call enters planned.weaving planned.idle within number changing
       (planned_free old before calls history session call.command call.named action planned)
       (planned_names old before calls history session call.command call.named action planned) at
-      (takes_first old before calls history session action call planned changing plan_behind starts) reply advanced
+      (takes_first old before calls history session action call planned changing plan_behind starts)
+      (fenced_change old before calls history session action call planned changing plan_behind starts) reply advanced
 
   moves : 0 < events_of action → (moving : Moving) × (action ≡ Move moving) → Steps old new before after calls history session (Ok call.command) reply
   moves some (moving, is) =

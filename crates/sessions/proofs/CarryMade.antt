@@ -1,9 +1,9 @@
 -- A plan begins: its first step was made, or its fence failed. By what is known where it begins.
-use Rattle.std.proofs.Common.{◌≡◌, ℕ, ◌+◌, ◌-◌, ◌<◌, ◌≤◌, Bool, true, false, if◌then◌else◌, List, length, set, Option, None, Some, Ok, Err, sym, ap, subst, ◌∙◌, arith}
+use Rattle.std.proofs.Common.{◌≡◌, ℕ, ◌+◌, ◌-◌, ◌<◌, ◌≤◌, Bool, true, false, if◌then◌else◌, List, length, set, Option, None, Some, Ok, Err, refl, sym, ap, subst, ◌∙◌, arith}
 use Rattle.std.proofs.lemmas.Bool.{true≢false}
 use Rattle.std.proofs.lemmas.List.{length-set}
 use Rattle.pm_trait.specs.DeviceView.{DeviceView, IsSettledView, Acknowledges, MakesIntervals}
-use Rattle.pm_trait.specs.Unfolds.{Step, step_events, step_fences, fences_in}
+use Rattle.pm_trait.specs.Unfolds.{Fenced, Step, step_events, step_fences, fences_in}
 use Rattle.pm_trait.proofs.Unfolding.{step_intervals}
 use Rattle.tree_model.specs.Capacity.{Supply}
 use Rattle.tree_model.specs.Run.{State, Line, is_changing}
@@ -28,7 +28,7 @@ use Rattle.sessions.specs.Advanced.{MadeStep, FailedStep, HasAdvanced, goes_on, 
 use Rattle.sessions.specs.Interleave.{InterleaveView, IsWeaving, task_of, tasks_of}
 use Rattle.volume.specs.Named.{AreNamedBy}
 use Rattle.session_laws.proofs.GoingStored.{enters_same}
-use Rattle.sessions.specs.Steps.{Steps, MayBeLeft, IsBeforeOrBehind, IsBeforeOrEntered, may_commit_first, may_commit, IsFreeOfOthers, number_of, KeepsFrame, begun_after}
+use Rattle.sessions.specs.Steps.{IsBusyRightly, IsFencedChange, Steps, MayBeLeft, IsBeforeOrBehind, IsBeforeOrEntered, may_commit_first, may_commit, IsFreeOfOthers, number_of, KeepsFrame, begun_after}
 use Rattle.sessions.specs.declared.entry.Entry.{Entry}
 use Rattle.sessions.specs.declared.entry.StepReply.{StepReply}
 use Rattle.sessions.specs.declared.entry.StepReply.TheVariants.{Running as RunsOn, Ended}
@@ -38,6 +38,8 @@ use Rattle.sessions.proofs.AnswerLaw.{acked_wait}
 use Rattle.sessions.proofs.CarryCrash.{HoldsOfMixes, step_leaves, step_settled, end_acks, ends_waiting, ends_settled}
 use Rattle.sessions.proofs.CarrySteps.{Began, DidStep, stepped_on}
 use Rattle.sessions.proofs.FencesTakes.{TakesFirst}
+use Rattle.sessions.proofs.GoesMade.{reply_next}
+use Rattle.sessions.proofs.StepEvents.{interval_made, events_made, beside_made}
 use Rattle.sessions.proofs.StepCrash.{IsStepState, IsTreeBehind, HasLegalEntry, left_behind, left_entered}
 use Rattle.sessions.proofs.WeavesOne.{tasks_set}
 
@@ -68,7 +70,8 @@ module _ (old new : InterleaveView) (before after : DeviceView) (calls : Calls) 
     (weaving : IsWeaving old before calls history) (idle : call_at calls session ≡ None) (within : session < length calls) (number : call.number ≡ old.begun + 1)
     (changing : is_changing call.command ≡ true) (free : IsFreeOfOthers calls history call.command)
     (names : AreNamedBy history.tree call.command call.named) (at : BeginsAt old before calls history session action call enters)
-    (takes : TakesFirst old before calls history action call) where
+    (takes : TakesFirst old before calls history action call)
+    (fenced_change : (first_step old action call).stores ≡ true → IsFencedChange (supply_beside old.volume.size (left_of_all old.volume calls)) history (Ok call.command)) where
   abbrev keeps : InterleaveView
   keeps = record old { volume = keeping old.volume action; begun = old.begun + 1 }
 
@@ -150,6 +153,7 @@ module _ (old new : InterleaveView) (before after : DeviceView) (calls : Calls) 
       acks = (let same = costs.acks in omega (arith, same));
       acked = λ told is. costs.no_ack;
       faults = costs.no_fault;
+      events = events_made step before after after (reply_next call (More running)) made.takes refl;
     }
 
     went_began : Began old new.volume after calls history session call (More running) enters
@@ -159,6 +163,7 @@ module _ (old new : InterleaveView) (before after : DeviceView) (calls : Calls) 
     went = record {
       frame = frame (More running) after made (ap (λ (w : InterleaveView). length w.tasks) new_is ∙ length-set old.tasks session
           (Some (task_of (record call { running = running }))));
+      beside = beside_made (keeping old.volume action) bytes call.running before after after made.takes.makes refl;
       going = λ going. stepped_on old new before after calls history session call (More running) enters weaving idle within number changing free names went_began went_did
           (takes new.volume after (More running) made)
           (λ waiting. step_leaves (λ count image. Left (IsBeforeOrBehind history went_began.later count) image) step before after (Ok tt) at.settled made.takes
@@ -190,6 +195,7 @@ module _ (old new : InterleaveView) (before after : DeviceView) (calls : Calls) 
       acks = (let same = end_costs.acks in let one = acks.acks in omega (arith, same, one));
       acked = end_acks step before fenced after at.settled made.takes acks;
       faults = acks.faults ∙ end_costs.no_fault;
+      events = events_made step before fenced after (reply_next call (HasEnded told)) made.takes acks;
     }
 
     end_began : Began old new.volume after calls history session call (HasEnded told) enters
@@ -213,6 +219,7 @@ module _ (old new : InterleaveView) (before after : DeviceView) (calls : Calls) 
     ended : Steps old new before after calls history session line (Ended call.number (Plain told))
     ended = record {
       frame = end_frame;
+      beside = beside_made (keeping old.volume action) bytes call.running before fenced after made.takes.makes acks.words;
       going = λ going. stepped_on old new before after calls history session call (HasEnded told) enters weaving idle within number changing free names end_began end_did
           (λ left. acks.fences ∙ takes new.volume fenced (HasEnded told) made left)
           (λ waiting. ends_waiting step before fenced after at.settled made.takes acks old.volume.size new calls history end_began.later session line waiting end_frame.size
@@ -236,6 +243,11 @@ module _ (old new : InterleaveView) (before after : DeviceView) (calls : Calls) 
     no_fence : after.fences < before.fences + step_fences step → before.fences ≤ after.fences → after.fences ≡ before.fences
     no_fence fewer least = let few = few_fences step.stores in omega (arith, fewer, least, few)
 
+    -- what has no store doesn't fail
+    stores_some : (some : Bool) → Fenced {T = Unit {0}} {E = Unit {0}} some step.events before after (Err tt) → some ≡ true
+    stores_some true fenced = refl
+    stores_some false (same, ok) = absurd (true≢false (sym ok))
+
     stopped : new.volume.stopped ≡ true
     stopped = ap (λ (v : VolumeView). v.stopped) failed.stopped
 
@@ -246,14 +258,18 @@ module _ (old new : InterleaveView) (before after : DeviceView) (calls : Calls) 
         marked = ap (λ (v : VolumeView). v.marked) failed.stopped;
         sessions = ap (λ (w : InterleaveView). length w.tasks) new_is;
       };
+      beside = beside_made (keeping old.volume action) bytes call.running before after after failed.takes.makes refl;
       going = λ going. absurd (true≢false (sym stopped ∙ going));
       failed = λ is. record {
         told = ap (λ (own : ℕ). Ended own (Plain Fault)) (number ∙ sym (ap (number_of old.begun) idle));
         cause = failed_costs.cause;
+        busy = subst (λ (ran : Option Call). IsBusyRightly (RunsOn (number_of old.begun ran)) ran calls history line) (sym idle) free;
+        began = λ none. fenced_change (stores_some step.stores failed.takes.fenced);
         entries = ap (λ (w : InterleaveView). w.entries) new_is;
         tasks = ap (λ (w : InterleaveView). w.tasks) new_is ∙ idle_tasks;
         begun = ap (λ (w : InterleaveView). w.begun) new_is ∙ sym (ap (begun_after old.begun) idle);
         bytes = ap (λ (w : InterleaveView). w.bytes) new_is;
+        events = interval_made step before after (Err tt) failed.takes;
         fences = no_fence failed_costs.fewer failed_costs.least_fences;
         no_ack = failed_costs.acks;
         none_acked = failed_costs.no_ack;

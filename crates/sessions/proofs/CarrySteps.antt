@@ -28,7 +28,7 @@ use Rattle.sessions.specs.Advanced.{entry_of, with_entry}
 use Rattle.sessions.specs.Interleave.{InterleaveView, AllWait, AreNumbered, IsWeaving, tasks_of, to_come}
 use Rattle.volume.specs.Named.{AreNamedBy}
 use Rattle.sessions.specs.Steps.{StepsOn, TakesAll, HasReason, BytesBehind, Enters, IsFreeOfOthers, IsBusyRightly, IsLeftAs, IsToldAs, IsDoneAtEnd, IsCallAt, GetsOn, IsQuietWhere, is_refused}
-use Rattle.sessions.specs.Steps.{HasAcked, MayBeLeft, IsBeforeOrBehind, begun_after, number_of, is_entered_before, is_entered_behind, acks_of}
+use Rattle.sessions.specs.Steps.{HasEvents, HasAcked, MayBeLeft, IsBeforeOrBehind, begun_after, number_of, is_entered_before, is_entered_behind, acks_of}
 use Rattle.sessions.specs.declared.entry.StepReply.{StepReply}
 use Rattle.sessions.specs.declared.entry.StepReply.TheVariants.{Running as RunsOn}
 use Rattle.sessions.specs.declared.entry.WeaveReply.TheVariants.{Plain}
@@ -77,6 +77,7 @@ pub record DidStep (old new : InterleaveView) (before after : DeviceView) (calls
   pub acks : after.acks ≡ before.acks + acks_of (reply_next call next)
   pub acked : HasAcked before after (reply_next call next)
   pub faults : after.faults ≡ before.faults
+  pub events : HasEvents before after (reply_next call next)
 
 -- ---- the clauses
 
@@ -182,6 +183,7 @@ module _ (old new : InterleaveView) (before after : DeviceView) (calls : Calls) 
     number_is = own_number;
     held = entry_held old before calls history session weaving idle call.number (Plain (told_next next));
     legal = entry_legal old before calls history session weaving idle call.number (told_next next) call.command id began.later entering makes_none (told refl);
+    given = λ ran runs. absurd (let clash : ◌≡◌ {A = Option Call} None (Some ran) = sym idle ∙ runs in cc);
     told = told_as next;
   }
   enters_so false same added is told = record { told = told_none next is; same = added; history_same = same }
@@ -262,6 +264,7 @@ module _ (old new : InterleaveView) (before after : DeviceView) (calls : Calls) 
         (begun_reason before after history call next enters changing began.entered began.told);
     bytes = bytes_behind next;
     quiet = subst (λ (ran : Option Call). IsQuietWhere reply ran line before after) (sym idle) (quiet_behind next began.entered began.told);
+    events = did.events;
     fences = record {
       most = did.most;
       goes_on = λ ran runs. cc (idle, runs);

@@ -11,7 +11,7 @@ use Rattle.volume.specs.Volume.{VolumeView}
 use Rattle.volume.specs.Beside.{StandsBeside, IsStandingBeside, MayPrepare, IsAsked as MayBePrepared}
 use Rattle.volume.specs.Named.{AreNamedBy, refusal_of_walks}
 use Rattle.volume.specs.Planned.{IsPlannedWith}
-use Rattle.volume.specs.Prepared.{IsRefusal, IsSameButRoom, Prepares}
+use Rattle.volume.specs.Prepared.{IsRefusal, Prepares}
 use Rattle.volume.specs.declared.named.NamedNodes.{NamedNodes}
 use Rattle.volume.specs.declared.plan.Action.{Action}
 use Rattle.volume.proofs.Reserved.{stands_still}
@@ -36,14 +36,12 @@ use Rattle.sessions.proofs.CommandLeft.{left_behind}
 use Rattle.sessions.proofs.CommandSteps.{steps_back}
 use Rattle.sessions.proofs.FencesOthers.{others_fences}
 use Rattle.sessions.proofs.ReplyReasons.{walks_reason, other_reason, prepared_reason}
+use Rattle.sessions.proofs.StepEvents.{same_room}
 use Rattle.sessions.proofs.CommandTasks.{call_of_task, none_in_the_way, free_of_others, in_the_way}
 
 no_plan_refused : (changes : Bool) → (not changes || true) ≡ true
 no_plan_refused true = refl
 no_plan_refused false = refl
-
-same_room : (device : DeviceView) → IsSameButRoom device device
-same_room device = record { words = refl; trail = refl; room = omega arith; faults = refl; refused = omega arith; fences = refl; acks = refl }
 
 -- Its walks end, and this is what it names, whatever calls run.
 abbrev pub IsNamed : VolumeView → DeviceView → Command → NamedNodes → Type 0

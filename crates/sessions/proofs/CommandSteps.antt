@@ -1,10 +1,13 @@
 -- A step of a command from behind its preparing, which takes places and room alone, is one from before it.
-use Rattle.std.proofs.Common.{None, Some, arith, sym, ◌≡◌, ◌≢◌, ℕ, ◌+◌, ◌≤◌, Bool, true, false, not, ◌&&◌, length, Option, ap, subst, ◌∙◌}
+use Rattle.std.proofs.Common.{None, Some, sym, ◌≡◌, ◌≢◌, ℕ, ◌+◌, ◌≤◌, Bool, true, false, not, ◌&&◌, length, List, Option, Err, ap, subst, ◌∙◌}
 use Rattle.pm_trait.specs.Device.{LeavesOnly, AcksSettled, HasRisen, acks_from, moment_of}
 use Rattle.pm_trait.specs.DeviceView.{DeviceView}
 use Rattle.pm_trait.specs.Trail.{Trail}
 use Rattle.tree_model.specs.Run.{State, Line}
+use Rattle.pm_trait.specs.Unfolds.{KeepsWords}
+use Rattle.layout.specs.Superblock.{IsSuperblockWord}
 use Rattle.image_reading.specs.Residue.{Residue}
+use Rattle.image_counts.specs.Laws.{supply_beside}
 use Rattle.volume.specs.Volume.{VolumeView}
 use Rattle.volume.specs.Prepared.{IsSameButRoom}
 use Rattle.session_laws.specs.Calls.{Call, Calls, call_at, without, left_of_all, ranges_of_all, fences_of_call}
@@ -13,11 +16,12 @@ use Rattle.session_laws.proofs.Lists.{without_idle}
 use Rattle.engine.proofs.After.{Acked}
 use Rattle.sessions.specs.History.{IsLegal}
 use Rattle.sessions.specs.Interleave.{InterleaveView}
-use Rattle.sessions.specs.Steps.{Enters, HasFenced, TakesAll, HasReason, StepsOn, StepFails, MayBeLeft, IsBeforeOrBehind, IsBeforeOrEntered, Steps, acks_of, is_entered_before, is_entered_behind, GetsOn, IsQuietWhere}
+use Rattle.sessions.specs.Steps.{IsFencedChange, Enters, HasFenced, TakesAll, HasReason, StepsOn, StepFails, MayBeLeft, IsBeforeOrBehind, IsBeforeOrEntered, Steps, acks_of, is_entered_before, is_entered_behind, GetsOn, IsQuietWhere}
 use Rattle.sessions.specs.declared.entry.StepReply.{StepReply}
 use Rattle.sessions.specs.declared.entry.StepReply.TheVariants.{Running as RunsOn, Ended}
 use Rattle.sessions.proofs.FencesTakes.{takes_back}
 use Rattle.sessions.proofs.ReplyReasons.{reason_back}
+use Rattle.sessions.proofs.StepEvents.{room_then, interval_back, events_back}
 
 module _ (old new : InterleaveView) (volume : VolumeView) (before between after : DeviceView) (calls : Calls) (history : State) (session : ℕ) (line : Line) (reply : StepReply)
     (idle : call_at calls session ≡ None) (size : volume.size ≡ old.volume.size) (marked : volume.marked ≡ old.volume.marked) (left : left_of_all volume (without calls session) ≡ left_of_all old.volume (without calls session))
@@ -37,6 +41,7 @@ module _ (old new : InterleaveView) (volume : VolumeView) (before between after 
       pages = entered.held.pages ∙ ap (λ (left : Residue). length left.pages) left;
     };
     legal = subst (λ (P : ℕ). IsLegal P entered.entry line history later) size entered.legal;
+    given = λ ran runs. absurd (let clash : ◌≡◌ {A = Option Call} None (Some ran) = sym idle ∙ runs in cc);
     told = entered.told;
   }
   enters_back false later none = record { told = none.told; same = none.same; history_same = none.history_same }
@@ -54,18 +59,7 @@ module _ (old new : InterleaveView) (volume : VolumeView) (before between after 
   quiet_back : (reply : StepReply) (ran : Option Call) → IsQuietWhere reply ran line between after → IsQuietWhere reply ran line before after
   quiet_back (RunsOn number) ran quiet = tt
   quiet_back (Ended number answer) (Some call) quiet = tt
-  quiet_back (Ended number answer) None quiet = λ none. let was = quiet none in record { between = was.between; room = room_then was.between was.room; acked = was.acked }
-    where
-      room_then : (last : DeviceView) → IsSameButRoom between last → IsSameButRoom before last
-      room_then last more = record {
-        words = more.words ∙ room.words;
-        trail = more.trail ∙ room.trail;
-        room = (let one = room.room in let other = more.room in omega (arith, one, other));
-        faults = more.faults ∙ room.faults;
-        refused = (let one = room.refused in let other = more.refused in omega (arith, one, other));
-        fences = more.fences ∙ room.fences;
-        acks = more.acks ∙ room.acks;
-      }
+  quiet_back (Ended number answer) None quiet = λ none. let was = quiet none in record { between = was.between; room = room_then before between was.between room was.room; acked = was.acked }
 
   on_back : StepsOn behind new between after calls history session line reply → StepsOn old new before after calls history session line reply
   on_back on = record {
@@ -92,6 +86,7 @@ module _ (old new : InterleaveView) (volume : VolumeView) (before between after 
         (subst (λ (ran : Option Call). HasReason between after ran history line reply) idle on.reason));
     bytes = on.bytes;
     quiet = quiet_back reply (call_at calls session) on.quiet;
+    events = events_back before between after reply room on.events;
     fences = fenced_back (call_at calls session) on.fences;
     acks = on.acks ∙ ap (λ (n : ℕ). n + acks_of reply) room.acks;
     acked = subst (λ (trail : Option Trail). Acked trail after.trail (acks_of reply)) room.trail on.acked;
@@ -111,10 +106,15 @@ module _ (old new : InterleaveView) (volume : VolumeView) (before between after 
   fails_back fails = record {
     told = fails.told;
     cause = subst (λ (n : ℕ). HasRisen n after.faults) room.faults fails.cause;
+    busy = fails.busy;
+    began = λ none.
+        subst (λ (residue : Residue). IsFencedChange (supply_beside old.volume.size residue) history line) all_left
+        (subst (λ (P : ℕ). IsFencedChange (supply_beside P (left_of_all volume calls)) history line) size (fails.began none));
     entries = fails.entries;
     tasks = fails.tasks;
     begun = fails.begun;
     bytes = fails.bytes;
+    events = interval_back before between after (Err tt) room fails.events;
     fences = fails.fences ∙ room.fences;
     no_ack = fails.no_ack ∙ room.acks;
     none_acked = subst (λ (trail : Option Trail). acks_from trail after.trail (moment_of after.trail) ≡ 0) room.trail fails.none_acked;
@@ -125,6 +125,7 @@ module _ (old new : InterleaveView) (volume : VolumeView) (before between after 
   pub steps_back : Steps behind new between after calls history session line reply → Steps old new before after calls history session line reply
   steps_back steps = record {
     frame = record { size = steps.frame.size ∙ size; marked = steps.frame.marked ∙ marked; sessions = steps.frame.sessions };
+    beside = subst (λ (words : List ℕ). KeepsWords IsSuperblockWord words after.words) room.words steps.beside;
     going = λ goes. on_back (steps.going goes);
     failed = λ stopped. fails_back (steps.failed stopped);
   }

@@ -1,6 +1,6 @@
 -- A plan begins: its command takes as many fences as the plan between the history and what its entry leaves, and with the first step it takes one of
 -- them, or where it has nothing to do none.
-use Rattle.std.proofs.Common.{◌≡◌, ℕ, zero, suc, ◌+◌, ◌<◌, Bool, true, if◌then◌else◌, List, Option, None, Some, Ok, refl, sym, ap, subst, ◌∙◌, arith}
+use Rattle.std.proofs.Common.{◌≡◌, ℕ, zero, suc, ◌+◌, ◌<◌, ◌≤◌, Bool, true, true≢false, if◌then◌else◌, List, Option, None, Some, Ok, refl, sym, ap, subst, ◌∙◌, arith}
 use Rattle.pm_trait.specs.DeviceView.{DeviceView, MakesIntervals}
 use Rattle.pm_trait.specs.Unfolds.{Step, step_events, step_fences}
 use Rattle.pm_trait.proofs.Unfolding.{step_intervals}
@@ -10,6 +10,7 @@ use Rattle.tree_model.specs.Run.{State, IsVolumeState, is_changing}
 use Rattle.tree_model.specs.Step.{tree_after, room_after}
 use Rattle.tree_model.specs.Tree.{node_at}
 use Rattle.tree_model.specs.declared.command.Command.{Command}
+use Rattle.naming_laws.specs.Naming.{inode_need}
 use Rattle.image_reading.specs.Residue.{Residue, no_residue}
 use Rattle.image_counts.specs.Laws.{ReadsBeside, supply_beside}
 use Rattle.image_counts.proofs.Inodes.{free_inode_beside_law}
@@ -20,21 +21,13 @@ use Rattle.volume.specs.Volume.{VolumeView}
 use Rattle.volume.specs.declared.next.Next.{Next}
 use Rattle.volume.specs.declared.next.Next.TheVariants.{More, Ended as HasEnded}
 use Rattle.volume.specs.declared.plan.Action.{Action}
-use Rattle.volume.specs.declared.plan.NewEntry.{NewEntry}
 use Rattle.plan_laws.specs.Laws.{gives_back, NamesApart}
 use Rattle.plan_laws.proofs.PlanFences.{plan_fences_beside_law}
-use Rattle.fence_token.specs.declared.states.Clean.{Clean}
-use Rattle.entry_steps.specs.declared.place.NamePlace.{NamePlace}
-use Rattle.entry_steps.specs.declared.place.NamePlace.TheVariants.{Slot, Page}
-use Rattle.create_ops.specs.Stages as entries
-use Rattle.create_ops.specs.declared.run.Stage.{Stage as EntryStage}
-use Rattle.create_ops.specs.declared.run.Stage.TheVariants.{Begun as EntryBegun, Written as EntryWritten, Claimed as EntryClaimed}
 use Rattle.running_calls.specs.declared.running.Running.{Running}
-use Rattle.running_calls.specs.declared.running.Running.TheVariants.{Makes, Links, Removes, Moves, Writes, Resizes}
-use Rattle.running_calls.specs.Stages.{IsNext, as_call, begun}
+use Rattle.running_calls.specs.Stages.{begun}
 use Rattle.waiting_laws.specs.Beside.{IsReady}
 use Rattle.waiting_laws.proofs.MakingBegins.{for_entry}
-use Rattle.running_laws.specs.Steps.{IsAfter, given_inode}
+use Rattle.running_laws.specs.Steps.{IsAfter, commits, given_inode}
 use Rattle.running_laws.specs.Waits.{bytes_of_command}
 use Rattle.running_laws.proofs.BeginPlans.{IsCallOf, planned_call}
 use Rattle.running_laws.proofs.CostPlan.{plan_costs_law}
@@ -48,51 +41,20 @@ use Rattle.session_laws.proofs.HistoryEnters.{enters}
 use Rattle.sessions.specs.Advanced.{MadeStep}
 use Rattle.sessions.specs.Interleave.{InterleaveView}
 use Rattle.sessions.specs.Planned.{IsPlannedAmong}
+use Rattle.sessions.specs.Steps.{IsFencedChange, IsLeastGiven}
 use Rattle.sessions.proofs.CarryBeside.{stores_first, fences_are}
 use Rattle.sessions.proofs.CarryFree.{planned_beside, planned_ready, planned_may}
 use Rattle.sessions.proofs.CarryIdle.{IsIdle, plan_idle}
 use Rattle.sessions.proofs.CarryMade.{first_step}
+use Rattle.sessions.proofs.CarryPlans.{CommitsFirst, at_once, later as commits_later, plan_commits}
 use Rattle.sessions.proofs.FencesAlike.{fences_alike, few_fences}
 use Rattle.sessions.proofs.FencesRoom.{Fits, plan_fits}
 use Rattle.sessions.proofs.FencesTakes.{TakesNext}
+use Rattle.sessions.proofs.GivenLeast.{least_by}
+use Rattle.sessions.proofs.GivenNext.{next_given}
 use Rattle.sessions.proofs.WeavesOne.{WaitBeside}
 
 -- ---- the inode that it gives
-
--- what is left gives the same
-abbrev given_left : Next Running → ℕ
-given_left (More running) = given_inode running
-given_left (HasEnded reply) = 0
-
-abbrev KeepsEntry : NewEntry → Next entries.RunningView → Type 0
-KeepsEntry entry (More running) = running.entry.inode ≡ entry.inode
-KeepsEntry entry (HasEnded reply) = Unit {0}
-
-kept_placed : (entry : NewEntry) (place : NamePlace Clean) (left : Next entries.RunningView) → entries.IsAfterPlace entry place left → KeepsEntry entry left
-kept_placed entry (Slot slot) left is = subst (KeepsEntry entry) (sym is) tt
-kept_placed entry (Page page) left (node, is) = subst (KeepsEntry entry) (sym is) refl
-
-kept_entry : (entry : NewEntry) (stage : EntryStage) (left : Next entries.RunningView) → entries.IsAfter entry stage left → KeepsEntry entry left
-kept_entry entry EntryBegun left (node, is) = subst (KeepsEntry entry) (sym is) refl
-kept_entry entry (EntryWritten node) left is = kept_placed entry node.place left is
-kept_entry entry (EntryClaimed node) left is = subst (KeepsEntry entry) (sym is) tt
-
-entry_given : (entry : NewEntry) (running : Running) (left : Next entries.RunningView) → KeepsEntry entry left → More running ≡ as_call Makes left
-    → given_inode running ≡ entry.inode
-entry_given entry running (More next) kept is = ap given_left is ∙ kept
-entry_given entry running (HasEnded reply) kept is = absurd (let clash : ◌≡◌ {A = Next Running} (More running) (HasEnded reply) = is in cc)
-
-none_given : {Stage : Type 0} (of_kind : Stage → Running) → ((stage : Stage) → given_inode (of_kind stage) ≡ 0) → (left : Next Stage) → given_left (as_call of_kind left) ≡ 0
-none_given of_kind none (More stage) = none stage
-none_given of_kind none (HasEnded reply) = refl
-
-next_given : (running next : Running) → IsNext running (More next) → given_inode next ≡ given_inode running
-next_given (Makes running) next (left, after, is) = entry_given running.entry next left (kept_entry running.entry running.stage left after) is
-next_given (Links running) next (left, after, is) = ap given_left is ∙ none_given Links (λ stage. refl) left
-next_given (Removes running) next is = ap given_left is ∙ none_given Removes (λ stage. refl) _
-next_given (Moves running) next is = ap given_left is ∙ none_given Moves (λ stage. refl) _
-next_given (Writes running) next is = ap given_left is ∙ none_given Writes (λ stage. refl) _
-next_given (Resizes running) next is = ap given_left is ∙ none_given Resizes (λ stage. refl) _
 
 -- no node has it
 abbrev UnusedBy : State → Option Running → Type 0
@@ -182,6 +144,30 @@ module _ (old : InterleaveView) (before : DeviceView) (calls : Calls) (history :
       let (entered, new, now) = enters supply ranges ranges history words later call.command id is accepted unused does after in
       record { entered = entered; enters = new; fences = sym (fences_alike ranges ranges history words entered later call.command is now) ∙ sym plan_fences }
 
+  -- a node that it makes gets the least inode
+  gives_least : inode_need call.command ≡ 1 → IsLeastGiven history.tree others id
+  gives_least =
+      least_by old.volume before words history others (ranges_of_all calls) call.command action call.running
+      (planned_call old.volume before words call.command action others ready.ready) ready.ready planned.weaving.history_is starts
+
+  -- ---- a change whose first step has a store takes a fence
+
+  some_fence : (is_commit : Bool) (fences behind : ℕ) → CommitsFirst is_commit fences behind → 1 ≤ fences
+  some_fence is_commit fences behind (at_once commit all) = omega (arith, all)
+  some_fence is_commit fences behind (commits_later quiet more) = omega (arith, more)
+
+  fences_some : (first_step old action call).stores ≡ true → (n : ℕ) → events_of action ≡ n → 1 ≤ fences_of_plan action
+  fences_some stores zero none =
+      absurd (true≢false (sym stores ∙ (plan_idle (keeping old.volume action) (bytes_of_command call.command) action call.running starts none).stores))
+  fences_some stores (suc n) some =
+      some_fence (commits call.running) (fences_of_plan action) (behind_commit action) (plan_commits action call.running starts (omega (arith, some)))
+
+  pub fenced_change : (first_step old action call).stores ≡ true → IsFencedChange supply history (Ok call.command)
+  fenced_change stores =
+      let some = fences_some stores (events_of action) refl in
+      let all = plans_entry.fences in
+      (changing, id, plans_entry.entered, plans_entry.enters, omega (arith, some, all))
+
   -- ---- with its first step
 
   module _ (new : VolumeView) (fenced : DeviceView) where
@@ -206,6 +192,7 @@ module _ (old : InterleaveView) (before : DeviceView) (calls : Calls) (history :
       entered = plans_entry.entered;
       enters = subst (EntersHistory supply history plans_entry.entered call.command) (sym (next_given call.running running made.next_is)) plans_entry.enters;
       fences = plans_entry.fences ∙ fences_are old before calls history session action call planned changing plan_behind starts some new fenced (More running) made;
+      given = subst (λ (i : ℕ). inode_need call.command ≡ 1 → IsLeastGiven history.tree others i) (sym (next_given call.running running made.next_is)) gives_least;
     }
     takes_some some (HasEnded reply) made = λ left.
         let one = fences_are old before calls history session action call planned changing plan_behind starts some new fenced (HasEnded reply) made in

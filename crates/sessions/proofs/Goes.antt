@@ -26,10 +26,10 @@ use Rattle.session_laws.proofs.ReadyPassed.{acknowledged_among_law}
 use Rattle.sessions.specs.Advanced.{MadeStep, FailedStep, HasAdvanced, goes_on, ends, fails}
 use Rattle.sessions.specs.Interleave.{InterleaveView, AllWait, idle, beside, alone, IsWeaving, task_of, tasks_of, with_task}
 use Rattle.sessions.specs.Laws.{OthersHold, OthersHoldLaw, GoesOnLaw}
-use Rattle.sessions.specs.Steps.{MayStep, Steps, StepFails, KeepsFrame, MayBeLeft, IsBeforeOrBehind, IsBeforeOrEntered, number_of, begun_after}
+use Rattle.sessions.specs.Steps.{IsBusyRightly, MayStep, Steps, StepFails, KeepsFrame, MayBeLeft, IsBeforeOrBehind, IsBeforeOrEntered, number_of, begun_after}
 use Rattle.sessions.specs.Tasks.{task_in}
 use Rattle.sessions.specs.declared.entry.StepReply.{StepReply}
-use Rattle.sessions.specs.declared.entry.StepReply.TheVariants.{Ended}
+use Rattle.sessions.specs.declared.entry.StepReply.TheVariants.{Running as RunsOn, Ended}
 use Rattle.sessions.specs.declared.entry.WeaveReply.TheVariants.{Plain}
 use Rattle.sessions.specs.declared.task.Task.{Task}
 use Rattle.sessions.proofs.GoesAlone.{stands_alone}
@@ -38,6 +38,7 @@ use Rattle.sessions.proofs.GoesKnown.{StandsAt}
 use Rattle.sessions.proofs.CarryCrash.{step_leaves, step_settled, end_acks, ends_waiting, ends_settled}
 use Rattle.sessions.proofs.GoesLegal.{leaves_behind, leaves_entered}
 use Rattle.sessions.proofs.GoesLists.{IsRun, run_by}
+use Rattle.sessions.proofs.StepEvents.{interval_made, events_made, beside_made}
 use Rattle.sessions.proofs.WeavesOne.{task_of_option, task_put, tasks_long, tasks_set, tasks_without}
 use Rattle.sessions.proofs.GoesMade.{IsLeftSo, LeftAtAny, SettledAtAny, reply_next, steps_on}
 
@@ -122,8 +123,10 @@ module _ (old new : InterleaveView) (before : DeviceView) (calls : Calls) (histo
       let went_to = at.goes new.volume after (More running) made in
       record {
         frame = frame_made (More running) after made left;
+        beside = beside_made old.volume bytes call.running before after after made.takes.makes refl;
         going = λ is. steps_on old new before calls history s call (More running) runs weaving others hold at after made left after went_to.waits stores
-            (record { fences = refl; faults = refl; acks = omega arith }) (λ told is. stores.fenced.no_ack) (left_on running after made) (settled_on running after made);
+            (record { fences = refl; faults = refl; acks = omega arith }) (λ told is. stores.fenced.no_ack)
+            (events_made step before after after (reply_next call (More running)) made.takes refl) (left_on running after made) (settled_on running after made);
         failed = going_so (More running) after after (reply_next call (More running)) made;
       }
 
@@ -149,10 +152,11 @@ module _ (old new : InterleaveView) (before : DeviceView) (calls : Calls) (histo
       let went_to = at.goes new.volume fenced (HasEnded told) made in
       record {
         frame = frame_made (HasEnded told) fenced made left;
+        beside = beside_made old.volume bytes call.running before fenced after made.takes.makes acks.words;
         going = λ is. steps_on old new before calls history s call (HasEnded told) runs weaving others hold at fenced made left after
             (beside (acknowledged_among_law still_waits_law holds_law new.volume fenced after went_to.words (set calls s None) went_to.waits.0 acks) went_to.waits.1) stores
             (record { fences = acks.fences; faults = acks.faults; acks = acks.acks }) (end_acks step before fenced after at.settled made.takes acks)
-            (left_ended told fenced after made acks) (settled_ended told fenced after made acks);
+            (events_made step before fenced after (reply_next call (HasEnded told)) made.takes acks) (left_ended told fenced after made acks) (settled_ended told fenced after made acks);
         failed = going_so (HasEnded told) fenced after (reply_next call (HasEnded told)) made;
       }
 
@@ -171,14 +175,18 @@ module _ (old new : InterleaveView) (before : DeviceView) (calls : Calls) (histo
           marked = ap (λ (volume : VolumeView). volume.marked) failed.stopped;
           sessions = ap (λ (weave : InterleaveView). length weave.tasks) is ∙ sym (length-set old.tasks s (Some (task_of call)));
         };
+        beside = beside_made old.volume bytes call.running before after after failed.takes.makes refl;
         going = λ going. absurd (true≢false (sym stopped ∙ going));
         failed = λ stop. record {
           told = told ∙ ap (λ (number : ℕ). Ended number (Plain Fault)) (sym (ap (number_of old.begun) runs));
           cause = stores.cause;
+          busy = subst (λ (ran : Option Call). IsBusyRightly (RunsOn (number_of old.begun ran)) ran calls history (Ok call.command)) (sym runs) tt;
+          began = λ none. absurd (let clash : ◌≡◌ {A = Option Call} None (Some call) = sym none ∙ runs in cc);
           entries = ap (λ (weave : InterleaveView). weave.entries) is;
           tasks = ap (λ (weave : InterleaveView). weave.tasks) is ∙ others ∙ tasks_set calls s None ∙ ap (λ (tasks : List (Option Task)). set tasks s None) (sym weaving.tasks);
           begun = ap (λ (weave : InterleaveView). weave.begun) is ∙ sym (ap (begun_after old.begun) runs);
           bytes = ap (λ (weave : InterleaveView). weave.bytes) is;
+          events = interval_made step before after (Err tt) failed.takes;
           fences = let least = stores.least_fences in let fewer = stores.fewer in omega (arith, least, fewer);
           no_ack = stores.acks;
           none_acked = stores.fenced.no_ack;

@@ -38,7 +38,7 @@ IsInRange P command id = inode_need command ≡ 1 → (2 ≤ id) × (id ≤ inod
 pub makes_none : (P : ℕ) (command other : Command) (id : ℕ) → command ≡ other → inode_need other ≡ 0 → IsInRange P command id
 makes_none P command other id same none = λ one. absurd (let need = sym one ∙ ap inode_need same ∙ none in omega (arith, need))
 
-no_removal_makes : (kind : NodeKind) (path : Route) → inode_need (removing.of_kind kind path) ≡ 0
+pub no_removal_makes : (kind : NodeKind) (path : Route) → inode_need (removing.of_kind kind path) ≡ 0
 no_removal_makes AFile path = refl
 no_removal_makes ADirectory path = refl
 

@@ -15,7 +15,7 @@ use Rattle.running_laws.specs.Waits.{bytes_of_command}
 use Rattle.session_laws.specs.Calls.{Call, Calls, call_at, ranges_of_all}
 use Rattle.session_laws.specs.Histories.{EntersHistory}
 use Rattle.sessions.specs.History.{StepsTree, IsLegal, supply_of}
-use Rattle.sessions.specs.Steps.{MayBeLeft, IsBeforeOrBehind, IsBeforeOrEntered, may_commit}
+use Rattle.sessions.specs.Steps.{HasGiven, MayBeLeft, IsBeforeOrBehind, IsBeforeOrEntered, may_commit}
 use Rattle.sessions.specs.declared.entry.Entry.{Entry}
 use Rattle.sessions.specs.declared.entry.WeaveReply.TheVariants.{Plain}
 use Rattle.sessions.proofs.CarryCrash.{HoldsOfMixes}
@@ -28,7 +28,7 @@ use Rattle.sessions.proofs.StepCrash.{IsStepState, IsTreeBehind, HasLegalEntry, 
 module _ (P : ℕ) (entry : Entry) (command : Command) (id : ℕ) (history entered : State) (enters : EntersHistory (supply_of P entry) history entered command id)
     (range : IsInRange P command id)
     (answered : entry.reply ≡ Plain (reply_of (answer_of (supply_of P entry) history.tree history.room command))) where
-  steps_tree : StepsTree P entry history command entered
+  pub steps_tree : StepsTree P entry history command entered
   steps_tree = record {
     id = id;
     new_id = λ accepted. record { unused = enters.unused; in_range = range };
@@ -47,6 +47,17 @@ pub is_legal : (P : ℕ) (entry : Entry) (supply : Supply) (command : Command) (
     → IsLegal P entry (Ok command) history entered
 is_legal P entry supply command id history entered held enters range answered =
     legal_so P entry command id history entered (subst (λ (free : Supply). EntersHistory free history entered command id) (sym held) enters) range answered
+
+-- it has the inode that was given
+pub given_so : (P : ℕ) (entry : Entry) (supply : Supply) (call : Call) (history entered : State) → supply_of P entry ≡ supply
+    → EntersHistory supply history entered call.command (given_inode call.running) → IsInRange P call.command (given_inode call.running)
+    → entry.reply ≡ Plain (reply_of (answer_of (supply_of P entry) history.tree history.room call.command)) → HasGiven P entry history entered call
+unfolding steps_tree
+given_so P entry supply call history entered held enters range answered = record {
+  steps = steps_tree P entry call.command (given_inode call.running) history entered
+      (subst (λ (free : Supply). EntersHistory free history entered call.command (given_inode call.running)) (sym held) enters) range answered;
+  id_is = refl;
+}
 
 -- ---- a crash
 

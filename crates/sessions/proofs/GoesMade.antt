@@ -11,7 +11,7 @@ use Rattle.tree_model.specs.declared.reply.Reply.TheVariants.{Done, Bytes}
 use Rattle.volume.specs.declared.next.Next.{Next}
 use Rattle.volume.specs.declared.next.Next.TheVariants.{More, Ended as HasEnded}
 use Rattle.running_calls.specs.declared.running.Running.{Running}
-use Rattle.running_calls.specs.Stages.{step_of}
+use Rattle.running_calls.specs.Stages.{IsNext, step_of}
 use Rattle.running_laws.specs.Numbers.{CostsStep, fences_left}
 use Rattle.running_laws.specs.Steps.{commits, has_committed, given_inode}
 use Rattle.running_laws.specs.Waits.{bytes_of_command}
@@ -25,7 +25,7 @@ use Rattle.sessions.specs.Advanced.{MadeStep, entry_of, with_entry, enters_now, 
 use Rattle.sessions.specs.History.{supply_of}
 use Rattle.sessions.specs.Interleave.{InterleaveView, AllWait, AreNumbered, IsWeaving, task_of, tasks_of, to_come, with_task}
 use Rattle.sessions.specs.Laws.{OthersHold}
-use Rattle.sessions.specs.Steps.{Enters, IsLeftAs, IsToldAs, IsDoneAtEnd, MayBeLeft, IsBeforeOrBehind, HasAcked, IsBusyRightly, BytesBehind, HasFenced, TakesAll, HasReason, StepsOn, IsCallAt, GetsOn, fences_of_left, number_of, begun_after, is_entered_before, is_entered_behind, acks_of, IsQuietWhere}
+use Rattle.sessions.specs.Steps.{HasGiven, HasEvents, Enters, IsLeftAs, IsToldAs, IsDoneAtEnd, MayBeLeft, IsBeforeOrBehind, HasAcked, IsBusyRightly, BytesBehind, HasFenced, TakesAll, HasReason, StepsOn, IsCallAt, GetsOn, fences_of_left, number_of, begun_after, is_entered_before, is_entered_behind, acks_of, IsQuietWhere}
 use Rattle.sessions.specs.Tasks.{held_by_all}
 use Rattle.sessions.specs.declared.entry.Entry.{Entry}
 use Rattle.sessions.specs.declared.entry.StepReply.{StepReply}
@@ -35,7 +35,8 @@ use Rattle.sessions.specs.declared.entry.WeaveReply.TheVariants.{Plain}
 use Rattle.sessions.specs.declared.task.Task.{Task}
 use Rattle.sessions.proofs.GoesCounts.{enters_at_commit, enters_now_at_commit, committed_stays, entry_more, entries_within}
 use Rattle.sessions.proofs.GoesKnown.{BehindNext, WentTo, StandsAt, supply_for}
-use Rattle.sessions.proofs.GoesLegal.{is_legal}
+use Rattle.sessions.proofs.GivenNext.{next_given}
+use Rattle.sessions.proofs.GoesLegal.{is_legal, given_so}
 use Rattle.sessions.proofs.GoesLists.{to_enter, to_come_put, to_come_at, numbered_put}
 use Rattle.sessions.proofs.FencesOthers.{others_fences}
 use Rattle.sessions.proofs.GoesReplies.{AnswersAs, TellsNext}
@@ -196,6 +197,9 @@ module _ (old new : InterleaveView) (before : DeviceView) (calls : Calls) (histo
           many = ap (λ (entries : List Entry). length entries) same ∙ no_more ∙ ap (λ (b : Bool). length old.entries + entry_more b) (sym none);
         }
 
+    same_ran : (ran : Call) → call_at calls s ≡ Some ran → call ≡ ran
+    same_ran ran there = let both : ◌≡◌ {A = Option Call} (Some call) (Some ran) = sym runs ∙ there in cc
+
     come_entered : commits call.running ≡ true → HasCome old new calls history went.words s call next
     come_entered commit =
         let (entered, enters, is) = went.goes.enters commit in
@@ -214,6 +218,9 @@ module _ (old new : InterleaveView) (before : DeviceView) (calls : Calls) (histo
                 held = record { inodes = held_inodes; pages = held_pages };
                 legal = is_legal old.volume.size entry (supply_for old.volume calls s) call.command (given_inode call.running) history entered (held_so answer) enters at.id
                     (ap Plain (answers (supply_of old.volume.size entry) history.tree history.room));
+                given = λ ran there. subst (HasGiven old.volume.size entry history entered) (same_ran ran there)
+                    (given_so old.volume.size entry (supply_for old.volume calls s) call history entered (held_so answer) enters at.id
+                    (ap Plain (answers (supply_of old.volume.size entry) history.tree history.room)));
                 told = told_so next;
               });
           tree = λ again. enters.after.tree;
@@ -252,7 +259,7 @@ module _ (old new : InterleaveView) (before : DeviceView) (calls : Calls) (histo
     module _ (after : DeviceView) (waits : AllWait new.volume after went.words now)
         (stores : StoresAndFences {T = Unit {0}} {E = Unit {0}} before fenced (step_of old.volume bytes call.running).events (Ok tt))
         (there : IsThereSo fenced after (reply_next call next)) (acked : HasAcked before after (reply_next call next))
-        (left_at : LeftAtAny old new before after calls history call now) (settled_at : SettledAtAny old new before after now) where
+        (events : HasEvents before after (reply_next call next)) (left_at : LeftAtAny old new before after calls history call now) (settled_at : SettledAtAny old new before after now) where
       weaving_on : IsWeaving new after now come.later
       weaving_on = record {
         tasks = left.tasks;
@@ -272,9 +279,9 @@ module _ (old new : InterleaveView) (before : DeviceView) (calls : Calls) (histo
       left_as (More running) = (record call { running = running }, refl, refl, refl)
       left_as (HasEnded reply) = (refl, refl)
 
-      call_so : (onward : Next Running) → IsCallAt (Some call) (next_call call onward) (Ok call.command) history.tree
-      call_so (More running) = (refl, refl)
-      call_so (HasEnded reply) = tt
+      call_so : (onward : Next Running) → IsNext call.running onward → IsCallAt (Some call) (next_call call onward) (Ok call.command) history.tree
+      call_so (More running) is = record { command = refl; named = refl; given = next_given call.running running is }
+      call_so (HasEnded reply) is = tt
 
       fences_so : (onward : Next Running) → fences_left new.volume bytes onward ≡ fences_of_left new.volume (next_call call onward)
       fences_so (More running) = refl
@@ -320,7 +327,7 @@ module _ (old new : InterleaveView) (before : DeviceView) (calls : Calls) (histo
             (subst (IsLeftAs (reply_next call next) call.number) (sym put) (left_as next));
         enters = subst (λ (b : Bool). Enters b weave new calls s (Ok call.command) history come.later (reply_next call next)) (sym when) come.enters;
         call_is = subst (λ (one : Option Call). IsCallAt one (call_at now s) (Ok call.command) history.tree) (sym runs)
-            (subst (λ (one : Option Call). IsCallAt (Some call) one (Ok call.command) history.tree) (sym put) (call_so next));
+            (subst (λ (one : Option Call). IsCallAt (Some call) one (Ok call.command) history.tree) (sym put) (call_so next made.next_is));
         gets_on = subst (λ (one : Option Call). GetsOn old.volume new.volume one (call_at now s)) (sym runs)
             (subst (λ (one : Option Call). GetsOn old.volume new.volume (Some call) one) (sym put) (costs.fences ∙ ap (λ (n : ℕ). 1 + n) (fences_so next)));
         takes_all = subst
@@ -331,6 +338,7 @@ module _ (old new : InterleaveView) (before : DeviceView) (calls : Calls) (histo
         reason = subst (λ (one : Option Call). HasReason before after one history (Ok call.command) (reply_next call next)) (sym runs) (reason_so next tells);
         bytes = bytes_so next tells;
         quiet = subst (λ (one : Option Call). IsQuietWhere (reply_next call next) one (Ok call.command) before after) (sym runs) (quiet_so next);
+        events = events;
         fences = fenced_so;
         acks = there.acks ∙ ap (λ (n : ℕ). n + acks_of (reply_next call next)) stores.acks;
         acked = acked;

@@ -1,5 +1,6 @@
 mod HistoryRows
 pub mod StepCrash
+pub mod StepEvents
 pub mod WeavesOne
 pub mod WeavesOn
 pub mod WeavesStarts
@@ -43,6 +44,8 @@ pub mod GoesIds
 pub mod GoesKnown
 pub mod GoesBeside
 pub mod GoesAlone
+pub mod GivenNext
+pub mod GivenLeast
 pub mod GoesLegal
 pub mod GoesCounts
 pub mod GoesMade

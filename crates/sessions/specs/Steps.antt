@@ -1,19 +1,24 @@
 -- What a step of a session does: to the calls that run, to the history, and to the device.
-use Rattle.std.specs.Prelude.{◌≡◌, ◌≢◌, ◌⊎◌, ℕ, ◌+◌, ◌≤◌, nat_le, nat_lt, Bool, true, false, IsTrue, not, ◌&&◌, ◌||◌, List, [], ◌∷◌, ◌++◌, length, set, take, drop, Option, None, Some, Ok, Err, Contains}
+use Rattle.std.specs.Prelude.{◌≡◌, ◌≢◌, ◌⊎◌, ℕ, ◌+◌, ◌≤◌, ◌<◌, nat_le, nat_lt, Bool, true, false, IsTrue, not, ◌&&◌, ◌||◌, List, [], ◌∷◌, ◌++◌, length, set, take, drop, Option, None, Some, Ok, Err, Result, Contains}
 use Rattle.pm_trait.specs.Trail.{Trail}
 use Rattle.pm_trait.specs.Device.{LeavesOnly, AcksSettled, HasRisen, EndsInFault, acks_from, moment_of}
 use Rattle.pm_trait.specs.DeviceView.{DeviceView, Acknowledges}
+use Rattle.pm_trait.specs.Unfolds.{Fenced, KeepsWords}
+use Rattle.layout.specs.Superblock.{IsSuperblockWord}
 use Rattle.tree_model.specs.Run.{State, Line, is_changing}
 use Rattle.tree_model.specs.PathText.{Route}
-use Rattle.tree_model.specs.Tree.{Tree, id_at, bytes_of}
+use Rattle.tree_model.specs.Capacity.{Supply}
+use Rattle.tree_model.specs.Tree.{Tree, id_at, node_at, bytes_of}
 use Rattle.tree_model.specs.Step.{id_of}
-use Rattle.tree_model.specs.Fences.{fences_of_change, fences_of_accepted, size_before}
+use Rattle.tree_model.specs.Fences.{fences_of, fences_of_accepted, size_before}
 use Rattle.tree_model.specs.Places.{line_needs_places}
 use Rattle.tree_model.specs.declared.command.Command.{Command}
 use Rattle.tree_model.specs.declared.command.Command.TheVariants.{Create, Mkdir, Link, Unlink, Rmdir, Rename, Write, Truncate, Read, Stat as Tell, List as Show, Df}
 use Rattle.tree_model.specs.declared.reply.Refusal.TheVariants.{NoMemory}
 use Rattle.tree_model.specs.declared.reply.Reply.{Reply}
 use Rattle.tree_model.specs.declared.reply.Reply.TheVariants.{Done, Count, Status, Bytes, Names, Space, Refused, Unread, Stopped, Fault}
+use Rattle.naming_laws.specs.Naming.{inode_need}
+use Rattle.image_reading.specs.Counts.{IsIn}
 use Rattle.image_reading.specs.Residue.{Residue}
 use Rattle.image_counts.specs.Laws.{supply_beside}
 use Rattle.mixing_laws.specs.Mixed.{Range}
@@ -26,9 +31,10 @@ use Rattle.session_laws.specs.Calls.{Call, Calls, call_at, without, left_of_all,
 use Rattle.session_laws.specs.Histories.{EntersHistory, IsCrashOf}
 use Rattle.engine.specs.Replies.{IsChangeReply}
 use Rattle.sessions.specs.Busy.{AreBothNamed}
-use Rattle.sessions.specs.History.{IsLegal}
+use Rattle.sessions.specs.History.{IsLegal, StepsTree}
 use Rattle.sessions.specs.Interleave.{InterleaveView, IsWeaving}
 use Rattle.sessions.specs.Tasks.{task_in}
+use Rattle.sessions.specs.Texts.{answer_in}
 use Rattle.sessions.specs.declared.task.Task.{Task}
 use Rattle.sessions.specs.declared.entry.Entry.{Entry}
 use Rattle.sessions.specs.declared.entry.StepReply.{StepReply}
@@ -72,6 +78,11 @@ abbrev pub IsToldAs : StepReply → WeaveReply → Type 0
 IsToldAs (Running number) answer = answer ≡ Plain Done
 IsToldAs (Ended number reply) answer = reply ≡ answer
 
+-- The entry is the tree's, and a node that it makes has the inode that the call was given when it began.
+pub record HasGiven (P : ℕ) (entry : Entry) (history later : State) (ran : Call) : Type 0 where
+  pub steps : StepsTree P entry history ran.command later
+  pub id_is : steps.id ≡ given_inode ran.running
+
 -- Its entry came, legal from the history before.
 pub record HasEntered (old new : InterleaveView) (calls : Calls) (session : ℕ) (line : Line) (history later : State) (reply : StepReply) : Type 0 where
   pub entry : Entry
@@ -80,6 +91,7 @@ pub record HasEntered (old new : InterleaveView) (calls : Calls) (session : ℕ)
   pub number_is : entry.number ≡ number_of old.begun (call_at calls session)
   pub held : HasHeld entry (left_of_all old.volume (without calls session))
   pub legal : IsLegal old.volume.size entry line history later
+  pub given : (ran : Call) → call_at calls session ≡ Some ran → HasGiven old.volume.size entry history later ran
   pub told : IsToldAs reply entry.reply
 
 -- a call whose entry came before ends with what that says
@@ -155,12 +167,18 @@ BytesBehind old new tree line (Ended number reply) = HasReadBytes old new tree l
 
 -- ---- what the session runs behind it
 
--- A call that begins is its line's, and names what that names in the history; one that goes on is the same call.
+-- A call that goes on is the same.
+pub record IsSameCall (ran call : Call) : Type 0 where
+  pub command : call.command ≡ ran.command
+  pub named : call.named ≡ ran.named
+  pub given : given_inode call.running ≡ given_inode ran.running
+
+-- One that begins is its line's, and names what that names in the history.
 abbrev pub IsCallAt : Option Call → Option Call → Line → Tree → Type 0
 IsCallAt None None line T = Unit {0}
 IsCallAt (Some ran) None line T = Unit {0}
 IsCallAt None (Some call) line T = (line ≡ Ok call.command) × AreNamedBy T call.command call.named
-IsCallAt (Some ran) (Some call) line T = (call.command ≡ ran.command) × (call.named ≡ ran.named)
+IsCallAt (Some ran) (Some call) line T = IsSameCall ran call
 
 abbrev pub fences_of_left : VolumeView → Option Call → ℕ
 fences_of_left volume None = 0
@@ -203,6 +221,26 @@ IsQuietWhere (Running number) ran line before after = Unit {0}
 IsQuietWhere (Ended number answer) (Some call) line before after = Unit {0}
 IsQuietWhere (Ended number answer) None line before after = has_no_plan line answer ≡ true → IsAckedAlone before after
 
+-- ---- its events
+
+-- Space for events was taken; then come stores and flushes up to one fence, or none of these. How many they are is left open.
+pub record ReservesAndFences {T E : Type 0} (before after : DeviceView) (result : Result T E) : Type 0 where
+  pub reserved : DeviceView
+  pub room : IsSameButRoom before reserved
+  pub has_store : Bool
+  pub most : ℕ
+  pub fenced : Fenced has_store most reserved after result
+
+abbrev pub IsAckedAtEnd : StepReply → DeviceView → DeviceView → Type 0
+IsAckedAtEnd (Running number) fenced after = after ≡ fenced
+IsAckedAtEnd (Ended number reply) fenced after = Acknowledges fenced after
+
+-- It makes no other events than these, and where the call has ended an acknowledgement.
+pub record HasEvents (before after : DeviceView) (reply : StepReply) : Type 0 where
+  pub fenced : DeviceView
+  pub interval : ReservesAndFences {T = Unit {0}} {E = Unit {0}} before fenced (Ok tt)
+  pub acked : IsAckedAtEnd reply fenced after
+
 -- ---- its fences and acknowledgement
 
 -- At most one fence; and one where the call goes on, or has fences left.
@@ -222,25 +260,25 @@ HasAcked before after reply = (told : Trail) → after.trail ≡ Some told → a
 
 -- ---- how many fences its call takes
 
--- the fences of a change that was made, or of a call that changes nothing
+-- those of the answer that the reply is
 abbrev pub fences_of_reply : State → Line → WeaveReply → State → ℕ
 fences_of_reply history line (Busy inode holder) later = 0
-fences_of_reply history line (Plain Done) later = fences_of_change history line later
-fences_of_reply history line (Plain (Count count)) later = fences_of_change history line later
-fences_of_reply history line (Plain (Status stat)) later = 0
-fences_of_reply history line (Plain (Bytes count)) later = 0
-fences_of_reply history line (Plain (Names inode count)) later = 0
-fences_of_reply history line (Plain (Space free)) later = 0
-fences_of_reply history line (Plain (Refused refusal)) later = 0
-fences_of_reply history line (Plain (Unread fault)) later = 0
-fences_of_reply history line (Plain Fault) later = 0
-fences_of_reply history line (Plain Stopped) later = 0
+fences_of_reply history line (Plain reply) later = fences_of history line (answer_in history.tree line reply) later
+
+-- the least number from 2 on that no node has and no other call holds
+pub record IsLeastGiven (T : Tree) (others : Residue) (id : ℕ) : Type 0 where
+  pub from_two : 2 ≤ id
+  pub unused : node_at T id ≡ None
+  pub unheld : ¬ IsIn id others.inodes
+  pub least : (lower : ℕ) → 2 ≤ lower → lower < id → (node_at T lower ≢ None) ⊎ IsIn lower others.inodes
 
 -- A call that begins and runs on has one less left than its command takes between the history and what its entry leaves.
 pub record HasLeft (P : ℕ) (others : Residue) (new : VolumeView) (history : State) (call : Call) : Type 0 where
   pub entered : State
   pub enters : EntersHistory (supply_beside P others) history entered call.command (given_inode call.running)
   pub fences : fences_of_accepted history call.command entered ≡ 1 + fences_of_call new call
+  -- where it makes a node, that gets this inode
+  pub given : inode_need call.command ≡ 1 → IsLeastGiven history.tree others (given_inode call.running)
 
 -- One that begins and ends has taken them all.
 abbrev pub TakesAll : ℕ → Residue → VolumeView → DeviceView → DeviceView → Option Call → Option Call → State → Line → State → StepReply → Type 0
@@ -329,6 +367,7 @@ pub record StepsOn (old new : InterleaveView) (before after : DeviceView) (calls
   pub reason : HasReason before after (call_at calls session) history line reply
   pub bytes : BytesBehind old.bytes new.bytes history.tree line reply
   pub quiet : IsQuietWhere reply (call_at calls session) line before after
+  pub events : HasEvents before after reply
   pub fences : HasFenced before after reply (call_at calls session)
   pub acks : after.acks ≡ before.acks + acks_of reply
   pub acked : HasAcked before after reply
@@ -338,14 +377,23 @@ pub record StepsOn (old new : InterleaveView) (before after : DeviceView) (calls
   -- a crash leaves the history before it, until its acknowledgement, or the one behind it
   pub any_moment : LeavesOnly before.trail after.trail (λ acks image. MayBeLeft old.volume.size calls history line (IsBeforeOrBehind history later acks) image)
 
--- The fence failed: the call has ended so, and nothing is done any more.
+-- The line is a change which the history accepts, and which takes a fence.
+abbrev pub IsFencedChange : Supply → State → Line → Type 0
+IsFencedChange supply history (Ok command) =
+    (is_changing command ≡ true) × (id : ℕ) × (entered : State) × EntersHistory supply history entered command id × (1 ≤ fences_of_accepted history command entered)
+IsFencedChange supply history (Err fault) = ⊥
+
+-- The fence failed: the call has ended so, and nothing is done any more. One that began is of such a change, and no running call is in its way.
 pub record StepFails (old new : InterleaveView) (before after : DeviceView) (calls : Calls) (history : State) (session : ℕ) (line : Line) (reply : StepReply) : Type 0 where
   pub told : reply ≡ Ended (number_of old.begun (call_at calls session)) (Plain Fault)
   pub cause : HasRisen before.faults after.faults
+  pub busy : IsBusyRightly (Running (number_of old.begun (call_at calls session))) (call_at calls session) calls history line
+  pub began : call_at calls session ≡ None → IsFencedChange (supply_beside old.volume.size (left_of_all old.volume calls)) history line
   pub entries : new.entries ≡ old.entries
   pub tasks : new.tasks ≡ set old.tasks session None
   pub begun : new.begun ≡ begun_after old.begun (call_at calls session)
   pub bytes : new.bytes ≡ old.bytes
+  pub events : ReservesAndFences {T = Unit {0}} {E = Unit {0}} before after (Err tt)
   pub fences : after.fences ≡ before.fences
   pub no_ack : after.acks ≡ before.acks
   pub none_acked : acks_from before.trail after.trail (moment_of after.trail) ≡ 0
@@ -361,6 +409,8 @@ pub record KeepsFrame (old new : InterleaveView) : Type 0 where
 
 pub record Steps (old new : InterleaveView) (before after : DeviceView) (calls : Calls) (history : State) (session : ℕ) (line : Line) (reply : StepReply) : Type 0 where
   pub frame : KeepsFrame old new
+  -- no word of the superblock is another, the mark among them
+  pub beside : KeepsWords IsSuperblockWord before.words after.words
   pub going : new.volume.stopped ≡ false → StepsOn old new before after calls history session line reply
   pub failed : new.volume.stopped ≡ true → StepFails old new before after calls history session line reply
 
