@@ -1,4 +1,4 @@
--- What a crash leaves of one turn after another, with the acknowledgements so far.
+-- What a crash leaves of one turn after another, with the acknowledgements so far, and what they leave of the superblock.
 use Rattle.std.proofs.Common.{◌≡◌, inl, inr, ℕ, ◌+◌, ◌≤◌, true, false, List, [], ◌∷◌, refl, sym, ap, subst, ◌∙◌, arith}
 use Rattle.std.specs.Prelude.{Option}
 use Rattle.std.proofs.lemmas.Bool.{cases_Bool}
@@ -7,6 +7,8 @@ use Rattle.pm_trait.specs.Device.{LeavesOnly, IsSettledAt, acks_from, moment_of}
 use Rattle.pm_trait.specs.DeviceView.{DeviceView}
 use Rattle.pm_trait.proofs.ContinuesLaws.{continues_here, acks_from-here}
 use Rattle.pm_trait.proofs.DeviceLaws.{leaves_here, leaves_weaker, leaves_quiet}
+use Rattle.pm_trait.specs.Unfolds.{KeepsWords}
+use Rattle.layout.specs.Superblock.{IsSuperblockWord}
 use Rattle.volume.specs.Volume.{VolumeView}
 use Rattle.engine.proofs.After.{Acked, leaves_after, acked_then}
 use Rattle.session_laws.specs.Calls.{ranges_of_all}
@@ -52,6 +54,7 @@ module _ (border : Border) (weaving : IsWeaving border.weave border.device borde
       record {
         any_moment = leaves_here (IsLeftBy border []) here.settled (refl, here.crash);
         acked = λ told is. acks_from-here (continues_here border.device.trail);
+        beside = λ a is. refl;
       }
 
 -- ---- behind a fence that failed
@@ -78,7 +81,8 @@ module _ (schedule : List ℕ) (count : ℕ) (now : Border) (turn : Turn) (turns
   failed_leaves : turn.behind.weave.volume.stopped ≡ true → AreTurns schedule count turn.behind turns → LeavesTurns now (turn ∷ turns)
   failed_leaves halted are =
       let fails = goes_on.steps.failed halted in
-      let same = ap (λ (device : DeviceView). device.trail) (still_device schedule count turn.behind turns are halted) in
+      let still = still_device schedule count turn.behind turns are halted in
+      let same = ap (λ (device : DeviceView). device.trail) still in
       let here : acks_in turn.reply ≡ 0 = ap acks_in fails.told in
       let later = still_acks schedule count turn.behind turns are halted in
       record {
@@ -87,6 +91,7 @@ module _ (schedule : List ℕ) (count : ℕ) (now : Border) (turn : Turn) (turns
         acked = λ told is.
             ap (λ (trail : Option Trail). acks_from now.device.trail trail (moment_of trail)) same ∙ fails.none_acked
             ∙ omega (arith, here, later);
+        beside = subst (λ (device : DeviceView). KeepsWords IsSuperblockWord now.device.words device.words) (sym still) goes_on.steps.beside;
       }
 
   -- ---- a turn whose fence succeeds
@@ -115,6 +120,7 @@ module _ (schedule : List ℕ) (count : ℕ) (now : Border) (turn : Turn) (turns
           (leaves_weaker left_here (leaves_within (acks_in turn.reply) acked_here steps.any_moment))
           (leaves_weaker (λ acks image left. inr (acks, refl, left)) later.any_moment);
       acked = acked_then (acks_in turn.reply) (acks_of_turns turns) steps.any_moment.continues later.any_moment.continues acked_here later.acked;
+      beside = λ a is. later.beside a is ∙ goes_on.steps.beside a is;
     }
 
 -- ---- all of them

@@ -4,10 +4,13 @@ use Rattle.std.specs.Prelude.{Ok, Err}
 use Rattle.pm_trait.specs.Device.{HasRisen, LeavesOnly, acks_from, moment_of}
 use Rattle.pm_trait.specs.DeviceView.{DeviceView}
 use Rattle.pm_trait.specs.Trail.{Trail}
+use Rattle.pm_trait.specs.Unfolds.{KeepsWords}
+use Rattle.layout.specs.Superblock.{IsSuperblockWord}
 use Rattle.tree_model.specs.Run.{Line}
 use Rattle.session_lines.specs.Turns.{LeftView, next_line}
 use Rattle.session_laws.specs.Calls.{Call, AreIdle, call_at}
 use Rattle.sessions.specs.Interleave.{InterleaveView, IsWeaving}
+use Rattle.schedules.specs.Borders.{AreOfSessions}
 use Rattle.schedules.specs.Crashes.{IsLeftBy, acks_of_turns}
 use Rattle.schedules.specs.Laws.{IsFirst, LeavesTurns}
 use Rattle.schedules.specs.Schedules.{EndsAt, TakesTurns, WritesTexts}
@@ -22,7 +25,7 @@ use Rattle.schedules.proofs.Sums.{SumsUp, sums_up}
 use Rattle.schedules.proofs.TurnLaw.{turn_law}
 
 module _ {schedule : List ℕ} {start : Border} {turns : List Turn} {new : InterleaveView} {after : DeviceView} {left : LeftView}
-    (first : IsFirst start) (taken : HasTaken schedule start turns new after left) where
+    (first : IsFirst start) (of : AreOfSessions start.left.sessions start.left.lines) (taken : HasTaken schedule start turns new after left) where
   abbrev last : Border
   last = border_behind start turns
 
@@ -34,20 +37,20 @@ module _ {schedule : List ℕ} {start : Border} {turns : List Turn} {new : Inter
 
   -- the code's has failed where that behind the turns has
   as_last : (stopped : Bool) → new.volume.stopped ≡ stopped → last.weave.volume.stopped ≡ stopped
-  as_last stopped is = ap (λ (weave : InterleaveView). weave.volume.stopped) taken.weave ∙ is
+  as_last stopped is = ap (λ (weave : InterleaveView). weave.volume.stopped) taken.reached.weave_is ∙ is
 
   few : after.fences ≤ start.device.fences + 2 ^ 20
   few =
       let most = sums.fences in
       let fewer = sums.fewer in
       let all = few_turns start first in
-      let is = ap (λ (d : DeviceView). d.fences) taken.device in
+      let is = ap (λ (d : DeviceView). d.fences) taken.reached.device_is in
       omega (arith, most, fewer, all, is)
 
   waits : new.volume.stopped ≡ false → IsWeaving new after last.calls last.history
   waits going =
-      subst (λ (weave : InterleaveView). IsWeaving weave after last.calls last.history) taken.weave
-      (subst (λ (device : DeviceView). IsWeaving last.weave device last.calls last.history) taken.device (sums.border.going (as_last false going)).weaving)
+      subst (λ (weave : InterleaveView). IsWeaving weave after last.calls last.history) taken.reached.weave_is
+      (subst (λ (device : DeviceView). IsWeaving last.weave device last.calls last.history) taken.reached.device_is (sums.border.going (as_last false going)).weaving)
 
   runs_none : (o : Option Call) (lines : List (ℕ × Line)) (s : ℕ) → lines ≡ [] → ((call : Call) → o ≡ Some call → next_line lines s ≡ Some (Ok call.command)) → o ≡ None
   runs_none None lines s none next = refl
@@ -60,40 +63,43 @@ module _ {schedule : List ℕ} {start : Border} {turns : List Turn} {new : Inter
 
   pub takes_with : {took now : List ℕ → Type 0} (end : WeaveEnd) → EndsAt end last → WritesTexts end took start turns now → TakesTurns schedule start end new after took now
   takes_with end ends writes = record {
+    begins = first;
+    of_sessions = of;
     turns = turns;
     are = taken.are;
-    weave = sym taken.weave;
-    device = sym taken.device;
+    weave = sym taken.reached.weave_is;
+    device = sym taken.reached.device_is;
     ends = ends;
     writes = writes;
     history = history_law turn_law schedule start turns first taken.are;
-    any_moment = subst (λ (device : DeviceView). LeavesOnly start.device.trail device.trail (IsLeftBy start turns)) taken.device leaves.any_moment;
-    acks = ap (λ (device : DeviceView). device.acks) (sym taken.device) ∙ sums.acks;
+    any_moment = subst (λ (device : DeviceView). LeavesOnly start.device.trail device.trail (IsLeftBy start turns)) taken.reached.device_is leaves.any_moment;
+    acks = ap (λ (device : DeviceView). device.acks) (sym taken.reached.device_is) ∙ sums.acks;
     acked =
-        subst (λ (device : DeviceView). (told : Trail) → device.trail ≡ Some told → acks_from start.device.trail device.trail (moment_of device.trail) ≡ acks_of_turns turns) taken.device
+        subst (λ (device : DeviceView). (told : Trail) → device.trail ≡ Some told → acks_from start.device.trail device.trail (moment_of device.trail) ≡ acks_of_turns turns) taken.reached.device_is
         leaves.acked;
+    beside = subst (λ (device : DeviceView). KeepsWords IsSuperblockWord start.device.words device.words) taken.reached.device_is leaves.beside;
     waits = waits;
     idle = idle;
-    no_fault = λ going. ap (λ (device : DeviceView). device.faults) (sym taken.device) ∙ sums.no_fault (as_last false going ∙ sym first.going);
-    cause = λ halted. subst (λ (device : DeviceView). HasRisen start.device.faults device.faults) taken.device (sums.cause first.going (as_last true halted));
+    no_fault = λ going. ap (λ (device : DeviceView). device.faults) (sym taken.reached.device_is) ∙ sums.no_fault (as_last false going ∙ sym first.going);
+    cause = λ halted. subst (λ (device : DeviceView). HasRisen start.device.faults device.faults) taken.reached.device_is (sums.cause first.going (as_last true halted));
     fences = few;
   }
 
 module _ {schedule : List ℕ} {start : Border} {new : InterleaveView} {after : DeviceView} {left : LeftView} {took now : List ℕ → Type 0}
-    (first : IsFirst start) where
+    (first : IsFirst start) (of : AreOfSessions start.left.sessions start.left.lines) where
   -- no line is left behind the last
   pub takes_done : {T E : Type 0} (done : T) → TookAll {T = T} {E = E} schedule start new after left took now (Ok done) → new.volume.stopped ≡ false
       → TakesTurns schedule start end.Done new after took now
   takes_done done all going =
-      takes_with first all.taken end.Done
-      (ap (λ (l : LeftView). l.lines) all.taken.left_is ∙ all.none, ap (λ (weave : InterleaveView). weave.volume.stopped) all.taken.weave ∙ going) all.texts
+      takes_with first of all.taken end.Done
+      (ap (λ (l : LeftView). l.lines) all.taken.reached.left_is ∙ all.none, ap (λ (weave : InterleaveView). weave.volume.stopped) all.taken.reached.weave_is ∙ going) all.texts
 
   pub takes_faulted : {T E : Type 0} (done : T) → TookAll {T = T} {E = E} schedule start new after left took now (Ok done) → new.volume.stopped ≡ true
       → TakesTurns schedule start end.Faulted new after took now
   takes_faulted done all halted =
-      takes_with first all.taken end.Faulted
-      (ap (λ (l : LeftView). l.lines) all.taken.left_is ∙ all.none, ap (λ (weave : InterleaveView). weave.volume.stopped) all.taken.weave ∙ halted) all.texts
+      takes_with first of all.taken end.Faulted
+      (ap (λ (l : LeftView). l.lines) all.taken.reached.left_is ∙ all.none, ap (λ (weave : InterleaveView). weave.volume.stopped) all.taken.reached.weave_is ∙ halted) all.texts
 
   -- or the last text was cut
   pub takes_cut : {T E : Type 0} (fault : E) → TookAll {T = T} {E = E} schedule start new after left took now (Err fault) → TakesTurns schedule start end.WriteFault new after took now
-  takes_cut fault all = takes_with first all.taken end.WriteFault tt all.cut
+  takes_cut fault all = takes_with first of all.taken end.WriteFault tt all.cut

@@ -50,7 +50,7 @@ running_going border going = ap (λ (t : Bool). if t then turns_of_tasks border.
 same_line : (ran : Option Call) (call : Call) (line : Line) (T : Tree) (found : Option Line) → IsCallAt ran (Some call) line T → found ≡ Some line
     → ((one : Call) → ran ≡ Some one → found ≡ Some (Ok one.command)) → found ≡ Some (Ok call.command)
 same_line None call line T found is next same = next ∙ ap (λ (l : Line). Some l) is.0
-same_line (Some one) call line T found is next same = same one refl ∙ ap (λ (c : Command). Some (Ok c)) (sym is.0)
+same_line (Some one) call line T found is next same = same one refl ∙ ap (λ (c : Command). Some (Ok c)) (sym is.command)
 
 -- one that has ended runs no more
 same_behind : (left : LeftView) (session own : ℕ) (reply : StepReply) (ran now : Option Call) (call : Call) (line : Line) (T : Tree) → now ≡ Some call → IsLeftAs reply own now

@@ -267,7 +267,7 @@ module _ {start : Border} {lines : ℕ → Line} {passed : List Turn} {old : Bor
 
   called : (was : Option Call) (call : Call) → call_at old.calls turn.session ≡ was → IsCallAt was (Some call) turn.line old.history.tree → turn.line ≡ Ok call.command
   called None call runs is = is.0
-  called (Some first) call runs is = line_of_call first runs ∙ ap Ok (sym is.0)
+  called (Some first) call runs is = line_of_call first runs ∙ ap Ok (sym is.command)
 
   line_later : (s : ℕ) (call : Call) → call_at turn.behind.calls s ≡ Some call → lines call.number ≡ Ok call.command
   line_later s call runs = elim (runs_now s call runs) [

@@ -2,33 +2,39 @@
 use Rattle.std.proofs.Common.{◌≡◌, ℕ, ◌+◌, ◌*◌, ◌≤◌, List, [], ◌∷◌, ◌++◌, length, take, refl, sym, ap, subst, ◌∙◌, arith}
 use Rattle.std.specs.Prelude.{Ok, Err}
 use Rattle.pm_trait.specs.DeviceView.{DeviceView}
-use Rattle.io_edge.specs.Bytes.{TakesPrefix}
-use Rattle.io_edge.specs.Bytes.{Takes as TakesText}
+use Rattle.io_edge.specs.Bytes.{Takes, TakesPrefix}
 use Rattle.io_edge.proofs.BytesLaws.{takes_none, takes_as, takes_then}
 use Rattle.session_lines.specs.Turns.{LeftView}
 use Rattle.sessions.specs.Interleave.{InterleaveView}
 use Rattle.sessions.specs.declared.interleave.TheConstants.{MOST_CALLS}
-use Rattle.schedules.specs.Borders.{IsBorder, Takes, border_of, most_turns, AreOfSessions}
+use Rattle.schedules.specs.Borders.{IsBorder, IsReached, HasTurned, border_of, most_turns, AreOfSessions}
 use Rattle.schedules.specs.Laws.{IsFirst}
 use Rattle.schedules.specs.Schedules.{text_of, texts_of}
-use Rattle.schedules.specs.Taken.{HasTaken, TookSoFar, TookAll}
+use Rattle.schedules.specs.Taken.{HasTaken, TookAll}
 use Rattle.schedules.specs.Turns.{Border, Turn, IsTurn, border_behind}
 use Rattle.schedules.proofs.FirstBorder.{few_turns, no_line}
 use Rattle.schedules.proofs.Sums.{SumsUp, sums_up, of_sessions}
 use Rattle.schedules.proofs.TurnLists.{turns_more, behind_more, texts_more, one_more}
 
 -- what the code has is this border
-as_border : (border : Border) (weave : InterleaveView) (device : DeviceView) (left : LeftView) → border.weave ≡ weave → border.device ≡ device → border.left ≡ left
+as_border : (border : Border) (weave : InterleaveView) (device : DeviceView) (left : LeftView) → IsReached border weave device left
     → border ≡ border_of weave device border.calls border.history left
-as_border border weave device left weave_is device_is left_is =
-    ap (λ (w : InterleaveView). border_of w border.device border.calls border.history border.left) weave_is
-    ∙ ap (λ (d : DeviceView). border_of weave d border.calls border.history border.left) device_is
-    ∙ ap (λ (l : LeftView). border_of weave device border.calls border.history l) left_is
+as_border border weave device left reached =
+    ap (λ (w : InterleaveView). border_of w border.device border.calls border.history border.left) reached.weave_is
+    ∙ ap (λ (d : DeviceView). border_of weave d border.calls border.history border.left) reached.device_is
+    ∙ ap (λ (l : LeftView). border_of weave device border.calls border.history l) reached.left_is
+
+-- So many turns were taken, and their texts written.
+pub record TookSoFar (schedule : List ℕ) (start : Border) (count : ℕ) (new : InterleaveView) (after : DeviceView) (left : LeftView) (took now : List ℕ → Type 0) : Type 0 where
+  pub turns : List Turn
+  pub taken : HasTaken schedule start turns new after left
+  pub count_is : length turns ≡ count
+  pub texts : Takes took (texts_of start turns) now
 
 pub took_none : (schedule : List ℕ) (start : Border) (took : List ℕ → Type 0) → TookSoFar schedule start 0 start.weave start.device start.left took took
 took_none schedule start took = record {
   turns = [];
-  taken = record { are = tt; weave = refl; device = refl; left_is = refl };
+  taken = record { are = tt; reached = record { weave_is = refl; device_is = refl; left_is = refl } };
   count_is = refl;
   texts = takes_none took;
 }
@@ -48,7 +54,7 @@ module _ {schedule : List ℕ} {start : Border} {count : ℕ} {weave : Interleav
   sums = sums_up schedule 0 start turns first.border so_far.taken.are
 
   same : last ≡ here
-  same = as_border last weave device left so_far.taken.weave so_far.taken.device so_far.taken.left_is
+  same = as_border last weave device left so_far.taken.reached
 
   pub here_stands : IsBorder here
   here_stands = subst IsBorder same sums.border
@@ -56,7 +62,7 @@ module _ {schedule : List ℕ} {start : Border} {count : ℕ} {weave : Interleav
   pub few_fences : device.fences ≤ start.device.fences + count
   few_fences =
       let most = sums.fences in
-      let is = ap (λ (d : DeviceView). d.fences) so_far.taken.device in
+      let is = ap (λ (d : DeviceView). d.fences) so_far.taken.reached.device_is in
       let long = so_far.count_is in
       omega (arith, most, is, long)
 
@@ -64,12 +70,12 @@ module _ {schedule : List ℕ} {start : Border} {count : ℕ} {weave : Interleav
   few_acks =
       let all = sums.acks in
       let few = sums.acks_few in
-      let is = ap (λ (d : DeviceView). d.acks) so_far.taken.device in
+      let is = ap (λ (d : DeviceView). d.acks) so_far.taken.reached.device_is in
       let long = so_far.count_is in
       omega (arith, all, few, is, long)
 
   pub here_of : AreOfSessions start.left.sessions start.left.lines → AreOfSessions left.sessions left.lines
-  here_of of = subst (λ (l : LeftView). AreOfSessions l.sessions l.lines) so_far.taken.left_is (of_sessions schedule 0 start turns so_far.taken.are of)
+  here_of of = subst (λ (l : LeftView). AreOfSessions l.sessions l.lines) so_far.taken.reached.left_is (of_sessions schedule 0 start turns so_far.taken.are of)
 
   -- as many as may come
   pub none_left : most_turns * MOST_CALLS ≤ count → left.lines ≡ []
@@ -77,19 +83,19 @@ module _ {schedule : List ℕ} {start : Border} {count : ℕ} {weave : Interleav
       let fewer = sums.fewer in
       let few = few_turns start first in
       let long = so_far.count_is in
-      ap (λ (l : LeftView). l.lines) (sym so_far.taken.left_is) ∙ no_line last sums.border (omega (arith, all, fewer, few, long))
+      ap (λ (l : LeftView). l.lines) (sym so_far.taken.reached.left_is) ∙ no_line last sums.border (omega (arith, all, fewer, few, long))
 
   pub took_all : {T E : Type 0} (done : T) → left.lines ≡ [] → TookAll {T = T} {E = E} schedule start weave device left took now (Ok done)
   took_all done none = record { turns = turns; taken = so_far.taken; none = none; texts = so_far.texts; cut = tt }
 
-  module _ {new : InterleaveView} {after : DeviceView} {left_now : LeftView} {turn : Turn} (takes : Takes schedule count here new after left_now turn) where
+  module _ {new : InterleaveView} {after : DeviceView} {left_now : LeftView} {turn : Turn} (turned : HasTurned schedule count here new after left_now turn) where
     abbrev more : List Turn
     more = turns ++ turn ∷ []
 
     is_next : IsTurn schedule (0 + length turns) last turn
     is_next =
         let long : count ≡ 0 + length turns = let is = so_far.count_is in omega (arith, is) in
-        subst (λ (n : ℕ). IsTurn schedule n last turn) long (subst (λ (border : Border). IsTurn schedule count border turn) (sym same) takes.is_turn)
+        subst (λ (n : ℕ). IsTurn schedule n last turn) long (subst (λ (border : Border). IsTurn schedule count border turn) (sym same) turned.is_turn)
 
     behind : border_behind start more ≡ turn.behind
     behind = behind_more start turns turn
@@ -97,15 +103,13 @@ module _ {schedule : List ℕ} {start : Border} {count : ℕ} {weave : Interleav
     taken_more : HasTaken schedule start more new after left_now
     taken_more = record {
       are = turns_more schedule 0 start turns turn so_far.taken.are is_next;
-      weave = ap (λ (border : Border). border.weave) behind ∙ takes.weave;
-      device = ap (λ (border : Border). border.device) behind ∙ takes.device;
-      left_is = ap (λ (border : Border). border.left) behind ∙ takes.left_is;
+      reached = subst (λ (border : Border). IsReached border new after left_now) (sym behind) turned.reached;
     }
 
     text_same : text_of here turn ≡ text_of last turn
     text_same = ap (λ (border : Border). text_of border turn) (sym same)
 
-    pub took_more : (next : List ℕ → Type 0) → TakesText now (text_of here turn) next → TookSoFar schedule start (count + 1) new after left_now took next
+    pub took_more : (next : List ℕ → Type 0) → Takes now (text_of here turn) next → TookSoFar schedule start (count + 1) new after left_now took next
     took_more next text = record {
       turns = more;
       taken = taken_more;

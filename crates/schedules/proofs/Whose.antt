@@ -47,13 +47,13 @@ first_none left (suc more) start (suc k) none below =
     let same : start + 1 + k ≡ start + suc k = omega arith in
     subst (λ (n : ℕ). has_line left.lines (n % left.sessions) ≡ false) same (first_none left more (start + 1) k later (omega (arith, below)))
 
--- each session is reached from each number
-pub record IsReached (sessions start session : ℕ) : Type 0 where
+-- each session comes round from each number
+pub record ComesRound (sessions start session : ℕ) : Type 0 where
   pub after : ℕ
   pub below : after < sessions
   pub there : (start + after) % sessions ≡ session
 
-reaches : (sessions start session : ℕ) → session < sessions → IsReached sessions start session
+reaches : (sessions start session : ℕ) → session < sessions → ComesRound sessions start session
 reaches sessions start session few =
     let round = div-add-mod' start sessions in
     let own = mod_below start sessions (omega (arith, few)) in

@@ -69,9 +69,13 @@ pub record IsBorder (border : Border) : Type 0 where
 abbrev pub border_of : InterleaveView → DeviceView → Calls → State → LeftView → Border
 border_of weave device calls history left = record { weave = weave; device = device; calls = calls; history = history; left = left }
 
--- A turn was taken between this border and what the code has behind it.
-pub record Takes (schedule : List ℕ) (count : ℕ) (old : Border) (new : InterleaveView) (after : DeviceView) (left : LeftView) (turn : Turn) : Type 0 where
+-- The code has come to this border.
+pub record IsReached (border : Border) (weave : InterleaveView) (device : DeviceView) (left : LeftView) : Type 0 where
+  pub weave_is : border.weave ≡ weave
+  pub device_is : border.device ≡ device
+  pub left_is : border.left ≡ left
+
+-- A turn was taken from this border on, and the code has come behind it.
+pub record HasTurned (schedule : List ℕ) (count : ℕ) (old : Border) (new : InterleaveView) (after : DeviceView) (left : LeftView) (turn : Turn) : Type 0 where
   pub is_turn : IsTurn schedule count old turn
-  pub weave : turn.behind.weave ≡ new
-  pub device : turn.behind.device ≡ after
-  pub left_is : turn.behind.left ≡ left
+  pub reached : IsReached turn.behind new after left

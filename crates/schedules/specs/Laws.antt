@@ -2,6 +2,8 @@
 use Rattle.std.specs.Prelude.{◌≡◌, ℕ, ◌+◌, ◌<◌, ◌≤◌, true, false, List, [], Some}
 use Rattle.pm_trait.specs.Trail.{Trail}
 use Rattle.pm_trait.specs.Device.{LeavesOnly, HasRisen, acks_from, moment_of}
+use Rattle.pm_trait.specs.Unfolds.{KeepsWords}
+use Rattle.layout.specs.Superblock.{IsSuperblockWord}
 use Rattle.schedules.specs.Turns.{Border, Turn, IsTurn, AreTurns, border_behind}
 use Rattle.schedules.specs.Entries.{MakesHistory}
 use Rattle.schedules.specs.Crashes.{IsLeftBy, acks_in, acks_of_turns}
@@ -35,11 +37,13 @@ pub record IsFirst (start : Border) : Type 0 where
 abbrev pub HistoryLaw : Type 0
 HistoryLaw = (schedule : List ℕ) (start : Border) (turns : List Turn) → IsFirst start → AreTurns schedule 0 start turns → MakesHistory start turns
 
--- What a crash leaves of them, and which acknowledgements stand on the trail.
+-- What a crash leaves of them, which acknowledgements stand on the trail, and what they leave of the superblock.
 pub record LeavesTurns (start : Border) (turns : List Turn) : Type 0 where
   pub any_moment : LeavesOnly start.device.trail (border_behind start turns).device.trail (IsLeftBy start turns)
   pub acked : (told : Trail) → (border_behind start turns).device.trail ≡ Some told
       → acks_from start.device.trail (border_behind start turns).device.trail (moment_of (border_behind start turns).device.trail) ≡ acks_of_turns turns
+  -- no word of it is another, the mark among them
+  pub beside : KeepsWords IsSuperblockWord start.device.words (border_behind start turns).device.words
 
 abbrev pub CrashLaw : Type 0
 CrashLaw = (schedule : List ℕ) (start : Border) (turns : List Turn) → IsFirst start → AreTurns schedule 0 start turns → LeavesTurns start turns

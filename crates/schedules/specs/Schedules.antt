@@ -4,7 +4,8 @@ use Rattle.pm_trait.specs.Trail.{Trail}
 use Rattle.pm_trait.specs.Device.{HasRisen, LeavesOnly, acks_from, moment_of}
 use Rattle.pm_trait.specs.DeviceView.{DeviceView}
 use Rattle.io_edge.specs.Bytes.{Takes}
-use Rattle.layout.specs.Superblock.{open_mark}
+use Rattle.pm_trait.specs.Unfolds.{KeepsWords}
+use Rattle.layout.specs.Superblock.{IsSuperblockWord, open_mark}
 use Rattle.tree_model.specs.Tree.{Tree}
 use Rattle.tree_model.specs.Run.{State, Line}
 use Rattle.script.specs.SessionLines.{session_calls}
@@ -19,6 +20,8 @@ use Rattle.sessions.specs.declared.entry.StepReply.TheVariants.{Running, Ended}
 use Rattle.schedules.specs.Turns.{Border, Turn, AreTurns, border_behind}
 use Rattle.schedules.specs.Entries.{MakesHistory}
 use Rattle.schedules.specs.Crashes.{IsLeftBy, acks_of_turns}
+use Rattle.schedules.specs.Borders.{AreOfSessions}
+use Rattle.schedules.specs.Laws.{IsFirst}
 use Rattle.schedules.specs.declared.weave_end.WeaveEnd.{WeaveEnd}
 use Rattle.schedules.specs.declared.weave_end.WeaveEnd.TheVariants.{Done, Faulted, WriteFault}
 
@@ -70,6 +73,9 @@ EndsAt WriteFault last = Unit {0}
 
 -- From the start on turns were taken by the schedule, to this end, and their texts were written.
 pub record TakesTurns (schedule : List ℕ) (start : Border) (end : WeaveEnd) (new : InterleaveView) (after : DeviceView) (took now : List ℕ → Type 0) : Type 0 where
+  -- no call has begun at the start, and each line is of one of the sessions
+  pub begins : IsFirst start
+  pub of_sessions : AreOfSessions start.left.sessions start.left.lines
   pub turns : List Turn
   pub are : AreTurns schedule 0 start turns
   pub weave : new ≡ (border_behind start turns).weave
@@ -80,6 +86,8 @@ pub record TakesTurns (schedule : List ℕ) (start : Border) (end : WeaveEnd) (n
   pub any_moment : LeavesOnly start.device.trail after.trail (IsLeftBy start turns)
   pub acks : after.acks ≡ start.device.acks + acks_of_turns turns
   pub acked : (told : Trail) → after.trail ≡ Some told → acks_from start.device.trail after.trail (moment_of after.trail) ≡ acks_of_turns turns
+  -- no word of the superblock is another, the mark among them
+  pub beside : KeepsWords IsSuperblockWord start.device.words after.words
   -- where no fence failed the calls wait, and where no line is left none runs
   pub waits : new.volume.stopped ≡ false → IsWeaving new after (border_behind start turns).calls (border_behind start turns).history
   pub idle : new.volume.stopped ≡ false → (border_behind start turns).left.lines ≡ [] → AreIdle (border_behind start turns).calls

@@ -7,23 +7,14 @@ use Rattle.script.specs.SessionLines.{session_calls}
 use Rattle.volume.specs.Stands.{IsStanding}
 use Rattle.sessions.specs.Interleave.{InterleaveView, started}
 use Rattle.sessions.specs.declared.interleave.TheConstants.{MOST_CALLS}
-use Rattle.schedules.specs.Borders.{AreOfSessions}
+use Rattle.schedules.specs.Borders.{AreOfSessions, IsReached}
 use Rattle.schedules.specs.Turns.{Border, Turn, AreTurns, border_behind}
 use Rattle.schedules.specs.Schedules.{texts_of, WritesPrefix}
 
--- From this border on these turns were taken.
+-- From this border on these turns were taken, and the code has come behind them.
 pub record HasTaken (schedule : List ℕ) (start : Border) (turns : List Turn) (new : InterleaveView) (after : DeviceView) (left : LeftView) : Type 0 where
   pub are : AreTurns schedule 0 start turns
-  pub weave : (border_behind start turns).weave ≡ new
-  pub device : (border_behind start turns).device ≡ after
-  pub left_is : (border_behind start turns).left ≡ left
-
--- So many were taken, and their texts written.
-pub record TookSoFar (schedule : List ℕ) (start : Border) (count : ℕ) (new : InterleaveView) (after : DeviceView) (left : LeftView) (took now : List ℕ → Type 0) : Type 0 where
-  pub turns : List Turn
-  pub taken : HasTaken schedule start turns new after left
-  pub count_is : length turns ≡ count
-  pub texts : Takes took (texts_of start turns) now
+  pub reached : IsReached (border_behind start turns) new after left
 
 -- Those were taken behind which no line is left, and their texts written; or the last text was cut.
 pub record TookAll {T E : Type 0} (schedule : List ℕ) (start : Border) (new : InterleaveView) (after : DeviceView) (left : LeftView) (took now : List ℕ → Type 0) (result : Result T E) : Type 0 where

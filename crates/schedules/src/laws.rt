@@ -11,7 +11,8 @@ pub fn history_law()
     ensures { HistoryLaw }
 {}
 
-/// A crash at any moment leaves the history at some turn, or behind it, with the acknowledgements up to there.
+/// A crash at any moment leaves the history at some turn, or behind it, with the acknowledgements up to there. No word of the superblock is
+/// another behind all turns.
 pub fn crash_law()
     ensures { CrashLaw }
 {}

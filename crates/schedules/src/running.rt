@@ -9,7 +9,7 @@ ghost use Rattle.session_lines.specs.Turns.{has_line, turn_of};
 ghost use Rattle.session_laws.specs.Calls.{Calls};
 ghost use Rattle.sessions.specs.Interleave.{started};
 ghost use Rattle.sessions.specs.declared.interleave.TheConstants.{MOST_CALLS};
-ghost use Rattle.schedules.specs.Borders.{AreOfSessions, IsBorder, Takes, border_of};
+ghost use Rattle.schedules.specs.Borders.{AreOfSessions, HasTurned, IsBorder, border_of};
 ghost use Rattle.schedules.specs.Laws.{IsFirst};
 ghost use Rattle.schedules.specs.Schedules.{RunsSchedule, TakesTurns, IsShortOfMemory, needs_unmark, text_of};
 ghost use Rattle.schedules.specs.Taken.{MayStart, TookAll, lines_left};
@@ -179,7 +179,7 @@ fn take_turn<P: Pm, K: Sink>(
     ensures scratch { length scratch.new ≡ length scratch.old }
     ensures takes { (calls : Calls) (history : State) (schedule : List ℕ) (count : ℕ) →
         IsBorder (border_of interleave.old (P.view pm.old) calls history left.old) → turn_of schedule count left.old ≡ Some session →
-        (turn : Turn) × Takes schedule count (border_of interleave.old (P.view pm.old) calls history left.old) interleave.new (P.view pm.new) left.new turn
+        (turn : Turn) × HasTurned schedule count (border_of interleave.old (P.view pm.old) calls history left.old) interleave.new (P.view pm.new) left.new turn
         × Writes (K.took sink.old) (K.took sink.new) (K.faults sink.old) (K.faults sink.new)
         (text_of (border_of interleave.old (P.view pm.old) calls history left.old) turn) result }
 {

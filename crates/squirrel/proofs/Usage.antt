@@ -69,7 +69,7 @@ not_behind P state ran after is weave_end.Faulted (told, same) usage = cc (told,
 not_behind P state ran after is weave_end.WriteFault (told, same) usage = cc (told, usage)
 
 not_woven : {S K : Type 0} (sessions : ℕ) (schedule : List ℕ) (old new : Seen S K) (is : Status) → WeavesScript sessions schedule old new is → is ≢ status.Usage
-not_woven sessions schedule old new is (inl unwoven) usage = elim unwoven.unread.is [
+not_woven sessions schedule old new is (inl unwoven) usage = elim unwoven.stops.is [
   | inl memory ↦ cc (memory, usage)
   | inr (inl read) ↦ cc (read, usage)
   | inr (inr limit) ↦ cc (limit, usage)

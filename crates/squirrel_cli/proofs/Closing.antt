@@ -66,6 +66,10 @@ module _ {T E : Type 0} (volume : VolumeView) (state : State) (ran after : Devic
 
 -- ---- what a close leaves
 
+-- who gives the mark a value changes no other word
+pub sets_beside : {T E : Type 0} {P value : ℕ} {state : State} {ran after : DeviceView} {result : Result T E} → SetsMark P value state ran after result → KeepsSuperblock ran.words after.words
+sets_beside {value = value} {ran = ran} sets = λ a is other. ap (λ (words : List ℕ). slice_index words a) sets.takes.makes ∙ get_or-set_other ran.words mark_word a value 0 other
+
 -- A crash leaves the state, nothing is acknowledged, and no word of the superblock but the mark is another.
 pub record ClosesQuietly (P : ℕ) (state : State) (ran after : DeviceView) : Type 0 where
   pub keeps : KeepsState P state ran after
@@ -84,7 +88,7 @@ module _ (P : ℕ) (state : State) (ran after : DeviceView) where
   sets_quietly : {T E : Type 0} {result : Result T E} → SetsMark P closed_mark state ran after result → ClosesQuietly P state ran after
   sets_quietly sets = record {
     keeps = record { any_moment = sets.any_moment; no_ack = sets.takes.fenced.fenced.no_ack; acks = sets.takes.fenced.counts.acks };
-    beside = λ a is other. ap (λ (words : List ℕ). slice_index words a) sets.takes.makes ∙ get_or-set_other ran.words mark_word a closed_mark 0 other;
+    beside = sets_beside sets;
   }
 
   closes_quietly : {T E : Type 0} (marked : Bool) (result : Result T E) → Closes marked P state ran after result → ClosesQuietly P state ran after

@@ -27,7 +27,7 @@ use Rattle.squirrel_cli.specs.Seen.{Seen, seen}
 use Rattle.squirrel_cli.specs.Tells.{HasListed, TellsAndCloses}
 use Rattle.squirrel_cli.specs.Told.{IsToldOrCut}
 use Rattle.squirrel_cli.specs.Weaves.{ClosesBehind, WeavesScript}
-use Rattle.squirrel_cli.specs.Whole.{IsShortWhole, IsUnread, IsWithinLimits}
+use Rattle.squirrel_cli.specs.Whole.{IsKnownWithinLimits, IsWithinLimits, StopsBeforeLines}
 use Rattle.squirrel_cli.specs.Works.{HasWorked}
 use Rattle.squirrel_cli.proofs.Closing.{close_marked, close_never, run_marked, told_marked}
 use Rattle.squirrel_cli.proofs.StatusEnds.{not_at_limit}
@@ -147,32 +147,32 @@ behind_marked P state ran after weave_end.Done closes done = close_marked P stat
 behind_marked P state ran after weave_end.Faulted (told, same) done = absurd (cc (told, done))
 behind_marked P state ran after weave_end.WriteFault (told, same) done = absurd (cc (told, done))
 
-unread_ended : {is : Status} {left now : Option (List ℕ)} → IsUnread is left now → is ≢ status.ReadFault → Ended is ⊎ (is ≡ status.ScriptLimit)
-unread_ended unread read = elim unread.is [
+stops_ended : {is : Status} {left now : Option (List ℕ)} → StopsBeforeLines is left now → is ≢ status.ReadFault → Ended is ⊎ (is ≡ status.ScriptLimit)
+stops_ended stops read = elim stops.is [
   | inl memory ↦ inl (inr memory)
   | inr (inl told) ↦ absurd (read told)
   | inr (inr limit) ↦ inr limit
 ]
 
-unread_not_done : {is : Status} {left now : Option (List ℕ)} → IsUnread is left now → is ≢ status.Done
-unread_not_done unread done = elim unread.is [
+stops_not_done : {is : Status} {left now : Option (List ℕ)} → StopsBeforeLines is left now → is ≢ status.Done
+stops_not_done stops done = elim stops.is [
   | inl memory ↦ cc (memory, done)
   | inr (inl told) ↦ cc (told, done)
   | inr (inr limit) ↦ cc (limit, done)
 ]
 
-too_long : (left : Option (List ℕ)) → IfSome left (λ script. ¬ IsWithinLimits script) → IsShortWhole left → ⊥
+too_long : (left : Option (List ℕ)) → IfSome left (λ script. ¬ IsWithinLimits script) → IsKnownWithinLimits left → ⊥
 too_long None over few = few
 too_long (Some script) over few = over few
 
-woven_limit : {S K : Type 0} (sessions : ℕ) (schedule : List ℕ) (old new : Seen S K) {is : Status} → is ≡ status.ScriptLimit → IsShortWhole old.left → WeavesScript sessions schedule old new is → ⊥
-woven_limit sessions schedule old new limit few (inl unwoven) = too_long old.left (unwoven.unread.limit limit) few
+woven_limit : {S K : Type 0} (sessions : ℕ) (schedule : List ℕ) (old new : Seen S K) {is : Status} → is ≡ status.ScriptLimit → IsKnownWithinLimits old.left → WeavesScript sessions schedule old new is → ⊥
+woven_limit sessions schedule old new limit few (inl unwoven) = too_long old.left (unwoven.stops.limit limit) few
 woven_limit sessions schedule old new limit few (inr (inl fails)) = let fault = fails.is in cc (fault, limit)
 woven_limit sessions schedule old new limit few (inr (inr woven)) = behind_limit _ _ _ _ woven.end woven.closes limit
 
 woven_ended : {S K : Type 0} (sessions : ℕ) (schedule : List ℕ) (old new : Seen S K) {is : Status} → is ≢ status.DeviceFault → is ≢ status.ReadFault → is ≢ status.WriteFault → WeavesScript sessions schedule old new is
     → Ended is ⊎ (is ≡ status.ScriptLimit)
-woven_ended sessions schedule old new device read write (inl unwoven) = unread_ended unwoven.unread read
+woven_ended sessions schedule old new device read write (inl unwoven) = stops_ended unwoven.stops read
 woven_ended sessions schedule old new device read write (inr (inl fails)) = absurd (device fails.is)
 woven_ended sessions schedule old new device read write (inr (inr woven)) = inl (behind_ended _ _ _ _ woven.end woven.closes device write)
 
@@ -276,7 +276,7 @@ worked_marked seed count old new done (inl fault) = absurd (let e = fault.is in 
 worked_marked seed count old new done (inr works) = told_marked _ _ _ _ _ _ _ works.told done
 
 woven_marked : {S K : Type 0} (sessions : ℕ) (schedule : List ℕ) (old new : Seen S K) {is : Status} → is ≡ status.Done → WeavesScript sessions schedule old new is → HasMark new.device.words
-woven_marked sessions schedule old new done (inl unwoven) = absurd (unread_not_done unwoven.unread done)
+woven_marked sessions schedule old new done (inl unwoven) = absurd (stops_not_done unwoven.stops done)
 woven_marked sessions schedule old new done (inr (inl fails)) = absurd (let fault = fails.is in cc (fault, done))
 woven_marked sessions schedule old new done (inr (inr woven)) = behind_marked _ _ _ _ woven.end woven.closes done
 

@@ -21,39 +21,39 @@ use Rattle.squirrel_cli.specs.GoingOn.{GoesOn}
 use Rattle.squirrel_cli.specs.Mounts.{ClosesAs}
 use Rattle.squirrel_cli.specs.Seen.{Seen}
 use Rattle.squirrel_cli.specs.WeaveSteps.{LeavesWoven, WeavesOn}
-use Rattle.squirrel_cli.specs.Whole.{IsUnread, IsWholeScript}
+use Rattle.squirrel_cli.specs.Whole.{IsWholeScript, StopsBeforeLines}
 use Rattle.squirrel_cli.proofs.Closing.{close_there}
 use Rattle.squirrel_cli.proofs.WovenRows.{cut_settled, done_ended, done_going, last, ran_faults, ran_fences, ran_risen, woven_size}
 
 -- ---- nothing was executed
 
-module _ {left now : Option (List ℕ)} {is : Status} (unread : IsUnread is left now) where
+module _ {left now : Option (List ℕ)} {is : Status} (stops : StopsBeforeLines is left now) where
   never : {other : Status} → other ≢ status.NoMemory → other ≢ status.ReadFault → other ≢ status.ScriptLimit → is ≢ other
-  never memory read limit same = elim unread.is [
+  never memory read limit same = elim stops.is [
     | inl told ↦ memory (sym same ∙ told)
     | inr (inl told) ↦ read (sym same ∙ told)
     | inr (inr told) ↦ limit (sym same ∙ told)
   ]
 
 -- memory was short behind the script
-pub short_behind : {left now : Option (List ℕ)} {script : List ℕ} → IsWholeScript left now script → IsUnread status.NoMemory left now
+pub short_behind : {left now : Option (List ℕ)} {script : List ℕ} → IsWholeScript left now script → StopsBeforeLines status.NoMemory left now
 short_behind {script = script} whole = record { is = inl refl; read = (script, whole.gives); limit = λ same. absurd (cc same) }
 
-module _ {S K : Type 0} (old new : Seen S K) {is : Status} (unread : IsUnread is old.left new.left) where
-  pub unread_cause : new.device.faults ≡ old.device.faults → (is ≡ status.ReadFault → HasRisen old.read_faults new.read_faults) → (is ≢ status.ReadFault → new.read_faults ≡ old.read_faults) → new.write_faults ≡ old.write_faults
+module _ {S K : Type 0} (old new : Seen S K) {is : Status} (stops : StopsBeforeLines is old.left new.left) where
+  pub stops_cause : new.device.faults ≡ old.device.faults → (is ≡ status.ReadFault → HasRisen old.read_faults new.read_faults) → (is ≢ status.ReadFault → new.read_faults ≡ old.read_faults) → new.write_faults ≡ old.write_faults
       → TellsFaults old new is
-  unread_cause same read unread_else uncut = record {
-    device = λ told. absurd (never unread (λ e. cc e) (λ e. cc e) (λ e. cc e) told);
+  stops_cause same read unread uncut = record {
+    device = λ told. absurd (never stops (λ e. cc e) (λ e. cc e) (λ e. cc e) told);
     done = λ told. same;
     no_memory = λ told. same;
     read = read;
-    no_read_fault = unread_else;
-    write = λ told. absurd (never unread (λ e. cc e) (λ e. cc e) (λ e. cc e) told);
+    no_read_fault = unread;
+    write = λ told. absurd (never stops (λ e. cc e) (λ e. cc e) (λ e. cc e) told);
     no_write_fault = λ other. uncut;
   }
 
-  pub unread_stays : {volume : VolumeView} {state : State} {sessions : ℕ} {schedule : List ℕ} → IsSameButRoom old.device new.device → Takes old.took [] new.took → WeavesOn volume state sessions schedule old new is
-  unread_stays room unwritten = inl (record { unread = unread; room = room; unwritten = unwritten })
+  pub stops_unwoven : {volume : VolumeView} {state : State} {sessions : ℕ} {schedule : List ℕ} → IsSameButRoom old.device new.device → Takes old.took [] new.took → WeavesOn volume state sessions schedule old new is
+  stops_unwoven room unwritten = inl (record { stops = stops; room = room; unwritten = unwritten })
 
 -- more room is all that a device got
 settled_still : {before after : DeviceView} → IsSameButRoom before after → IsSettledView before → IsSettledView after

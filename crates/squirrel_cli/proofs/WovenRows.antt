@@ -5,6 +5,7 @@ use Rattle.std.specs.Prelude.{Option, None, replicate, Result}
 use Rattle.pm_trait.specs.Device.{HasRisen, LeavesOnly, EndsInFault, acks_from, moment_of}
 use Rattle.pm_trait.specs.DeviceView.{DeviceView, IsSettledView}
 use Rattle.pm_trait.specs.Trail.{Trail}
+use Rattle.layout.specs.Superblock.{KeepsSuperblock}
 use Rattle.image_reading.specs.Soundness.{pages_in_image}
 use Rattle.tree_model.specs.Run.{State}
 use Rattle.mark_ops.specs.Marking.{IsSettledIn, SetsMark}
@@ -26,7 +27,7 @@ use Rattle.squirrel_cli.specs.Rows.{LeavesTidyUncut, MountsAnd, MountsAndLeaves,
 use Rattle.squirrel_cli.specs.Seen.{Seen}
 use Rattle.squirrel_cli.specs.Weaves.{ClosesBehind, FailsToBegin, HasWoven, KeepsTurns, WeavesScript}
 use Rattle.squirrel_cli.specs.WeaveSteps.{ClosesSessions, LeavesWoven, WeavesLines, WeavesOn}
-use Rattle.squirrel_cli.proofs.Closing.{as_it_was, close_halts, close_quietly, keeps_after_mount}
+use Rattle.squirrel_cli.proofs.Closing.{as_it_was, close_halts, close_quietly, keeps_after_mount, sets_beside}
 use Rattle.squirrel_cli.proofs.Mounted.{risen_from_entry, tidy_pages}
 use Rattle.squirrel_cli.proofs.WovenTurns.{keeps_before, keeps_behind, turns_halt, turns_size}
 
@@ -45,11 +46,16 @@ sets_keep {P = P} {state = state} {after = after} room sets = record {
   acks = sets.takes.fenced.counts.acks ∙ room.acks;
 }
 
+-- and no word of the superblock but the mark
+unmarks_beside : {T E : Type 0} {P value : ℕ} {state : State} {before between after : DeviceView} {result : Result T E} → IsSameButRoom before between → SetsMark P value state between after result → KeepsSuperblock before.words after.words
+unmarks_beside {after = after} room sets = subst (λ (words : List ℕ). KeepsSuperblock words after.words) room.words (sets_beside sets)
+
 -- what the turns begin with
 record HasUnmarked (volume : VolumeView) (state : State) (first : InterleaveView) (before began : DeviceView) : Type 0 where
   pub size : first.volume.size ≡ volume.size
   pub going : first.volume.stopped ≡ false
   pub keeps : KeepsState volume.size state before began
+  pub beside : KeepsSuperblock before.words began.words
   pub faults : began.faults ≡ before.faults
   pub fences : began.fences ≤ before.fences + 1
 
@@ -62,6 +68,7 @@ module _ (begun : InterleaveView) {state : State} {before : DeviceView} (going :
     size = ap (λ (weave : InterleaveView). weave.volume.size) same;
     going = ap (λ (weave : InterleaveView). weave.volume.stopped) same ∙ going;
     keeps = (as_it_was (settled_in stands) device).keeps;
+    beside = (as_it_was (settled_in stands) device).beside;
     faults = ap (λ (d : DeviceView). d.faults) device;
     fences = let same = ap (λ (d : DeviceView). d.fences) device in omega (arith, same);
   }
@@ -69,6 +76,7 @@ module _ (begun : InterleaveView) {state : State} {before : DeviceView} (going :
     size = ap (λ (weave : InterleaveView). weave.volume.size) same;
     going = ap (λ (weave : InterleaveView). weave.volume.stopped) same ∙ going;
     keeps = sets_keep room sets;
+    beside = unmarks_beside room sets;
     faults = sets.takes.fenced.counts.no_fault ∙ room.faults;
     fences = let made = sets.takes.fenced.counts.counted in let was = room.fences in omega (arith, made, was);
   }
@@ -113,8 +121,8 @@ module _ {state : State} {script schedule : List ℕ} {end : WeaveEnd} {begun wo
   ran_fences = let turns = runs.takes.fences in let one = unmarked.fences in omega (arith, turns, one)
 
   keeps_ran : KeepsTurns start runs.takes.turns mounted ran
-  keeps_ran = keeps_before begun.volume.size start runs.takes.turns unmarked.size unmarked.going (none_runs (length runs.first.tasks)) unmarked.keeps
-      (record { any_moment = runs.takes.any_moment; acked = runs.takes.acked; ack_count = runs.takes.acks })
+  keeps_ran = keeps_before begun.volume.size start runs.takes.turns unmarked.size unmarked.going (none_runs (length runs.first.tasks)) unmarked.keeps unmarked.beside
+      (record { any_moment = runs.takes.any_moment; acked = runs.takes.acked; ack_count = runs.takes.acks; beside = λ a is other. runs.takes.beside a is })
 
   -- a write that failed leaves calls that wait
   pub cut_settled : HasRisen mounted.faults ran.faults ⊎ IsSettledView ran
@@ -139,7 +147,7 @@ module _ {state : State} {script schedule : List ℕ} {begun woven : InterleaveV
   keeps_closed : (end : WeaveEnd) (runs : RunsTurns state script schedule end begun woven mounted ran took now) → ClosesBehind end begun.volume.size (last going stands runs).history ran after is
       → KeepsTurns (start going stands runs) runs.takes.turns mounted after
   keeps_closed ends.Done runs closes =
-      keeps_behind begun.volume.size (start going stands runs) runs.takes.turns (last_size going stands runs) (done_idle going stands runs runs.takes.ends) (keeps_ran going stands runs) (close_quietly begun.volume.size (last going stands runs).history ran after is closes).keeps
+      keeps_behind begun.volume.size (start going stands runs) runs.takes.turns (last_size going stands runs) (done_idle going stands runs runs.takes.ends) (keeps_ran going stands runs) (close_quietly begun.volume.size (last going stands runs).history ran after is closes)
   keeps_closed ends.Faulted runs (told, same) = left_as (keeps_ran going stands runs) same
   keeps_closed ends.WriteFault runs (told, same) = left_as (keeps_ran going stands runs) same
 
@@ -175,6 +183,7 @@ module _ {S K : Type 0} (sessions : ℕ) (schedule : List ℕ) (old new : Seen S
         fails = faulted;
         keeps = subst (λ (p : ℕ). KeepsState p mount.only.start old.device new.device) mount.size
             (keeps_after_mount (subst (λ (p : ℕ). KeepsState p mount.only.start old.device mounted) (sym mount.size) mount.only.mount.keeps) (sets_keep faulted.room faulted.failed));
+        beside = λ a is other. unmarks_beside faulted.room faulted.failed a is other ∙ mount.only.mount.beside a is;
         halts = faulted.failed.takes.fenced.fenced.halts;
       }
         where
@@ -198,7 +207,7 @@ module _ {S K : Type 0} (sessions : ℕ) (schedule : List ℕ) (old new : Seen S
         runs = runs;
         closes = subst (λ (p : ℕ). ClosesBehind lines.end p (last mount.going mount.stands runs).history lines.ran new.device is) mount.size closes;
         keeps = keeps_before (pages_in_image old.device.words) (start mount.going mount.stands runs) runs.takes.turns ((unmarked mount.going mount.stands runs).size ∙ mount.size) (unmarked mount.going mount.stands runs).going (none_runs (length runs.first.tasks)) mount.only.mount.keeps
-            (keeps_closed new.device is mount.going mount.stands lines.end runs closes);
+            (λ a is other. mount.only.mount.beside a is) (keeps_closed new.device is mount.going mount.stands lines.end runs closes);
         halts = closed_halts new.device is mount.going mount.stands lines.end runs closes;
       }
         where
@@ -206,7 +215,7 @@ module _ {S K : Type 0} (sessions : ℕ) (schedule : List ℕ) (old new : Seen S
           closes = closes_behind new.device is mount.going mount.stands lines.end runs lines.closes
 
   weaves_script : WeavesOn volume mount.only.start sessions schedule here new is → WeavesScript sessions schedule old new is
-  weaves_script (inl stays) = inl (record { unread = stays.unread; mounted = mounted; mount = mount.only; room = stays.room; unwritten = stays.unwritten })
+  weaves_script (inl stays) = inl (record { stops = stays.stops; mounted = mounted; mount = mount.only; room = stays.room; unwritten = stays.unwritten })
   weaves_script (inr lines) = inr (weaves_runs lines)
 
   tidy_entry : LeavesWoven volume.size mounted new.device is → LeavesTidyUncut old new is

@@ -4,6 +4,7 @@ use Rattle.std.proofs.lemmas.Bool.{cases_Bool}
 use Rattle.pm_trait.specs.Device.{EndsInFault}
 use Rattle.pm_trait.specs.DeviceView.{DeviceView}
 use Rattle.pm_trait.proofs.DeviceLaws.{leaves_next, leaves_weaker}
+use Rattle.layout.specs.Superblock.{KeepsSuperblock}
 use Rattle.tree_model.specs.Run.{State}
 use Rattle.volume.specs.Crashes.{MeansState}
 use Rattle.volume.specs.Volume.{VolumeView}
@@ -17,6 +18,7 @@ use Rattle.sessions.proofs.CarryLists.{ranges_idle}
 use Rattle.schedules.specs.Crashes.{IsLeftBy, acks_of_turns}
 use Rattle.schedules.specs.Turns.{Border, Turn, AreTurns, border_behind}
 use Rattle.squirrel_cli.specs.Weaves.{KeepsTurns}
+use Rattle.squirrel_cli.proofs.Closing.{ClosesQuietly}
 
 -- ---- what a crash leaves before the first turn, and behind the last
 
@@ -77,13 +79,14 @@ module _ (P : ℕ) (start : Border) (turns : List Turn) (size : start.weave.volu
       (left_first start turns image going (subst (λ (p : ℕ). IsCrashOf p image (ranges_of_all start.calls) start.history) (sym size) (idle_crash start.history start.calls idle means)))
 
   -- before the turns the state was kept
-  pub keeps_before : {before middle ran : DeviceView} → KeepsState P start.history before middle → KeepsTurns start turns middle ran → KeepsTurns start turns before ran
-  keeps_before keeps later = record {
+  pub keeps_before : {before middle ran : DeviceView} → KeepsState P start.history before middle → KeepsSuperblock before.words middle.words → KeepsTurns start turns middle ran → KeepsTurns start turns before ran
+  keeps_before keeps same later = record {
     any_moment = leaves_next keeps.no_ack (leaves_weaker means_first keeps.any_moment) later.any_moment;
     acked = λ told is.
         let all = acked_then 0 (acks_of_turns turns) keeps.any_moment.continues later.any_moment.continues (λ t i. keeps.no_ack) later.acked told is in
         omega (arith, all);
     ack_count = let was = keeps.acks in let more = later.ack_count in omega (arith, was, more);
+    beside = λ a is other. later.beside a is other ∙ same a is other;
   }
 
 module _ (P : ℕ) (start : Border) (turns : List Turn) (size : (border_behind start turns).weave.volume.size ≡ P) (idle : AreIdle (border_behind start turns).calls) where
@@ -95,11 +98,12 @@ module _ (P : ℕ) (start : Border) (turns : List Turn) (size : (border_behind s
       (idle_crash (border_behind start turns).history (border_behind start turns).calls idle means)))
 
   -- behind them it is kept too
-  pub keeps_behind : {before ran after : DeviceView} → KeepsTurns start turns before ran → KeepsState P (border_behind start turns).history ran after → KeepsTurns start turns before after
-  keeps_behind first keeps = record {
-    any_moment = leaves_after (acks_of_turns turns) first.acked first.any_moment (leaves_weaker means_last keeps.any_moment);
+  pub keeps_behind : {before ran after : DeviceView} → KeepsTurns start turns before ran → ClosesQuietly P (border_behind start turns).history ran after → KeepsTurns start turns before after
+  keeps_behind first closes = record {
+    any_moment = leaves_after (acks_of_turns turns) first.acked first.any_moment (leaves_weaker means_last closes.any_moment);
     acked = λ told is.
-        let all = acked_then (acks_of_turns turns) 0 first.any_moment.continues keeps.any_moment.continues first.acked (λ t i. keeps.no_ack) told is in
+        let all = acked_then (acks_of_turns turns) 0 first.any_moment.continues closes.any_moment.continues first.acked (λ t i. closes.no_ack) told is in
         omega (arith, all);
-    ack_count = let was = first.ack_count in let none = keeps.acks in omega (arith, was, none);
+    ack_count = let was = first.ack_count in let none = closes.acks in omega (arith, was, none);
+    beside = λ a is other. closes.beside a is other ∙ first.beside a is other;
   }

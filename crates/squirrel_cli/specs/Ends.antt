@@ -9,7 +9,7 @@ use Rattle.squirrel_cli.specs.declared.status.Status.{Status}
 use Rattle.squirrel_cli.specs.declared.status.Status.TheVariants.{Done, Usage, NoMemory, NotVolume, Damaged, DeviceFault, ReadFault, WriteFault, ScriptLimit}
 use Rattle.mount_scan.specs.Mounting.{IsSound}
 use Rattle.script.specs.Lines.{script_limit}
-use Rattle.squirrel_cli.specs.Whole.{IsShortWhole}
+use Rattle.squirrel_cli.specs.Whole.{IsKnownWithinLimits}
 
 -- a device that a job may begin on: it is settled, and its counts are far from the end of their range
 pub record IsStart (device : DeviceView) : Type 0 where
@@ -52,7 +52,7 @@ IsShortFor Tree left = IsShortScript left
 IsShortFor Check left = IsShortScript left
 IsShortFor (Crash moment keep again) left = IsShortScript left
 IsShortFor (Work seed count) left = IsShortScript left
-IsShortFor (Weave sessions schedule) left = IsShortWhole left
+IsShortFor (Weave sessions schedule) left = IsKnownWithinLimits left
 
 -- the device is as the job needs it: of the right length, or a sound volume
 abbrev pub IsReadyFor : Job → List ℕ → Type 0

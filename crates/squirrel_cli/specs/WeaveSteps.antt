@@ -1,4 +1,4 @@
--- The steps of `weave`, from the mount on.
+-- The steps of `weave`, from the mount on: those of Weaves.antt, which says what they come to from its entry on.
 use Rattle.std.specs.Prelude.{◌≡◌, ◌⊎◌, ℕ, List, []}
 use Rattle.pm_trait.specs.Device.{HasRisen}
 use Rattle.pm_trait.specs.DeviceView.{DeviceView, IsSettledView}
@@ -15,21 +15,21 @@ use Rattle.squirrel_cli.specs.declared.status.Status.{Status}
 use Rattle.squirrel_cli.specs.declared.status.Status.TheVariants.{DeviceFault, WriteFault}
 use Rattle.squirrel_cli.specs.Mounts.{ClosesAs}
 use Rattle.squirrel_cli.specs.Seen.{Seen}
-use Rattle.squirrel_cli.specs.Whole.{IsUnread, IsWholeScript}
+use Rattle.squirrel_cli.specs.Whole.{IsWholeScript, StopsBeforeLines}
 
--- The script could not be read whole, or memory was short: nothing was executed or written.
+-- as `EndsUnwoven`
 pub record StaysUnwoven {S K : Type 0} (old new : Seen S K) (status : Status) : Type 0 where
-  pub unread : IsUnread status old.left new.left
+  pub stops : StopsBeforeLines status old.left new.left
   pub room : IsSameButRoom old.device new.device
   pub unwritten : Takes old.took [] new.took
 
--- The sessions were closed where the schedule came to its end, and every other end is told and leaves the device.
+-- as `ClosesBehind`, for each history with which the sessions have ended
 abbrev pub ClosesSessions : WeaveEnd → ℕ → InterleaveView → DeviceView → DeviceView → Status → Type 0
 ClosesSessions ends.Done P woven ran after status = (history : State) → HaveEnded woven ran history → ClosesAs P history ran after status
 ClosesSessions ends.Faulted P woven ran after status = (status ≡ DeviceFault) × (after ≡ ran)
 ClosesSessions ends.WriteFault P woven ran after status = (status ≡ WriteFault) × (after ≡ ran)
 
--- The schedule was run from this state, to an end that the status tells.
+-- as `FailsToBegin` or `HasWoven`, from this state
 pub record WeavesLines {S K : Type 0} (volume : VolumeView) (state : State) (sessions : ℕ) (schedule : List ℕ) (old new : Seen S K) (status : Status) : Type 0 where
   pub script : List ℕ
   pub whole : IsWholeScript old.left new.left script

@@ -1,10 +1,10 @@
 -- What `weave` does: the whole script is read, and the lines of its sessions are executed step by step by a schedule.
-use Rattle.std.specs.Prelude.{◌≡◌, ◌⊎◌, ℕ, ◌+◌, List, []}
+use Rattle.std.specs.Prelude.{◌≡◌, ◌⊎◌, ℕ, ◌+◌, List, [], Some}
 use Rattle.pm_trait.specs.Trail.{Trail}
 use Rattle.pm_trait.specs.Device.{LeavesOnly, EndsInFault, acks_from, moment_of}
 use Rattle.pm_trait.specs.DeviceView.{DeviceView}
-use Rattle.std.specs.Prelude.{Some}
 use Rattle.io_edge.specs.Bytes.{Takes}
+use Rattle.layout.specs.Superblock.{KeepsSuperblock}
 use Rattle.image_reading.specs.Soundness.{pages_in_image}
 use Rattle.tree_model.specs.Run.{State}
 use Rattle.volume.specs.Prepared.{IsSameButRoom}
@@ -20,11 +20,11 @@ use Rattle.squirrel_cli.specs.declared.status.Status.{Status}
 use Rattle.squirrel_cli.specs.declared.status.Status.TheVariants.{DeviceFault, WriteFault}
 use Rattle.squirrel_cli.specs.Mounts.{ClosesAs}
 use Rattle.squirrel_cli.specs.Seen.{Seen}
-use Rattle.squirrel_cli.specs.Whole.{IsUnread, IsWholeScript}
+use Rattle.squirrel_cli.specs.Whole.{IsWholeScript, StopsBeforeLines}
 
 -- The script could not be read whole, or memory was short. The device was mounted, and nothing was executed or written.
 pub record EndsUnwoven {S K : Type 0} (old new : Seen S K) (status : Status) : Type 0 where
-  pub unread : IsUnread status old.left new.left
+  pub stops : StopsBeforeLines status old.left new.left
   pub mounted : DeviceView
   pub mount : IsOnlyMounted (pages_in_image old.device.words) old.device mounted
   pub room : IsSameButRoom mounted new.device
@@ -42,6 +42,8 @@ pub record FailsToBegin {S K : Type 0} (sessions : ℕ) (old new : Seen S K) (st
   pub woven : InterleaveView
   pub fails : FailsToUnmark start script ends.Faulted (started volume sessions) woven mounted new.device old.took new.took
   pub keeps : KeepsState (pages_in_image old.device.words) start old.device new.device
+  -- no word of the superblock but the mark is another
+  pub beside : KeepsSuperblock old.device.words new.device.words
   pub halts : EndsInFault new.device.trail
 
 -- A schedule that was run to its end is closed for its history, and every other end is told and leaves the device.
@@ -56,6 +58,8 @@ pub record KeepsTurns (start : Border) (turns : List Turn) (before after : Devic
   pub any_moment : LeavesOnly before.trail after.trail (IsLeftBy start turns)
   pub acked : (told : Trail) → after.trail ≡ Some told → acks_from before.trail after.trail (moment_of after.trail) ≡ acks_of_turns turns
   pub ack_count : after.acks ≡ before.acks + acks_of_turns turns
+  -- no word of the superblock but the mark is another
+  pub beside : KeepsSuperblock before.words after.words
 
 -- The promise of many sessions: the volume is mounted, whatever a crash left in it to repair, the whole script is read, its lines are
 -- executed step by step by the schedule, and where that comes to its end the volume is closed.

@@ -15,10 +15,10 @@ pub record IsWithinLimits (script : List ℕ) : Type 0 where
   pub bytes : length script ≤ most_bytes
   pub lines : length (lines_of script) ≤ MOST_CALLS
 
--- the source is known to have one
-abbrev pub IsShortWhole : Option (List ℕ) → Type 0
-IsShortWhole None = ⊥
-IsShortWhole (Some script) = IsWithinLimits script
+-- the source is known to have such a script
+abbrev pub IsKnownWithinLimits : Option (List ℕ) → Type 0
+IsKnownWithinLimits None = ⊥
+IsKnownWithinLimits (Some script) = IsWithinLimits script
 
 -- It was all that the source had left, where that is told.
 pub record IsWholeScript (left now : Option (List ℕ)) (script : List ℕ) : Type 0 where
@@ -27,7 +27,7 @@ pub record IsWholeScript (left now : Option (List ℕ)) (script : List ℕ) : Ty
   pub within : IsWithinLimits script
 
 -- at most so many bytes of the source, fewer only where it has no more
-pub record IsFirst (most : ℕ) (left now : Option (List ℕ)) (bytes : List ℕ) : Type 0 where
+pub record IsFirstPart (most : ℕ) (left now : Option (List ℕ)) (bytes : List ℕ) : Type 0 where
   pub within : length bytes ≤ most
   pub gives : GivesFirst left bytes now
   pub end : length bytes < most → IsEnd now
@@ -36,8 +36,8 @@ pub record IsFirst (most : ℕ) (left now : Option (List ℕ)) (bytes : List ℕ
 abbrev pub HasRead : Option (List ℕ) → Option (List ℕ) → Type 0
 HasRead left now = (bytes : List ℕ) × GivesFirst left bytes now
 
--- Memory was short, a read failed, or what the source had left has more.
-pub record IsUnread (status : Status) (left now : Option (List ℕ)) : Type 0 where
+-- It ends before a line is executed: memory was short, a read failed, or what the source had left has more.
+pub record StopsBeforeLines (status : Status) (left now : Option (List ℕ)) : Type 0 where
   pub is : (status ≡ NoMemory) ⊎ (status ≡ ReadFault) ⊎ (status ≡ ScriptLimit)
   pub read : HasRead left now
   pub limit : status ≡ ScriptLimit → IfSome left (λ script. ¬ IsWithinLimits script)

@@ -3,6 +3,7 @@
 
 mod checking;
 mod chosen;
+mod chosen_schedule;
 mod generated;
 mod laws;
 mod listing;
@@ -15,7 +16,6 @@ mod top_call;
 mod weaving;
 mod whole;
 mod working;
-mod woven;
 
 pub use command_line::{ImagePath, Wanted, Words, device_of};
 pub use laws::{closed_law, complete_law, replay_complete_law, replay_end_law, replay_law};

@@ -13,10 +13,10 @@ ghost use Rattle.squirrel_cli.specs.Rows.{Weaves};
 ghost use Rattle.squirrel_cli.specs.Seen.{seen};
 ghost use Rattle.squirrel_cli.specs.WeaveSteps.{LeavesWoven, WeavesOn};
 
+use crate::chosen_schedule::ChosenSchedule;
 use crate::refused::refuse;
 use crate::status::Status;
 use crate::whole::read_whole;
-use crate::woven::Woven;
 use io_edge::{Sink, Source};
 use mount_scan::mount;
 use pm_trait::{NoMemory, Pm, PmFault};
@@ -28,20 +28,20 @@ use volume::Volume;
 /// Mounts the volume that the device holds, reads the whole script, and executes the lines of its sessions by the schedule.
 pub fn weave_script<P: Pm, S: Source, K: Sink>(
     alloc: Global,
-    woven: Woven<'_>,
+    chosen: ChosenSchedule<'_>,
     script: &mut S,
     out: &mut K,
     pm: &mut P,
 ) -> Status
     requires start { IsStart (P.view pm.old) }
-    ensures weaves { Weaves woven.entry.sessions woven.entry.schedule.now (seen S.Source K.Sink (P.view pm.old) script.old out.old)
+    ensures weaves { Weaves chosen.entry.sessions chosen.entry.schedule.now (seen S.Source K.Sink (P.view pm.old) script.old out.old)
         (seen S.Source K.Sink (P.view pm.new) script.new out.new) result }
     ensures cause { TellsFaults (seen S.Source K.Sink (P.view pm.old) script.old out.old)
         (seen S.Source K.Sink (P.view pm.new) script.new out.new) result }
     ensures settled { HasRisen (P.view pm.old).faults (P.view pm.new).faults ⊎ IsSettledView (P.view pm.new) }
 {
     match mount(alloc, pm) {
-        Ok(volume) => weave_lines(alloc, woven, volume, script, out, pm),
+        Ok(volume) => weave_lines(alloc, chosen, volume, script, out, pm),
         Err(error) => refuse(error, out),
     }
 }
@@ -49,7 +49,7 @@ pub fn weave_script<P: Pm, S: Source, K: Sink>(
 // Reads the whole script and executes it on a mounted volume, and closes that where it came to its end.
 fn weave_lines<P: Pm, S: Source, K: Sink>(
     alloc: Global,
-    woven: Woven<'_>,
+    chosen: ChosenSchedule<'_>,
     volume: Volume,
     script: &mut S,
     out: &mut K,
@@ -57,7 +57,7 @@ fn weave_lines<P: Pm, S: Source, K: Sink>(
 ) -> Status
     requires goes_on { GoesOn volume (P.view pm.old) }
     ensures weaves { (state : State) → StandsFor volume (P.view pm.old) state →
-        WeavesOn volume state woven.entry.sessions woven.entry.schedule.now (seen S.Source K.Sink (P.view pm.old) script.old out.old)
+        WeavesOn volume state chosen.entry.sessions chosen.entry.schedule.now (seen S.Source K.Sink (P.view pm.old) script.old out.old)
         (seen S.Source K.Sink (P.view pm.new) script.new out.new) result }
     ensures cause { TellsFaults (seen S.Source K.Sink (P.view pm.old) script.old out.old)
         (seen S.Source K.Sink (P.view pm.new) script.new out.new) result }
@@ -67,14 +67,14 @@ fn weave_lines<P: Pm, S: Source, K: Sink>(
         Ok(script) => script,
         Err(status) => return status,
     };
-    let Ok(mut interleave) = Interleave::start(alloc, volume, woven.sessions) else {
+    let Ok(mut interleave) = Interleave::start(alloc, volume, chosen.sessions) else {
         return Status::NoMemory;
     };
     match run_schedule(
         alloc,
         &mut interleave,
         script.as_slice(),
-        woven.schedule,
+        chosen.schedule,
         out,
         pm,
     ) {

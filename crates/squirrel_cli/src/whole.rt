@@ -2,7 +2,7 @@
 ghost use Rattle.std.specs.Prelude.{◌≡◌, ◌≢◌, ◌⊎◌, ◌↔◌, ◌<◌, ◌≤◌, take, length, MatchResult, OnOk, OnErr, IfOk, Err, IsTrue};
 ghost use Rattle.pm_trait.specs.Device.{HasRisen};
 ghost use Rattle.io_edge.specs.Bytes.{GivesFirst, IsEnd};
-ghost use Rattle.squirrel_cli.specs.Whole.{HasRead, IsFirst, IsUnread, IsWholeScript, IsWithinLimits};
+ghost use Rattle.squirrel_cli.specs.Whole.{HasRead, IsFirstPart, IsWholeScript, IsWithinLimits, StopsBeforeLines};
 
 use crate::status::Status;
 use io_edge::{ReadFault, Source};
@@ -14,10 +14,10 @@ use std::alloc::Global;
 const MOST_BYTES: usize = 1 << 24;
 
 /// The bytes of a script of at most 2^24 bytes and 65,536 lines. The status says why it could not be read: memory was short, a read failed,
-/// or there is more. All memory is taken before the first read.
+/// or there is more.
 pub fn read_whole<S: Source>(alloc: Global, source: &mut S) -> Result<Vec<u8>, Status>
     ensures reads { MatchResult result (λ script. IsWholeScript (S.left source.old) (S.left source.new) script.items)
-        (λ status. IsUnread status (S.left source.old) (S.left source.new)) }
+        (λ status. StopsBeforeLines status (S.left source.old) (S.left source.new)) }
     ensures cause { result ≡ Err Status.ReadFault → HasRisen (S.faults source.old) (S.faults source.new) }
     ensures no_read_fault { result ≢ Err Status.ReadFault → S.faults source.new ≡ S.faults source.old }
 {
@@ -37,7 +37,7 @@ fn is_within_limits(script: &[u8]) -> bool
 
 // So many bytes of the source, or all that it has.
 fn read_first<S: Source>(alloc: Global, most: usize, source: &mut S) -> Result<Vec<u8>, Status>
-    ensures reads { MatchResult result (λ bytes. IsFirst most (S.left source.old) (S.left source.new) bytes.items)
+    ensures reads { MatchResult result (λ bytes. IsFirstPart most (S.left source.old) (S.left source.new) bytes.items)
         (λ status. ((status ≡ Status.NoMemory) ⊎ (status ≡ Status.ReadFault)) × HasRead (S.left source.old) (S.left source.new)) }
     ensures cause { result ≡ Err Status.ReadFault → HasRisen (S.faults source.old) (S.faults source.new) }
     ensures no_read_fault { result ≢ Err Status.ReadFault → S.faults source.new ≡ S.faults source.old }

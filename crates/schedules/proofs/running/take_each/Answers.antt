@@ -58,15 +58,15 @@ pub returns-in-Err-clause-takes : goal.returns-in-Err-clause-takes
 returns-in-Err-clause-takes g c calls history first =
     let so_far = c.loop-turn.invariant.so_far calls history first in
     let last = border_behind (border_of c.args.interleave.now (g.P.Pm.view c.args.pm.now) calls history c.args.left.now) so_far.turns in
-    let (turn, takes, writes) = c.in-Err.ensures.takes last.calls last.history c.args.schedule.now c.loop-turn.turn (here_stands first so_far) (found_turn c.loop-turn.left _ c.turn.result c.turn.ensures c.in-Some.session c.in-Some.is) in
-    took_cut first so_far takes c.in-Err.field-0 (g.K.Sink.took c.take_turn.new.sink) writes.cut
+    let (turn, turned, writes) = c.in-Err.ensures.takes last.calls last.history c.args.schedule.now c.loop-turn.turn (here_stands first so_far) (found_turn c.loop-turn.left _ c.turn.result c.turn.ensures c.in-Some.session c.in-Some.is) in
+    took_cut first so_far turned c.in-Err.field-0 (g.K.Sink.took c.take_turn.new.sink) writes.cut
 
 pub returns-in-Err-clause-cause : goal.returns-in-Err-clause-cause
 returns-in-Err-clause-cause g c =
     let (calls, history, first) = c.requires.first in
     let so_far = c.loop-turn.invariant.so_far calls history first in
     let last = border_behind (border_of c.args.interleave.now (g.P.Pm.view c.args.pm.now) calls history c.args.left.now) so_far.turns in
-    let (turn, takes, writes) = c.in-Err.ensures.takes last.calls last.history c.args.schedule.now c.loop-turn.turn (here_stands first so_far) (found_turn c.loop-turn.left _ c.turn.result c.turn.ensures c.in-Some.session c.in-Some.is) in
+    let (turn, turned, writes) = c.in-Err.ensures.takes last.calls last.history c.args.schedule.now c.loop-turn.turn (here_stands first so_far) (found_turn c.loop-turn.left _ c.turn.result c.turn.ensures c.in-Some.session c.in-Some.is) in
     subst (λ faults. HasRisen faults (g.K.Sink.faults c.take_turn.new.sink)) c.loop-turn.invariant.sink_faults writes.cause
 
 pub loop-turn-preserved : goal.loop-turn-preserved
@@ -74,14 +74,14 @@ loop-turn-preserved g c = record {
   so_far = λ calls history first.
       let so_far = c.loop-turn.invariant.so_far calls history first in
       let last = border_behind (border_of c.args.interleave.now (g.P.Pm.view c.args.pm.now) calls history c.args.left.now) so_far.turns in
-      let (turn, takes, writes) = c.in_default-take_turn.ensures.takes last.calls last.history c.args.schedule.now c.loop-turn.turn (here_stands first so_far)
+      let (turn, turned, writes) = c.in_default-take_turn.ensures.takes last.calls last.history c.args.schedule.now c.loop-turn.turn (here_stands first so_far)
       (found_turn c.loop-turn.left _ c.turn.result c.turn.ensures c.in-Some.session c.in-Some.is) in
-      took_more first so_far takes (g.K.Sink.took c.take_turn.new.sink) writes.whole;
+      took_more first so_far turned (g.K.Sink.took c.take_turn.new.sink) writes.whole;
   sink_faults =
       let (calls, history, first) = c.requires.first in
       let so_far = c.loop-turn.invariant.so_far calls history first in
       let last = border_behind (border_of c.args.interleave.now (g.P.Pm.view c.args.pm.now) calls history c.args.left.now) so_far.turns in
-      let (turn, takes, writes) = c.in_default-take_turn.ensures.takes last.calls last.history c.args.schedule.now c.loop-turn.turn (here_stands first so_far)
+      let (turn, turned, writes) = c.in_default-take_turn.ensures.takes last.calls last.history c.args.schedule.now c.loop-turn.turn (here_stands first so_far)
       (found_turn c.loop-turn.left _ c.turn.result c.turn.ensures c.in-Some.session c.in-Some.is) in
       writes.no_fault ∙ c.loop-turn.invariant.sink_faults;
 }

@@ -3,7 +3,7 @@ use Rattle.tree_model.specs.Run.{State}
 use Rattle.session_laws.specs.Calls.{Calls}
 use Rattle.schedules.specs.Borders.{border_of}
 use Rattle.schedules.specs.Laws.{IsFirst}
-use Rattle.schedules.specs.Taken.{TookSoFar}
+use Rattle.schedules.proofs.Took.{TookSoFar}
 use Rattle.schedules.proofs.running.take_each.Given as goal
 
 abbrev pub invariant-loop-turn : goal.invariant-loop-turn

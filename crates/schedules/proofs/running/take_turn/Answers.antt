@@ -48,7 +48,7 @@ returns-in-Running-clause-takes g c calls history schedule count border whose =
         reply = Running c.in-Running.number;
         behind = border_of c.step.new.self (g.P.Pm.view c.step.new.pm) of.calls of.history c.args.left.now;
       },
-      record { is_turn = of.is_turn; weave = refl; device = refl; left_is = refl },
+      record { is_turn = of.is_turn; reached = record { weave_is = refl; device_is = refl; left_is = refl } },
       writes_none (g.K.Sink.took c.args.sink.now) (g.K.Sink.faults c.args.sink.now) tt,
     )
 
@@ -71,6 +71,6 @@ returns-in-Ended-clause-takes g c calls history schedule count border whose =
         reply = reply;
         behind = border_of c.step.new.self (g.P.Pm.view c.step.new.pm) of.calls of.history c.pass.new.self;
       },
-      record { is_turn = of.is_turn; weave = sym c.write_reply.ensures.same; device = refl; left_is = refl },
+      record { is_turn = of.is_turn; reached = record { weave_is = sym c.write_reply.ensures.same; device_is = refl; left_is = refl } },
       c.write_reply.ensures.writes history.tree line told,
     )

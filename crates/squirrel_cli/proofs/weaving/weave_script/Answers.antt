@@ -9,7 +9,7 @@ use Rattle.squirrel_cli.proofs.weaving.weave_script.Goals as goal
 pub returns-in-Ok-clause-weaves : goal.returns-in-Ok-clause-weaves
 returns-in-Ok-clause-weaves g c =
     let mount = c.in-Ok.ensures.answers in
-    woven_row c.args.woven.sessions c.args.woven.schedule.now (seen g.S.Source g.K.Sink (g.P.Pm.view c.args.pm.now) c.args.script.now c.args.out.now)
+    woven_row c.args.chosen.sessions c.args.chosen.schedule.now (seen g.S.Source g.K.Sink (g.P.Pm.view c.args.pm.now) c.args.script.now c.args.out.now)
     (seen g.S.Source g.K.Sink (g.P.Pm.view c.weave_lines.new.pm) c.weave_lines.new.script c.weave_lines.new.out) c.weave_lines.result mount c.weave_lines.ensures.leaves
     (c.weave_lines.ensures.weaves mount.only.start mount.stands)
 
@@ -22,5 +22,5 @@ pub returns-in-Err-clause-weaves : goal.returns-in-Err-clause-weaves
 returns-in-Err-clause-weaves g c =
     let old = seen g.S.Source g.K.Sink (g.P.Pm.view c.args.pm.now) c.args.script.now c.args.out.now in
     let new = seen g.S.Source g.K.Sink (g.P.Pm.view c.mount.new.pm) c.args.script.now c.refuse.new.out in
-    uncut_row old new (WeavesScript c.args.woven.sessions c.args.woven.schedule.now)
-    (refused_row old new (WeavesScript c.args.woven.sessions c.args.woven.schedule.now) c.in-Err.error c.in-Err.ensures.answers c.refuse.ensures.told refl c.refuse.ensures.unwritten)
+    uncut_row old new (WeavesScript c.args.chosen.sessions c.args.chosen.schedule.now)
+    (refused_row old new (WeavesScript c.args.chosen.sessions c.args.chosen.schedule.now) c.in-Err.error c.in-Err.ensures.answers c.refuse.ensures.told refl c.refuse.ensures.unwritten)

@@ -1,9 +1,9 @@
-// Which sessions are woven.
+// Which schedule of how many sessions is woven.
 ghost use Rattle.std.specs.Prelude.{◌<◌, ◌≤◌, length};
 
 /// So many sessions, and the schedule of their steps.
 #[derive(Clone, Copy)]
-pub struct Woven<'a> {
+pub struct ChosenSchedule<'a> {
     /// How many sessions there are.
     pub sessions: u64,
     /// Whose turn it is, a byte a step, round and round.
