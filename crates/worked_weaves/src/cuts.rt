@@ -28,6 +28,31 @@ const NOTHING: Repairs = Repairs {
     counts: 0,
 };
 
+const PAGE: Repairs = Repairs {
+    pages: 1,
+    ..NOTHING
+};
+
+const NODE: Repairs = Repairs {
+    inodes: 1,
+    ..NOTHING
+};
+
+const NODE_AND_PAGE: Repairs = Repairs { pages: 1, ..NODE };
+
+const NODE_AND_SLOT: Repairs = Repairs { slots: 1, ..NODE };
+
+const NODE_SLOT_AND_COUNT: Repairs = Repairs {
+    counts: 1,
+    ..NODE_AND_SLOT
+};
+
+const SLOT_AND_COUNT: Repairs = Repairs {
+    slots: 1,
+    counts: 1,
+    ..NOTHING
+};
+
 // A call, how many fences it takes, and the one that settles its commit word; what it has left behind its first steps, in their order. What a
 // line is told that asks for it, without it and with it.
 #[derive(Clone, Copy)]
@@ -46,20 +71,7 @@ const CREATE: CutCall<'static> = CutCall {
     line: "create /a/x",
     fences: 3,
     commit: 3,
-    left: &[
-        Repairs {
-            slots: 0,
-            pages: 1,
-            inodes: 1,
-            counts: 0,
-        },
-        Repairs {
-            slots: 0,
-            pages: 1,
-            inodes: 1,
-            counts: 0,
-        },
-    ],
+    left: &[NODE_AND_PAGE, NODE_AND_PAGE],
     asked: "list /a\n",
     without: "ok 0\n",
     with: "ok 1 x\n",
@@ -69,12 +81,7 @@ const MKDIR: CutCall<'static> = CutCall {
     line: "mkdir /b/y",
     fences: 2,
     commit: 2,
-    left: &[Repairs {
-        slots: 1,
-        pages: 0,
-        inodes: 1,
-        counts: 1,
-    }],
+    left: &[NODE_SLOT_AND_COUNT],
     asked: "list /b\n",
     without: "ok 1 k\n",
     with: "ok 2 k y\n",
@@ -84,12 +91,7 @@ const GROW: CutCall<'static> = CutCall {
     line: "write /c/f 5000 01",
     fences: 2,
     commit: 2,
-    left: &[Repairs {
-        slots: 0,
-        pages: 0,
-        inodes: 0,
-        counts: 0,
-    }],
+    left: &[NOTHING],
     asked: "stat /c/f\n",
     without: "ok file inode 6 links 1 size 5000\n",
     with: "ok file inode 6 links 1 size 5001\n",
@@ -99,20 +101,7 @@ const CUT: CutCall<'static> = CutCall {
     line: "truncate /c/f 1",
     fences: 3,
     commit: 1,
-    left: &[
-        Repairs {
-            slots: 0,
-            pages: 1,
-            inodes: 0,
-            counts: 0,
-        },
-        Repairs {
-            slots: 0,
-            pages: 1,
-            inodes: 0,
-            counts: 0,
-        },
-    ],
+    left: &[PAGE, PAGE],
     asked: "stat /c/f\n",
     without: "ok file inode 6 links 1 size 5000\n",
     with: "ok file inode 6 links 1 size 1\n",
@@ -123,26 +112,7 @@ const UNLINK: CutCall<'static> = CutCall {
     line: "unlink /e/u",
     fences: 4,
     commit: 1,
-    left: &[
-        Repairs {
-            slots: 0,
-            pages: 1,
-            inodes: 1,
-            counts: 0,
-        },
-        Repairs {
-            slots: 0,
-            pages: 1,
-            inodes: 1,
-            counts: 0,
-        },
-        Repairs {
-            slots: 0,
-            pages: 1,
-            inodes: 1,
-            counts: 0,
-        },
-    ],
+    left: &[NODE_AND_PAGE, NODE_AND_PAGE, NODE_AND_PAGE],
     asked: "list /e\n",
     without: "ok 1 u\n",
     with: "ok 0\n",
@@ -152,12 +122,7 @@ const LINK: CutCall<'static> = CutCall {
     line: "link /b/k /b/l",
     fences: 2,
     commit: 2,
-    left: &[Repairs {
-        slots: 1,
-        pages: 0,
-        inodes: 0,
-        counts: 1,
-    }],
+    left: &[SLOT_AND_COUNT],
     asked: "list /b\n",
     without: "ok 1 k\n",
     with: "ok 2 k l\n",
@@ -167,20 +132,7 @@ const RMDIR: CutCall<'static> = CutCall {
     line: "rmdir /a",
     fences: 3,
     commit: 1,
-    left: &[
-        Repairs {
-            slots: 1,
-            pages: 0,
-            inodes: 1,
-            counts: 1,
-        },
-        Repairs {
-            slots: 0,
-            pages: 0,
-            inodes: 1,
-            counts: 0,
-        },
-    ],
+    left: &[NODE_SLOT_AND_COUNT, NODE],
     asked: "list /\n",
     without: "ok 4 a b c e\n",
     with: "ok 3 b c e\n",
@@ -190,12 +142,7 @@ const CREATE_IN_PAGE: CutCall<'static> = CutCall {
     line: "create /b/z",
     fences: 2,
     commit: 2,
-    left: &[Repairs {
-        slots: 1,
-        pages: 0,
-        inodes: 1,
-        counts: 0,
-    }],
+    left: &[NODE_AND_SLOT],
     asked: "list /b\n",
     without: "ok 1 k\n",
     with: "ok 2 k z\n",
@@ -205,20 +152,7 @@ const FIRST_PAGE: CutCall<'static> = CutCall {
     line: "write /b/k 0 01020304",
     fences: 3,
     commit: 3,
-    left: &[
-        Repairs {
-            slots: 0,
-            pages: 1,
-            inodes: 0,
-            counts: 0,
-        },
-        Repairs {
-            slots: 0,
-            pages: 1,
-            inodes: 0,
-            counts: 0,
-        },
-    ],
+    left: &[PAGE, PAGE],
     asked: "stat /b/k\n",
     without: "ok file inode 4 links 1 size 0\n",
     with: "ok file inode 4 links 1 size 4\n",
