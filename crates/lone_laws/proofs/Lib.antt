@@ -1,0 +1,10 @@
+pub mod Lines
+pub mod OneCall
+pub mod FirstEntry
+pub mod Answered
+pub mod Phases
+pub mod Going
+pub mod Begins
+pub mod Continues
+pub mod Halted
+pub mod Lone
