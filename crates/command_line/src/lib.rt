@@ -4,8 +4,6 @@
 mod hex_bytes;
 mod job;
 mod split;
-#[cfg(test)]
-mod tests;
 mod wanted;
 mod words;
 

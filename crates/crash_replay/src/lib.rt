@@ -6,8 +6,6 @@ mod laws;
 mod moment;
 mod place;
 mod tally;
-#[cfg(test)]
-mod tests;
 mod work;
 mod work_line;
 

@@ -2,5 +2,4 @@ pub mod DentryLaws
 pub mod Events
 pub mod Stored
 pub mod Lines
-pub mod Zeros
 pub mod Lent

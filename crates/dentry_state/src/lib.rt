@@ -8,6 +8,3 @@ mod states;
 pub use dentry::{DentryH, Touched};
 pub use laws::dentry_law;
 pub use states::{Cleared, DentryState, Free, HasName, Left, Live, Moved, Named, Pointing};
-
-#[cfg(test)]
-mod tests;

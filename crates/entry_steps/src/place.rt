@@ -100,6 +100,3 @@ impl NamePlace<Clean> {
         }
     }
 }
-
-#[cfg(test)]
-mod tests;

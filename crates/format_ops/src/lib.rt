@@ -7,6 +7,3 @@ mod tables;
 
 pub use error::FormatError;
 pub use formatting::format;
-
-#[cfg(test)]
-mod tests;

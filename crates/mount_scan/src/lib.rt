@@ -14,6 +14,3 @@ pub use error::{MountError, ReportError};
 pub use head::HEAD_RULE;
 pub use mounting::mount;
 pub use reporting::report;
-
-#[cfg(test)]
-mod tests;

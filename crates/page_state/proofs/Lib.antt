@@ -12,10 +12,6 @@ pub mod Lines
 pub mod Told
 pub mod Pages
 pub mod Changes
-pub mod Zeros
 pub mod Releases
 mod Unlinked
 mod Cut
-mod Written
-mod FilePages
-mod FewBytes

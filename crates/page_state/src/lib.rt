@@ -13,6 +13,3 @@ pub use laws::{page_law, span_law};
 pub use page::{PageH, Touched};
 pub use span::FileSpan;
 pub use states::{Filled, Free, Live, PageState, Released};
-
-#[cfg(test)]
-mod tests;

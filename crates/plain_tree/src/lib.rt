@@ -91,6 +91,3 @@ impl PlainTree {
         reply
     }
 }
-
-#[cfg(test)]
-mod tests;

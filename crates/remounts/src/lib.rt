@@ -85,6 +85,3 @@ fn copy_of(alloc: Global, words: &[u64]) -> Result<Vec<u64>, NoMemory>
 {
     words.to_vec(alloc).map_err(|_| NoMemory)
 }
-
-#[cfg(test)]
-mod tests;

@@ -3,8 +3,6 @@
 
 mod count;
 mod left;
-#[cfg(test)]
-mod tests;
 
 pub use count::count_lines;
 pub use left::LinesLeft;

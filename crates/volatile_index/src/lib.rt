@@ -12,6 +12,3 @@ mod search;
 pub use entry::Entry;
 pub use index::Index;
 pub use laws::{one_entry_of_a_name, same_entries};
-
-#[cfg(test)]
-mod tests;
