@@ -1,5 +1,6 @@
 -- The command as it is built, and what a parse by it gives.
 use Rattle.std.proofs.Common.{◌≡◌, ◌∙◌, sym, ap, ap₂, refl, false, true, List, [], ◌∷◌, Option, Some, None, option_map, inl, inr}
+use Rattle.std.specs.Prelude.{Result, Ok, Err, IfOk, IsOkAnd}
 use Rattle.clap.specs.Built.{AddsArg, AddsSubcommand}
 use Rattle.clap.specs.Kinds.{Kinds, HasKind}
 use Rattle.clap.specs.Faults.{fault_of, is_simple_and_free}
@@ -26,9 +27,16 @@ pub still_local : {old new : Command} {a : Arg} → AddsArg old a new → a.glob
 still_local added local before = rw (added.globals, before, local) refl
 
 -- one more subcommand
-pub more_commands : {old sub new : Command} {app leaf : App} → AddsSubcommand old sub new → (fields_of sub).has_globals ≡ false → app_of sub ≡ leaf → app_of old ≡ app
+more_commands : {old sub new : Command} {app leaf : App} → AddsSubcommand old sub new → (fields_of sub).has_globals ≡ false → app_of sub ≡ leaf → app_of old ≡ app
     → app_of new ≡ with_subcommand app leaf.top
 more_commands added local leaf_is app_is = added.shape local ∙ ap₂ with_subcommand app_is (ap (λ (a : App). a.top) leaf_is)
+
+-- one more job
+pub more_jobs : {E : Type 0} (old new : Command) {app : App} (leaf : App) (job : Result Command E) → IsOkAnd job (λ added. AddsSubcommand old added new)
+    → IfOk job (λ command. (fields_of command).has_globals ≡ false) → IfOk job (λ command. app_of command ≡ leaf) → app_of old ≡ app
+    → app_of new ≡ with_subcommand app leaf.top
+more_jobs old new leaf (Ok added) adds local leaf_is app_is = more_commands adds local leaf_is app_is
+more_jobs old new leaf (Err fault) adds local leaf_is app_is = absurd adds
 
 -- the command is one of which the port says exactly what it takes
 pub is_simple-squirrel_app : is_simple squirrel_app ≡ true

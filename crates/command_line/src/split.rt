@@ -1,5 +1,6 @@
 // How `clap` splits the words of a command line.
-ghost use Rattle.std.specs.Prelude.{◌≡◌, false, IfOk};
+ghost use Rattle.std.specs.Prelude.{◌≡◌, false, IfOk, IsOkAnd};
+ghost use Rattle.clap.specs.Built.{AddsSubcommand};
 ghost use Rattle.clap.specs.Simple.{app_of};
 ghost use Rattle.clap.specs.Walk.{rule_of};
 ghost use Rattle.clap.specs.declared.builder.command.Command.TheViews.{out-Command as fields_of};
@@ -73,18 +74,28 @@ impl<'a> Split<'a> {
 fn squirrel_command<'a>(alloc: Global) -> Result<Command<'a>, AllocError>
     ensures { IfOk result (λ command. app_of command ≡ squirrel_app) }
 {
-    Command::new(alloc, "squirrel")
+    let bare = Command::new(alloc, "squirrel")
         .subcommand_required(true)
         .disable_help_flag(true)
         .disable_help_subcommand(true)
-        .disable_version_flag(true)
-        .subcommand(mkfs_command(alloc)?)?
-        .subcommand(run_command(alloc)?)?
-        .subcommand(tree_command(alloc)?)?
-        .subcommand(check_command(alloc)?)?
-        .subcommand(crash_command(alloc)?)?
-        .subcommand(work_command(alloc)?)?
-        .subcommand(weave_command(alloc)?)
+        .disable_version_flag(true);
+    let with_mkfs = with_job(bare, mkfs_command(alloc))?;
+    let with_run = with_job(with_mkfs, run_command(alloc))?;
+    let with_tree = with_job(with_run, tree_command(alloc))?;
+    let with_check = with_job(with_tree, check_command(alloc))?;
+    let with_crash = with_job(with_check, crash_command(alloc))?;
+    let with_work = with_job(with_crash, work_command(alloc))?;
+    with_job(with_work, weave_command(alloc))
+}
+
+// Adds a job's subcommand, where there was memory for it.
+fn with_job<'a>(
+    whole: Command<'a>,
+    job: Result<Command<'a>, AllocError>,
+) -> Result<Command<'a>, AllocError>
+    ensures { IfOk result (λ command. IsOkAnd job.entry (λ added. AddsSubcommand whole.entry added command)) }
+{
+    whole.subcommand(job?)
 }
 
 fn mkfs_command<'a>(alloc: Global) -> Result<Command<'a>, AllocError>
