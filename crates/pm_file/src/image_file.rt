@@ -102,3 +102,6 @@ impl ImageFile for File {
         self.write_all_at(run, place)
     }
 }
+
+#[cfg(test)]
+mod tests;

@@ -2,6 +2,7 @@
 #![tactic(auto)]
 
 mod access;
+mod backing;
 mod bytes;
 mod cause;
 mod device;

@@ -164,6 +164,21 @@ impl<F: Medium + Drop> Mirror<F> {
         })
     }
 
+    /// A mirror of no words over a medium. It takes no memory.
+    pub fn none(alloc: Global, medium: F) -> Mirror<F>
+        ensures words { result.words.items ≡ [] }
+        ensures medium { result.medium ≡ medium }
+        ensures flushed { result.flushed.items ≡ [] }
+    {
+        Mirror {
+            medium,
+            words: Vec::new(alloc),
+            rounds: Vec::new(alloc),
+            flushed: Vec::new(alloc),
+            round: 1,
+        }
+    }
+
     /// The words as they read.
     pub fn words(&self) -> &[u64]
         ensures { result.now ≡ self.now.words.items }

@@ -10,11 +10,12 @@ use std::io;
 use std::io::{Error, ErrorKind};
 use std::test::Fail;
 
-/// Words in memory, and those of them that are safe. It takes so many writes and syncs more.
+/// Words in memory, and those of them that are safe. It takes so many reads, writes and syncs more.
 #[derive(Drop)]
 struct Ram {
     words: Vec<u64>,
     safe: Vec<u64>,
+    reads_left: u64,
     writes_left: u64,
     syncs_left: u64,
     faults: u64,
@@ -33,10 +34,14 @@ impl Medium for Ram {
     fn read_pages(&mut self, page: u64, count: usize, words: &mut Vec<u64>) -> io::Result<()> {
         let first = WORDS_OF_A_PAGE * page as usize;
         let end = first + WORDS_OF_A_PAGE * count;
-        if end > self.words.len() || words.extend_from_slice(&self.words[first..end]).is_err() {
+        if self.reads_left == 0
+            || end > self.words.len()
+            || words.extend_from_slice(&self.words[first..end]).is_err()
+        {
             self.faults = self.faults.saturating_add(1);
             return Err(Error::from(ErrorKind::UnexpectedEof));
         }
+        self.reads_left -= 1;
         Ok(())
     }
 
@@ -70,13 +75,14 @@ fn put(all: &mut [u64], first: usize, words: &[u64])
     all[first..first + words.len()].copy_from_slice(words);
 }
 
-/// The words of 16 pages, zeros, in a medium that takes so many writes and syncs.
+/// The words of 16 pages, zeros, in a medium that takes one read, and so many writes and syncs.
 fn fresh_ram(alloc: Global, writes: u64, syncs: u64) -> Result<Ram, Fail> {
     let words = vec![in alloc; 0u64; 8192]?;
     let safe = vec![in alloc; 0u64; 8192]?;
     Ok(Ram {
         words,
         safe,
+        reads_left: 1,
         writes_left: writes,
         syncs_left: syncs,
         faults: 0,
@@ -178,6 +184,16 @@ fn a_write_fails_between_runs(rt: HostRuntime) -> Result<(), Fail> {
 fn nothing_is_read_where_the_first_sync_fails(rt: HostRuntime) -> Result<(), Fail> {
     let room = take_room(rt.alloc(), 16)?;
     let refused = Mirror::read_from(fresh_ram(rt.alloc(), 3, 0)?, room, 16);
+    assert!(rt; matches!(refused, Err(FileFault::Failed(_))));
+    Ok(())
+}
+
+#[test]
+fn there_is_no_device_where_a_read_fails(rt: HostRuntime) -> Result<(), Fail> {
+    let room = take_room(rt.alloc(), 16)?;
+    let mut medium = fresh_ram(rt.alloc(), 3, 3)?;
+    medium.reads_left = 0;
+    let refused = Mirror::read_from(medium, room, 16);
     assert!(rt; matches!(refused, Err(FileFault::Failed(_))));
     Ok(())
 }
