@@ -5,6 +5,3 @@ mod numbers;
 mod words;
 
 pub use numbers::Numbers;
-
-#[cfg(test)]
-mod tests;

@@ -1,5 +1,3 @@
 pub mod InodeLaws
 mod Stored
 mod Line
-mod Zeros
-mod Covered

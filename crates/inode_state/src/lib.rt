@@ -8,6 +8,3 @@ mod states;
 pub use inode::InodeH;
 pub use laws::inode_law;
 pub use states::{Cut, Free, Grown, Init, InodeState, Linked, Live, Unlinked};
-
-#[cfg(test)]
-mod tests;

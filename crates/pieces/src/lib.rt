@@ -6,6 +6,3 @@ mod list;
 mod many;
 
 pub use list::Pieces;
-
-#[cfg(test)]
-mod tests;

@@ -119,10 +119,4 @@ impl<T: Drop> Pieces<T> {
             self.many.remove(place)
         }
     }
-
-    // How many pieces there are; none where the items are few.
-    #[cfg(test)]
-    pub fn piece_count(&self) -> usize {
-        self.many.pieces.len()
-    }
 }

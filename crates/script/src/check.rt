@@ -76,6 +76,3 @@ pub fn text_of_table(table: &[(&[u8], u64)]) -> CountsText
     push_text(&mut text, b"\n");
     text
 }
-
-#[cfg(test)]
-mod tests;

@@ -47,6 +47,3 @@ fn text_of(summary: &WorkSummary) -> CountsText
     push_text(&mut text, totals.as_slice());
     text
 }
-
-#[cfg(test)]
-mod tests;

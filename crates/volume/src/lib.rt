@@ -30,6 +30,3 @@ pub use prepare::{LONGEST_FILE, LONGEST_READ};
 pub use resolve::Walk;
 pub use totals::Totals;
 pub use volume::Volume;
-
-#[cfg(test)]
-mod tests;

@@ -1,8 +1,2 @@
 mod ZeroPages
-mod Written
-mod FilePages
 mod FewBytes
-mod ZeroSlots
-mod Few
-mod Named
-mod Freed

@@ -14,14 +14,12 @@ mod pages;
 #[cfg(test)]
 mod places;
 #[cfg(test)]
-mod removals;
-#[cfg(test)]
 mod replays;
-#[cfg(test)]
-mod slots;
 #[cfg(test)]
 mod trees;
 #[cfg(test)]
 mod turns;
+#[cfg(test)]
+mod volumes;
 #[cfg(test)]
 mod words;

@@ -1,8 +1,7 @@
-// Pages on a volume of 16 pages: made pages of slots or bytes and given to an inode, written to, and taken from one and freed.
+// Pages on a volume of 16 pages: made pages of slots, and made pages of bytes that are given to an inode and written to.
 use fence_token::{Clean, fence};
-use inode_state::{Cut, InodeH, Unlinked};
 use layout::{Geometry, Name};
-use page_state::{Free, Live, PageH};
+use page_state::{Free, PageH};
 use pm_memory::RamPm;
 use pm_trait::Pm;
 use std::test::Fail;
@@ -47,58 +46,6 @@ fn two_pages_with_a_name(rt: HostRuntime) -> Result<(), Fail> {
         assert_eq!(rt; pm.image().get(word).copied(), Some(value), "at {word}");
     }
     assert_eq!(rt; pm.events(), 1_159);
-    Ok(())
-}
-
-#[test]
-fn pages_of_a_file_without_links(rt: HostRuntime) -> Result<(), Fail> {
-    let alloc = rt.alloc();
-    let mut old = vec![in alloc; 0; 8_192]?;
-    old[544] = 1;
-    old[547] = 3;
-    old[1_040] = 3;
-    old[1_041] = 1;
-    old[1_042] = 1;
-    old[1_056] = 3;
-    old[1_057] = 1;
-    let mut pm = RamPm::new(alloc, old.as_slice())?;
-    pm.reserve(12)?;
-    let geometry = Geometry::of(16).ok_or("no volume")?;
-    assert_eq!(rt; geometry.inodes, 4);
-    assert_eq!(rt; geometry.data_pages, 13);
-    let numbers = [4, 2];
-    let file: InodeH<Clean, Unlinked> = InodeH::at(&pm, &geometry, 3);
-    let live: PageH<Clean, Live> = PageH::at(&pm, &geometry, &numbers);
-    let cut = live.cut_last(&mut pm, &file).flush(&mut pm);
-    let token = fence(&mut pm)?;
-    let released = cut.settle(&pm, &token);
-    let free = released.release(&mut pm).flush(&mut pm);
-    let token = fence(&mut pm)?;
-    let free = free.settle(&pm, &token);
-    assert_eq!(rt; free.pages(), [4, 2].as_slice());
-    for word in [1_040, 1_041, 1_042, 1_056, 1_057, 1_058] {
-        assert_eq!(rt; pm.image().get(word).copied(), Some(0), "at {word}");
-    }
-    assert_eq!(rt; pm.fences(), 2);
-    Ok(())
-}
-
-#[test]
-fn a_page_without_names(rt: HostRuntime) -> Result<(), Fail> {
-    let alloc = rt.alloc();
-    let mut old = vec![in alloc; 0; 8_192]?;
-    old[1_064] = 1;
-    old[1_065] = 2;
-    let mut pm = RamPm::new(alloc, old.as_slice())?;
-    pm.reserve(2)?;
-    let geometry = Geometry::of(16).ok_or("no volume")?;
-    assert_eq!(rt; geometry.data_pages, 13);
-    let numbers = [5];
-    let live: PageH<Clean, Live> = PageH::at(&pm, &geometry, &numbers);
-    let cut = live.cut_empty(&mut pm).flush(&mut pm);
-    assert_eq!(rt; cut.pages(), [5].as_slice());
-    assert_eq!(rt; pm.image().get(1_064).copied(), Some(0));
-    assert_eq!(rt; pm.image().get(1_065).copied(), Some(2));
     Ok(())
 }
 
@@ -154,32 +101,5 @@ fn new_bytes_of_a_file(rt: HostRuntime) -> Result<(), Fail> {
         assert_eq!(rt; pm.image().get(word).copied(), Some(value), "at {word}");
     }
     assert_eq!(rt; written.pages(), [4, 2].as_slice());
-    Ok(())
-}
-
-#[test]
-fn pages_behind_the_end(rt: HostRuntime) -> Result<(), Fail> {
-    let alloc = rt.alloc();
-    let mut old = vec![in alloc; 0; 8_192]?;
-    old[544] = 1;
-    old[547] = 3;
-    old[1_040] = 3;
-    old[1_041] = 1;
-    old[1_042] = 1;
-    old[1_056] = 3;
-    old[1_057] = 1;
-    let mut pm = RamPm::new(alloc, old.as_slice())?;
-    pm.reserve(4)?;
-    let geometry = Geometry::of(16).ok_or("no volume")?;
-    assert_eq!(rt; geometry.inodes, 4);
-    assert_eq!(rt; geometry.data_pages, 13);
-    let numbers = [4, 2];
-    let file: InodeH<Clean, Cut> = InodeH::at(&pm, &geometry, 3);
-    let live: PageH<Clean, Live> = PageH::at(&pm, &geometry, &numbers);
-    let cut = live.cut_owner(&mut pm, &file).flush(&mut pm);
-    assert_eq!(rt; cut.pages(), [4, 2].as_slice());
-    for (word, value) in [(1_040, 0), (1_041, 1), (1_042, 1), (1_056, 0), (1_057, 1)] {
-        assert_eq!(rt; pm.image().get(word).copied(), Some(value), "at {word}");
-    }
     Ok(())
 }

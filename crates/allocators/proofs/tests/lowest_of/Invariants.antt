@@ -1,4 +1,0 @@
-use Rattle.allocators.proofs.tests.lowest_of.Given as goal
-
-abbrev pub ghosts-lowest_from_none : goal.ghosts-lowest_from_none
-ghosts-lowest_from_none a = record { name = a.blank.name; parts = a.blank.parts }

@@ -1,7 +1,0 @@
-use Rattle.std.proofs.Common.{◌≡◌, [], IsTrue}
-use Rattle.io_edge.specs.MemSource.{bytes_left}
-use Rattle.script.specs.Reader.{has_ended}
-use Rattle.script.proofs.tests.steps_of.Given as goal
-
-abbrev pub invariant-steps : goal.invariant-steps
-invariant-steps l = IsTrue (has_ended l.lines) → bytes_left l.source ≡ []
