@@ -10,12 +10,12 @@ loop-left-preserved-in-None c =
     let names = names_of (components_from c.split_component.result.1) in
     c.loop-left.invariant ∙ ap (λ left. fault_with c.loop-left.long (fault_in (names_of (components_from left)))) c.in-Some.is
     ∙ ap (λ components. fault_with c.loop-left.long (fault_in (names_of components))) c.split_component.ensures.parts
-    ∙ ap (fault_with c.loop-left.long) (behind_name (component_name c.split_component.result.0.now) names (sym c.component_fault.ensures ∙ c.in-None.is))
+    ∙ ap (fault_with c.loop-left.long) (behind_name (component_name c.split_component.result.0.text.now) names (sym c.component_fault.ensures ∙ c.in-None.is))
 
 pub loop-left-preserved : goal.loop-left-preserved
 loop-left-preserved c =
     let names = names_of (components_from c.split_component.result.1) in
     c.loop-left.invariant ∙ ap (λ left. fault_with c.loop-left.long (fault_in (names_of (components_from left)))) c.in-Some.is
     ∙ ap (λ components. fault_with c.loop-left.long (fault_in (names_of components))) c.split_component.ensures.parts
-    ∙ ap (fault_with c.loop-left.long) (behind_long (component_name c.split_component.result.0.now) names (sym c.component_fault.ensures ∙ c.in-Some-TooLong.is ∙ ap (λ (fault : NameFault). Some fault) c.in-Some-TooLong.field-0-is))
+    ∙ ap (fault_with c.loop-left.long) (behind_long (component_name c.split_component.result.0.text.now) names (sym c.component_fault.ensures ∙ c.in-Some-TooLong.is ∙ ap (λ (fault : NameFault). Some fault) c.in-Some-TooLong.field-0-is))
     ∙ with_long c.loop-left.long (fault_in names)
