@@ -1,5 +1,5 @@
 -- The calls to a file, and to what stands behind a device.
-use Rattle.std.specs.Prelude.{◌≡◌, ℕ}
+use Rattle.std.specs.Prelude.{◌≡◌, ℕ, List, [], Option, None, Some}
 use Rattle.pm_file.specs.declared.file_medium.FileMedium.{FileMedium}
 use Rattle.pm_file.specs.declared.backing.Backing.{Backing}
 use Rattle.pm_file.specs.declared.backing.Backing.TheVariants.{File, Nothing}
@@ -8,9 +8,14 @@ use Rattle.pm_file.specs.declared.backing.Backing.TheVariants.{File, Nothing}
 abbrev pub failed_calls : {F : Type 0} → FileMedium F → ℕ
 failed_calls medium = medium.faults
 
-abbrev pub calls_failed : {F : Type 0} → Backing F → ℕ
-calls_failed (File medium) = failed_calls medium
-calls_failed (Nothing faults) = faults
+abbrev pub failed_behind : {F : Type 0} → Backing F → ℕ
+failed_behind (File medium) = failed_calls medium
+failed_behind (Nothing faults) = faults
+
+-- the words that stand behind a device, where it is known: a file's aren't, and nothing has none
+abbrev pub words_behind : {F : Type 0} → Backing F → Option (List ℕ)
+words_behind (File medium) = None
+words_behind (Nothing faults) = Some []
 
 -- its file has just so many bytes; nothing has none
 abbrev pub HasLength : {F : Type 0} → (F → ℕ → Type 0) → Backing F → ℕ → Type 0

@@ -2,7 +2,7 @@
 use Rattle.std.specs.Prelude.{ℕ, List, Option}
 use Rattle.pm_file.specs.declared.cause.Cause.{Cause}
 use Rattle.pm_file.specs.declared.device.FilePm.{FilePm}
-use Rattle.pm_file.specs.Calls.{calls_failed, HasLength}
+use Rattle.pm_file.specs.Calls.{failed_behind, HasLength}
 use Rattle.pm_file.specs.Mirrored.{listed_lines, HasNextRound, faults_behind, IsWhole}
 
 -- the lines that were flushed since the last fence that succeeded, which the next fence writes
@@ -15,7 +15,7 @@ CanForget pm = HasNextRound pm.mirror
 
 -- how many calls to its file failed
 abbrev pub file_faults : {R F E : Type 0} → FilePm R F E → ℕ
-file_faults pm = faults_behind calls_failed pm.mirror
+file_faults pm = faults_behind failed_behind pm.mirror
 
 -- its file has just the bytes of its words, which only the file's own answer gives
 abbrev pub HasWholeFile : {R F E : Type 0} → (F → ℕ → Type 0) → FilePm R F E → Type 0

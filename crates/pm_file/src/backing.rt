@@ -28,13 +28,13 @@ fn refuse(faults: &mut u64) -> io::Result<()>
 }
 
 impl<F: ImageFile + OpenFile + Drop> Medium for Backing<F> {
-    ghost use Rattle.pm_file.specs.Calls.{calls_failed, HasLength};
+    ghost use Rattle.pm_file.specs.Calls.{failed_behind, words_behind, HasLength};
 
-    ghost held = { λ _. None };
+    ghost held = { words_behind };
 
-    ghost safe = { λ _. None };
+    ghost safe = { words_behind };
 
-    ghost faults = { calls_failed };
+    ghost faults = { failed_behind };
 
     ghost is_length = { HasLength F.is_length };
 

@@ -168,7 +168,6 @@ impl<F: Medium + Drop> Mirror<F> {
     pub fn none(alloc: Global, medium: F) -> Mirror<F>
         ensures words { result.words.items ≡ [] }
         ensures medium { result.medium ≡ medium }
-        ensures flushed { result.flushed.items ≡ [] }
     {
         Mirror {
             medium,
