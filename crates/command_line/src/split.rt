@@ -88,7 +88,8 @@ fn squirrel_command<'a>(alloc: Global) -> Result<Command<'a>, AllocError>
     with_job(with_work, weave_command(alloc))
 }
 
-// Adds a job's subcommand, where there was memory for it.
+// Adds a job's subcommand, where there was memory for it. It takes what may have failed, so that `command` has no early end at
+// which a half-made command is dropped: each such drop would be proved by itself.
 fn with_job<'a>(
     whole: Command<'a>,
     job: Result<Command<'a>, AllocError>,

@@ -1,4 +1,4 @@
--- One session alone, whatever the schedule: its replies are those that `run` gives to its lines.
+-- One session alone, whatever the schedule: its replies are such as `run` may give to its lines.
 use Rattle.std.specs.Prelude.{◌≡◌, ℕ, false, List, ◌++◌, map, flat_map}
 use Rattle.tree_model.specs.Run.{Line, State}
 use Rattle.tree_model.specs.Step.{Answer}

@@ -1,4 +1,4 @@
-//! One session alone, whatever the schedule: its replies are those of `run`.
+//! One session alone, whatever the schedule: its replies are such as `run` may give.
 #![tactic(auto)]
 
 ghost use Rattle.lone_laws.specs.Lone.{LoneLaw};
