@@ -2,16 +2,11 @@
 use Rattle.std.proofs.Common.{◌≡◌, ℕ, List, [], Option, Some, None, ap}
 use Rattle.std.specs.Prelude.{Contains, slice_index}
 use Rattle.pm_trait.specs.Unfolds.{KeepsWords}
-use Rattle.layout.specs.Name.{words_of_name}
 use Rattle.layout.specs.Superblock.{IsSuperblockWord}
 use Rattle.fence_token.specs.declared.states.Clean.{Clean}
 use Rattle.image_laws.proofs.Beside.{gives_keeps}
 use Rattle.content_laws.proofs.Beside.{sized_keeps, inside_keeps, fills_keeps, takes_keeps, clears_keeps}
-use Rattle.rename_laws.proofs.Beside.{points_keeps, source_keeps}
 use Rattle.volume.specs.Volume.{VolumeView}
-use Rattle.volume.specs.Costs.{goes_of}
-use Rattle.volume.specs.Moves.{rising_of, falling_of}
-use Rattle.volume.specs.declared.plan.Moving.{Moving}
 use Rattle.volume.specs.declared.plan.NewEntry.{NewEntry}
 use Rattle.volume.specs.declared.plan.NewName.{NewName}
 use Rattle.volume.specs.declared.plan.Resizing.{Resizing}
@@ -19,8 +14,8 @@ use Rattle.volume.specs.declared.plan.Removal.{Removal}
 use Rattle.entry_steps.specs.declared.place.NamePlace.{NamePlace}
 use Rattle.entry_steps.specs.declared.place.NamePlace.TheVariants.{Slot, Page}
 use Rattle.entry_steps.specs.Waiting.{step_of_place}
-use Rattle.entry_steps.proofs.Beside.{filling_named_keeps, owning_keeps, naming_keeps}
-use Rattle.removal_steps.specs.Steps.{gone_pages, number_of}
+use Rattle.entry_steps.proofs.Beside.{owning_keeps, naming_keeps}
+use Rattle.removal_steps.specs.Steps.{gone_pages}
 use Rattle.removal_steps.proofs.Beside.{unnaming_keeps, clearing_keeps, giving_keeps, freeing_keeps}
 use Rattle.create_ops.specs.Stages as entries
 use Rattle.create_ops.specs.declared.run.Stage.{Stage as EntryStage}
@@ -34,10 +29,6 @@ use Rattle.unlink_ops.specs.declared.link.Stage.TheVariants.{Begun as LinkBegun,
 use Rattle.unlink_ops.specs.declared.removal.Stage.{Stage as RemovalStage}
 use Rattle.unlink_ops.specs.declared.removal.Stage.TheVariants.{Begun as NameThere, Unnamed, Cleared as SlotCleared, Disowned as PagesDisowned}
 use Rattle.unlink_ops.proofs.LinkCourse as link_course
-use Rattle.rename_ptr.specs.Stages as moves
-use Rattle.rename_ptr.specs.Steps.{target_of}
-use Rattle.rename_ptr.specs.declared.rename.Progress.{Progress as MoveProgress}
-use Rattle.rename_ptr.specs.declared.rename.Progress.TheVariants.{Begun as MoveBegun, Filled as MoveFilled, Opened, Pointed, Moved, Left, Cleared, Disowned}
 use Rattle.rename_ptr.specs.declared.rename.Stage.TheVariants.{Nothing as NamesKept, Moving as MovesName}
 use Rattle.data_ops.specs.Cutting.{gone_pages as cut_pages, growth_to}
 use Rattle.data_ops.specs.Writing.{growth_of}
@@ -53,6 +44,7 @@ use Rattle.data_ops.specs.declared.truncate.Stage.{Stage as ResizeStage}
 use Rattle.data_ops.specs.declared.truncate.Stage.TheVariants.{Nothing as SizeKept, Growing as GrowsBySize, Cutting}
 use Rattle.data_ops.specs.declared.write.Stage.{Stage as WriteStage}
 use Rattle.data_ops.specs.declared.write.Stage.TheVariants.{Nothing as NothingWritten, Inside, Growing as GrowsByWrite}
+use Rattle.waiting_laws.proofs.MovingMark.{step_keeps as moving_keeps}
 use Rattle.running_calls.specs.Stages.{step_of}
 use Rattle.running_calls.specs.declared.running.Running.{Running}
 use Rattle.running_calls.specs.declared.running.Running.TheVariants.{Makes, Links, Removes, Moves, Writes, Resizes}
@@ -85,24 +77,6 @@ module _ (P : ℕ) (bytes I J : List ℕ) where
   removal_keeps removal pages SlotCleared makes = giving_keeps P pages removal.given_back I J makes
   removal_keeps removal pages PagesDisowned makes = freeing_keeps P pages removal.given_back removal.loss.goes removal.loss.inode I J makes
 
-  first_keeps : (moving : Moving) (new : Option ℕ) → (moves.first_step P moving new).Makes I J → Keeps
-  first_keeps moving None makes = points_keeps P I J moving.from_slot moving.to_slot (target_of moving) (rising_of moving) makes
-  first_keeps moving (Some page) makes = filling_named_keeps P page (words_of_name moving.to_name) I J makes
-
-  claim_keeps : (moving : Moving) (new : Option ℕ) → (moves.claiming_step P moving new).Makes I J → Keeps
-  claim_keeps moving None makes = idle_keeps makes
-  claim_keeps moving (Some page) makes = owning_keeps P page moving.to_directory I J makes
-
-  move_keeps : (moving : Moving) (pages : List ℕ) (progress : MoveProgress) → (moves.step_at P moving pages progress).Makes I J → Keeps
-  move_keeps moving pages MoveBegun makes = first_keeps moving moving.new_page makes
-  move_keeps moving pages MoveFilled makes = claim_keeps moving moving.new_page makes
-  move_keeps moving pages Opened makes = points_keeps P I J moving.from_slot moving.to_slot (target_of moving) (rising_of moving) makes
-  move_keeps moving pages Pointed makes = naming_keeps P moving.to_slot moving.inode I J makes
-  move_keeps moving pages Moved makes = unnaming_keeps P moving.from_slot I J makes
-  move_keeps moving pages Left makes = source_keeps P I J moving.from_slot moving.to_slot (falling_of moving) makes
-  move_keeps moving pages Cleared makes = giving_keeps P pages moving.given_back I J makes
-  move_keeps moving pages Disowned makes = freeing_keeps P pages moving.given_back (goes_of moving.replaced) (number_of moving.replaced) I J makes
-
   growth_keeps : (growth : Growth) (written pages : List ℕ) (progress : Progress) → (step_of_growth P growth written pages progress).Makes I J → Keeps
   growth_keeps growth written pages Begun makes = fills_keeps P I J growth.inode growth.offset written pages makes
   growth_keeps growth written pages Filled makes = takes_keeps P I J growth.inode pages makes
@@ -129,7 +103,7 @@ module _ (volume : VolumeView) (bytes I J : List ℕ) where
   step_keeps (Links running) makes = link_keeps volume.size bytes I J running.link running.stage makes
   step_keeps (Removes running) makes = removal_keeps volume.size bytes I J running.removal _ running.stage makes
   step_keeps (Moves NamesKept) makes = idle_keeps volume.size bytes I J makes
-  step_keeps (Moves (MovesName moving progress)) makes = move_keeps volume.size bytes I J moving (gone_pages volume moving.replaced) progress makes
+  step_keeps (Moves (MovesName moving progress)) makes = moving_keeps volume.size moving (gone_pages volume moving.replaced) I J progress makes
   step_keeps (Writes running) makes = write_keeps volume.size bytes I J running makes
   step_keeps (Resizes running) makes = resize_keeps running makes
 

@@ -86,7 +86,7 @@ module _ (old : VolumeView) (before : DeviceView) (state : State) (from to : Rou
 
   module _ (J : List ℕ) (made : step.Makes before.words J) where
     pub mark_same : has_mark J ≡ has_mark before.words
-    mark_same = mark_kept before.words J (step_keeps P moving pages before.words J progress waits.at.store made)
+    mark_same = mark_kept before.words J (step_keeps P moving pages before.words J progress made)
 
     -- a crash in a step that changes no meaning
     pub crash_keeps : ((M : List ℕ) → IsMix before.words J M → SameMeaning P before.words M) → KeepsMeaning P before.words J
