@@ -53,7 +53,7 @@ module _ {S K : Type 0} (source : Sources S) (sink : Sinks K) (script : S) (befo
   pub formats_beside : (pages : ℕ) {is : Status} → Formats pages (seen_alone sink before output) (seen_alone sink after written) is → Formats pages (seen source sink before script output) (seen source sink after script written) is
   formats_beside pages (inl (memory, kept, alone)) = inl (memory, silent kept, alone)
   formats_beside pages (inr (inl (other, usage, same))) = inr (inl (other, usage, untouched same))
-  formats_beside pages (inr (inr (size, inl fails))) = inr (inr (size, inl (record { is = fails.is; silent = silent fails.silent; only = fails.only; fewer = fails.fewer })))
+  formats_beside pages (inr (inr (size, inl fails))) = inr (inr (size, inl (record { is = fails.is; silent = silent fails.silent; only = fails.only; fewer = fails.fewer; halts = fails.halts })))
   formats_beside pages (inr (inr (size, inr has))) =
       inr (inr (size, inr (record { script = refl; formatted = has.formatted; fresh = has.fresh; only = has.only; fences = has.fences; faults = has.faults; told = has.told })))
 

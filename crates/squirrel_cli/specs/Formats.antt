@@ -1,6 +1,6 @@
 -- What `mkfs` makes, and what a crash in it leaves.
 use Rattle.std.specs.Prelude.{◌≡◌, ℕ, ◌+◌, ◌<◌}
-use Rattle.pm_trait.specs.Device.{LeavesOnly}
+use Rattle.pm_trait.specs.Device.{LeavesOnly, EndsInFault}
 use Rattle.pm_trait.specs.DeviceView.{DeviceView}
 use Rattle.layout.specs.Format.{IsFormattedFrom}
 use Rattle.image_reading.specs.Laws.{IsFresh}
@@ -16,12 +16,13 @@ pub record KeepsOldOrFormatted (pages : ℕ) (before after : DeviceView) : Type 
   pub any_moment : LeavesOnly before.trail after.trail (λ acks image. (acks ≡ 0) × IsOldHiddenOrFormatted pages before.words image)
   pub acks : after.acks ≡ before.acks
 
--- A fence failed: fewer than three were made.
+-- A fence failed: fewer than three were made, and nothing more was done with the device.
 pub record FailsToFormat {S K : Type 0} (pages : ℕ) (old new : Seen S K) (status : Status) : Type 0 where
   pub is : status ≡ DeviceFault
   pub silent : IsSilent old new
   pub only : KeepsOldOrFormatted pages old.device new.device
   pub fewer : new.device.fences < old.device.fences + 3
+  pub halts : EndsInFault new.device.trail
 
 -- The device is a fresh volume of so many pages, made by three fences, and its numbers were written, or a prefix of them where a write
 -- failed. Its tree is the root alone, and every word of the data pages is as it was.

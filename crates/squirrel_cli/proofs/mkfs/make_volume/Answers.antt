@@ -43,5 +43,6 @@ returns-in-Err-PmFault-clause-makes g c =
         silent = record { script = refl; output = refl };
         only = formats_only {before = old} {after = new} c.args.pages (g.met.P.Pm.honest c.args.pm.now) (g.met.P.Pm.honest c.format.new.pm) (search rules) c.format.ensures.any_moment made;
         fewer = search rules;
+        halts = search rules;
       }),
     ))
