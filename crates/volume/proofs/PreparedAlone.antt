@@ -1,5 +1,5 @@
 -- A command that is prepared where no call runs.
-use Rattle.std.proofs.Common.{◌≡◌, ℕ, ◌∙◌, refl}
+use Rattle.std.proofs.Common.{◌∙◌, refl}
 use Rattle.pm_trait.specs.DeviceView.{DeviceView}
 use Rattle.tree_model.specs.Run.{State}
 use Rattle.tree_model.specs.declared.command.Command.{Command}

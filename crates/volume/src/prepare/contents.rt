@@ -11,7 +11,7 @@ ghost use Rattle.volume.specs.Beside.{StandsBeside, IsStandingBeside};
 ghost use Rattle.volume.specs.Walks.{file_row, IsSizedFile};
 ghost use Rattle.volume.specs.Prepared.{IsPlanOrRefusal, IsPlanOrShort, AreNewPagesOr};
 
-use crate::plan::{Action, NewPages, Reading, Resizing, Writing};
+use crate::plan::{Action, NewPages, Plan, Reading, Resizing, Writing};
 use crate::volume::Volume;
 use allocators::Numbers;
 use layout::PAGE_BYTES;
@@ -121,7 +121,7 @@ impl Volume {
         offset: u64,
         count: u64,
         pm: &P,
-    ) -> Result<Action, Refusal>
+    ) -> Result<Plan, Refusal>
         requires going { self.now.stopped ≡ false }
         requires stands { IsStandingBeside self.now (P.view pm.now) }
         ensures { IsPlanOrRefusal self.now (P.view pm.now) (ReadBytes path.now offset count) result }
@@ -130,11 +130,11 @@ impl Volume {
         if count > LONGEST_READ {
             return Err(Refusal::TooBig);
         }
-        Ok(Action::Read(Reading {
+        Ok(Plan::of(Action::Read(Reading {
             inode: file.inode,
             offset,
             count,
-        }))
+        })))
     }
 
     // The file that a path leads to.

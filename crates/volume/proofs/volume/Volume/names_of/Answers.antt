@@ -18,8 +18,8 @@ returns-then-not-is_directory g c = λ state residue asked.
     listed_file c.args.self.now (g.P.Pm.view c.args.pm.now) state residue asked.stands c.args.path.now c.in_ok-inode.inode (c.in_ok-inode.ensures state residue asked.stands) (sym (c.if-not-is_directory.ensures state residue asked.stands))
 
 pub returns : goal.returns
-returns g c = λ state residue asked.
-    listed_planned c.args.self.now (g.P.Pm.view c.args.pm.now) state residue asked.stands c.args.path.now c.in_ok-inode.inode (c.in_ok-inode.ensures state residue asked.stands) (sym (c.if-not-is_directory.ensures state residue asked.stands))
+returns g c = rw c.of.ensures (λ state residue asked.
+    listed_planned c.args.self.now (g.P.Pm.view c.args.pm.now) state residue asked.stands c.args.path.now c.in_ok-inode.inode (c.in_ok-inode.ensures state residue asked.stands) (sym (c.if-not-is_directory.ensures state residue asked.stands)))
 
 pub returns-in_err-inode : goal.returns-in_err-inode
 returns-in_err-inode g c =

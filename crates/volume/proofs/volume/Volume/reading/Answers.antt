@@ -15,6 +15,6 @@ returns-then-count-gt-LONGEST_READ g c = λ state residue asked.
     c.args.offset c.args.count (omega (arith, c.if-count-gt-LONGEST_READ.true))
 
 pub returns : goal.returns
-returns g c = λ state residue asked.
+returns g c = rw c.of.ensures (λ state residue asked.
     read_planned c.args.self.now (g.P.Pm.view c.args.pm.now) state residue asked.stands c.args.path.now c.in_ok-file.file.inode c.in_ok-file.file.size (c.in_ok-file.ensures state residue asked.stands)
-    c.args.offset c.args.count (omega (arith, c.if-count-gt-LONGEST_READ.false))
+    c.args.offset c.args.count (omega (arith, c.if-count-gt-LONGEST_READ.false)))

@@ -2,7 +2,7 @@ use Rattle.std.proofs.Common.{subst}
 use Rattle.tree_model.specs.declared.command.Command.{Command}
 use Rattle.volume.specs.Beside.{IsAsked}
 use Rattle.volume.proofs.RenameRows.{alone}
-use Rattle.volume.proofs.volume.Volume.action_of.Goals as goal
+use Rattle.volume.proofs.volume.Volume.change_of.Goals as goal
 
 pub new_entry-requires : goal.new_entry-requires
 new_entry-requires g c = record { asked = subst (λ (command : Command). IsAsked c.args.self.now (g.P.Pm.view c.args.pm.now) command) c.in-Create.is c.requires.asked }
