@@ -1,6 +1,6 @@
-# shellcheck shell=bash
+# shellcheck shell=bash disable=SC2154
 # Cases of tests/program, which reads this file and has all that isn't here: files that are odd as an image, streams that don't wait,
-# three programs at once, and signals.
+# three programs at once, signals, and what others do to an image that isn't noticed.
 
 # The system lets nobody open it for writing.
 immutable_file() {
@@ -130,8 +130,8 @@ unwaiting_streams() {
     verdict "$name"
 }
 
-# Three runs of the program are started at once with these words, the last word of each its own script. What they wrote is in `out.1` to `out.3`, and
-# their statuses in `statuses`.
+# The program is started three times at once with these words, each with a script of its own. What they wrote is in `out.1` to `out.3` and
+# `err.1` to `err.3`, and their statuses in `statuses`.
 three_at_once() {
     local number jobs=()
     statuses=()
@@ -145,7 +145,7 @@ three_at_once() {
     done
 }
 
-# One of the three was done, and wrote this, and the others too or were refused. The names of those that were done are in `done_names`.
+# Each of the three was done, and wrote this, or was refused, and one was done. The names of those that were are in `done_names`.
 one_or_more_done() {
     local number text=$1
     done_names=()
@@ -163,8 +163,7 @@ one_or_more_done() {
 }
 
 three_programs() {
-    local turn
-    for turn in 1 2 3 4 5; do
+    for _ in 1 2 3 4 5; do
         rm -f v
         three_at_once mkfs v 16
         one_or_more_done "$formatted"
@@ -205,4 +204,59 @@ signals() {
         ended 0 $'ok 1 a\n' '' "the run after SIG$signal"
     done
     verdict "$name"
+}
+
+# A run answers a line, then this command is executed, and then comes another line. How the run ends is left.
+run_beside() {
+    local first
+    fresh v
+    rm -f script first.out && mkfifo script
+    timeout 60 "$program" run v <script >first.out 2>first.err &
+    first=$!
+    exec 7<>script
+    echo 'create /a' >&7
+    holds 'it answered nothing within ten seconds' await has_line first.out 1
+    "$@"
+    echo 'create /b' >&7
+    exec 7>&-
+    wait "$first"
+    status=$?
+    cp first.out out && cp first.err err
+}
+
+# The lock is the file's and not the name's, and who asks for none may write.
+unnoticed() {
+    fresh w
+    run_beside rm v
+    ended 0 $'ok\nok\n' '' 'a run whose file is removed'
+    holds 'the file is there again' test ! -e v
+    run_beside mv w v
+    ended 0 $'ok\nok\n' '' 'a run whose file is replaced'
+    holds 'the other file was changed' cmp -s v w.before
+    run_beside dd if=/dev/zero of=v bs="$page" count=16 conv=notrunc status=none
+    ended 0 $'ok\nok\n' '' 'a run whose file is overwritten'
+    run run v </dev/null
+    ended 4 $'damaged 2 1\n' '' 'the run after it'
+    verdict 'a file that is removed, replaced or overwritten while it is in use: nothing tells it'
+}
+
+# The next fence finds another length. Cut to its own the file is the volume again.
+output_into_image() {
+    fresh v
+    "$program" run v <<<'list /' >>v 2>err
+    status=$?
+    : >out
+    ended 0 '' '' 'a run that stores nothing'
+    holds 'the reply is not at the end of the image' test "$(tail -c 5 v)" = 'ok 0'
+    run run v </dev/null
+    ended 4 $'not a volume\n' '' 'the run after it'
+    fresh v
+    "$program" run v <<<$'create /a\ncreate /b' >>v 2>err
+    status=$?
+    tail -c +$((16 * page + 1)) v >out
+    ended 5 $'ok\nerror Fault\n' "$device_fault" 'a run that stores'
+    truncate -s $((16 * page)) v
+    run run v <<<'list /'
+    ended 0 $'ok 1 a\n' '' 'the run once the file is cut'
+    verdict 'an output that is appended to the image itself'
 }

@@ -1,11 +1,15 @@
 """What a run of the program did to its image, from strace: its writes, syncs and replies; and what a power cut may leave."""
 import dataclasses
+import itertools
+import math
 import os
 import re
 import subprocess
 
 WORD = 8
 CALLS = "openat,close,lseek,read,write,pwrite64,fdatasync,fsync"
+ALL_MIXES = 4096
+SOME_MIXES = 200
 CALL = re.compile(r"(?:\d+ +)?(\w+)\((.*)\) += (\d+)$")
 
 
@@ -85,16 +89,16 @@ def call_events(name, words, answer, places, image):
         yield Sync()
 
 
-def traced(program, image, lines):
-    """The replies to a script, and the events of its run in their order."""
+def traced(program, image, lines, job=("run",)):
+    """What a job writes, a line each, of a run the replies to its script; and its events in their order."""
     trace = image + ".trace"
     with open(image, "rb") as file:
         held = bytearray(file.read())
     script = "".join(line + "\n" for line in lines)
-    job = subprocess.run(["strace", "-f", "-qq", "-xx", "-s", "1000000", "-e", "signal=none", "-e", f"trace={CALLS}",
-                          "-o", trace, program, "run", image], input=script, capture_output=True, text=True)
-    if job.returncode != 0:
-        raise NotTraced(f"a run that is traced ends with status {job.returncode}: {job.stdout!r} {job.stderr!r}")
+    done = subprocess.run(["strace", "-f", "-qq", "-xx", "-s", "1000000", "-e", "signal=none", "-e", f"trace={CALLS}",
+                           "-o", trace, program, job[0], image, *job[1:]], input=script, capture_output=True, text=True)
+    if done.returncode != 0:
+        raise NotTraced(f"a run that is traced ends with status {done.returncode}: {done.stdout!r} {done.stderr!r}")
     events, places = [], {}
     with open(trace, encoding="ascii") as calls:
         for call in filter(None, map(CALL.match, calls)):
@@ -105,7 +109,7 @@ def traced(program, image, lines):
     with open(image, "rb") as file:
         if file.read() != held:
             raise NotTraced("the writes that strace told don't make the file")
-    return job.stdout.splitlines(), events
+    return done.stdout.splitlines(), events
 
 
 def writes_of_fences(events):
@@ -145,3 +149,30 @@ def cuts_in(held, loose, events):
             cuts.append(Cut(len(cuts) + 1, event is None, bytes(held), dict(loose), replies, has_written))
             loose.clear()
     return cuts
+
+
+def mixes(loose, rng):
+    """Contents of the loose words: each way to mix them, or the oldest, the newest and some random ones."""
+    values = [tuple(dict.fromkeys(values)) for values in loose.values()]
+    if math.prod(map(len, values)) <= ALL_MIXES:
+        yield from itertools.product(*values)
+        return
+    yield tuple(old for old, *_ in loose.values())
+    yield tuple(new for *_, new in loose.values())
+    for _ in range(SOME_MIXES):
+        share = rng.random()
+        yield tuple(choice[-1] if rng.random() < share else rng.choice(choice) for choice in loose.values())
+
+
+def mixed(cut, contents):
+    """The file that a power cut leaves."""
+    image = bytearray(cut.held)
+    for word, content in zip(cut.loose, contents, strict=True):
+        image[WORD * word:WORD * word + WORD] = content
+    return bytes(image)
+
+
+def mix_text(cut, contents):
+    """Which of the loose words are new."""
+    words = [f"{word} {'new' if content == cut.loose[word][-1] else 'old'}" for word, content in zip(cut.loose, contents)]
+    return ", ".join(words if len(words) <= 24 else [*words[:24], f".. of {len(words)}"]) or "no loose word"
