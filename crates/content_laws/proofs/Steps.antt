@@ -6,7 +6,7 @@ use Rattle.std.proofs.lemmas.List.{ext_get_or}
 use Rattle.tree_model.specs.PathText.{Route}
 use Rattle.tree_model.specs.Run.{State}
 use Rattle.tree_model.specs.Step.{with_bytes, overwritten, resized, tree_after, gaining, losing, id_of}
-use Rattle.tree_model.specs.Tree.{Tree, IsRoom, root_id, id_at, is_directory, is_directory_node, bytes_of}
+use Rattle.tree_model.specs.Tree.{Tree, File, IsRoom, root_id, id_at, node_at, is_directory, is_directory_node, bytes_of, bytes_of_node}
 use Rattle.tree_model.specs.declared.command.Command.{Command}
 use Rattle.tree_model.specs.declared.command.Command.TheVariants.{Write, Truncate}
 use Rattle.tree_model.proofs.RoomLaws.{room_after-same}
@@ -59,7 +59,7 @@ not_none n lt = differs (n == 0) refl
     differs true e = absurd (let zero : n ≡ 0 = grind (arith, nat_tests) in omega (arith, zero, lt))
     differs false e = e
 
-written_tree : (T : Tree) (path : Route) (i offset n : ℕ) (bytes : List ℕ) → 0 < length bytes → id_at T path ≡ Some i
+pub written_tree : (T : Tree) (path : Route) (i offset n : ℕ) (bytes : List ℕ) → 0 < length bytes → id_at T path ≡ Some i
     → with_bytes T i (overwritten (bytes_of T i) offset bytes) ≡ tree_after n T (Write path offset bytes)
 written_tree T path i offset n bytes some at =
     let e : i ≡ id_of T path = sym (ap (λ o. unwrap_or o root_id) at) in
@@ -112,3 +112,28 @@ lengthen_step_law P W A B old path i z offset n pages can fills takes at reads =
     stepped P W (sized B i z) old (Truncate path z) i n (resized (bytes_of old.tree i) z) can.tidy.coherent law.tidy.coherent can.reached can.file reads
     (subst (λ b. Reads P (sized B i z) (with_bytes old.tree i b)) (no_range (bytes_of old.tree i) z offset) (law.reads old.tree reads.tree)) (law.room old.room reads.room)
     (resized_tree old.tree path i z n at) refl refl
+
+-- a file that gets the size that it has reads as before
+module _ (P : ℕ) (W : List ℕ) (old : State) (i size : ℕ) (bytes : List ℕ) (file : node_at old.tree i ≡ Some (File bytes)) (is : size ≡ length (bytes_of old.tree i)) where
+  same_bytes : resized (bytes_of old.tree i) size ≡ bytes_of old.tree i
+  same_bytes =
+      let long = length-resized (bytes_of old.tree i) size in
+      ext_get_or 0 (resized (bytes_of old.tree i) size) (bytes_of old.tree i) (long ∙ is) (λ o low. resized_at (bytes_of old.tree i) size o (omega (arith, low, long)))
+
+  same_node : (x : ℕ) → node_at (with_bytes old.tree i (resized (bytes_of old.tree i) size)) x ≡ node_at old.tree x
+  same_node x = elim (cases_eq x i) [
+    | inl here ↦
+        ap (node_at (with_bytes old.tree i (resized (bytes_of old.tree i) size))) here ∙ node_at-with_bytes_here old.tree i (resized (bytes_of old.tree i) size)
+        ∙ ap (λ (l : List ℕ). Some (File l)) (same_bytes ∙ ap bytes_of_node file) ∙ sym file ∙ ap (node_at old.tree) (sym here)
+    | inr away ↦ node_at-with_bytes_other old.tree i (resized (bytes_of old.tree i) size) x away
+  ]
+
+  reads_same : Reads P W old.tree → Reads P W (with_bytes old.tree i (resized (bytes_of old.tree i) size))
+  reads_same reads = record {
+    names = reads.names;
+    nodes = λ x node. ((λ is. (reads.nodes x node).0 (sym (same_node x) ∙ is)), (λ has. same_node x ∙ (reads.nodes x node).1 has));
+  }
+
+  pub same_size_step : (path : Route) (n : ℕ) → IsCoherent P W → Reached P W i → HasBytes W i → ReadsAs P W old → id_at old.tree path ≡ Some i → IsStepped P W old (Truncate path size) n
+  same_size_step path n coherent reached has reads at =
+      stepped P W W old (Truncate path size) i n (resized (bytes_of old.tree i) size) coherent coherent reached has reads (reads_same reads.tree) reads.room (resized_tree old.tree path i size n at) refl refl

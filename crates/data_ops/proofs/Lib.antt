@@ -1,41 +1,10 @@
-mod FilePagesBeside
-mod FilePages
-mod Sizes
+mod Steps
 mod Pages
-mod ReadBytes
-mod WordBytes
 mod Spans
-mod Fills
-mod GrowthWords
-mod Advancing
-mod GrowthGoing
-pub mod WriteGoing
-mod NewPages
-mod OldPages
-mod InsidePages
-mod Beside
-mod Growing
-mod Told
-mod GrowCourse
-mod Writings
-mod WriteSteps
-mod Stepping
-mod WriteLeft
-mod WriteCarrying
-pub mod WriteBegins
-mod NothingWritten
-mod CutPages
-mod CutStages
-mod CutGoing
-mod CutCourse
-mod CutKnown
+mod Growth
+mod Cuts
 mod Truncations
-mod CutLeft
-mod Unchanged
-mod Resizes
-mod Resizing
-mod GrownKnown
-mod GrownLeft
-mod Left
-pub mod ResizeGoing
-pub mod Truncated
+pub mod Truncating
+mod Writings
+pub mod Writing
+mod ReadBytes

@@ -1,32 +1,204 @@
--- Pages that get an owner, or lose it or the rest of their descriptors.
-use Rattle.std.proofs.Common.{◌≡◌, ◌≢◌, inl, inr, ℕ, zero, suc, ◌+◌, ◌*◌, ◌==◌, ◌<◌, ◌≤◌, Bool, true, false, List, length, slice_index, Contains, refl, sym, ap, subst, ◌∙◌, arith}
-use Rattle.std.specs.Prelude.{Option, Result, Ok, nat_lt}
-use Rattle.pm_trait.specs.declared.event.PmFault.{PmFault}
+-- Pages of files: those that a volume has of one, those that are free, and pages that get an owner, or lose it or the rest of their
+-- descriptors; and the interval in which a size is stored.
+use Rattle.std.proofs.Common.{◌≡◌, inl, ℕ, zero, suc, ◌+◌, ◌<◌, List, [], ◌∷◌, length, slice_index, get_or, refl, sym, ap, subst, ◌∙◌, arith, inr, Contains, ◌*◌, ◌≤◌, set, Option, ◌≢◌, ◌==◌, Bool, true, false, nat_lt, Some, None}
+use Rattle.std.proofs.lemmas.Grind.{get_or_default_zero}
+use Rattle.std.proofs.lemmas.List.Elements.{Contains-get_or}
+use Rattle.std.proofs.lemmas.Option.{slice_get-get_or}
+use Rattle.std.proofs.lemmas.Bool.{cases_eq}
+use Rattle.std.specs.Prelude.{Result, Ok}
 use Rattle.std.proofs.lemmas.Bool.Decides.{nat_tests}
 use Rattle.std.proofs.lemmas.List.{get_or_default}
-use Rattle.std.proofs.lemmas.List.Elements.{Contains-get_or}
-use Rattle.pm_trait.specs.declared.event.Event.{Event}
+use Rattle.pm_trait.specs.DeviceView.{DeviceView, Performs, Stores, IsSettledView, Fences, StoresAndFences}
 use Rattle.pm_trait.specs.Trail.{Trail}
-use Rattle.pm_trait.specs.Device.{IsInterval, IsFlushed, IsClean, IsSettledAt}
-use Rattle.pm_trait.specs.DeviceView.{DeviceView, IsSettledView, Stores, Fences, StoresAndFences}
+use Rattle.pm_trait.specs.Device.{IsFlushed, IsClean, IsSettledAt, IsInterval}
+use Rattle.pm_trait.specs.declared.event.Event.TheVariants.{Store, Flush}
+use Rattle.pm_trait.proofs.DeviceViewLaws.{store_stores, flush_stores, stores_flushed, stores_weaker}
+use Rattle.pm_trait.specs.declared.event.PmFault.{PmFault}
+use Rattle.pm_trait.specs.declared.event.Event.{Event}
 use Rattle.pm_trait.proofs.DeviceLaws.{interval_keeps, interval_length}
-use Rattle.pm_trait.proofs.DeviceViewLaws.{stores_weaker, stores_flushed}
-use Rattle.layout.specs.declared.fields.DescriptorFields.{DescriptorFields}
-use Rattle.layout.specs.Geometry.{IsVolumeSize, data_pages_of, descriptor_word_of}
-use Rattle.layout.specs.Fields.{word, page_owner, page_kind, page_offset}
-use Rattle.fence_token.specs.Stored.{StoresExactly}
-use Rattle.fence_token.proofs.StoredLaws.{exactly_stores, flushes_stores}
-use Rattle.page_state.specs.declared.page.Touched.{Touched}
-use Rattle.page_state.specs.States.{free_fields, IsFilled, IsLive, IsReleased}
-use Rattle.page_state.specs.Page.{PageView, PageIsDirty, AreDataPages, EachPage, OfSome, IsOwnWord, IsOwnerWord, IsReleasedWord, IsWithoutKind, descriptor_of, SayFields, fields_of_page, touched_lines}
-use Rattle.page_state.specs.Events.{FlushesPages}
-use Rattle.page_state.proofs.PageLaws.{own_word_within}
-use Rattle.image_laws.specs.Drop.{GivesPages}
-use Rattle.content_laws.specs.Growth.{TakesPages}
-use Rattle.content_laws.specs.Cut.{ClearsPages}
 use Rattle.pm_trait.specs.Unfolds.{Fenced}
 use Rattle.pm_trait.proofs.Unfolding.{interval_ends}
-use Rattle.data_ops.specs.Files.{AreBytesFrom}
+use Rattle.fence_token.specs.Stored.{StoresExactly}
+use Rattle.fence_token.proofs.StoredLaws.{exactly_stores, flushes_stores}
+use Rattle.layout.specs.Fields.{inode_size, page_kind, page_offset, word, page_owner}
+use Rattle.layout.specs.Geometry.{descriptor_word_of, IsVolumeSize, inodes_of, inode_word_of, data_pages_of}
+use Rattle.layout.specs.declared.fields.DescriptorFields.{DescriptorFields}
+use Rattle.inode_state.specs.Inode.{IsInodeWord, fields_at}
+use Rattle.inode_state.proofs.InodeLaws.{inode_word_in_volume, same_fields_at}
+use Rattle.page_state.specs.Page.{descriptor_of, PageView, PageIsDirty, AreDataPages, EachPage, OfSome, IsOwnWord, IsOwnerWord, IsReleasedWord, IsWithoutKind, SayFields, fields_of_page, pages_at}
+use Rattle.page_state.proofs.PageLaws.{same_descriptor_fields, own_word_within}
+use Rattle.page_state.specs.States.{IsFree, free_fields, IsFilled, IsLive, IsReleased}
+use Rattle.page_state.specs.Events.{FlushesPages}
+use Rattle.page_state.specs.declared.page.Touched.TheVariants.{Descriptors}
+use Rattle.tree_model.specs.Run.{State}
+use Rattle.tree_model.specs.PathText.{Route}
+use Rattle.tree_model.specs.Tree.{Node, id_at, is_file_node, bytes_of, bytes_of_node}
+use Rattle.tree_model.specs.Accepted.{IsFileAt}
+use Rattle.tree_model.proofs.TreeKept.{same_some}
+use Rattle.image_reading.specs.Counts.{IsDistinct}
+use Rattle.image_reading.specs.Reading.{HasBytes, Reached, pages_of_size, ReadsAs}
+use Rattle.image_reading.specs.Residue.{Residue, no_residue}
+use Rattle.image_reading.specs.Soundness.{Rule}
+use Rattle.image_reading.proofs.Counts.{count_one}
+use Rattle.image_reading.specs.Repairs.{IsLitterPage}
+use Rattle.image_reading.specs.Tidy.{Tidy}
+use Rattle.image_reading.proofs.Tidied.{tidied}
+use Rattle.image_counts.specs.Entries.{IsPageIn, IsFreePage}
+use Rattle.image_counts.proofs.Beside.{file_pages_beside_law}
+use Rattle.image_counts.proofs.Tidied.{page_count_law}
+use Rattle.image_counts.proofs.Nodes.{size_law}
+use Rattle.image_laws.specs.Drop.{GivesPages}
+use Rattle.content_laws.specs.Growth.{sized, TakesPages}
+use Rattle.content_laws.specs.Cut.{ClearsPages}
+use Rattle.volatile_index.specs.Index.{pages_of}
+use Rattle.volume.specs.Volume.{VolumeView}
+use Rattle.volume.specs.Beside.{StandsBeside, IsUntouched}
+use Rattle.volume.proofs.PageLists.{contained_in, listed_is_in, in_is_listed, pages_counted_beside}
+use Rattle.volume.proofs.WalkedBeside.{in_table}
+use Rattle.volume.specs.Stands.{StandsFor}
+use Rattle.volume.proofs.Beside.{stands_beside, untouched_nothing}
+use Rattle.volume.proofs.Walked.{reached_at}
+use Rattle.entry_steps.proofs.Counts.{none_of}
+use Rattle.entry_steps.proofs.Zeros.{zero_descriptor}
+use Rattle.data_ops.specs.Files.{HasPages, AreFree, AreBytesFrom}
+
+-- ---- the pages that a volume has of a file, beside calls that run
+
+-- a list in which each number stands once has it in one place
+pub same_place : (xs : List ℕ) → IsDistinct xs → (k l : ℕ) → k < length xs → l < length xs → get_or xs k 0 ≡ get_or xs l 0 → k ≡ l
+same_place [] once k l low high e = absurd (omega (arith, low))
+same_place (x ∷ xs) once zero zero low high e = refl
+same_place (x ∷ xs) once zero (suc l) low high e =
+    let there : l < length xs = omega (arith, high) in
+    absurd (once.0 (contained_in x xs (l, there, get_or_default_zero xs l x there ∙ sym e)))
+same_place (x ∷ xs) once (suc k) zero low high e =
+    let there : k < length xs = omega (arith, low) in
+    absurd (once.0 (contained_in x xs (k, there, get_or_default_zero xs k x there ∙ e)))
+same_place (x ∷ xs) once (suc k) (suc l) low high e = ap suc (same_place xs once.1 k l (omega (arith, low)) (omega (arith, high)) e)
+
+module _ (volume : VolumeView) (device : DeviceView) (state : State) (residue : Residue) (stands : StandsBeside volume device state residue) (i : ℕ)
+    (untouched : IsUntouched volume device.words residue i) (reached : Reached volume.size device.words i) (file : HasBytes device.words i) where
+  abbrev pages : List ℕ
+  pages = pages_of volume.index i
+
+  held : (k : ℕ) → k < length pages → IsPageIn volume.size device.words i (slice_index pages k)
+  held k low =
+      let (least, most) = in_table volume device i (state, residue, stands) reached in
+      listed_is_in volume device state residue stands i untouched least most (slice_index pages k) (Contains-get_or pages k 0 low)
+
+  kind_is : (k : ℕ) → k < length pages → page_kind volume.size device.words (slice_index pages k) ≡ 1
+  kind_is k low =
+      let page = slice_index pages k in
+      let is = held k low in
+      (stands.sound.coherent Rule.page_kinds page).file is.in_range
+      (subst (λ (x : ℕ). Reached volume.size device.words x) (sym is.owner) reached) (subst (λ (x : ℕ). HasBytes device.words x) (sym is.owner) file)
+
+  fields_are : (k : ℕ) → k < length pages → descriptor_of volume.size device.words (slice_index pages k) ≡ record { owner = i; kind = 1; offset = 0 + k }
+  fields_are k low =
+      let at : page_offset volume.size device.words (slice_index pages k) ≡ k = stands.knows.nodes.offsets i k (slice_index pages k) reached file (λ left. untouched.listed (slice_index pages k) left (Contains-get_or pages k 0 low)) (slice_get-get_or pages k 0 low) in
+      same_descriptor_fields (descriptor_of volume.size device.words (slice_index pages k)) (record { owner = i; kind = 1; offset = 0 + k }) (held k low).owner (kind_is k low) (omega (arith, at))
+
+  -- what a volume has of a file that no running call touches are its pages
+  pub has_pages_beside : HasPages volume.size device.words i pages
+  has_pages_beside =
+      let (least, most) = in_table volume device i (state, residue, stands) reached in
+      record {
+        least = least;
+        most = most;
+        live = (inl file, (stands.sound.coherent Rule.kinds i).own reached);
+        file = file;
+        bytes = record {
+          in_range = record { each = λ k low. (held k low).in_range };
+          distinct = record { each = same_place pages (stands.knows.nodes.once i least most) };
+          each = fields_are;
+        };
+        all = in_is_listed volume device state residue stands i untouched least most;
+        count = count_one (IsPageIn volume.size device.words i) (length pages) (pages_of_size (inode_size device.words i)) (pages_counted_beside volume device state residue stands i untouched least most)
+            (file_pages_beside_law volume.size device.words residue state (record { coherent = stands.sound.coherent; beside = stands.beside; reads = stands.reads }) i reached file untouched.apart);
+      }
+
+-- ---- the pages of a file where no call runs, and free pages
+
+-- what a volume that stands has of a file are its pages
+pub has_pages : (volume : VolumeView) (device : DeviceView) (state : State) → StandsFor volume device state → (i : ℕ) → Reached volume.size device.words i → HasBytes device.words i
+    → HasPages volume.size device.words i (pages_of volume.index i)
+has_pages volume device state stands i reached file = has_pages_beside volume device state no_residue (stands_beside stands) i (untouched_nothing volume device.words i) reached file
+
+-- the descriptor of a page without an owner is free
+pub free_descriptor : (P : ℕ) (W : List ℕ) (state : State) → Tidy P W → ReadsAs P W state → (page : ℕ) → IsFreePage P W page → IsFree (descriptor_of P W page)
+free_descriptor P W state tidy reads page free =
+    zero_descriptor P W page (λ f lt. elim (cases_eq (word W (descriptor_word_of P page f)) 0) [
+      | inl is ↦ is
+      | inr ne ↦ absurd (none_of (IsLitterPage P W) page tidy.repaired.of_pages
+          (record { in_range = free.0; free = λ kept. ((page_count_law P W state (tidied tidy) reads).kept page free.0).0 kept free.1; nonzero = (f, lt, ne) }))
+    ])
+
+-- distinct pages without an owner are free ones
+pub are_free : (P : ℕ) (W : List ℕ) (state : State) (pages : List ℕ) → Tidy P W → ReadsAs P W state → IsDistinct pages → ((page : ℕ) → Contains pages page → IsFreePage P W page) → AreFree P W pages
+are_free P W state pages tidy reads once each = record {
+  in_range = record { each = λ k low. (each (slice_index pages k) (Contains-get_or pages k 0 low)).0 };
+  distinct = record { each = same_place pages once };
+  free = record { each = λ k low. free_descriptor P W state tidy reads (slice_index pages k) (each (slice_index pages k) (Contains-get_or pages k 0 low)) };
+}
+
+-- What an accepted command found of its file: its pages, and so many bytes.
+pub record IsFileOf (volume : VolumeView) (device : DeviceView) (state : State) (i : ℕ) : Type 0 where
+  pub reached : Reached volume.size device.words i
+  pub file : HasBytes device.words i
+  pub held : HasPages volume.size device.words i (pages_of volume.index i)
+  pub size : inode_size device.words i ≡ length (bytes_of state.tree i)
+
+pub found_file : (volume : VolumeView) (device : DeviceView) (state : State) (path : Route) (i : ℕ) → StandsFor volume device state → IsFileAt state.tree path → id_at state.tree path ≡ Some i → IsFileOf volume device state i
+found_file volume device state path i stands source named =
+    let sizes = size_law volume.size device.words state (tidied stands.tidy).coherent stands.reads in
+    let reached = reached_at volume device state path source.id stands source.named in
+    let file = ((sizes.files source.id).0 (ap is_file_node source.file)).1 in
+    subst (IsFileOf volume device state) (same_some source.id i (sym source.named ∙ named)) (record {
+      reached = reached;
+      file = file;
+      held = has_pages volume device state stands source.id reached file;
+      size = sym (sizes.sizes source.id source.bytes source.file) ∙ sym (ap (λ (o : Option Node). length (bytes_of_node o)) source.file);
+    })
+
+-- ---- fields whose words stay
+
+pub kept_fields : (i : ℕ) (W A : List ℕ) → ((f : ℕ) → f < 16 → word A (inode_word_of i f) ≡ word W (inode_word_of i f)) → fields_at A i ≡ fields_at W i
+unfolding word
+kept_fields i W A kept = same_fields_at i W A (λ a is.
+    let few = is.is_field in
+    ap (λ (k : ℕ). slice_index A k) is.at ∙ kept is.field (omega (arith, few)) ∙ ap (λ (k : ℕ). slice_index W k) (sym is.at))
+
+pub kept_descriptor : (P : ℕ) (W A : List ℕ) (page : ℕ) → ((f : ℕ) → f < 3 → word A (descriptor_word_of P page f) ≡ word W (descriptor_word_of P page f)) → descriptor_of P A page ≡ descriptor_of P W page
+unfolding page_owner page_kind page_offset
+kept_descriptor P W A page kept = same_descriptor_fields (descriptor_of P A page) (descriptor_of P W page) (kept 0 (omega arith)) (kept 1 (omega arith)) (kept 2 (omega arith))
+
+-- pages of an owner are none of those that have none
+pub owned_apart : (P : ℕ) (I : List ℕ) (i first : ℕ) (olds news : List ℕ) → 1 ≤ i → AreBytesFrom P I i first olds → EachPage news (λ page. page_owner P I page ≡ 0) → (n : ℕ) → n < length olds → ¬ Contains news (slice_index olds n)
+owned_apart P I i first olds news least from none n low (m, inside, is) =
+    let here : slice_index news m ≡ slice_index olds n = get_or_default news m 0 (slice_index olds n) inside ∙ is in
+    let moved = ap (page_owner P I) here in
+    let owned = ap (λ (d : DescriptorFields). d.owner) (from.each n low) in
+    let free = none.each m inside in
+    omega (arith, moved, owned, free, least)
+
+-- ---- the interval in which a file's size is stored
+
+-- on a settled device its words are clean
+pub inode_settled : {now : List ℕ} {trail : Option Trail} (P i : ℕ) → IsVolumeSize P → 1 ≤ i → i ≤ inodes_of P → length now ≡ 512 * P → IsSettledAt now trail → (word : ℕ) → IsInodeWord i word → IsClean now trail word
+inode_settled P i size least most whole settled word is = let within = inode_word_in_volume P i word size least most is in settled.each word (omega (arith, within, whole))
+
+-- its store and the flush of its line
+pub size_stored : {a b c : DeviceView} {value line : ℕ} (i n : ℕ) → n ≡ i → Performs a b (Store (inode_word_of n 2) value ∷ []) → Performs b c (Flush line ∷ []) → Stores (λ word. word ≡ inode_word_of i 2) a c 2
+size_stored {a} {c = c} i n same stored flush = subst (λ (k : ℕ). Stores (λ word. word ≡ inode_word_of k 2) a c 2) same (stores_flushed (store_stores stored) (flush_stores flush))
+
+pub size_flushed : {trail : Option Trail} (i n : ℕ) → n ≡ i → ((word : ℕ) → IsInodeWord n word → IsFlushed trail word) → (word : ℕ) → word ≡ inode_word_of i 2 → IsFlushed trail word
+size_flushed i n same flushed word is = flushed word (record { field = 2; is_field = omega arith; at = is ∙ ap (λ (k : ℕ). inode_word_of k 2) (sym same) })
+
+-- the words have that size
+pub sized_is : (B J : List ℕ) (i n z : ℕ) → n ≡ i → J ≡ set B (inode_word_of n 2) z → J ≡ sized B i z
+sized_is B J i n z same is = is ∙ ap (λ (k : ℕ). set B (inode_word_of k 2) z) same
+
+-- ---- pages that get an owner, or lose it or the rest of their descriptors
 
 -- on a settled device their words are clean
 pub pages_settled : (P : ℕ) (pages now : List ℕ) (trail : Option Trail) → IsVolumeSize P → EachPage pages (λ page. page < data_pages_of P) → length now ≡ 512 * P → IsSettledAt now trail
@@ -35,36 +207,23 @@ pages_settled P pages now trail size in_range whole settled word some =
     let within = own_word_within P (slice_index pages some.index) word size (in_range.each some.index some.before) some.is in
     settled.each word (omega (arith, within, whole))
 
--- some of their words are flushed, where all are
-pub words_flushed : {trail : Option Trail} (Q : ℕ → ℕ → ℕ → Type 0) (P V : ℕ) (pages ps : List ℕ) → V ≡ P → ps ≡ pages → ((page word : ℕ) → Q P page word → IsOwnWord P page word) → ((word : ℕ) → OfSome ps (IsOwnWord V) word → IsFlushed trail word)
-    → (word : ℕ) → OfSome pages (Q P) word → IsFlushed trail word
-words_flushed Q P V pages ps volume list own flushed word some =
-    flushed word (subst (λ (v : ℕ). OfSome ps (IsOwnWord v) word) (sym volume) (subst (λ (l : List ℕ). OfSome l (IsOwnWord P) word) (sym list)
-    (record { index = some.index; before = some.before; is = own (slice_index pages some.index) word some.is })))
-
--- the stores of so many events a page, and a flush of each descriptor
-pub pages_stored : {a b c : DeviceView} {events : List _} {count : ℕ} (Q : ℕ → ℕ → ℕ → Type 0) (P V each : ℕ) (pages ps qs : List ℕ) (W : ℕ) (touched : Touched) → V ≡ P → ps ≡ pages → qs ≡ pages → touched_lines touched (length qs) ≡ length qs
-    → count ≤ each * length ps → StoresExactly (OfSome ps (Q V)) a b events count → FlushesPages W qs touched b c → Stores (OfSome pages (Q P)) a c ((each + 1) * length pages)
-pages_stored {a} {b} {c} {count = count} Q P V each pages ps qs W touched volume list again one most run flushes =
-    let long = ap length again in
-    let products = ap (λ (l : List ℕ). each * length l) list in
-    let stored : Stores (OfSome ps (Q V)) a c (count + touched_lines touched (length qs)) = stores_flushed (exactly_stores run) (flushes_stores flushes) in
-    let of_list = subst (λ (l : List ℕ). Stores (OfSome l (Q V)) a c (count + touched_lines touched (length qs))) list stored in
-    let of_volume = subst (λ (v : ℕ). Stores (OfSome pages (Q v)) a c (count + touched_lines touched (length qs))) volume of_list in
-    stores_weaker ((each + 1) * length pages) (λ word is. is) (omega (arith, one, long, most, products)) of_volume
-
 -- ---- pages of a file, in the order of their offsets
 
-module _ (P : ℕ) (I : List ℕ) (owner first : ℕ) (pages : List ℕ) (from : AreBytesFrom P I owner first pages) where
-  pub bytes_alike : 0 < length pages → SayFields P pages (descriptor_of P I (slice_index pages 0)) I
-  bytes_alike some = record {
-    each = λ k low.
-        let behind : first + k ≡ first + 0 + k = omega arith in
-        from.each k low ∙ ap (λ (n : ℕ). let fields : DescriptorFields = record { owner = owner; kind = 1; offset = n } in fields) behind ∙ sym (ap (λ (fields : DescriptorFields). fields_of_page fields k) (from.each 0 some));
-  }
+pub record CanTake (P count : ℕ) (I pages : List ℕ) : Type 0 where
+  pub data_pages : AreDataPages count pages
+  pub alike : SayFields P pages (descriptor_of P I (slice_index pages 0)) I
 
-  pub in_volume : (count : ℕ) → count ≡ data_pages_of P → 0 < length pages → AreDataPages count pages
-  in_volume count exact some = record { some = some; in_range = subst (λ (n : ℕ). EachPage pages (λ page. page < n)) (sym exact) from.in_range; distinct = from.distinct }
+module _ (P : ℕ) (I : List ℕ) (owner first : ℕ) (pages : List ℕ) (from : AreBytesFrom P I owner first pages) where
+  -- what their object asks for, but for the state of each
+  pub can_take : (count : ℕ) → count ≡ data_pages_of P → 0 < length pages → CanTake P count I pages
+  can_take count exact some = record {
+    data_pages = record { some = some; in_range = subst (λ (n : ℕ). EachPage pages (λ page. page < n)) (sym exact) from.in_range; distinct = from.distinct };
+    alike = record {
+      each = λ k low.
+          let behind : first + k ≡ first + 0 + k = omega arith in
+          from.each k low ∙ ap (λ (n : ℕ). let fields : DescriptorFields = record { owner = owner; kind = 1; offset = n } in fields) behind ∙ sym (ap (λ (fields : DescriptorFields). fields_of_page fields k) (from.each 0 some));
+    };
+  }
 
   pub all_filled : owner ≡ 0 → EachPage pages (λ page. IsFilled (descriptor_of P I page))
   all_filled none = record { each = λ k low. subst (λ (fields : DescriptorFields). IsFilled fields) (sym (from.each k low)) (none, inl refl) }
@@ -168,23 +327,29 @@ no_pages pages b is test = grind (arith, nat_tests)
 
 -- ---- an interval over words of the pages' descriptors, from the object as it was taken to the fence
 
-module _ (Q : ℕ → ℕ → ℕ → Type 0) (P : ℕ) (own : (page word : ℕ) → Q P page word → IsOwnWord P page word) (pages : List ℕ) (before after : PageView) (volume : before.volume_pages ≡ P) (list : before.pages ≡ pages)
-    (volume_too : after.volume_pages ≡ before.volume_pages) (list_too : after.pages ≡ before.pages) (lines : touched_lines after.touched (length after.pages) ≡ length after.pages) {a b : DeviceView} {events : List Event} {taken : ℕ} (each : ℕ) (one : taken ≤ each * length before.pages)
+module _ (Q : ℕ → ℕ → ℕ → Type 0) (own : (P page word : ℕ) → Q P page word → IsOwnWord P page word) (W : List ℕ) {P : ℕ} {pages : List ℕ} {fields : DescriptorFields} {before after : PageView} (before_is : before ≡ pages_at P pages W)
+    (after_is : after ≡ record before { fields = fields; touched = Descriptors; ticket = None }) {a b : DeviceView} {events : List Event} {taken : ℕ} (each : ℕ) (one : taken ≤ each * length before.pages)
     (run : StoresExactly (OfSome before.pages (Q before.volume_pages)) a b events taken) where
+  run_at : StoresExactly (OfSome pages (Q P)) a b events taken
+  run_at = subst (λ (v : PageView). StoresExactly (OfSome v.pages (Q v.volume_pages)) a b events taken) before_is run
+
+  after_at : after ≡ record (pages_at P pages W) { fields = fields; touched = Descriptors; ticket = None }
+  after_at = after_is ∙ ap (λ (v : PageView). record v { fields = fields; touched = Descriptors; ticket = None }) before_is
+
   pub of_object : IsInterval (OfSome pages (Q P)) a.words a.trail b.words b.trail
-  of_object =
-      subst (λ (v : ℕ). IsInterval (OfSome pages (Q v)) a.words a.trail b.words b.trail) volume
-      (subst (λ (l : List ℕ). IsInterval (OfSome l (Q before.volume_pages)) a.words a.trail b.words b.trail) list run.interval)
+  of_object = run_at.interval
 
   pub each_of_object : (R : ℕ → ℕ → Type 0) → EachPage after.pages (R after.volume_pages) → EachPage pages (R P)
-  each_of_object R all = subst (λ (v : ℕ). EachPage pages (R v)) (volume_too ∙ volume) (subst (λ (l : List ℕ). EachPage l (R after.volume_pages)) (list_too ∙ list) all)
+  each_of_object R all = subst (λ (v : PageView). EachPage v.pages (R v.volume_pages)) after_at all
 
   pub object_fenced : {T E : Type 0} {c d : DeviceView} → FlushesPages after.volume_pages after.pages after.touched b c → (result : Result T E) (count : ℕ) → (each + 1) * length pages ≤ count → IsSettledView a → ((word : ℕ) → OfSome after.pages (IsOwnWord after.volume_pages) word → IsFlushed c.trail word)
       → Fences c d result → StoresAndFences a d (count + 1) result
   object_fenced {c = c} flushes result count few settled flushed fence =
+      let most = subst (λ (v : PageView). taken ≤ each * length v.pages) before_is one in
       interval_ends result settled
-      (stores_weaker count (λ word is. is) few (pages_stored Q P before.volume_pages each pages before.pages after.pages after.volume_pages after.touched volume list (list_too ∙ list) lines one run flushes))
-      (words_flushed Q P after.volume_pages pages after.pages (volume_too ∙ volume) (list_too ∙ list) own flushed) fence
+      (stores_weaker count (λ word is. is) (omega (arith, most, few)) (stores_flushed (exactly_stores run_at) (flushes_stores (subst (λ (v : PageView). FlushesPages v.volume_pages v.pages v.touched b c) after_at flushes))))
+      (λ word some. subst (λ (v : PageView). (x : ℕ) → OfSome v.pages (IsOwnWord v.volume_pages) x → IsFlushed c.trail x) after_at flushed word
+      (record { index = some.index; before = some.before; is = own P (slice_index pages some.index) word some.is })) fence
 
 -- ---- a step over pages, where there are any
 

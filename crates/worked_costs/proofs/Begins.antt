@@ -32,10 +32,10 @@ use Rattle.rename_ptr.specs.declared.rename.Stage.{Stage as MoveStage}
 use Rattle.rename_ptr.proofs.Called as renames
 use Rattle.data_ops.specs.WriteStages as writing
 use Rattle.data_ops.specs.declared.write.Stage.{Stage as WriteStage}
-use Rattle.data_ops.proofs.WriteBegins as writes
+use Rattle.data_ops.proofs.Writing as writes
 use Rattle.data_ops.specs.ResizeStages as resizing
 use Rattle.data_ops.specs.declared.truncate.Stage.{Stage as ResizeStage}
-use Rattle.data_ops.proofs.Truncated as truncations
+use Rattle.data_ops.proofs.Truncating as truncations
 use Rattle.engine.proofs.Asked.{for_linking, for_removing, for_renaming, for_writing, for_truncating}
 use Rattle.engine.proofs.Removals as asked
 use Rattle.worked_costs.specs.declared.course.Course.TheVariants.{Make, Name, Remove, Move, Write, Resize}
@@ -64,7 +64,7 @@ module _ {volume : VolumeView} {device : DeviceView} {command : Command} {plan :
 
   pub may_write : (bytes : List ℕ) → ((path : Route) (offset : ℕ) (other : List ℕ) → command ≡ Writes path offset other → bytes ≡ other) → {one : Action} → plan ≡ one → ((given : Writing) × (one ≡ action.Write given)) ⊎ (one ≡ action.WriteNothing)
       → writing.MayBegin volume device bytes plan
-  may_write bytes own is either = writes.may_begin volume device bytes plan (for_writing planned is either own) ready
+  may_write bytes own is either = writes.may_begin (for_writing planned is either own) ready
 
   pub may_resize : {one : Action} → plan ≡ one → ((given : Resizing) × (one ≡ action.Resize given)) ⊎ (one ≡ action.KeepSize) → resizing.MayBegin volume device plan
   may_resize is either = truncations.may_begin (for_truncating planned is either) ready

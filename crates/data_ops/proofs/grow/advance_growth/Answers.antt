@@ -5,7 +5,7 @@ use Rattle.layout.specs.Geometry.{IsVolumeSize}
 use Rattle.volume.specs.Volume.{VolumeView}
 use Rattle.data_ops.specs.GrowthStages.{EntersGrowth, KnowsGrowth, step_of_growth}
 use Rattle.data_ops.specs.GrowthSteps.{StandsNextGrowth}
-use Rattle.data_ops.proofs.Advancing.{of_ok, knows_kept, behind}
+use Rattle.data_ops.proofs.Growth.{of_ok, knows_kept, behind}
 use Rattle.data_ops.proofs.grow.advance_growth.Goals as goal
 
 pub enter_growth-requires : goal.enter_growth-requires

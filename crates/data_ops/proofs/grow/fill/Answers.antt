@@ -3,70 +3,41 @@ use Rattle.pm_trait.proofs.DeviceLaws.{interval_length}
 use Rattle.pm_trait.proofs.DeviceViewLaws.{stores_then}
 use Rattle.image_reading.specs.Reading.{pages_of_size}
 use Rattle.pm_trait.proofs.Unfolding.{interval_ends}
-use Rattle.data_ops.proofs.Fills.{may_fill, filled_apart, still_settled, still_free, fill_flushed, fills}
+use Rattle.data_ops.proofs.Spans.{may_fill, filled_apart, still_settled, still_free, fill_flushed, fills}
 use Rattle.data_ops.proofs.grow.fill.Goals as goal
 
-pub fill_old-requires-clause-whole : goal.fill_old-requires-clause-whole
-fill_old-requires-clause-whole g c = c.requires.begins.whole
+pub fill_old-requires : goal.fill_old-requires
+fill_old-requires g c = record {
+  whole = c.requires.begins.whole;
+  settled = c.requires.begins.settled;
+  may = may_fill c.args.geometry.now.pages (g.P.Pm.view c.args.pm.now).words c.args.growth.now c.args.bytes.now c.args.old_pages.now c.args.new_pages.now c.requires.ready;
+  room = let room = c.requires.begins.room in omega (arith, room);
+}
 
-pub fill_old-requires-clause-settled : goal.fill_old-requires-clause-settled
-fill_old-requires-clause-settled g c = c.requires.begins.settled
-
-pub fill_old-requires-clause-may : goal.fill_old-requires-clause-may
-fill_old-requires-clause-may g c = may_fill c.args.geometry.now.pages (g.P.Pm.view c.args.pm.now).words c.args.growth.now c.args.bytes.now c.args.old_pages.now c.args.new_pages.now c.requires.ready
-
-pub fill_old-requires-clause-room : goal.fill_old-requires-clause-room
-fill_old-requires-clause-room g c = let room = c.requires.begins.room in omega (arith, room)
-
-pub fill_new-requires-clause-whole : goal.fill_new-requires-clause-whole
-fill_new-requires-clause-whole g c = interval_length c.fill_old.ensures.device.stores ∙ c.requires.begins.whole
-
-pub fill_new-requires-clause-settled : goal.fill_new-requires-clause-settled
-fill_new-requires-clause-settled g c =
-    still_settled c.args.geometry.now.pages (g.P.Pm.view c.args.pm.now).words c.args.growth.now c.args.bytes.now c.args.old_pages.now c.args.new_pages.now c.requires.ready
-    c.args.geometry.now.volume_size c.requires.begins.whole c.requires.begins.settled c.fill_old.ensures.device.stores
-
-pub fill_new-requires-clause-free : goal.fill_new-requires-clause-free
-fill_new-requires-clause-free g c =
-    still_free c.args.geometry.now.pages (g.P.Pm.view c.args.pm.now).words c.args.growth.now c.args.bytes.now c.args.old_pages.now c.args.new_pages.now c.requires.ready
-    c.args.geometry.now.volume_size c.requires.begins.whole c.requires.begins.settled c.fill_old.ensures.device.stores
-
-pub fill_new-requires-clause-places : goal.fill_new-requires-clause-places
+pub fill_new-requires : goal.fill_new-requires
 unfolding pages_of_size
-fill_new-requires-clause-places g c =
+fill_new-requires g c =
     let can = c.requires.ready in
-    let held = can.held.count in
-    let was = can.old_size in
-    let count = can.count in
-    let small = can.small in
-    let larger = can.larger in
-    omega (arith, held, was, count, small, larger)
+    let begins = c.requires.begins in
+    let stores = c.fill_old.ensures.device in
+    let P = c.args.geometry.now.pages in
+    let W = (g.P.Pm.view c.args.pm.now).words in
+    let size = c.args.geometry.now.volume_size in
+    record {
+      whole = interval_length stores.stores ∙ begins.whole;
+      settled = still_settled P W c.args.growth.now c.args.bytes.now c.args.old_pages.now c.args.new_pages.now can size begins.whole begins.settled stores.stores;
+      free = still_free P W c.args.growth.now c.args.bytes.now c.args.old_pages.now c.args.new_pages.now can size begins.whole begins.settled stores.stores;
+      places = omega (arith, can.held.count, can.old_size, can.count, can.small, can.larger);
+      range = omega (arith, can.small, can.inside);
+      room = omega (arith, begins.room, stores.room);
+    }
 
-pub fill_new-requires-clause-range : goal.fill_new-requires-clause-range
-fill_new-requires-clause-range g c =
-    let small = c.requires.ready.small in
-    let inside = c.requires.ready.inside in
-    omega (arith, small, inside)
-
-pub fill_new-requires-clause-room : goal.fill_new-requires-clause-room
-fill_new-requires-clause-room g c =
-    let room = c.requires.begins.room in
-    let used = c.fill_old.ensures.device.room in
-    omega (arith, room, used)
-
-pub end_interval-requires-clause-countable : goal.end_interval-requires-clause-countable
-end_interval-requires-clause-countable g c =
-    let few = c.requires.begins.countable in
-    let one = c.fill_old.ensures.device.counts.fences in
-    let two = c.fill_new.ensures.device.counts.fences in
-    omega (arith, few, one, two)
-
-pub end_interval-requires-clause-room : goal.end_interval-requires-clause-room
-end_interval-requires-clause-room g c =
-    let room = c.requires.begins.room in
-    let one = c.fill_old.ensures.device.room in
-    let two = c.fill_new.ensures.device.room in
-    omega (arith, room, one, two)
+pub end_interval-requires : goal.end_interval-requires
+end_interval-requires g c =
+    let begins = c.requires.begins in
+    let one = c.fill_old.ensures.device in
+    let two = c.fill_new.ensures.device in
+    record { countable = omega (arith, begins.countable, one.counts.fences, two.counts.fences); room = omega (arith, begins.room, one.room, two.room) }
 
 pub returns : goal.returns
 returns g c =

@@ -1,8 +1,8 @@
 use Rattle.std.proofs.Common.{sym, ap, subst, ◌∙◌}
+use Rattle.pm_trait.proofs.Unfolding.{interval_ends}
 use Rattle.inode_state.specs.Inode.{InodeView}
 use Rattle.inode_state.specs.Covered.{HasPagesFor}
-use Rattle.pm_trait.proofs.Unfolding.{interval_ends}
-use Rattle.data_ops.proofs.Sizes.{inode_settled, size_stored, size_flushed, sized_is}
+use Rattle.data_ops.proofs.Pages.{inode_settled, size_stored, size_flushed, sized_is}
 use Rattle.data_ops.proofs.grow.raise_size.Goals as goal
 
 pub at-live-requires-clause-settled : goal.at-live-requires-clause-settled

@@ -1,9 +1,9 @@
 use Rattle.std.proofs.Common.{ℕ, ◌≡◌, ◌+◌, ◌/◌, ◌%◌, ◌<◌, List, ◌++◌, length, drop, slice_index, refl, sym, ap, subst, ◌∙◌, arith, length-take}
 use Rattle.layout.specs.Geometry.{inodes_of, data_pages_of}
 use Rattle.layout.specs.Fields.{inode_size, page_byte}
+use Rattle.page_state.specs.Page.{EachPage}
 use Rattle.tree_model.specs.Tree.{bytes_of}
 use Rattle.tree_model.specs.Run.{State}
-use Rattle.page_state.specs.Page.{EachPage}
 use Rattle.volatile_index.specs.Index.{pages_of}
 use Rattle.volume.proofs.WalkedBeside.{in_index}
 use Rattle.volume.proofs.Statuses.{same_state_beside}
@@ -12,41 +12,33 @@ use Rattle.data_ops.proofs.ReadBytes.{reached, held, long, reach, byte_is, small
 use Rattle.data_ops.proofs.reading.read.Goals as goal
 
 pub inode_at-size-requires-clause-from_one : goal.inode_at-size-requires-clause-from_one
-inode_at-size-requires-clause-from_one g c =
-    let (state, residue, stands, there, untouched) = c.requires.file in
-    (held c.args.volume.now (g.P.Pm.view c.args.pm.now) state residue stands c.args.inode there untouched).least
+inode_at-size-requires-clause-from_one g c = (held c.args.volume.now (g.P.Pm.view c.args.pm.now) c.args.inode c.requires.file).least
 
 pub inode_at-size-requires-clause-inode_in_range : goal.inode_at-size-requires-clause-inode_in_range
 inode_at-size-requires-clause-inode_in_range g c =
-    let (state, residue, stands, there, untouched) = c.requires.file in
-    let most = (held c.args.volume.now (g.P.Pm.view c.args.pm.now) state residue stands c.args.inode there untouched).most in
+    let most = (held c.args.volume.now (g.P.Pm.view c.args.pm.now) c.args.inode c.requires.file).most in
     let same = ap inodes_of c.geometry-geometry.ensures in
     omega (arith, most, same, c.geometry-geometry.result.now.inodes_exact)
 
 pub pages-requires-clause-from_one : goal.pages-requires-clause-from_one
-pages-requires-clause-from_one g c =
-    let (state, residue, stands, there, untouched) = c.requires.file in
-    (held c.args.volume.now (g.P.Pm.view c.args.pm.now) state residue stands c.args.inode there untouched).least
+pages-requires-clause-from_one g c = (held c.args.volume.now (g.P.Pm.view c.args.pm.now) c.args.inode c.requires.file).least
 
 pub pages-requires-clause-in_range : goal.pages-requires-clause-in_range
 pages-requires-clause-in_range g c =
-    let (state, residue, stands, there, untouched) = c.requires.file in
     let device = g.P.Pm.view c.args.pm.now in
-    (in_index c.args.volume.now device c.args.inode (state, residue, stands) (reached c.args.volume.now device state residue stands c.args.inode there untouched).0).1
+    (in_index c.args.volume.now device c.args.inode (c.requires.file.0, c.requires.file.1, c.requires.file.2) (reached c.args.volume.now device c.args.inode c.requires.file).0).1
 
 pub read_pages-requires-clause-in_range : goal.read_pages-requires-clause-in_range
 read_pages-requires-clause-in_range g c =
-    let (state, residue, stands, there, untouched) = c.requires.file in
-    let each = (held c.args.volume.now (g.P.Pm.view c.args.pm.now) state residue stands c.args.inode there untouched).bytes.in_range in
+    let each = (held c.args.volume.now (g.P.Pm.view c.args.pm.now) c.args.inode c.requires.file).bytes.in_range in
     let exact = c.geometry-geometry.result.now.data_pages_exact ∙ ap data_pages_of c.geometry-geometry.ensures in
     subst (λ (l : List ℕ). EachPage l (λ page. page < c.geometry-geometry.result.now.data_pages)) (sym c.pages.ensures)
     (subst (λ (n : ℕ). EachPage (pages_of c.args.volume.now.index c.args.inode) (λ page. page < n)) (sym exact) each)
 
 pub read_pages-requires-clause-inside : goal.read_pages-requires-clause-inside
 read_pages-requires-clause-inside g c = λ some.
-    let (state, residue, stands, there, untouched) = c.requires.file in
     let device = g.P.Pm.view c.args.pm.now in
-    let far = reach c.args.volume.now device state residue stands c.args.inode there untouched in
+    let far = reach c.args.volume.now device c.args.inode c.requires.file in
     let size : c.inode_at-size.result.size ≡ inode_size device.words c.args.inode = c.inode_at-size.ensures.size ∙ ap (λ (l : List ℕ). inode_size l c.args.inode) c.image.ensures in
     let all = ap (λ (l : List ℕ). length l) c.pages.ensures in
     let part = length-take c.min-count.result c.args.buf.now in
@@ -54,9 +46,8 @@ read_pages-requires-clause-inside g c = λ some.
 
 pub read_pages-requires-clause-small : goal.read_pages-requires-clause-small
 read_pages-requires-clause-small g c = λ some.
-    let (state, residue, stands, there, untouched) = c.requires.file in
     let device = g.P.Pm.view c.args.pm.now in
-    let few = small c.args.volume.now device state residue stands c.args.inode there untouched in
+    let few = small c.args.volume.now device c.args.inode c.requires.file in
     let size : c.inode_at-size.result.size ≡ inode_size device.words c.args.inode = c.inode_at-size.ensures.size ∙ ap (λ (l : List ℕ). inode_size l c.args.inode) c.image.ensures in
     let part = length-take c.min-count.result c.args.buf.now in
     omega (arith, some, few, size, part, c.min-count.ensures, c.saturating_sub-left.ensures)
@@ -69,7 +60,7 @@ returns g c = λ state residue stands.
     let i = c.args.inode in
     let offset = c.args.offset in
     let size : c.inode_at-size.result.size ≡ inode_size device.words i = c.inode_at-size.ensures.size ∙ ap (λ (l : List ℕ). inode_size l i) c.image.ensures in
-    let whole = long volume device known left stands_known i there untouched in
+    let whole = long volume device i c.requires.file in
     let part = length-take c.min-count.result c.args.buf.now in
     let kept = c.read_pages.auto.buf in
     let low : (k : ℕ) → k < c.min-count.result → offset + k < inode_size device.words i = λ k inside. omega (arith, inside, size, c.min-count.ensures, c.saturating_sub-left.ensures) in
@@ -82,4 +73,4 @@ returns g c = λ state residue stands.
     c.read_pages.ensures k (omega (arith, inside, full))
     ∙ ap (λ (p : ℕ). page_byte p device.words (slice_index c.pages.result.now ((offset + k) / 4096)) ((offset + k) % 4096)) c.geometry-geometry.ensures
     ∙ ap (λ (l : List ℕ). page_byte volume.size device.words (slice_index l ((offset + k) / 4096)) ((offset + k) % 4096)) c.pages.ensures
-    ∙ byte_is volume device known left stands_known i there untouched (offset + k) (low k inside)))
+    ∙ byte_is volume device i c.requires.file (offset + k) (low k inside)))

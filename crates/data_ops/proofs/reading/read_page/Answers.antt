@@ -1,7 +1,7 @@
 use Rattle.std.proofs.Common.{ℕ, ◌+◌, ◌-◌, ◌/◌, List, length, take, drop, slice_index, ap, subst, ◌<◌, ◌∙◌, arith}
 use Rattle.layout.specs.Geometry.{data_pages_of}
 use Rattle.layout.specs.Name.{bytes_of_word}
-use Rattle.data_ops.proofs.WordBytes.{words_within, bytes_of_page}
+use Rattle.data_ops.proofs.ReadBytes.{words_within, bytes_of_page}
 use Rattle.data_ops.proofs.reading.read_page.Goals as goal
 
 pub slice_bounds-words-end : goal.slice_bounds-words-end

@@ -1,6 +1,6 @@
 use Rattle.std.proofs.Common.{◌%◌, length, ◌∙◌, arith}
 use Rattle.layout.specs.Name.{bytes_of_word}
-use Rattle.data_ops.proofs.WordBytes.{part_of_word}
+use Rattle.data_ops.proofs.ReadBytes.{part_of_word}
 use Rattle.data_ops.proofs.reading.read_part.Goals as goal
 
 pub returns : goal.returns

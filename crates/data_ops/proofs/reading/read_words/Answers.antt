@@ -1,6 +1,6 @@
 use Rattle.std.proofs.Common.{◌≡◌, ◌%◌, ◌+◌, ◌-◌, ◌≤◌, length, drop, ◌∙◌, arith, length-drop, length-take}
 use borrow.Rule.Slice.PartMut.{put_mid}
-use Rattle.data_ops.proofs.WordBytes.{byte_in_page, more_bytes, length-put_word}
+use Rattle.data_ops.proofs.ReadBytes.{byte_in_page, more_bytes, length-put_word}
 use Rattle.data_ops.proofs.reading.read_words.Goals as goal
 
 pub pages-preserved : goal.pages-preserved

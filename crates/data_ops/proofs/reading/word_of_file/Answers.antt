@@ -1,6 +1,6 @@
 use Rattle.std.proofs.Common.{ℕ, ◌%◌, ◌+◌, slice_index, ap, ◌∙◌}
 use Rattle.layout.specs.Name.{bytes_of_word}
-use Rattle.data_ops.proofs.WordBytes.{bytes_from}
+use Rattle.data_ops.proofs.ReadBytes.{bytes_from}
 use Rattle.data_ops.proofs.reading.word_of_file.Goals as goal
 
 pub returns : goal.returns

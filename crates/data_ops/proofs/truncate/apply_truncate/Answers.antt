@@ -1,13 +1,11 @@
-use Rattle.std.proofs.Common.{◌<◌, sym, subst}
-use Rattle.std.specs.Prelude.{Option}
+use Rattle.std.proofs.Common.{◌<◌, sym, subst, Option}
 use Rattle.tree_model.specs.declared.reply.Reply.{Reply}
 use Rattle.volume.specs.Volume.{VolumeView}
 use Rattle.volume.specs.Stages.{keeping, next_by}
 use Rattle.volume.specs.declared.next.Next.{Next}
 use Rattle.volume.specs.declared.next.Next.TheVariants.{More}
 use Rattle.data_ops.specs.declared.truncate.Stage.{Stage}
-use Rattle.data_ops.proofs.ResizeGoing.{HasGone, begins, gone_on, rank, fewer}
-use Rattle.data_ops.proofs.Truncated.{may_begin, first_gone, carries_on, stored_size, carries_no_further, stored_no_further}
+use Rattle.data_ops.proofs.Truncating.{HasGone, begins, gone_on, rank, fewer, may_begin, first_gone, carries_on, stored_size, carries_no_further, stored_no_further}
 use Rattle.data_ops.proofs.truncate.apply_truncate.Goals as goal
 
 pub begin-running-requires : goal.begin-running-requires
@@ -56,26 +54,17 @@ loop-running-preserved g c =
           (gone_on volume old c.args.plan c.loop-running.volume (g.P.Pm.view c.loop-running.pm) c.loop-running.running c.loop-running.invariant.gone new after (next_by c.in_ok-step.field-0 running) step.takes step.volume.made step.next step.stage);
     }
 
-pub returns-in-Some-clause-carries : goal.returns-in-Some-clause-carries
-returns-in-Some-clause-carries g c =
+pub returns-in-Some : goal.returns-in-Some
+returns-in-Some g c =
     let volume = c.args.volume.now in
     let old = g.P.Pm.view c.args.pm.now in
     let new = c.step.new.volume in
     let after = g.P.Pm.view c.step.new.pm in
     let step = c.in_ok-step.ensures in
     let running = c.step.new.self in
-    carries_on c.requires.planned c.requires.ready new after c.in-Some.reply
-    (subst (λ (told : Option Reply). HasGone volume old c.args.plan new after (next_by told running)) c.in-Some.is
-    (gone_on volume old c.args.plan c.loop-running.volume (g.P.Pm.view c.loop-running.pm) c.loop-running.running c.loop-running.invariant.gone new after (next_by c.in_ok-step.field-0 running) step.takes step.volume.made step.next step.stage))
-
-pub returns-in-Some-clause-stored : goal.returns-in-Some-clause-stored
-returns-in-Some-clause-stored g c =
-    let volume = c.args.volume.now in
-    let old = g.P.Pm.view c.args.pm.now in
-    let new = c.step.new.volume in
-    let after = g.P.Pm.view c.step.new.pm in
-    let step = c.in_ok-step.ensures in
-    let running = c.step.new.self in
-    stored_size c.requires.planned c.requires.ready new after c.in-Some.reply
-    (subst (λ (told : Option Reply). HasGone volume old c.args.plan new after (next_by told running)) c.in-Some.is
-    (gone_on volume old c.args.plan c.loop-running.volume (g.P.Pm.view c.loop-running.pm) c.loop-running.running c.loop-running.invariant.gone new after (next_by c.in_ok-step.field-0 running) step.takes step.volume.made step.next step.stage))
+    let gone = subst (λ (told : Option Reply). HasGone volume old c.args.plan new after (next_by told running)) c.in-Some.is
+    (gone_on volume old c.args.plan c.loop-running.volume (g.P.Pm.view c.loop-running.pm) c.loop-running.running c.loop-running.invariant.gone new after (next_by c.in_ok-step.field-0 running) step.takes step.volume.made step.next step.stage) in
+    record {
+      carries = carries_on c.requires.planned c.requires.ready new after c.in-Some.reply gone;
+      stored = stored_size c.requires.planned c.requires.ready new after c.in-Some.reply gone;
+    }

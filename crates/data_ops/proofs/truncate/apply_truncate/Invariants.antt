@@ -1,5 +1,5 @@
 use Rattle.volume.specs.declared.next.Next.TheVariants.{More}
-use Rattle.data_ops.proofs.ResizeGoing.{HasGone, rank}
+use Rattle.data_ops.proofs.Truncating.{HasGone, rank}
 use Rattle.data_ops.proofs.truncate.apply_truncate.Given as goal
 
 abbrev pub invariant-loop-running : goal.invariant-loop-running

@@ -3,7 +3,7 @@ use Rattle.volatile_index.specs.Index.{pages_of}
 use Rattle.volume.specs.Stages.{next_by}
 use Rattle.entry_steps.proofs.Keeping.{settled}
 use Rattle.data_ops.specs.declared.truncate.Stage.TheVariants.{Cutting}
-use Rattle.data_ops.proofs.CutStages.{long, may_lose, cut_stands_as}
+use Rattle.data_ops.proofs.Cuts.{long, may_lose, cut_stands_as}
 use Rattle.data_ops.proofs.truncate.cut.Goals as goal
 
 pub enter_cut-requires : goal.enter_cut-requires

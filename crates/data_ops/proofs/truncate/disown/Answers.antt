@@ -3,36 +3,30 @@ use Rattle.layout.specs.declared.fields.DescriptorFields.{DescriptorFields}
 use Rattle.layout.specs.Fields.{page_owner}
 use Rattle.layout.specs.Geometry.{pieces}
 use Rattle.inode_state.specs.Inode.{InodeView}
-use Rattle.page_state.specs.Page.{PageView, IsOwnerWord, touched_lines}
+use Rattle.page_state.specs.Page.{PageView, IsOwnerWord}
 use Rattle.page_state.proofs.Changes.{dirty_owners}
 use Rattle.page_state.proofs.Contents.{owner_is_own}
 use Rattle.data_ops.specs.Growing.{owner_events}
-use Rattle.data_ops.proofs.Sizes.{inode_settled}
-use Rattle.data_ops.proofs.Pages.{pages_settled, bytes_alike, all_live, in_volume, pages_given, none_given, of_object, each_of_object, object_fenced, some_fenced, none_fenced, some_pages, no_pages}
+use Rattle.data_ops.proofs.Pages.{inode_settled, pages_settled, all_live, can_take, pages_given, none_given, of_object, each_of_object, object_fenced, some_fenced, none_fenced, some_pages, no_pages}
 use Rattle.data_ops.proofs.truncate.disown.Goals as goal
 
 pub at-file-requires-clause-settled : goal.at-file-requires-clause-settled
 at-file-requires-clause-settled g c = inode_settled c.args.geometry.now.pages c.args.inode c.args.geometry.now.volume_size c.requires.ready.least c.requires.ready.most c.requires.begins.whole c.requires.begins.settled
 
-pub at-live-requires-clause-settled : goal.at-live-requires-clause-settled
-at-live-requires-clause-settled g c =
+pub at-live-requires : goal.at-live-requires
+at-live-requires g c =
+    let can = c.requires.ready in
+    let begins = c.requires.begins in
+    let geometry = c.args.geometry.now in
     let device = g.P.Pm.view c.args.pm.now in
-    pages_settled c.args.geometry.now.pages c.args.pages.now device.words device.trail c.args.geometry.now.volume_size c.requires.ready.pages_are.in_range c.requires.begins.whole c.requires.begins.settled
-
-pub at-live-requires-clause-data_pages : goal.at-live-requires-clause-data_pages
-at-live-requires-clause-data_pages g c =
-    let can = c.requires.ready in
-    in_volume c.args.geometry.now.pages (g.P.Pm.view c.args.pm.now).words c.args.inode can.first c.args.pages.now can.pages_are c.args.geometry.now.data_pages c.args.geometry.now.data_pages_exact (some_pages c.args.pages.now c.is_empty.result c.is_empty.ensures c.if-is_empty.false)
-
-pub at-live-requires-clause-reads : goal.at-live-requires-clause-reads
-at-live-requires-clause-reads g c =
-    let can = c.requires.ready in
-    all_live c.args.geometry.now.pages (g.P.Pm.view c.args.pm.now).words c.args.inode can.first c.args.pages.now can.pages_are (λ none. let least = can.least in omega (arith, least, none))
-
-pub at-live-requires-clause-alike : goal.at-live-requires-clause-alike
-at-live-requires-clause-alike g c =
-    let can = c.requires.ready in
-    bytes_alike c.args.geometry.now.pages (g.P.Pm.view c.args.pm.now).words c.args.inode can.first c.args.pages.now can.pages_are (some_pages c.args.pages.now c.is_empty.result c.is_empty.ensures c.if-is_empty.false)
+    let take = can_take geometry.pages device.words c.args.inode can.first c.args.pages.now can.pages_are geometry.data_pages geometry.data_pages_exact (some_pages c.args.pages.now c.is_empty.result c.is_empty.ensures c.if-is_empty.false) in
+    record {
+      whole = begins.whole;
+      data_pages = take.data_pages;
+      settled = pages_settled geometry.pages c.args.pages.now device.words device.trail geometry.volume_size can.pages_are.in_range begins.whole begins.settled;
+      reads = all_live geometry.pages device.words c.args.inode can.first c.args.pages.now can.pages_are (λ none. let least = can.least in omega (arith, least, none));
+      alike = take.alike;
+    }
 
 pub cut_owner-cut-requires-clause-kind : goal.cut_owner-cut-requires-clause-kind
 cut_owner-cut-requires-clause-kind g c =
@@ -68,19 +62,15 @@ returns g c =
     let before = c.at-live in
     let after = c.cut_owner-cut in
     let flush = c.flush-flushed.ensures in
-    let volume = ap (λ (v : PageView). v.volume_pages) before.ensures.object in
-    let list = ap (λ (v : PageView). v.pages) before.ensures.object in
-    let volume_too = ap (λ (v : PageView). v.volume_pages) after.ensures.object in
-    let list_too = ap (λ (v : PageView). v.pages) after.ensures.object in
-    let lines = ap (λ (v : PageView). touched_lines v.touched (length after.result.pages)) after.ensures.object in
+    let old = (g.P.Pm.view c.args.pm.now).words in
     let words = (g.P.Pm.view after.new.pm).words in
     record {
       takes = record {
-        makes = pages_given P pages (of_object IsOwnerWord P (owner_is_own P) pages before.result after.result volume list volume_too list_too lines 1 (omega arith) after.ensures.device)
-            (each_of_object IsOwnerWord P (owner_is_own P) pages before.result after.result volume list volume_too list_too lines 1 (omega arith) after.ensures.device (λ v j. page_owner v words j ≡ 0)
+        makes = pages_given P pages (of_object IsOwnerWord owner_is_own old before.ensures.object after.ensures.object 1 (omega arith) after.ensures.device)
+            (each_of_object IsOwnerWord owner_is_own old before.ensures.object after.ensures.object 1 (omega arith) after.ensures.device (λ v j. page_owner v words j ≡ 0)
             (dirty_owners after.result 0 (ap (λ (v : PageView). v.fields.owner) after.ensures.object) after.ensures.dirty))
             (g.P.Pm.view c.end_interval.new.pm).words (c.end_interval.ensures.device.words ∙ flush.device.words);
         fenced = some_fenced pages (owner_events (length pages)) c.is_empty.result c.is_empty.ensures c.if-is_empty.false
-            (object_fenced IsOwnerWord P (owner_is_own P) pages before.result after.result volume list volume_too list_too lines 1 (omega arith) after.ensures.device flush.device c.end_interval.result (length pages * 2) (omega arith) c.requires.begins.settled flush.flushed c.end_interval.ensures.device);
+            (object_fenced IsOwnerWord owner_is_own old before.ensures.object after.ensures.object 1 (omega arith) after.ensures.device flush.device c.end_interval.result (length pages * 2) (omega arith) c.requires.begins.settled flush.flushed c.end_interval.ensures.device);
       };
     }

@@ -1,7 +1,7 @@
 use Rattle.std.proofs.Common.{ap, ◌∙◌}
-use Rattle.inode_state.specs.Inode.{InodeView}
 use Rattle.pm_trait.proofs.Unfolding.{interval_ends}
-use Rattle.data_ops.proofs.Sizes.{inode_settled, size_stored, size_flushed, sized_is}
+use Rattle.inode_state.specs.Inode.{InodeView}
+use Rattle.data_ops.proofs.Pages.{inode_settled, size_stored, size_flushed, sized_is}
 use Rattle.data_ops.proofs.truncate.lower_size.Goals as goal
 
 pub at-live-requires-clause-settled : goal.at-live-requires-clause-settled

@@ -1,29 +1,24 @@
 use Rattle.std.proofs.Common.{◌*◌, length, ap, ◌∙◌, arith, refl}
-use Rattle.page_state.specs.Page.{PageView, IsReleasedWord, IsWithoutKind, touched_lines}
+use Rattle.page_state.specs.Page.{PageView, IsReleasedWord, IsWithoutKind}
 use Rattle.page_state.proofs.Releases.{released_is_own}
 use Rattle.data_ops.specs.Growing.{release_events}
-use Rattle.data_ops.proofs.Pages.{pages_settled, bytes_alike, all_released, in_volume, pages_cleared, dirty_rests, none_cleared, of_object, each_of_object, object_fenced, some_fenced, none_fenced, some_pages, no_pages}
+use Rattle.data_ops.proofs.Pages.{pages_settled, all_released, can_take, pages_cleared, dirty_rests, none_cleared, of_object, each_of_object, object_fenced, some_fenced, none_fenced, some_pages, no_pages}
 use Rattle.data_ops.proofs.truncate.release.Goals as goal
 
-pub at-released-requires-clause-settled : goal.at-released-requires-clause-settled
-at-released-requires-clause-settled g c =
+pub at-released-requires : goal.at-released-requires
+at-released-requires g c =
+    let can = c.requires.ready in
+    let begins = c.requires.begins in
+    let geometry = c.args.geometry.now in
     let device = g.P.Pm.view c.args.pm.now in
-    pages_settled c.args.geometry.now.pages c.args.pages.now device.words device.trail c.args.geometry.now.volume_size c.requires.ready.pages_are.in_range c.requires.begins.whole c.requires.begins.settled
-
-pub at-released-requires-clause-data_pages : goal.at-released-requires-clause-data_pages
-at-released-requires-clause-data_pages g c =
-    let can = c.requires.ready in
-    in_volume c.args.geometry.now.pages (g.P.Pm.view c.args.pm.now).words 0 can.first c.args.pages.now can.pages_are c.args.geometry.now.data_pages c.args.geometry.now.data_pages_exact (some_pages c.args.pages.now c.is_empty.result c.is_empty.ensures c.if-is_empty.false)
-
-pub at-released-requires-clause-reads : goal.at-released-requires-clause-reads
-at-released-requires-clause-reads g c =
-    let can = c.requires.ready in
-    all_released c.args.geometry.now.pages (g.P.Pm.view c.args.pm.now).words 0 can.first c.args.pages.now can.pages_are refl
-
-pub at-released-requires-clause-alike : goal.at-released-requires-clause-alike
-at-released-requires-clause-alike g c =
-    let can = c.requires.ready in
-    bytes_alike c.args.geometry.now.pages (g.P.Pm.view c.args.pm.now).words 0 can.first c.args.pages.now can.pages_are (some_pages c.args.pages.now c.is_empty.result c.is_empty.ensures c.if-is_empty.false)
+    let take = can_take geometry.pages device.words 0 can.first c.args.pages.now can.pages_are geometry.data_pages geometry.data_pages_exact (some_pages c.args.pages.now c.is_empty.result c.is_empty.ensures c.if-is_empty.false) in
+    record {
+      whole = begins.whole;
+      data_pages = take.data_pages;
+      settled = pages_settled geometry.pages c.args.pages.now device.words device.trail geometry.volume_size can.pages_are.in_range begins.whole begins.settled;
+      reads = all_released geometry.pages device.words 0 can.first c.args.pages.now can.pages_are refl;
+      alike = take.alike;
+    }
 
 pub returns-then-is_empty : goal.returns-then-is_empty
 returns-then-is_empty g c = record {
@@ -40,19 +35,15 @@ returns g c =
     let before = c.at-released in
     let after = c.release-free in
     let flush = c.flush-flushed.ensures in
-    let volume = ap (λ (v : PageView). v.volume_pages) before.ensures.object in
-    let list = ap (λ (v : PageView). v.pages) before.ensures.object in
-    let volume_too = ap (λ (v : PageView). v.volume_pages) after.ensures.object in
-    let list_too = ap (λ (v : PageView). v.pages) after.ensures.object in
-    let lines = ap (λ (v : PageView). touched_lines v.touched (length after.result.pages)) after.ensures.object in
+    let old = (g.P.Pm.view c.args.pm.now).words in
     let words = (g.P.Pm.view after.new.pm).words in
     record {
       takes = record {
-        makes = pages_cleared P pages (of_object IsReleasedWord P (released_is_own P) pages before.result after.result volume list volume_too list_too lines 2 (omega arith) after.ensures.device)
-            (each_of_object IsReleasedWord P (released_is_own P) pages before.result after.result volume list volume_too list_too lines 2 (omega arith) after.ensures.device (λ v j. IsWithoutKind v words j)
+        makes = pages_cleared P pages (of_object IsReleasedWord released_is_own old before.ensures.object after.ensures.object 2 (omega arith) after.ensures.device)
+            (each_of_object IsReleasedWord released_is_own old before.ensures.object after.ensures.object 2 (omega arith) after.ensures.device (λ v j. IsWithoutKind v words j)
             (dirty_rests after.result (ap (λ (v : PageView). v.fields) after.ensures.object) after.ensures.dirty))
             (g.P.Pm.view c.end_interval.new.pm).words (c.end_interval.ensures.device.words ∙ flush.device.words);
         fenced = some_fenced pages (release_events (length pages)) c.is_empty.result c.is_empty.ensures c.if-is_empty.false
-            (object_fenced IsReleasedWord P (released_is_own P) pages before.result after.result volume list volume_too list_too lines 2 (omega arith) after.ensures.device flush.device c.end_interval.result (length pages * 3) (omega arith) c.requires.begins.settled flush.flushed c.end_interval.ensures.device);
+            (object_fenced IsReleasedWord released_is_own old before.ensures.object after.ensures.object 2 (omega arith) after.ensures.device flush.device c.end_interval.result (length pages * 3) (omega arith) c.requires.begins.settled flush.flushed c.end_interval.ensures.device);
       };
     }

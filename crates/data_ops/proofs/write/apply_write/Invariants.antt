@@ -1,5 +1,5 @@
 use Rattle.volume.specs.declared.next.Next.TheVariants.{More}
-use Rattle.data_ops.proofs.WriteGoing.{HasGone, rank}
+use Rattle.data_ops.proofs.Writing.{HasGone, rank}
 use Rattle.data_ops.proofs.write.apply_write.Given as goal
 
 abbrev pub invariant-loop-running : goal.invariant-loop-running
