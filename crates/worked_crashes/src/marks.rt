@@ -2,9 +2,10 @@
 use pm_memory::RamPm;
 use std::alloc::Global;
 use std::test::Fail;
+use worked_drivers::images::compare_refused;
 use worked_drivers::jobs::{
-    crash_at, do_job, events_of, is_closed, is_done, job_between, job_on, job_without_script,
-    mark_fences, run_on, same, sink_of, source_of, text_of,
+    crash_at, do_job, events_of, is_closed, is_done, job_between, job_on, mark_fences, run_on,
+    same, sink_of, source_of, text_of,
 };
 use worked_drivers::volumes::{
     LITTERED, littered, set_words, small_volume, volume_after, with_words,
@@ -85,26 +86,6 @@ const LITTER: [Litter<'static>; 9] = [
     ("", &[(1_024, 1), (1_025, 2)], NONE, 3),
 ];
 
-// The jobs on a volume.
-const JOBS: [&str; 5] = [
-    "squirrel run v",
-    "squirrel tree v",
-    "squirrel check v",
-    "squirrel crash v --at 0 --keep 00",
-    "squirrel work v 1 10",
-];
-
-// Each job tells that the volume is damaged, and leaves it alone.
-fn compare_damaged(alloc: Global, image: &[u64]) -> Result<(), Fail> {
-    for job in JOBS {
-        let left = job_without_script(alloc, job, image)?;
-        let told = (left.status.number(), text_of(&left.told));
-        same(told, (4, "damaged 15 5\n"), job)?;
-        same(left.image.as_slice(), image, job)?;
-    }
-    Ok(())
-}
-
 // With the mark each volume is damaged; with another value its mount mends it, and the run closes it.
 #[test]
 fn a_closed_volume_has_nothing_to_repair(rt: HostRuntime) -> Result<(), Fail> {
@@ -113,7 +94,7 @@ fn a_closed_volume_has_nothing_to_repair(rt: HostRuntime) -> Result<(), Fail> {
         let volume = volume_after(alloc, 16, first)?;
         let mut image = with_words(alloc, volume.as_slice(), words)?;
         set_words(&mut image, &[(5, 1)])?;
-        compare_damaged(alloc, image.as_slice())?;
+        compare_refused(alloc, image.as_slice(), "damaged 15 5\n", told)?;
         for mark in [0, 2] {
             set_words(&mut image, &[(5, mark)])?;
             let left = job_on(alloc, "squirrel run v", image.as_slice(), b"list /\n")?;

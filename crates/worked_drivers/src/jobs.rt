@@ -18,7 +18,7 @@ const MOST_ACKS: u64 = 1 << 62;
 const STEP: usize = 4_096;
 
 // How many bytes the output takes: the listing of a file of several pages has room in it.
-const ROOM: usize = 65_536;
+pub(crate) const ROOM: usize = 65_536;
 
 /// How a job ended, what the output took, the device's words, and how many fences and acknowledgements it made.
 #[derive(Drop)]
@@ -46,6 +46,12 @@ pub fn same<T: Copy + PartialEq + Debug + Drop>(
 pub fn is_done(left: &Left, told: &str, place: &str) -> Result<(), Fail> {
     same(text_of(&left.told), told, place)?;
     same(left.status, Status::Done, place)
+}
+
+/// Fails a test where a job didn't end with this number, or told something else.
+pub fn compare_end(left: &Left, number: u8, told: &str, place: &str) -> Result<(), Fail> {
+    same(text_of(&left.told), told, place)?;
+    same(left.status.number(), number, place)
 }
 
 /// The text of what was told.
@@ -142,9 +148,14 @@ pub fn job_on(alloc: Global, line: &str, image: &[u64], script: &[u8]) -> Result
     job_between(alloc, line, image, source, sink)
 }
 
+/// A script that isn't to be read: the first read fails.
+pub fn unread_script(alloc: Global) -> Result<MemSource, Fail> {
+    source_of(alloc, b"create /z\n", STEP, 1)
+}
+
 /// A job on these words that is to read no script: the first read would fail.
 pub fn job_without_script(alloc: Global, line: &str, image: &[u64]) -> Result<Left, Fail> {
-    let source = source_of(alloc, b"create /unread\n", STEP, 1)?;
+    let source = unread_script(alloc)?;
     let sink = sink_of(alloc, ROOM, 0)?;
     job_between(alloc, line, image, source, sink)
 }

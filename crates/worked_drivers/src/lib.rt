@@ -2,8 +2,10 @@
 #![tactic(auto)]
 
 pub mod crashes;
+pub mod images;
 pub mod jobs;
 pub mod replays;
 pub mod rows;
+pub mod scarce;
 pub mod texts;
 pub mod volumes;

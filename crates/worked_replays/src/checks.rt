@@ -1,16 +1,8 @@
 // What a volume holds, what a mount would repair, and the tree that is listed.
-use std::alloc::Global;
 use std::test::Fail;
-use worked_drivers::jobs::{Left, is_done, job_without_script, same};
+use worked_drivers::images::{Held, NO_REPAIRS, Repairs, compare_sound};
+use worked_drivers::jobs::{same, text_of};
 use worked_drivers::volumes::{LITTERED, set_words, volume_after, with_words};
-
-// How many directories, files and names a tree has.
-type Held = (u64, u64, u64);
-
-// How many pointers, slots, pages, inodes and counts are to be repaired.
-type Repairs = (u64, u64, u64, u64, u64);
-
-const NO_REPAIRS: Repairs = (0, 0, 0, 0, 0);
 
 // The root alone; the root and one file.
 const BARE: Held = (1, 0, 0);
@@ -31,28 +23,6 @@ struct Row<'a> {
     held: Held,
     repairs: Repairs,
     tree: &'a str,
-}
-
-// Checks a volume, which is left alone.
-fn compare_check(alloc: Global, image: &[u64], held: Held, repairs: Repairs) -> Result<(), Fail> {
-    let (directories, files, names) = held;
-    let (pointers, slots, pages, inodes, counts) = repairs;
-    let holds = format!(in alloc; "tree directories {directories} files {files} names {names}")?;
-    let told = format!(in alloc;
-        "sound\n{holds}\nrepairs pointers {pointers} slots {slots} pages {pages} inodes {inodes} counts {counts}\n"
-    )?;
-    let left = job_without_script(alloc, "squirrel check v", image)?;
-    is_done(&left, told.as_str(), "check")?;
-    same(left.image.as_slice(), image, "check")?;
-    same((left.fences, left.acks), (0, 0), "check")
-}
-
-// Lists the tree of a volume, which is mended for it.
-fn compare_tree(alloc: Global, image: &[u64], tree: &str) -> Result<Left, Fail> {
-    let left = job_without_script(alloc, "squirrel tree v", image)?;
-    is_done(&left, tree, "tree")?;
-    same(left.acks, 0, "tree")?;
-    Ok(left)
 }
 
 // Nothing; an inode that nothing names; an inode's size alone; a page's rest without an owner. Then, with a file: a rename to `/b` after
@@ -155,9 +125,8 @@ fn volumes_are_checked(rt: HostRuntime) -> Result<(), Fail> {
         let volume = volume_after(alloc, 16, row.script)?;
         let mut image = with_words(alloc, volume.as_slice(), row.words)?;
         set_words(&mut image, &[(5, 0)])?;
-        compare_check(alloc, image.as_slice(), row.held, row.repairs)?;
-        let left = compare_tree(alloc, image.as_slice(), row.tree)?;
-        compare_check(alloc, left.image.as_slice(), row.held, NO_REPAIRS)?;
+        let left = compare_sound(alloc, image.as_slice(), row.held, row.repairs, row.tree)?;
+        same(text_of(&left.told), row.tree, "tree")?;
     }
     Ok(())
 }
@@ -170,8 +139,14 @@ fn a_tree_is_listed(rt: HostRuntime) -> Result<(), Fail> {
     let tree =
         "d 1 3 7 /\nf 10 1 0 /%20 -\nf 6 1 0 /9 -\nf 7 1 0 /%3A -\nd 2 3 2 /a\nf 3 2 3 /a/x 00ff10\nd 8 2 1 /a/y\nf 9 1 0 /a/y/z -\nf 4 1 0 /a-b -\nf 5 1 0 /a.b -\nf 3 2 3 /zz 00ff10\n";
     let volume = volume_after(rt.alloc(), 64, script)?;
-    compare_check(rt.alloc(), volume.as_slice(), (3, 7, 10), NO_REPAIRS)?;
-    let left = compare_tree(rt.alloc(), volume.as_slice(), tree)?;
+    let left = compare_sound(
+        rt.alloc(),
+        volume.as_slice(),
+        (3, 7, 10),
+        NO_REPAIRS,
+        "tree",
+    )?;
+    same(text_of(&left.told), tree, "tree")?;
     same(left.fences, 0, "tree")?;
     same(left.image.as_slice(), volume.as_slice(), "tree")
 }

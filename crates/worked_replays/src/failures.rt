@@ -1,63 +1,12 @@
-// Words that are no volume, and reads, writes and fences that fail.
+// Reads, writes and fences that fail.
 use crash_replay::Moment;
 use pm_memory::RamPm;
 use squirrel_cli::{Status, replay};
-use std::alloc::Global;
 use std::test::Fail;
 use worked_drivers::jobs::{
-    Left, job_between, job_with_fault, job_without_script, same, sink_of, source_of, text_of,
+    compare_end, job_between, job_with_fault, same, sink_of, source_of, text_of,
 };
 use worked_drivers::volumes::{small_volume, volume_with_a, with_words};
-
-// The jobs on a volume.
-const JOBS: [&str; 5] = [
-    "squirrel run v",
-    "squirrel tree v",
-    "squirrel check v",
-    "squirrel crash v --at 0 --keep 00",
-    "squirrel work v 1 10",
-];
-
-// A job ended with this number, and told this.
-fn compare_end(left: &Left, number: u8, told: &str, place: &str) -> Result<(), Fail> {
-    same(text_of(&left.told), told, place)?;
-    same(left.status.number(), number, place)
-}
-
-// Each job refuses these words, leaves them alone, and reads no script.
-fn compare_refused(alloc: Global, image: &[u64], told: &str) -> Result<(), Fail> {
-    for job in JOBS {
-        let left = job_without_script(alloc, job, image)?;
-        compare_end(&left, 4, told, job)?;
-        same(left.image.as_slice(), image, job)?;
-        same((left.fences, left.acks), (0, 0), job)?;
-    }
-    Ok(())
-}
-
-// The slot of `/a` stands once more in the slot after it; the first word is another; the length is no volume's.
-#[test]
-fn words_are_refused_by_each_job(rt: HostRuntime) -> Result<(), Fail> {
-    let alloc = rt.alloc();
-    let volume = volume_with_a(alloc)?;
-    for (words, told) in [
-        (
-            [(1_552usize, 2u64), (1_554, 0x61_0001)].as_slice(),
-            "damaged 8 1\n",
-        ),
-        ([(0, 0)].as_slice(), "not a volume\n"),
-    ] {
-        let image = with_words(alloc, volume.as_slice(), words)?;
-        compare_refused(alloc, image.as_slice(), told)?;
-    }
-    for count in [0, 7_680] {
-        let cut = volume.get(..count).ok_or("too short")?;
-        compare_refused(alloc, cut, "not a volume\n")?;
-    }
-    let mut longer = volume.to_vec(alloc)?;
-    longer.push(0)?;
-    compare_refused(alloc, longer.as_slice(), "not a volume\n")
-}
 
 // The fourth read of four bytes; an output that has room for the number of acknowledgements and one byte more, or for the first line.
 #[test]

@@ -60,8 +60,8 @@ fn offsets_and_sizes_have_limits(rt: HostRuntime) -> Result<(), Fail> {
         rt.alloc(),
         fresh_volume(rt.alloc(), 64)?.as_slice(),
         &[(
-            "create /a\nwrite /a 1099511627775 00\nwrite /a 1099511627776 00\nwrite /a 1099511627776 -\nwrite /a 1099511627777 -\nwrite /a 18446744073709551615 00\nread /a 18446744073709551615 1\ntruncate /a 1099511627777\ntruncate /a 1099511627776\nread / 0 1\ntruncate / 0\nstat /a\n",
-            "ok\nerror NoPages\nerror TooBig\nok 0\nerror TooBig\nerror TooBig\nok 0 -\nerror TooBig\nerror NoPages\nerror IsDir\nerror IsDir\nok file inode 2 links 1 size 0\n",
+            "create /a\nwrite /a 1099511627775 00\nwrite /a 1099511627776 00\nwrite /a 1099511627776 -\nwrite /a 1099511627777 -\nread /a 18446744073709551615 1\ntruncate /a 1099511627777\ntruncate /a 1099511627776\nread / 0 1\ntruncate / 0\nstat /a\n",
+            "ok\nerror NoPages\nerror TooBig\nok 0\nerror TooBig\nok 0 -\nerror TooBig\nerror NoPages\nerror IsDir\nerror IsDir\nok file inode 2 links 1 size 0\n",
             3,
         )],
     )

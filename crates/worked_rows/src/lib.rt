@@ -14,6 +14,8 @@ mod names;
 #[cfg(test)]
 mod removals;
 #[cfg(test)]
+mod scripts;
+#[cfg(test)]
 mod space;
 #[cfg(test)]
 mod volumes;

@@ -58,24 +58,6 @@ fn a_long_name_within_a_path(rt: HostRuntime) -> Result<(), Fail> {
     Ok(())
 }
 
-// Spaces count among a line's bytes.
-#[test]
-fn lines_at_the_limit(rt: HostRuntime) -> Result<(), Fail> {
-    let alloc = rt.alloc();
-    let volume = small_volume(alloc)?;
-    for (count, wanted) in [
-        (65_530, "ok 0\nerror BadLine\n"),
-        (65_531, "error BadLine\nerror BadLine\n"),
-        (131_072, "error BadLine\nerror BadLine\n"),
-    ] {
-        let blanks = repeated(alloc, " ", count)?;
-        let script = joined(alloc, &["list /", blanks.as_str(), "\nfrob"])?;
-        let left = compare_run(alloc, volume.as_slice(), script.as_str(), wanted, 0)?;
-        same(left.acks, 2, wanted)?;
-    }
-    Ok(())
-}
-
 // Names of one byte, one for each inode but the root's on 256 pages.
 const NAMES: &[u8] = b"ABCDEFGHIJKLMNOPQRSTUVWXYZabcdefghijklmnopqrstuvwxyz0123456789~";
 

@@ -1,7 +1,8 @@
-// Making a volume, words that ask for no job, and words of a device that are no volume.
+// Making a volume, words that ask for no job, and volumes that are written word by word.
 use squirrel_cli::Status;
 use std::alloc::Global;
 use std::test::Fail;
+use worked_drivers::images::compare_refused;
 use worked_drivers::jobs::{Left, is_done, job_on, same, text_of};
 use worked_drivers::rows::{compare_rows, compare_run};
 use worked_drivers::volumes::{set_words, small_volume, volume_with_a, with_words};
@@ -113,44 +114,19 @@ fn words_that_ask_for_no_job(rt: HostRuntime) -> Result<(), Fail> {
     Ok(())
 }
 
-/// Runs a script on words that can't be mounted: it is told so, and nothing is done.
-pub(crate) fn compare(alloc: Global, image: &[u64], told: &str) -> Result<(), Fail> {
-    let left = job_on(alloc, "squirrel run v", image, b"create /b\n")?;
-    same(text_of(&left.told), told, told)?;
-    same(left.status.number(), 4, told)?;
-    same(left.image.as_slice(), image, told)?;
-    same((left.fences, left.acks), (0, 0), told)
-}
-
-#[test]
-fn words_that_are_no_volume(rt: HostRuntime) -> Result<(), Fail> {
-    let volume = volume_with_a(rt.alloc())?;
-    for (word, value) in [(0, 0), (0, MAGIC + 1), (1, 2), (2, 17), (3, 5), (4, 12)] {
-        let image = with_words(rt.alloc(), volume.as_slice(), &[(word, value)])?;
-        compare(rt.alloc(), image.as_slice(), "not a volume\n")?;
-    }
-    for count in [0, 1, 5, 8_191] {
-        let cut = volume.get(..count).ok_or("too short")?;
-        compare(rt.alloc(), cut, "not a volume\n")?;
-    }
-    Ok(())
-}
-
 // Litter: too many links of the file, a kind of a page without owner, and a name in a slot without a number.
 const LITTER: [(usize, u64); 3] = [(529, 7), (1_049, 3), (1_586, 0x63_0001)];
 
-// The volume with these words is damaged, also where there is litter besides.
+// The volume with these words is damaged beside the litter.
 fn compare_damaged(
     alloc: Global,
     volume: &[u64],
     changes: &[(usize, u64)],
     told: &str,
 ) -> Result<(), Fail> {
-    let mut image = with_words(alloc, volume, changes)?;
-    compare(alloc, image.as_slice(), told)?;
-    image = with_words(alloc, volume, &LITTER)?;
+    let mut image = with_words(alloc, volume, &LITTER)?;
     set_words(&mut image, changes)?;
-    compare(alloc, image.as_slice(), told)
+    compare_refused(alloc, image.as_slice(), told, told)
 }
 
 // Each word is of the root, of the file's inode, of the page's descriptor, or of a slot of the page.
@@ -208,9 +184,7 @@ fn volumes_that_break_a_rule_by_more_words(rt: HostRuntime) -> Result<(), Fail> 
 #[test]
 fn words_that_are_not_read(rt: HostRuntime) -> Result<(), Fail> {
     let volume = volume_with_a(rt.alloc())?;
-    for word in [
-        6, 511, 514, 516, 527, 532, 1_026, 1_027, 1_031, 1_035, 2_048, 8_191,
-    ] {
+    for word in [516, 527, 1_031, 1_035, 2_048, 8_191] {
         let image = with_words(rt.alloc(), volume.as_slice(), &[(word, 9)])?;
         let left = compare_run(rt.alloc(), image.as_slice(), "list /\n", "ok 1 a\n", 0)?;
         same(
