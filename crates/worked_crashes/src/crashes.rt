@@ -9,36 +9,6 @@ fn what_is_made_is_there_or_not(rt: HostRuntime) -> Result<(), Fail> {
         rt.alloc(),
         &[
             Crashes {
-                first: "",
-                line: "create /a\n",
-                mounts: &[(0, 1), (1, 2), (2, 0)],
-                commit: 3,
-                asked: "list /\n",
-                before: Found {
-                    told: "ok 0\n",
-                    free: (3, 13),
-                },
-                after: Found {
-                    told: "ok 1 a\n",
-                    free: (2, 12),
-                },
-            },
-            Crashes {
-                first: "",
-                line: "mkdir /d\n",
-                mounts: &[(0, 2), (2, 2), (2, 0)],
-                commit: 3,
-                asked: "list /\n",
-                before: Found {
-                    told: "ok 0\n",
-                    free: (3, 13),
-                },
-                after: Found {
-                    told: "ok 1 d\n",
-                    free: (2, 12),
-                },
-            },
-            Crashes {
                 first: "mkdir /d\n",
                 line: "create /d/x\n",
                 mounts: &[(0, 1), (1, 2), (2, 0)],
@@ -83,21 +53,6 @@ fn what_is_made_is_there_or_not(rt: HostRuntime) -> Result<(), Fail> {
                     free: (1, 12),
                 },
             },
-            Crashes {
-                first: "create /a\n",
-                line: "link /a /b\n",
-                mounts: &[(0, 1), (1, 0)],
-                commit: 2,
-                asked: "list /\n",
-                before: Found {
-                    told: "ok 1 a\n",
-                    free: (2, 12),
-                },
-                after: Found {
-                    told: "ok 2 a b\n",
-                    free: (2, 12),
-                },
-            },
         ],
     )
 }
@@ -108,21 +63,6 @@ fn what_goes_is_there_or_not(rt: HostRuntime) -> Result<(), Fail> {
     compare_crashes(
         rt.alloc(),
         &[
-            Crashes {
-                first: "create /a\nwrite /a 0 00\n",
-                line: "unlink /a\n",
-                mounts: &[(0, 2), (2, 2), (2, 1), (1, 0)],
-                commit: 1,
-                asked: "list /\n",
-                before: Found {
-                    told: "ok 1 a\n",
-                    free: (2, 11),
-                },
-                after: Found {
-                    told: "ok 0\n",
-                    free: (3, 13),
-                },
-            },
             Crashes {
                 first: "create /a\nlink /a /b\n",
                 line: "unlink /a\n",
@@ -200,36 +140,6 @@ fn a_name_is_old_or_new(rt: HostRuntime) -> Result<(), Fail> {
                 after: Found {
                     told: "ok 0\nok 1 e\n",
                     free: (0, 11),
-                },
-            },
-            Crashes {
-                first: "create /a\ncreate /b\nwrite /b 0 6869\n",
-                line: "rename /a /b\n",
-                mounts: &[(0, 1), (1, 4), (4, 3), (3, 2), (2, 1), (1, 0)],
-                commit: 2,
-                asked: "list /\n",
-                before: Found {
-                    told: "ok 2 a b\n",
-                    free: (1, 11),
-                },
-                after: Found {
-                    told: "ok 1 b\n",
-                    free: (2, 12),
-                },
-            },
-            Crashes {
-                first: "mkdir /d\nmkdir /e\n",
-                line: "rename /d /e\n",
-                mounts: &[(0, 1), (1, 4), (4, 3), (3, 1), (1, 0)],
-                commit: 2,
-                asked: "list /\n",
-                before: Found {
-                    told: "ok 2 d e\n",
-                    free: (1, 12),
-                },
-                after: Found {
-                    told: "ok 1 e\n",
-                    free: (2, 12),
                 },
             },
             Crashes {

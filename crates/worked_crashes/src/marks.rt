@@ -1,67 +1,16 @@
-// The mark of a closed volume: what a crash leaves of it, and what a marked volume is that has something to repair.
+// The mark of a closed volume: what a marked volume is that has something to repair, and when a mended one has it.
 use pm_memory::RamPm;
 use std::alloc::Global;
 use std::test::Fail;
 use worked_drivers::images::compare_refused;
 use worked_drivers::jobs::{
-    crash_at, do_job, events_of, is_closed, is_done, job_between, job_on, mark_fences, run_on,
-    same, sink_of, source_of, text_of,
+    do_job, events_of, is_closed, is_done, job_on, same, sink_of, source_of,
 };
-use worked_drivers::volumes::{
-    LITTERED, littered, set_words, small_volume, volume_after, with_words,
-};
-
-// Of the words that a crash leaves: word 5, how many fences the mount takes, and the names of the root.
-type Left<'a> = (u64, u64, &'a str);
-
-// The fence of a run that fails, its replies, and what a crash leaves with all old words and with all new ones.
-type Row<'a> = (u64, &'a str, Left<'a>, Left<'a>);
+use worked_drivers::volumes::{LITTERED, littered, set_words, volume_after, with_words};
 
 const NONE: &str = "ok 0\n";
 
 const A: &str = "ok 1 a\n";
-
-// What a crash at the end leaves.
-fn compare_left(alloc: Global, pm: &RamPm, keep: [u8; 2], wanted: Left<'_>) -> Result<(), Fail> {
-    let image = crash_at(alloc, pm, events_of(pm)?, &keep)?;
-    let run = job_on(alloc, "squirrel run v", image.as_slice(), b"list /\n")?;
-    let mount = run.fences.saturating_sub(mark_fences(image.as_slice(), 0));
-    let mark = image.get(5).copied().ok_or("no mark")?;
-    same(
-        (mark, mount, text_of(&run.told)),
-        wanted,
-        "what a crash leaves",
-    )
-}
-
-// The first fence takes the mark away and the last one gives it back.
-#[test]
-fn each_fence_of_a_run_fails(rt: HostRuntime) -> Result<(), Fail> {
-    let alloc = rt.alloc();
-    let volume = small_volume(alloc)?;
-    let failed = "error Fault\nerror Stopped\n";
-    let whole = "ok\nok inodes 2 4 pages 12 13\n";
-    let rows: [Row<'_>; 5] = [
-        (1, failed, (1, 0, NONE), (0, 0, NONE)),
-        (2, failed, (0, 0, NONE), (0, 1, NONE)),
-        (3, failed, (0, 1, NONE), (0, 2, NONE)),
-        (4, failed, (0, 2, NONE), (0, 0, A)),
-        (5, whole, (0, 0, A), (1, 0, A)),
-    ];
-    for (fence, told, old, new) in rows {
-        let failing = [fence].to_vec(alloc)?;
-        let mut pm = RamPm::with_failing(alloc, volume.as_slice(), failing)?;
-        let left = run_on(alloc, &mut pm, "create /a\ndf\n")?;
-        same(
-            (left.status.number(), text_of(&left.told)),
-            (5, told),
-            "a fence",
-        )?;
-        compare_left(alloc, &pm, [0, 0], old)?;
-        compare_left(alloc, &pm, [1, 1], new)?;
-    }
-    Ok(())
-}
 
 // A first script, words that are set in what it left, the names that are found then, and how many fences a run takes.
 type Litter<'a> = (&'a str, &'a [(usize, u64)], &'a str, u64);
@@ -105,7 +54,7 @@ fn a_closed_volume_has_nothing_to_repair(rt: HostRuntime) -> Result<(), Fail> {
     Ok(())
 }
 
-// The mount of much litter has 59 events and 4 fences. The fence of the close is the fifth: where it fails the whole output is there.
+// The mount of much litter has 59 events and 4 fences. The fence of the close is the fifth.
 #[test]
 fn a_mended_volume_is_closed(rt: HostRuntime) -> Result<(), Fail> {
     let alloc = rt.alloc();
@@ -116,35 +65,12 @@ fn a_mended_volume_is_closed(rt: HostRuntime) -> Result<(), Fail> {
         ("squirrel tree v", "", tree, 62),
         ("squirrel run v", "list /\nstat /b\ndf\n", told, 65),
     ] {
-        for (failing, status, fences) in [(0u64, 0, 5), (5, 5, 4)] {
-            let listed = [failing].to_vec(alloc)?;
-            let mut pm = RamPm::with_failing(alloc, image.as_slice(), listed)?;
-            let source = source_of(alloc, script.as_bytes(), 4_096, 0)?;
-            let sink = sink_of(alloc, 4_096, 0)?;
-            let left = do_job(alloc, job, &mut pm, source, sink)?;
-            same(
-                (left.status.number(), text_of(&left.told)),
-                (status, told),
-                job,
-            )?;
-            same((left.fences, events_of(&pm)?), (fences, events), job)?;
-        }
+        let mut pm = RamPm::new(alloc, image.as_slice())?;
+        let source = source_of(alloc, script.as_bytes(), 4_096, 0)?;
+        let sink = sink_of(alloc, 4_096, 0)?;
+        let left = do_job(alloc, job, &mut pm, source, sink)?;
+        is_done(&left, told, job)?;
+        same((left.fences, events_of(&pm)?), (5, events), job)?;
     }
     Ok(())
-}
-
-// The script's second line can't be read.
-#[test]
-fn a_read_that_fails_leaves_it_open(rt: HostRuntime) -> Result<(), Fail> {
-    let alloc = rt.alloc();
-    let source = source_of(alloc, b"create /a\ncreate /b\n", 10, 2)?;
-    let sink = sink_of(alloc, 4_096, 0)?;
-    let volume = small_volume(alloc)?;
-    let left = job_between(alloc, "squirrel run v", volume.as_slice(), source, sink)?;
-    let ended = (
-        left.status.number(),
-        left.fences,
-        left.image.get(5).copied(),
-    );
-    same(ended, (6, 4, Some(0)), "a read fails")
 }

@@ -2,20 +2,14 @@
 // All are of 16 pages: inode 2 begins at word 528 and inode 3 at 544, the descriptors at 1,024, and the slots of data page 0
 // at 1,536, each of 16 words.
 use pm_memory::RamPm;
-use squirrel_cli::Status;
 use std::alloc::Global;
 use std::test::Fail;
 use worked_drivers::crashes::{Found, compare_found, free_of};
-use worked_drivers::jobs::{
-    crash_at, do_job, events_of, is_done, run_on, same, sink_of, source_of, text_of,
-};
+use worked_drivers::jobs::{crash_at, events_of, is_done, run_on, same};
 use worked_drivers::rows::compare_run;
 use worked_drivers::volumes::{
     LITTERED, littered, set_words, small_volume, volume_with_a, with_words,
 };
-
-// The number of each step's fence.
-const FENCES: [u64; 4] = [1, 2, 3, 4];
 
 // Of the words that are old or new by themselves: all old, all new, or one like this and the next like that.
 const MIXES: [[u8; 2]; 4] = [[0, 0], [1, 1], [0, 1], [1, 0]];
@@ -205,27 +199,4 @@ fn a_crash_at_each_moment_of_a_mount(rt: HostRuntime) -> Result<(), Fail> {
     is_done(&left, "", "a mount")?;
     same(events_of(&pm)?, 62, "a mount")?;
     finds_the_file_everywhere(rt.alloc(), &pm, MIXES.as_slice())
-}
-
-// The first read of the script would fail, if there were one.
-#[test]
-fn a_fence_of_a_mount_fails(rt: HostRuntime) -> Result<(), Fail> {
-    let image = littered(rt.alloc())?;
-    for fence in FENCES {
-        let failing = [fence].to_vec(rt.alloc())?;
-        let mut pm = RamPm::with_failing(rt.alloc(), image.as_slice(), failing)?;
-        let source = source_of(rt.alloc(), b"list /\n", 4_096, 1)?;
-        let sink = sink_of(rt.alloc(), 4_096, 0)?;
-        let left = do_job(rt.alloc(), "squirrel run v", &mut pm, source, sink)?;
-        same(left.status, Status::DeviceFault, "a mount")?;
-        same(left.status.number(), 5, "a mount")?;
-        same(text_of(&left.told), "", "a mount")?;
-        same(
-            (left.fences, left.acks),
-            (fence.saturating_sub(1), 0),
-            "a mount",
-        )?;
-        finds_the_file_everywhere(rt.alloc(), &pm, &[MIXES[2]])?;
-    }
-    Ok(())
 }

@@ -4,7 +4,7 @@ use std::test::Fail;
 use worked_drivers::crashes::cut_at;
 use worked_drivers::jobs::{crash_at, events_of};
 use worked_drivers::rows::compare_replies;
-use worked_drivers::volumes::{volume_after, volume_with_a};
+use worked_drivers::volumes::volume_after;
 
 // A file of 32 bytes.
 const FILLED: &str =
@@ -25,26 +25,9 @@ fn compare_crash(alloc: Global, volume: &[u64], crash: Crash<'_>) -> Result<(), 
     compare_replies(alloc, image.as_slice(), &[("read /a 0 33\n", crash.told)])
 }
 
-// A file that grows has its old size up to the last fence. Inside its size each word may be the old or the new one.
+// Inside a file's size each word may be the old or the new one.
 #[test]
 fn bytes_are_there_or_not(rt: HostRuntime) -> Result<(), Fail> {
-    let volume = volume_with_a(rt.alloc())?;
-    for (fence, keep, told) in [
-        (1, [1, 1], "ok 0 -\n"),
-        (2, [0, 1], "ok 0 -\n"),
-        (2, [1, 1], "ok 0 -\n"),
-        (3, [0, 0], "ok 0 -\n"),
-        (3, [1, 1], "ok 2 6162\n"),
-    ] {
-        let script = "write /a 0 6162\n";
-        let crash = Crash {
-            script,
-            fence,
-            keep,
-            told,
-        };
-        compare_crash(rt.alloc(), volume.as_slice(), crash)?;
-    }
     let filled = volume_after(rt.alloc(), 16, FILLED)?;
     for (keep, told) in [
         (
@@ -71,28 +54,22 @@ fn bytes_are_there_or_not(rt: HostRuntime) -> Result<(), Fail> {
     Ok(())
 }
 
-// A growth leaves the range torn below the old size, and then the new size or the old one; a cut its new size or the old one,
-// whatever its pages are.
+// A growth leaves the range torn below the old size, and then the new size or the old one.
 #[test]
 fn a_size_is_there_or_not(rt: HostRuntime) -> Result<(), Fail> {
     let filled = volume_after(rt.alloc(), 16, FILLED)?;
     let past = "write /a 24 22222222222222222222222222222222\n";
-    let cut = "truncate /a 0\n";
     let before = "ok 32 1111111111111111111111111111111111111111111111111111111111111111\n";
     let torn = "ok 32 1111111111111111111111111111111111111111111111112222222222222222\n";
     let after = "ok 33 111111111111111111111111111111111111111111111111222222222222222222\n";
-    for (script, fence, keep, told) in [
-        (past, 1u64, [0, 1], before),
-        (past, 1, [1, 0], torn),
-        (past, 2, [0, 0], torn),
-        (past, 2, [1, 1], after),
-        (cut, 1, [0, 0], before),
-        (cut, 1, [1, 1], "ok 0 -\n"),
-        (cut, 2, [1, 0], "ok 0 -\n"),
-        (cut, 3, [0, 1], "ok 0 -\n"),
+    for (fence, keep, told) in [
+        (1u64, [0, 1], before),
+        (1, [1, 0], torn),
+        (2, [0, 0], torn),
+        (2, [1, 1], after),
     ] {
         let crash = Crash {
-            script,
+            script: past,
             fence,
             keep,
             told,

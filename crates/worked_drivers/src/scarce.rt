@@ -36,6 +36,11 @@ impl ScarcePm {
         })
     }
 
+    /// How often it was asked for room.
+    pub fn reserves(&self) -> u64 {
+        self.reserves
+    }
+
     /// How many events it has recorded.
     pub fn events(&self) -> Result<u64, Fail> {
         events_of(&self.pm)

@@ -6,8 +6,6 @@ mod checks;
 #[cfg(test)]
 mod cuts;
 #[cfg(test)]
-mod failures;
-#[cfg(test)]
 mod moments;
 #[cfg(test)]
 mod torn;

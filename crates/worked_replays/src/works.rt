@@ -3,10 +3,7 @@ use crash_replay::Work;
 use io_edge::Source;
 use std::alloc::Global;
 use std::test::Fail;
-use worked_drivers::jobs::{
-    Left, is_done, job_between, job_on, job_with_fault, job_without_script, same, sink_of,
-    source_of, text_of,
-};
+use worked_drivers::jobs::{Left, is_done, job_on, job_without_script, same, text_of};
 use worked_drivers::volumes::{fresh_volume, littered, volume_after};
 
 // What `work` of a seed and a count tells: how many lines there were, were accepted and refused, how many inodes and pages are free and
@@ -261,31 +258,4 @@ fn a_long_work(rt: HostRuntime) -> Result<(), Fail> {
     );
     let left = compare(alloc, fresh.as_slice(), lines)?;
     same(left.fences, 18_008, "work")
-}
-
-// A fence that fails, in the mount, in the first line or in a later one, leaves the sums untold; an output that is full cuts them.
-#[test]
-fn failures_of_work(rt: HostRuntime) -> Result<(), Fail> {
-    let alloc = rt.alloc();
-    let volume = fresh_volume(alloc, 256)?;
-    let line = "squirrel work v 1 10";
-    let littered = littered(alloc)?;
-    for (image, fence) in [(&volume, 1), (&volume, 5), (&littered, 1), (&littered, 4)] {
-        let left = job_with_fault(alloc, line, image.as_slice(), b"", fence)?;
-        same((left.status.number(), text_of(&left.told)), (5, ""), line)?;
-    }
-    for (room, told) in [
-        (4, "work"),
-        (30, "work lines 14 ok 9 refused 5\no"),
-        (
-            60,
-            "work lines 14 ok 9 refused 5\nok inodes 56 64 pages 246 249\nn",
-        ),
-    ] {
-        let source = source_of(alloc, b"", 1, 1)?;
-        let sink = sink_of(alloc, room, 0)?;
-        let left = job_between(alloc, line, volume.as_slice(), source, sink)?;
-        same((left.status.number(), text_of(&left.told)), (7, told), line)?;
-    }
-    Ok(())
 }
