@@ -1,12 +1,10 @@
 // Two faults in one job, and a line that a fence fails in.
 use crate::begins::{Begin, FRESH, MUCH_LITTER, words_of};
-use crate::ends::{
-    DEVICE_FAULT, Failing, NOTHING_FAILS, READ_FAULT, WRITE_FAULT, compare_end, fail_in,
-};
+use crate::ends::{DEVICE_FAULT, Failing, NOTHING_FAILS, READ_FAULT, WRITE_FAULT, fail_in};
 use crate::reads::SCRIPT;
 use std::alloc::Global;
 use std::test::Fail;
-use worked_drivers::jobs::same;
+use worked_drivers::jobs::{compare_end, same};
 
 // A job in which a fence fails, and how it ends. A fence that isn't come to isn't made.
 #[derive(Clone, Copy)]

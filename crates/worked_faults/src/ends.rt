@@ -40,12 +40,6 @@ pub const MIXED: [[u8; 2]; 2] = [[0x00, 0xff], [0xff, 0x00]];
 // Events can be counted where there are no more acknowledgements.
 const MOST_ACKS: u64 = 1 << 62;
 
-/// A job ended with a status of this number, and told this.
-pub fn compare_end(left: &Left, status: u8, told: &str, place: &str) -> Result<(), Fail> {
-    same(text_of(&left.told), told, place)?;
-    same(left.status.number(), status, place)
-}
-
 /// The last event that a device has recorded.
 pub fn last_event(pm: &RamPm) -> Result<Event, Fail> {
     if pm.acks() > MOST_ACKS {

@@ -1,11 +1,11 @@
 // A device that is short of memory: each growth is refused in turn, and what is answered then.
 use crate::begins::{FRESH, LINKS_TOO_HIGH, MUCH_LITTER, NOT_CLOSED, no_volume, words_of};
-use crate::ends::{DONE, NO_MEMORY, NONE, compare_end, unread};
+use crate::ends::{DONE, NO_MEMORY, NONE, unread};
 use crate::jobs::{WORK, WORKED};
 use crate::scarce::short_of_memory;
 use std::alloc::Global;
 use std::test::Fail;
-use worked_drivers::jobs::{is_done, same};
+use worked_drivers::jobs::{compare_end, is_done, same};
 use worked_drivers::volumes::volume_with_a;
 
 const RUN: &str = "squirrel run v";

@@ -2,14 +2,16 @@
 use crate::begins::{Begin, FRESH, LINKS_TOO_HIGH, MUCH_LITTER, no_volume, words_of};
 use crate::ends::{
     ALL_NEW, ALL_OLD, DEVICE_FAULT, DONE, Failing, NO_VOLUME, NONE, NOTHING_FAILS, PIECE, ROOM,
-    compare_end, fail_in, left_at_end, unread,
+    fail_in, left_at_end, unread,
 };
 use crash_replay::Moment;
 use pm_memory::RamPm;
 use squirrel_cli::replay;
 use std::alloc::Global;
 use std::test::Fail;
-use worked_drivers::jobs::{do_job, job_without_script, same, sink_of, source_of, text_of};
+use worked_drivers::jobs::{
+    compare_end, do_job, job_without_script, same, sink_of, source_of, text_of,
+};
 use worked_drivers::volumes::small_volume;
 
 /// Some generated lines, and what is told of them on a fresh volume of 16 pages.

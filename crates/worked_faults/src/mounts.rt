@@ -1,13 +1,11 @@
 // Each fence of a mount that has much to mend fails, and those of the run behind it.
 use crate::begins::{MUCH_LITTER, words_of};
-use crate::ends::{
-    ALL_NEW, ALL_OLD, DEVICE_FAULT, DONE, NOTHING_FAILS, compare_end, fail_in, left_at_end,
-};
+use crate::ends::{ALL_NEW, ALL_OLD, DEVICE_FAULT, DONE, NOTHING_FAILS, fail_in, left_at_end};
 use crate::runs::{Line, Run, compare_faults};
 use pm_memory::RamPm;
 use std::alloc::Global;
 use std::test::Fail;
-use worked_drivers::jobs::{is_done, run_on, same};
+use worked_drivers::jobs::{compare_end, is_done, run_on, same};
 
 const MOUNTS: [Run<'static>; 2] = [
     Run {

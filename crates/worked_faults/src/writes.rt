@@ -1,13 +1,11 @@
 // Each write fails, and an output is full at each byte.
 use crate::begins::{Begin, CLOSED, FRESH, OPEN, words_of};
-use crate::ends::{
-    DONE, Failing, NO_VOLUME, NOTHING_FAILS, WRITE_FAULT, compare_end, fail_in, mark_of, unread,
-};
+use crate::ends::{DONE, Failing, NO_VOLUME, NOTHING_FAILS, WRITE_FAULT, fail_in, mark_of, unread};
 use crate::jobs::{WORK, WORKED};
 use crate::reads::{FENCES, SCRIPT, WHOLE};
 use std::alloc::Global;
 use std::test::Fail;
-use worked_drivers::jobs::{Left, same, text_of};
+use worked_drivers::jobs::{Left, compare_end, same, text_of};
 use worked_drivers::rows::compare_replies;
 
 // A job that runs no line of its script on the device, how it ends, and how many fences it takes, where a write fails and where
