@@ -3,38 +3,24 @@
 use crate::plans::compare_costs;
 use std::test::Fail;
 use worked_drivers::jobs::job_on;
+use worked_drivers::parts::{
+    FENCE, GIVEN_BACK, LINKS, NAME, NODE, NUMBER, OWNER, PAGE, PAGE_REST, SIZE, SLOT_REST,
+};
 use worked_drivers::rows::compare_words;
 use worked_drivers::texts::numbered;
 use worked_drivers::volumes::{fresh_volume, set_words, small_volume};
 
-const FENCE: u64 = 1;
+/// A node and its name with a fence; then the slot's number.
+pub const ENTRY: u64 = NODE + NAME + FENCE + NUMBER;
 
-// A word, its line and a fence: a slot's number, a page's owner, a file's size.
-const WORD: u64 = 1 + 1 + FENCE;
-
-// A node's 4 words and their line.
-const NODE: u64 = 4 + 1;
-
-// A name's 14 words and their 2 lines.
-const NAME: u64 = 14 + 2;
-
-// A word of links and its line.
-const LINKS: u64 = 1 + 1;
-
-// A page's 512 words and 2 of its descriptor, their 64 lines and 1.
-const PAGE: u64 = 512 + 2 + 64 + 1;
-
-// A node and its name with a fence; then the slot's number.
-const ENTRY: u64 = NODE + NAME + FENCE + WORD;
-
-// A node and the page in which its name stands with a fence; then the page's owner; then the slot's number.
-const ENTRY_IN_PAGE: u64 = NODE + PAGE + FENCE + WORD + WORD;
+/// A node and the page in which its name stands with a fence; then the page's owner; then the slot's number.
+pub const ENTRY_IN_PAGE: u64 = NODE + PAGE + FENCE + OWNER + FENCE + NUMBER;
 
 // A page that a file takes, and then its owner.
-const FILLED: u64 = PAGE + FENCE + WORD;
+const FILLED: u64 = PAGE + FENCE + OWNER + FENCE;
 
-// The slot's number. Then a link, the slot's other 15 words and their 2 lines, and a fence.
-const REMOVAL: u64 = WORD + LINKS + 15 + 2 + FENCE;
+// The slot's number. Then a link, the rest of the slot, and a fence.
+const REMOVAL: u64 = NUMBER + LINKS + SLOT_REST + FENCE;
 
 // A directory takes a page for its first name, and has place there for its second.
 #[test]
@@ -141,17 +127,22 @@ fn what_goes_costs(rt: HostRuntime) -> Result<(), Fail> {
         volume.as_slice(),
         &[
             ("create /a\n", "ok\n", 3, ENTRY_IN_PAGE),
-            ("write /a 0 6869\n", "ok 2\n", 3, FILLED + WORD),
+            ("write /a 0 6869\n", "ok 2\n", 3, FILLED + SIZE),
             ("link /a /b\n", "ok\n", 2, ENTRY - NODE + LINKS),
             ("unlink /b\n", "ok\n", 2, REMOVAL),
             (
                 "unlink /a\n",
                 "ok\n",
                 4,
-                REMOVAL + (2 * 2 + 1) + (2 * 3 + 5 + 1),
+                REMOVAL + (2 * OWNER + FENCE) + (2 * PAGE_REST + NODE + FENCE),
             ),
             ("mkdir /d\n", "ok\n", 3, ENTRY_IN_PAGE + LINKS),
-            ("rmdir /d\n", "ok\n", 4, REMOVAL + (2 + 1) + (3 + 5 + 1)),
+            (
+                "rmdir /d\n",
+                "ok\n",
+                4,
+                REMOVAL + OWNER + FENCE + PAGE_REST + NODE + FENCE,
+            ),
         ],
     )?;
     compare_words(
@@ -193,8 +184,8 @@ fn names_cost(rt: HostRuntime) -> Result<(), Fail> {
             ("unlink /d/x\n", "ok\n", 2, REMOVAL),
             ("create /d/e/z\n", "ok\n", 2, ENTRY),
             ("unlink /d/e/z\n", "ok\n", 3, REMOVAL + NODE + FENCE),
-            ("unlink /d/e/y\n", "ok\n", 4, REMOVAL + WORD + 3 + FENCE),
-            ("rmdir /d/e\n", "ok\n", 4, REMOVAL + WORD + 3 + NODE + FENCE),
+            ("unlink /d/e/y\n", "ok\n", 4, REMOVAL + GIVEN_BACK),
+            ("rmdir /d/e\n", "ok\n", 4, REMOVAL + GIVEN_BACK + NODE),
             ("rmdir /d\n", "ok\n", 3, REMOVAL + NODE + FENCE),
             ("stat /b\n", "ok file inode 3 links 1 size 0\n", 0, 0),
             ("list /\n", "ok 2 a b\n", 0, 0),
@@ -208,15 +199,15 @@ fn names_cost(rt: HostRuntime) -> Result<(), Fail> {
 #[test]
 fn bytes_cost(rt: HostRuntime) -> Result<(), Fail> {
     let volume = small_volume(rt.alloc())?;
-    let rest = 512 + 64 + 1;
+    let rest = 512 + 64 + FENCE;
     compare_costs(
         rt.alloc(),
         volume.as_slice(),
         &[
             ("create /a\n", "ok\n", 3, ENTRY_IN_PAGE),
-            ("write /a 0 6869\n", "ok 2\n", 3, FILLED + WORD),
-            ("write /a 1 7a7a7a\n", "ok 3\n", 2, rest + WORD),
-            ("write /a 8 21\n", "ok 1\n", 2, rest + WORD),
+            ("write /a 0 6869\n", "ok 2\n", 3, FILLED + SIZE),
+            ("write /a 1 7a7a7a\n", "ok 3\n", 2, rest + SIZE),
+            ("write /a 8 21\n", "ok 1\n", 2, rest + SIZE),
             // Two words, their line and a fence.
             ("write /a 7 3f3f\n", "ok 2\n", 1, 4),
             ("write /a 9 -\n", "ok 0\n", 0, 0),
@@ -234,26 +225,31 @@ fn another_size_costs(rt: HostRuntime) -> Result<(), Fail> {
         &[
             ("create /a\n", "ok\n", 3, ENTRY_IN_PAGE),
             // Three pages of 579 and a fence, their owners, lines and a fence.
-            ("truncate /a 8200\n", "ok\n", 3, 3 * PAGE + 1 + 7 + WORD),
+            (
+                "truncate /a 8200\n",
+                "ok\n",
+                3,
+                3 * PAGE + FENCE + 3 * OWNER + FENCE + SIZE,
+            ),
             // Two words in two pages, their lines and a fence.
             ("write /a 4093 010203040506070809\n", "ok 9\n", 1, 5),
-            ("truncate /a 8193\n", "ok\n", 1, WORD),
+            ("truncate /a 8193\n", "ok\n", 1, SIZE),
             (
                 "truncate /a 20\n",
                 "ok\n",
                 3,
-                WORD + (2 * 2 + 1) + (2 * 3 + 1),
+                SIZE + (2 * OWNER + FENCE) + (2 * PAGE_REST + FENCE),
             ),
             // The words of the old page from the third on, and three pages.
             (
                 "truncate /a 12289\n",
                 "ok\n",
                 3,
-                510 + 64 + 3 * PAGE + 1 + 7 + WORD,
+                510 + 64 + 3 * PAGE + FENCE + 3 * OWNER + FENCE + SIZE,
             ),
             ("truncate /a 12289\n", "ok\n", 0, 0),
             // The words of the last page from the first on.
-            ("truncate /a 12290\n", "ok\n", 2, 512 + 64 + 1 + WORD),
+            ("truncate /a 12290\n", "ok\n", 2, 512 + 64 + FENCE + SIZE),
             ("read /a 12289 1\n", "ok 1 00\n", 0, 0),
         ],
     )?;

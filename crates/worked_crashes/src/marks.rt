@@ -1,4 +1,5 @@
 // The mark of a closed volume: what a marked volume is that has something to repair, and when a mended one has it.
+use crate::recoveries::{LITTERED_EVENTS, MARK};
 use pm_memory::RamPm;
 use std::alloc::Global;
 use std::test::Fail;
@@ -54,7 +55,7 @@ fn a_closed_volume_has_nothing_to_repair(rt: HostRuntime) -> Result<(), Fail> {
     Ok(())
 }
 
-// The mount of much litter has 59 events and 4 fences. The fence of the close is the fifth.
+// The mount of much litter has 4 fences, and that of the close is the fifth. Three lines are acknowledged.
 #[test]
 fn a_mended_volume_is_closed(rt: HostRuntime) -> Result<(), Fail> {
     let alloc = rt.alloc();
@@ -62,8 +63,13 @@ fn a_mended_volume_is_closed(rt: HostRuntime) -> Result<(), Fail> {
     let tree = "d 1 2 1 /\nf 2 1 0 /b -\n";
     let told = "ok 1 b\nok file inode 2 links 1 size 0\nok inodes 2 4 pages 12 13\n";
     for (job, script, told, events) in [
-        ("squirrel tree v", "", tree, 62),
-        ("squirrel run v", "list /\nstat /b\ndf\n", told, 65),
+        ("squirrel tree v", "", tree, LITTERED_EVENTS + MARK),
+        (
+            "squirrel run v",
+            "list /\nstat /b\ndf\n",
+            told,
+            LITTERED_EVENTS + MARK + 3,
+        ),
     ] {
         let mut pm = RamPm::new(alloc, image.as_slice())?;
         let source = source_of(alloc, script.as_bytes(), 4_096, 0)?;

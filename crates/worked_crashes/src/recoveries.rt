@@ -6,6 +6,9 @@ use std::alloc::Global;
 use std::test::Fail;
 use worked_drivers::crashes::{Found, compare_found, free_of};
 use worked_drivers::jobs::{crash_at, events_of, is_done, run_on, same};
+use worked_drivers::parts::{
+    FENCE, FIELD, GIVEN_BACK, LINKS, NODE, NUMBER, OWNER, PAGE_REST, POINTER, SLOT_REST,
+};
 use worked_drivers::rows::compare_run;
 use worked_drivers::volumes::{
     LITTERED, littered, set_words, small_volume, volume_with_a, with_words,
@@ -13,6 +16,21 @@ use worked_drivers::volumes::{
 
 // Of the words that are old or new by themselves: all old, all new, or one like this and the next like that.
 const MIXES: [[u8; 2]; 4] = [[0, 0], [1, 1], [0, 1], [1, 0]];
+
+// The mark of a closed volume, with a fence.
+pub(crate) const MARK: u64 = FIELD + FENCE;
+
+// A pointer, and then the slot in which it stood, or which it points at.
+const POINTED_SLOT: u64 = POINTER + FENCE + SLOT_REST + FENCE;
+
+// A page that goes with its inode: the owner, then the rest.
+const FILE_GOES: u64 = GIVEN_BACK + NODE;
+
+// A number, a pointer, two owners; then two slots, two pages, an inode and a word of links.
+pub(crate) const LITTERED_EVENTS: u64 = NUMBER
+    + (POINTER + FENCE)
+    + (2 * OWNER + FENCE)
+    + (2 * SLOT_REST + 2 * PAGE_REST + NODE + LINKS + FENCE);
 
 // Words that are set in a volume, which isn't closed then, what the mount takes in fences and in events, and which words of the volume
 // are others afterwards. Then what a script is answered, and how many inodes and data pages are free.
@@ -27,7 +45,7 @@ pub(crate) struct Row<'a> {
     pub(crate) free: (u64, u64),
 }
 
-// Runs the script on the volume with the words set, and closes it by a fence of 3 events; and again on what the first run left, which
+// Runs the script on the volume with the words set, and closes it by the mark; and again on what the first run left, which
 // takes no fence.
 pub(crate) fn compare(alloc: Global, volume: &[u64], row: &Row<'_>) -> Result<(), Fail> {
     let mut image = with_words(alloc, volume, row.words)?;
@@ -36,7 +54,10 @@ pub(crate) fn compare(alloc: Global, volume: &[u64], row: &Row<'_>) -> Result<()
     let left = run_on(alloc, &mut pm, row.script)?;
     is_done(&left, row.told, row.script)?;
     let events = events_of(&pm)?.saturating_sub(left.acks);
-    let taken = (row.fences.saturating_add(1), row.events.saturating_add(3));
+    let taken = (
+        row.fences.saturating_add(1),
+        row.events.saturating_add(MARK),
+    );
     same((left.fences, events), taken, row.told)?;
     let mended = with_words(alloc, volume, row.mended)?;
     same(left.image.as_slice(), mended.as_slice(), row.told)?;
@@ -49,9 +70,9 @@ pub(crate) fn compare(alloc: Global, volume: &[u64], row: &Row<'_>) -> Result<()
 fn the_root_alone_is_mended(rt: HostRuntime) -> Result<(), Fail> {
     let volume = small_volume(rt.alloc())?;
     for (words, fences, events) in [
-        ([(528, 1), (529, 1), (531, 2)].as_slice(), 1, 6),
-        ([(1_024, 1), (1_025, 2)].as_slice(), 2, 7),
-        ([(1_025, 2), (1_026, 7)].as_slice(), 1, 4),
+        ([(528, 1), (529, 1), (531, 2)].as_slice(), 1, NODE + FENCE),
+        ([(1_024, 1), (1_025, 2)].as_slice(), 2, GIVEN_BACK),
+        ([(1_025, 2), (1_026, 7)].as_slice(), 1, PAGE_REST + FENCE),
     ] {
         let row = Row {
             words,
@@ -73,16 +94,16 @@ fn the_root_alone_is_mended(rt: HostRuntime) -> Result<(), Fail> {
 fn a_file_is_left_as_it_was(rt: HostRuntime) -> Result<(), Fail> {
     let volume = volume_with_a(rt.alloc())?;
     for (words, fences, events) in [
-        ([(1_553usize, 1u64)].as_slice(), 1u64, 3u64),
-        ([(1_537, 2)].as_slice(), 1, 3),
-        ([(1_554, 0x62_0001)].as_slice(), 1, 18),
-        ([(1_553, 1), (1_554, 0x62_0001)].as_slice(), 2, 21),
-        ([(1_567, 1)].as_slice(), 1, 18),
-        ([(544, 1)].as_slice(), 1, 6),
-        ([(547, 3)].as_slice(), 1, 6),
-        ([(1_033, 2)].as_slice(), 1, 4),
-        ([(1_032, 2), (1_033, 1)].as_slice(), 2, 7),
-        ([(513, 9), (529, 7)].as_slice(), 1, 5),
+        ([(1_553usize, 1u64)].as_slice(), 1u64, POINTER + FENCE),
+        ([(1_537, 2)].as_slice(), 1, POINTER + FENCE),
+        ([(1_554, 0x62_0001)].as_slice(), 1, SLOT_REST + FENCE),
+        ([(1_553, 1), (1_554, 0x62_0001)].as_slice(), 2, POINTED_SLOT),
+        ([(1_567, 1)].as_slice(), 1, SLOT_REST + FENCE),
+        ([(544, 1)].as_slice(), 1, NODE + FENCE),
+        ([(547, 3)].as_slice(), 1, NODE + FENCE),
+        ([(1_033, 2)].as_slice(), 1, PAGE_REST + FENCE),
+        ([(1_032, 2), (1_033, 1)].as_slice(), 2, GIVEN_BACK),
+        ([(513, 9), (529, 7)].as_slice(), 1, 2 * LINKS + FENCE),
     ] {
         let row = Row {
             words,
@@ -106,14 +127,14 @@ fn a_rename_is_completed(rt: HostRuntime) -> Result<(), Fail> {
         (
             [(1_552usize, 2u64), (1_553, 1), (1_554, 0x62_0001)].as_slice(),
             3u64,
-            24u64,
+            NUMBER + POINTED_SLOT,
         ),
         (
             [(1_536, 0), (1_552, 2), (1_553, 1), (1_554, 0x62_0001)].as_slice(),
             2,
-            21,
+            POINTED_SLOT,
         ),
-        (LITTERED.as_slice(), 4, 59),
+        (LITTERED.as_slice(), 4, LITTERED_EVENTS),
     ] {
         let row = Row {
             words,
@@ -139,10 +160,10 @@ fn what_nothing_leads_to_goes(rt: HostRuntime) -> Result<(), Fail> {
         (
             [(1_536usize, 0u64)].as_slice(),
             2u64,
-            12u64,
+            FILE_GOES,
             [(1_536usize, 0u64)].as_slice(),
         ),
-        ([(1_024, 2)].as_slice(), 2, 12, [].as_slice()),
+        ([(1_024, 2)].as_slice(), 2, FILE_GOES, [].as_slice()),
         (
             [
                 (544, 2),
@@ -156,7 +177,7 @@ fn what_nothing_leads_to_goes(rt: HostRuntime) -> Result<(), Fail> {
             ]
             .as_slice(),
             4,
-            28,
+            NUMBER + POINTER + FENCE + (2 * OWNER + FENCE) + (2 * PAGE_REST + 2 * NODE + FENCE),
             [(1_536, 0), (2_048, 2), (2_050, 0x78_0001)].as_slice(),
         ),
     ] {
@@ -197,6 +218,6 @@ fn a_crash_at_each_moment_of_a_mount(rt: HostRuntime) -> Result<(), Fail> {
     let mut pm = RamPm::new(rt.alloc(), image.as_slice())?;
     let left = run_on(rt.alloc(), &mut pm, "")?;
     is_done(&left, "", "a mount")?;
-    same(events_of(&pm)?, 62, "a mount")?;
+    same(events_of(&pm)?, LITTERED_EVENTS + MARK, "a mount")?;
     finds_the_file_everywhere(rt.alloc(), &pm, MIXES.as_slice())
 }

@@ -4,6 +4,7 @@
 pub mod crashes;
 pub mod images;
 pub mod jobs;
+pub mod parts;
 pub mod replays;
 pub mod rows;
 pub mod scarce;
