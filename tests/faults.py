@@ -6,6 +6,8 @@ import os
 import re
 import subprocess
 
+from jobs import Wrong, bytes_of, put_bytes
+
 SECONDS = 120
 KILLED = -9
 CALL = re.compile(r"^(\w+)\(.*\) += (-?\d+)", re.MULTILINE)
@@ -46,10 +48,6 @@ int posix_memalign(void **memory, size_t alignment, size_t size) {
 """
 
 
-class Wrong(Exception):
-    """A case isn't as it has to be, and this is how."""
-
-
 @dataclasses.dataclass(frozen=True)
 class Ended:
     """How a run ended, and what it wrote."""
@@ -87,7 +85,7 @@ class Bench:
             if os.path.exists(self.image):
                 os.remove(self.image)
         else:
-            put_file(self.image, held)
+            put_bytes(self.image, held)
 
     def found(self):
         """The bytes of the image, or nothing where it is no file."""
@@ -95,7 +93,7 @@ class Bench:
 
     def run(self, words, options=(), script="", before=(), environment=()):
         """A run of the program, behind these words of another program."""
-        put_file(self.script, script.encode())
+        put_bytes(self.script, script.encode())
         with open(self.script, "rb") as given, open(self.told, "wb") as told:
             job = subprocess.run([*before, self.program, *words, self.image, *options], stdin=given, stdout=told,
                                  stderr=subprocess.PIPE, env={**os.environ, **dict(environment)}, cwd=self.folder, timeout=SECONDS)
@@ -142,7 +140,7 @@ class Bench:
     def library(self):
         """The library that refuses an allocation, or nothing where it can't be had."""
         source, made = self.path("refusing.c"), self.path("refusing.so")
-        put_file(source, REFUSING.encode())
+        put_bytes(source, REFUSING.encode())
         try:
             job = subprocess.run(["cc", "-O1", "-shared", "-fPIC", "-fno-builtin", "-o", made, source], capture_output=True)
         except FileNotFoundError:
@@ -155,16 +153,6 @@ class Bench:
             os.remove(self.mark)
         environment = {"LD_PRELOAD": library, "REFUSED_NUMBER": str(number), "REFUSED_MARK": self.mark}
         return self.run_of(meant, environment=environment), os.path.exists(self.mark)
-
-
-def put_file(path, content):
-    with open(path, "wb") as file:
-        file.write(content)
-
-
-def bytes_of(path):
-    with open(path, "rb") as file:
-        return file.read()
 
 
 def whole(meant):

@@ -3,7 +3,8 @@ import errno
 import os
 import subprocess
 
-from faults import Bench, Ended, Wrong, fault, has_ended, put_file, whole
+from faults import Bench, Ended, fault, has_ended, whole
+from jobs import Wrong, put_bytes
 from listing import listed
 from meant import PAGE_BYTES, Making, line_on, lines_of
 from trees import may_leave, trees_after
@@ -31,7 +32,7 @@ def mount_memory(folder, _bench):
 def mount_disk(folder, bench):
     """A small file system in a file."""
     file = bench.path("disk")
-    put_file(file, bytes(SIZE_OF_DISK))
+    put_bytes(file, bytes(SIZE_OF_DISK))
     return is_done("mkfs.ext4", "-q", "-F", file) and is_done("mount", "-o", "loop", file, folder)
 
 
@@ -68,7 +69,7 @@ def full_lines():
 def check_writing_full(bench):
     """A volume whose file has holes fills the disk in the middle of a script. What was answered is there in the next run, and once a
     file gives up its pages another one takes them."""
-    put_file(bench.image, b"")
+    put_bytes(bench.image, b"")
     os.truncate(bench.image, PAGE_BYTES * FULL_PAGES)
     making = Making("mkfs", FULL_PAGES, None, None, b"")
     has_ended(bench.run(making.words, making.options), whole(making))

@@ -4,6 +4,7 @@ replies, fences and trees, by the model of tests/weaving.py, and in which line e
 import dataclasses
 import itertools
 
+from odd_words import with_words
 from trees import Tree, may_leave, path_of
 from weaving import MAKES_NAME, Refused, Volume, Weave, lines_of_run, pages_for
 
@@ -11,9 +12,10 @@ PAGES = 16
 WORD = 8
 PAGE_BYTES = 4096
 
-# One line of each changing command at least, and what most of them do in more than one way.
+# One line of each changing command at least, and what most of them do in more than one way. One write goes over old bytes and past
+# the size, so that a stop in it leaves torn ones.
 CHANGES = [
-    "create /a", "write /a 0 6162", "write /a 1 63", "truncate /a 5000", "truncate /a 1", "mkdir /d", "link /a /d/b", "rename /a /c",
+    "create /a", "write /a 0 6162", "write /a 1 63", "truncate /a 5000", "truncate /a 1", "write /a 0 78797a", "mkdir /d", "link /a /d/b", "rename /a /c",
     "unlink /d/b", "rmdir /d", "rename /c /e", "unlink /e",
 ]
 # The words of a volume with a file `/a` whose rename to `/b` was cut after its commit, and with litter besides: as `littered` of
@@ -196,14 +198,6 @@ def sums_of(volume, lines):
 
 
 # The jobs.
-
-def with_words(held, words):
-    """Bytes of which some words are others."""
-    held = bytearray(held)
-    for word, value in words.items():
-        held[WORD * word:WORD * word + WORD] = value.to_bytes(WORD, "little")
-    return bytes(held)
-
 
 def run_of(title, held, volume, texts, mount_fences=0, refused=None):
     lines = lines_on(volume, texts, refused)

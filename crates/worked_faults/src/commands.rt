@@ -1,13 +1,12 @@
 // Each fence of a run of one line fails. The rows of `create` and of a rename to a new name stand among the scripts.
 use crate::begins::{Begin, FRESH};
-use crate::runs::{Line, Run, compare_faults};
+use crate::runs::{GROWN, Line, ON_CLOSED, Run, compare_faults};
 use crate::scripts::listing_of_5000;
 use std::test::Fail;
 
 const LINES: [Run<'static>; 11] = [
     Run {
         begin: FRESH,
-        opening: 0,
         before: "d 1 2 0 /\n",
         lines: &[Line {
             text: "mkdir /d\n",
@@ -18,13 +17,13 @@ const LINES: [Run<'static>; 11] = [
         }],
         old: &[0, 0, 2, 2, 0],
         new: &[0, 2, 2, 0, 0],
+        ..ON_CLOSED
     },
     Run {
         begin: Begin {
             script: "create /a\n",
             ..FRESH
         },
-        opening: 0,
         before: "d 1 2 1 /\nf 2 1 0 /a -\n",
         lines: &[Line {
             text: "link /a /b\n",
@@ -35,13 +34,13 @@ const LINES: [Run<'static>; 11] = [
         }],
         old: &[0, 0, 1, 0],
         new: &[0, 1, 0, 0],
+        ..ON_CLOSED
     },
     Run {
         begin: Begin {
             script: "create /a\nwrite /a 0 6162\n",
             ..FRESH
         },
-        opening: 0,
         before: "d 1 2 1 /\nf 2 1 2 /a 6162\n",
         lines: &[Line {
             text: "unlink /a\n",
@@ -52,13 +51,13 @@ const LINES: [Run<'static>; 11] = [
         }],
         old: &[0, 0, 2, 2, 1, 0],
         new: &[0, 2, 2, 1, 0, 0],
+        ..ON_CLOSED
     },
     Run {
         begin: Begin {
             script: "create /a\nlink /a /b\n",
             ..FRESH
         },
-        opening: 0,
         before: "d 1 2 2 /\nf 2 2 0 /a -\nf 2 2 0 /b -\n",
         lines: &[Line {
             text: "unlink /b\n",
@@ -69,13 +68,13 @@ const LINES: [Run<'static>; 11] = [
         }],
         old: &[0, 0, 1, 0],
         new: &[0, 1, 0, 0],
+        ..ON_CLOSED
     },
     Run {
         begin: Begin {
             script: "mkdir /d\n",
             ..FRESH
         },
-        opening: 0,
         before: "d 1 3 1 /\nd 2 2 0 /d\n",
         lines: &[Line {
             text: "rmdir /d\n",
@@ -86,13 +85,13 @@ const LINES: [Run<'static>; 11] = [
         }],
         old: &[0, 0, 2, 2, 1, 0],
         new: &[0, 2, 2, 1, 0, 0],
+        ..ON_CLOSED
     },
     Run {
         begin: Begin {
             script: "create /a\ncreate /b\nwrite /b 0 61\n",
             ..FRESH
         },
-        opening: 0,
         before: "d 1 2 2 /\nf 2 1 0 /a -\nf 3 1 1 /b 61\n",
         lines: &[Line {
             text: "rename /a /b\n",
@@ -103,13 +102,13 @@ const LINES: [Run<'static>; 11] = [
         }],
         old: &[0, 0, 1, 4, 3, 2, 1, 0],
         new: &[0, 1, 4, 3, 2, 1, 0, 0],
+        ..ON_CLOSED
     },
     Run {
         begin: Begin {
             script: "mkdir /d\nmkdir /e\n",
             ..FRESH
         },
-        opening: 0,
         before: "d 1 4 2 /\nd 2 2 0 /d\nd 3 2 0 /e\n",
         lines: &[Line {
             text: "rename /d /e\n",
@@ -120,13 +119,13 @@ const LINES: [Run<'static>; 11] = [
         }],
         old: &[0, 0, 1, 4, 3, 1, 0],
         new: &[0, 1, 4, 3, 1, 0, 0],
+        ..ON_CLOSED
     },
     Run {
         begin: Begin {
             script: "create /a\n",
             ..FRESH
         },
-        opening: 0,
         before: "d 1 2 1 /\nf 2 1 0 /a -\n",
         lines: &[Line {
             text: "write /a 0 6162\n",
@@ -137,13 +136,13 @@ const LINES: [Run<'static>; 11] = [
         }],
         old: &[0, 0, 1, 2, 0],
         new: &[0, 1, 2, 0, 0],
+        ..ON_CLOSED
     },
     Run {
         begin: Begin {
             script: "create /a\nwrite /a 0 6162\n",
             ..FRESH
         },
-        opening: 0,
         before: "d 1 2 1 /\nf 2 1 2 /a 6162\n",
         lines: &[Line {
             text: "write /a 0 63\n",
@@ -154,13 +153,13 @@ const LINES: [Run<'static>; 11] = [
         }],
         old: &[0, 0, 0],
         new: &[0, 0, 0],
+        ..ON_CLOSED
     },
     Run {
         begin: Begin {
             script: "create /a\nwrite /a 0 6162\n",
             ..FRESH
         },
-        opening: 0,
         before: "d 1 2 1 /\nf 2 1 2 /a 6162\n",
         lines: &[Line {
             text: "truncate /a 1\n",
@@ -171,13 +170,13 @@ const LINES: [Run<'static>; 11] = [
         }],
         old: &[0, 0, 0],
         new: &[0, 0, 0],
+        ..ON_CLOSED
     },
     Run {
         begin: Begin {
             script: "create /a\nwrite /a 0 6162\n",
             ..FRESH
         },
-        opening: 0,
         before: "d 1 2 1 /\nf 2 1 2 /a 6162\n",
         lines: &[Line {
             text: "truncate /a 0\n",
@@ -188,6 +187,7 @@ const LINES: [Run<'static>; 11] = [
         }],
         old: &[0, 0, 2, 1, 0],
         new: &[0, 2, 1, 0, 0],
+        ..ON_CLOSED
     },
 ];
 
@@ -205,17 +205,18 @@ fn each_fence_of_a_growth_fails(rt: HostRuntime) -> Result<(), Fail> {
             script: "create /a\nwrite /a 0 6162\n",
             ..FRESH
         },
-        opening: 0,
         before: "d 1 2 1 /\nf 2 1 2 /a 6162\n",
         lines: &[Line {
             text: "truncate /a 5000\n",
             reply: "ok\n",
             fences: 4,
             commit: 4,
-            after: grown.as_str(),
+            after: GROWN,
         }],
+        grown: grown.as_str(),
         old: &[0, 0, 1, 2, 0],
         new: &[0, 1, 2, 0, 0],
+        ..ON_CLOSED
     };
     compare_faults(rt.alloc(), &[run])
 }

@@ -11,7 +11,7 @@ use worked_drivers::volumes::volume_with_a;
 const RUN: &str = "squirrel run v";
 
 // A job whose first reserve is refused leaves the device alone, tells nothing, and reads no script.
-fn compare_refused(alloc: Global, line: &str, image: &[u64]) -> Result<(), Fail> {
+fn compare_short(alloc: Global, line: &str, image: &[u64]) -> Result<(), Fail> {
     let short = short_of_memory(alloc, line, image, ("list /\n", 1), &[1])?;
     compare_end(&short.left, NO_MEMORY, "", line)?;
     same(short.left.image.as_slice(), image, line)?;
@@ -24,7 +24,7 @@ fn a_volume_is_not_made(rt: HostRuntime) -> Result<(), Fail> {
     let alloc = rt.alloc();
     let line = "squirrel mkfs v 16";
     let old = no_volume(alloc)?;
-    compare_refused(alloc, line, old.as_slice())?;
+    compare_short(alloc, line, old.as_slice())?;
     let short = short_of_memory(alloc, line, old.as_slice(), ("", 1), &[2])?;
     same(
         (short.left.status.number(), short.reserves),
@@ -39,9 +39,15 @@ fn a_volume_is_not_mounted(rt: HostRuntime) -> Result<(), Fail> {
     let alloc = rt.alloc();
     for begin in [FRESH, NOT_CLOSED, LINKS_TOO_HIGH, MUCH_LITTER] {
         let image = words_of(alloc, begin)?;
-        for line in [RUN, "squirrel tree v", WORK] {
-            compare_refused(alloc, line, image.as_slice())?;
-        }
+        compare_jobs(alloc, image.as_slice())?;
+    }
+    Ok(())
+}
+
+// Each of the jobs that mount.
+fn compare_jobs(alloc: Global, image: &[u64]) -> Result<(), Fail> {
+    for line in [RUN, "squirrel tree v", WORK] {
+        compare_short(alloc, line, image)?;
     }
     Ok(())
 }
@@ -244,23 +250,48 @@ fn each_growth_of_generated_lines_is_refused(rt: HostRuntime) -> Result<(), Fail
     Ok(())
 }
 
+// Lines on a device that gives no room, and their replies: each other refusal comes first.
+const REFUSALS: [(&str, &str); 19] = [
+    ("create /b\n", "error NoMemory\n"),
+    ("create /a\n", "error Exists\n"),
+    ("create /\n", "error Root\n"),
+    ("create /a/b\n", "error NotDir\n"),
+    ("create /x/b\n", "error NotFound\n"),
+    ("link /a /a\n", "error Exists\n"),
+    ("unlink /\n", "error Root\n"),
+    ("rmdir /a\n", "error NotDir\n"),
+    ("write / 0 61\n", "error IsDir\n"),
+    ("write /a 1099511627776 00\n", "error TooBig\n"),
+    ("truncate /a 53249\n", "error NoPages\n"),
+    ("write /a 0 61\n", "error NoMemory\n"),
+    ("write /a 0 -\n", "ok 0\n"),
+    ("truncate /a 0\n", "ok\n"),
+    ("read /a 0 1\n", "ok 0 -\n"),
+    ("create b\n", "error BadPath\n"),
+    ("frob\n", "error BadLine\n"),
+    ("stat /a\n", "ok file inode 2 links 1 size 0\n"),
+    ("list /\n", "ok 1 a\n"),
+];
+
 // Out of memory comes after all other refusals, and a line that changes nothing needs none.
 #[test]
 fn other_refusals_come_first(rt: HostRuntime) -> Result<(), Fail> {
     let alloc = rt.alloc();
     let volume = volume_with_a(alloc)?;
-    let script =
-        "create /b\ncreate /a\ncreate /\ncreate /a/b\ncreate /x/b\nlink /a /a\nunlink /\nrmdir /a\nwrite / 0 61\nwrite /a 1099511627776 00\ntruncate /a 53249\nwrite /a 0 61\nwrite /a 0 -\ntruncate /a 0\nread /a 0 1\ncreate b\nfrob\nstat /a\nlist /\n";
-    let wanted =
-        "error NoMemory\nerror Exists\nerror Root\nerror NotDir\nerror NotFound\nerror Exists\nerror Root\nerror NotDir\nerror IsDir\nerror TooBig\nerror NoPages\nerror NoMemory\nok 0\nok\nok 0 -\nerror BadPath\nerror BadLine\nok file inode 2 links 1 size 0\nok 1 a\n";
+    let mut script = String::new(alloc);
+    let mut wanted = String::new(alloc);
+    for (line, reply) in &REFUSALS {
+        script.push_str(line)?;
+        wanted.push_str(reply)?;
+    }
     let short = short_of_memory(
         alloc,
         "squirrel run v",
         volume.as_slice(),
-        (script, NONE),
+        (script.as_str(), NONE),
         &[2, 3, 4, 5, 6, 7, 8, 9, 10],
     )?;
-    is_done(&short.left, wanted, "other refusals")?;
+    is_done(&short.left, wanted.as_str(), "other refusals")?;
     let image = short.left.image.as_slice();
     same(image, volume.as_slice(), "other refusals")
 }

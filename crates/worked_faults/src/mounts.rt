@@ -1,7 +1,7 @@
 // Each fence of a mount that has much to mend fails, and those of the run behind it.
 use crate::begins::{MUCH_LITTER, words_of};
 use crate::ends::{ALL_NEW, ALL_OLD, DEVICE_FAULT, DONE, NOTHING_FAILS, fail_in, left_at_end};
-use crate::runs::{Line, Run, compare_faults};
+use crate::runs::{Line, ON_CLOSED, Run, compare_faults};
 use pm_memory::RamPm;
 use std::alloc::Global;
 use std::test::Fail;
@@ -21,6 +21,7 @@ const MOUNTS: [Run<'static>; 2] = [
         }],
         old: &[4, 3, 2, 1, 0],
         new: &[3, 2, 1, 0, 0],
+        ..ON_CLOSED
     },
     Run {
         begin: MUCH_LITTER,
@@ -35,6 +36,7 @@ const MOUNTS: [Run<'static>; 2] = [
         }],
         old: &[4, 3, 2, 1, 0, 2, 0],
         new: &[3, 2, 1, 0, 2, 0, 0],
+        ..ON_CLOSED
     },
 ];
 

@@ -96,13 +96,25 @@ fn compare_pieces(alloc: Global, volume: &[u64], pieces: Pieces) -> Result<(), F
     let mut first: u64 = 1;
     for (answered, last) in ANSWERED.iter().zip(pieces.last_reads.iter()) {
         let end = last.saturating_add(1);
-        for read in first..end {
-            compare_read(alloc, volume, pieces.length, read, *answered)?;
-            compare_crash(alloc, volume, pieces.length, read)?;
-        }
+        compare_reads(alloc, volume, pieces.length, (first, end), *answered)?;
         first = end;
     }
     compare_no_fault(alloc, volume, pieces.length, first)
+}
+
+// Lets each read from the first one to before the end fail, of a run and of a replay.
+fn compare_reads(
+    alloc: Global,
+    volume: &[u64],
+    length: usize,
+    (first, end): (u64, u64),
+    answered: Answered<'_>,
+) -> Result<(), Fail> {
+    for read in first..end {
+        compare_read(alloc, volume, length, read, answered)?;
+        compare_crash(alloc, volume, length, read)?;
+    }
+    Ok(())
 }
 
 // Lets a read of a run fail. The device is settled then, and there is nothing to mend.

@@ -1,5 +1,5 @@
 // Runs of which each fence fails in turn, and what a crash at their end leaves.
-use crate::begins::{Begin, CLOSED, OPEN, words_of};
+use crate::begins::{Begin, CLOSED, FRESH, OPEN, words_of};
 use crate::ends::{
     ALL_NEW, ALL_OLD, DEVICE_FAULT, DONE, MIXED, NONE, PIECE, ROOM, last_event, left_at_end,
     listed, mark_of,
@@ -15,15 +15,18 @@ use worked_drivers::jobs::{
 
 /// A line, its reply, and how many fences it takes: with the first one that stores goes the mark of a closed volume, by a fence
 /// of its own. Where its fence `commit` fails old words have the tree before the line and new ones the tree after it, whose
-/// listing this is.
+/// listing this is, or that of the run's grown file (`GROWN`).
 #[derive(Clone, Copy)]
-pub struct Line<'a> {
-    pub text: &'a str,
-    pub reply: &'a str,
+pub struct Line {
+    pub text: &'static str,
+    pub reply: &'static str,
     pub fences: u64,
     pub commit: u64,
-    pub after: &'a str,
+    pub after: &'static str,
 }
+
+/// In the place of a listing that is too long for a table: the run has it.
+pub const GROWN: &str = "";
 
 /// A run on a volume whose mount takes `opening` fences, and which has one for the mark at its end. For each fence that fails:
 /// how many a mount takes of the old words, and of the new ones. Where both are empty they aren't compared.
@@ -32,10 +35,22 @@ pub struct Run<'a> {
     pub begin: Begin<'a>,
     pub opening: u64,
     pub before: &'a str,
-    pub lines: &'a [Line<'a>],
+    pub lines: &'a [Line],
+    pub grown: &'a str,
     pub old: &'a [u64],
     pub new: &'a [u64],
 }
+
+/// No line on a fresh volume, which is closed.
+pub const ON_CLOSED: Run<'static> = Run {
+    begin: FRESH,
+    opening: 0,
+    before: "",
+    lines: &[],
+    grown: GROWN,
+    old: &[],
+    new: &[],
+};
 
 // What a run was at as a fence failed.
 #[derive(Clone, Copy, PartialEq, Debug)]
@@ -119,7 +134,7 @@ fn compare_fences(
 }
 
 // The script of some lines.
-fn script_of(alloc: Global, lines: &[Line<'_>]) -> Result<String, Fail> {
+fn script_of(alloc: Global, lines: &[Line]) -> Result<String, Fail> {
     let mut script = String::new(alloc);
     for line in lines {
         script.push_str(line.text)?;
@@ -158,11 +173,12 @@ fn stage_of<'a>(run: Run<'a>, fence: u64) -> Stage<'a> {
     let mut left = fence.saturating_sub(run.opening);
     let mut before = run.before;
     for (answered, line) in run.lines.iter().enumerate() {
+        let after = tree_after(run, *line);
         if left <= line.fences {
-            return stage_in(*line, answered, before, left);
+            return stage_in(*line, answered, (before, after), left);
         }
         left = left.saturating_sub(line.fences);
-        before = line.after;
+        before = after;
     }
     Stage {
         at: At::Mark,
@@ -173,12 +189,26 @@ fn stage_of<'a>(run: Run<'a>, fence: u64) -> Stage<'a> {
 }
 
 // Where a line's fence of this number stands.
-fn stage_in<'a>(line: Line<'a>, answered: usize, before: &'a str, fence: u64) -> Stage<'a> {
+fn stage_in<'a>(
+    line: Line,
+    answered: usize,
+    (before, after): (&'a str, &'a str),
+    fence: u64,
+) -> Stage<'a> {
     Stage {
         at: At::Line,
         answered,
-        old: chosen(fence <= line.commit, before, line.after),
-        new: chosen(fence < line.commit, before, line.after),
+        old: chosen(fence <= line.commit, before, after),
+        new: chosen(fence < line.commit, before, after),
+    }
+}
+
+// The listing of the tree behind a line.
+fn tree_after<'a>(run: Run<'a>, line: Line) -> &'a str {
+    if line.after == GROWN {
+        run.grown
+    } else {
+        line.after
     }
 }
 
@@ -188,7 +218,7 @@ fn chosen<'a>(is_before: bool, before: &'a str, after: &'a str) -> &'a str {
 
 // A fence of a mount leaves no reply, and the script unread. Later ones leave the replies to the lines before; the line that they
 // are of is answered, and each later one.
-fn replies_at(alloc: Global, lines: &[Line<'_>], stage: Stage<'_>) -> Result<String, Fail> {
+fn replies_at(alloc: Global, lines: &[Line], stage: Stage<'_>) -> Result<String, Fail> {
     let mut told = String::new(alloc);
     if stage.at == At::Mount {
         return Ok(told);
@@ -209,8 +239,8 @@ fn reply_at<'a>(reply: &'a str, number: usize, answered: usize) -> &'a str {
     "error Stopped\n"
 }
 
-// Which read fails, so that it shows where a script is read that is not to be.
-fn unread(stage: Stage<'_>) -> u64 {
+// Which read fails: in a mount the first one, since the script isn't to be read yet.
+fn failing_read(stage: Stage<'_>) -> u64 {
     if stage.at == At::Mount { 1 } else { NONE }
 }
 
@@ -219,7 +249,7 @@ fn failed_at(alloc: Global, begun: Begun<'_>, run: Run<'_>, fence: u64) -> Resul
     let stage = stage_of(run, fence);
     let failing = [fence].to_vec(alloc)?;
     let mut pm = RamPm::with_failing(alloc, begun.volume, failing)?;
-    let source = source_of(alloc, begun.script.as_bytes(), PIECE, unread(stage))?;
+    let source = source_of(alloc, begun.script.as_bytes(), PIECE, failing_read(stage))?;
     let sink = sink_of(alloc, ROOM, NONE)?;
     let left = do_job(alloc, "squirrel run v", &mut pm, source, sink)?;
     compare_failed(alloc, &left, run, stage, begun.script)?;

@@ -1,6 +1,6 @@
 // Each fence of scripts of several lines fails.
 use crate::begins::{Begin, FRESH};
-use crate::runs::{Line, Run, compare_events, compare_faults};
+use crate::runs::{GROWN, Line, ON_CLOSED, Run, compare_events, compare_faults};
 use std::alloc::Global;
 use std::test::Fail;
 use worked_drivers::texts::{joined, repeated};
@@ -8,7 +8,6 @@ use worked_drivers::texts::{joined, repeated};
 // Two files are made, and one of them is renamed.
 const THREE_LINES: Run<'static> = Run {
     begin: FRESH,
-    opening: 0,
     before: "d 1 2 0 /\n",
     lines: &[
         Line {
@@ -35,6 +34,7 @@ const THREE_LINES: Run<'static> = Run {
     ],
     old: &[0, 0, 1, 2, 0, 2, 0, 2, 3, 2, 0],
     new: &[0, 1, 2, 0, 2, 0, 2, 3, 2, 0, 0],
+    ..ON_CLOSED
 };
 
 #[test]
@@ -43,7 +43,7 @@ fn each_fence_of_three_lines_fails(rt: HostRuntime) -> Result<(), Fail> {
 }
 
 // All changing commands. The listing that isn't there is that of a file of two pages.
-const ALL_COMMANDS: [Line<'static>; 12] = [
+const ALL_COMMANDS: [Line; 12] = [
     Line {
         text: "create /a\n",
         reply: "ok\n",
@@ -70,7 +70,7 @@ const ALL_COMMANDS: [Line<'static>; 12] = [
         reply: "ok\n",
         fences: 3,
         commit: 3,
-        after: "",
+        after: GROWN,
     },
     Line {
         text: "truncate /a 1\n",
@@ -130,6 +130,9 @@ const ALL_COMMANDS: [Line<'static>; 12] = [
     },
 ];
 
+// A fresh volume of 64 pages.
+const WIDE: Begin<'static> = Begin { pages: 64, ..FRESH };
+
 /// The listing of the file `/a` of 5,000 bytes: two of them, and zeros.
 pub fn listing_of_5000(alloc: Global, bytes: &str) -> Result<String, Fail> {
     let zeros = repeated(alloc, "00", 4_998)?;
@@ -139,32 +142,16 @@ pub fn listing_of_5000(alloc: Global, bytes: &str) -> Result<String, Fail> {
     )
 }
 
-// The lines with the listing that isn't there.
-fn lines_with<'a>(alloc: Global, grown: &'a str) -> Result<Vec<Line<'a>>, Fail> {
-    let mut lines = Vec::new(alloc);
-    for line in &ALL_COMMANDS {
-        let after = if line.after.is_empty() {
-            grown
-        } else {
-            line.after
-        };
-        lines.push(Line { after, ..*line })?;
-    }
-    Ok(lines)
-}
-
 #[test]
 fn each_fence_of_all_commands_fails(rt: HostRuntime) -> Result<(), Fail> {
     let alloc = rt.alloc();
     let grown = listing_of_5000(alloc, "6163")?;
-    let lines = lines_with(alloc, grown.as_str())?;
     let run = Run {
-        begin: Begin { pages: 64, ..FRESH },
-        opening: 0,
+        begin: WIDE,
         before: "d 1 2 0 /\n",
-        lines: lines.as_slice(),
-        old: &[],
-        new: &[],
+        lines: &ALL_COMMANDS,
+        grown: grown.as_str(),
+        ..ON_CLOSED
     };
     compare_events(alloc, run, 3_172)?;
     compare_faults(alloc, &[run])
