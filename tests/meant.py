@@ -15,8 +15,8 @@ PAGE_BYTES = 4096
 # One line of each changing command at least, and what most of them do in more than one way. One write goes over old bytes and past
 # the size, so that a stop in it leaves torn ones.
 CHANGES = [
-    "create /a", "write /a 0 6162", "write /a 1 63", "truncate /a 5000", "truncate /a 1", "write /a 0 78797a", "mkdir /d", "link /a /d/b", "rename /a /c",
-    "unlink /d/b", "rmdir /d", "rename /c /e", "unlink /e",
+    "create /a", "write /a 0 6162", "write /a 1 63", "truncate /a 5000", "truncate /a 1", "write /a 0 78797a", "mkdir /d",
+    "link /a /d/b", "rename /a /c", "unlink /d/b", "rmdir /d", "rename /c /e", "unlink /e",
 ]
 # The words of a volume with a file `/a` whose rename to `/b` was cut after its commit, and with litter besides: as `littered` of
 # tests/program has it, and how many fences its mount makes.
