@@ -1,5 +1,5 @@
 -- The fields of an image, a list of words: P is its number of pages, I the image.
-use Rattle.std.specs.Prelude.{ℕ, zero, suc, ◌+◌, ◌/◌, ◌%◌, ◌^◌, List, [], ◌∷◌, slice_index}
+use Rattle.std.specs.Prelude.{◌≡◌, ◌⊎◌, ℕ, zero, suc, ◌+◌, ◌/◌, ◌%◌, ◌^◌, List, [], ◌∷◌, slice_index}
 use Rattle.layout.specs.Geometry.{inode_word_of, descriptor_word_of, slot_word_of, page_word_of}
 use Rattle.layout.specs.Name.{name_in_words}
 
@@ -11,6 +11,30 @@ unfoldable pub words_from : List ℕ → ℕ → ℕ → List ℕ
 unfolding word
 words_from I a zero = []
 words_from I a (suc n) = word I a ∷ words_from I (a + 1) n
+
+-- ---- how many words
+
+-- so many first words of an inode are read
+unfoldable pub inode_words : List ℕ → ℕ
+inode_words I = 4
+
+-- and so many of a data page's descriptor
+unfoldable pub descriptor_words : List ℕ → ℕ
+descriptor_words I = 3
+
+-- so many first words of an inode a call writes
+abbrev pub inode_fields : ℕ
+inode_fields = 4
+
+-- and so many of a data page's descriptor
+abbrev pub descriptor_fields : ℕ
+descriptor_fields = 3
+
+-- the fields of a descriptor that say a page's kind and its offset
+abbrev pub IsKindOrOffset : ℕ → Type 0
+IsKindOrOffset f = (f ≡ 1) ⊎ (f ≡ 2)
+
+-- ---- what they say
 
 unfoldable pub inode_kind : List ℕ → ℕ → ℕ
 unfolding word inode_word_of

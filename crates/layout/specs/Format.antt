@@ -15,6 +15,6 @@ pub record IsFormattedFrom (P : ℕ) (old new : List ℕ) : Type 0 where
   pub head : (a : ℕ) → a < 5 → word new a ≡ slice_index (head_of P) a
   pub mark : word new mark_word ≡ closed_mark
   pub superblock : (a : ℕ) → mark_word < a → a < 512 → word new a ≡ 0
-  pub root : (f : ℕ) → f < 4 → word new (inode_word_of 1 f) ≡ slice_index root_words f
-  pub tables : (a : ℕ) → inode_word_of 1 4 ≤ a → a < first_data_word_of P → word new a ≡ 0
+  pub root : (f : ℕ) → f < length root_words → word new (inode_word_of 1 f) ≡ slice_index root_words f
+  pub tables : (a : ℕ) → inode_word_of 1 (length root_words) ≤ a → a < first_data_word_of P → word new a ≡ 0
   pub data_pages : (a : ℕ) → first_data_word_of P ≤ a → word new a ≡ word old a

@@ -1,12 +1,12 @@
 ghost use Rattle.std.specs.Prelude.{◌≡◌, ◌*◌, ◌+◌, ◌<◌, ◌≤◌, length};
 ghost use Rattle.layout.specs.Geometry.{slots_of};
-ghost use Rattle.layout.specs.Fields.{word, words_from, inode_kind, inode_links, inode_size, inode_own, page_owner, page_kind, page_offset, slot_inode, slot_pointer, slot_words};
+ghost use Rattle.layout.specs.Fields.{word, words_from, inode_words, descriptor_words, inode_kind, inode_links, inode_size, inode_own, page_owner, page_kind, page_offset, slot_inode, slot_pointer, slot_words};
 
 use crate::geometry::Geometry;
 use crate::name::NAME_WORDS;
 use crate::units::{
-    DESCRIPTOR_KIND, DESCRIPTOR_OFFSET, DESCRIPTOR_OWNER, INODE_KIND, INODE_LINKS, INODE_OWN,
-    INODE_SIZE, SLOT_INODE, SLOT_NAME, SLOT_POINTER,
+    DESCRIPTOR_FIELDS, DESCRIPTOR_KIND, DESCRIPTOR_OFFSET, DESCRIPTOR_OWNER, INODE_FIELDS,
+    INODE_KIND, INODE_LINKS, INODE_OWN, INODE_SIZE, SLOT_INODE, SLOT_NAME, SLOT_POINTER,
 };
 
 /// What the words of an inode say.
@@ -95,6 +95,22 @@ impl Geometry {
             name: fourteen_words(words, self.slot_word(slot, SLOT_NAME)),
         }
     }
+}
+
+/// How many first words of an inode are read in a volume of these words.
+#[tactic(auto, unfolding(crate::specs::Fields::inode_words))]
+pub fn inode_words(words: &[u64]) -> u64
+    ensures { result ≡ inode_words words.now }
+{
+    INODE_FIELDS
+}
+
+/// How many first words of a data page's descriptor are read in a volume of these words.
+#[tactic(auto, unfolding(crate::specs::Fields::descriptor_words))]
+pub fn descriptor_words(words: &[u64]) -> u64
+    ensures { result ≡ descriptor_words words.now }
+{
+    DESCRIPTOR_FIELDS
 }
 
 // The word of this address.

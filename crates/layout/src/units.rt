@@ -27,8 +27,14 @@ pub const PAGE_SLOTS: u64 = 32;
 /// Words of an inode.
 pub const INODE_WORDS: u64 = 16;
 
+/// Words of an inode that a call writes: its first ones.
+pub const INODE_FIELDS: u64 = 4;
+
 /// Words of a data page's descriptor.
 pub const DESCRIPTOR_WORDS: u64 = 8;
+
+/// Words of a data page's descriptor that a call writes: its first ones.
+pub const DESCRIPTOR_FIELDS: u64 = 3;
 
 /// Words of a slot.
 pub const SLOT_WORDS: u64 = 16;

@@ -2,8 +2,8 @@
 use Rattle.std.proofs.Common.{◌≡◌, ℕ, inl, inr, true, false, List, length, sum_by, Option, Some, None, is_some, refl, sym, ap, subst, ◌∙◌, nat_cmp}
 use Rattle.layout.specs.Geometry.{pieces}
 use Rattle.tree_model.specs.Table.{Table}
-use Rattle.tree_model.specs.Tree.{Tree, Node, Directory, File, IsTree, root_id, node_at, node_pages, is_directory_node, is_file_node, bytes_of, bytes_of_node, page_bytes}
-use Rattle.tree_model.proofs.TreeKept.{directory_is}
+use Rattle.tree_model.specs.Tree.{Tree, Node, IsTree, root_id, node_at, node_pages, is_directory_node, is_file_node, bytes_of, bytes_of_node, page_bytes}
+use Rattle.tree_model.proofs.NodeLaws.{file_is, no_directory}
 use Rattle.mixing_laws.specs.Mixed.{Range, IsMixed}
 use Rattle.mixing_laws.proofs.Mixes.{length-mix}
 use Rattle.mixing_laws.proofs.Ranges.{range_or_not}
@@ -28,11 +28,17 @@ same_node now was e = record {
 }
 
 two_files : (now was : Option Node) → is_file_node now ≡ true → is_file_node was ≡ true → length (bytes_of_node now) ≡ length (bytes_of_node was) → IsAlikeNode now was
-two_files None was e f size = cc
-two_files (Some Directory) was e f size = cc
-two_files (Some (File bytes)) None e f size = cc
-two_files (Some (File bytes)) (Some Directory) e f size = cc
-two_files (Some (File bytes)) (Some (File old)) e f size = record { there = refl; directory = refl; file = refl; size = size; pages = ap (λ n. Some (pieces n page_bytes)) size }
+two_files now was e f size =
+    let new = file_is now e in
+    let old = file_is was f in
+    let same : length new.0 ≡ length old.0 = ap (λ o. length (bytes_of_node o)) (sym new.1) ∙ size ∙ ap (λ o. length (bytes_of_node o)) old.1 in
+    record {
+      there = ap is_some new.1 ∙ sym (ap is_some old.1);
+      directory = no_directory now e ∙ sym (no_directory was f);
+      file = e ∙ sym f;
+      size = size;
+      pages = ap pages_at new.1 ∙ ap (λ n. Some (pieces n page_bytes)) same ∙ sym (ap pages_at old.1);
+    }
 
 -- ---- two trees
 
@@ -69,7 +75,7 @@ module _ (T U : Tree) (alike : AreAlike T U) where
 pub tree_alike : (T : Tree) (nodes : Table nat_cmp Node) → AreAlike T (record { names = T.names; nodes = nodes }) → IsTree (record { names = T.names; nodes = nodes }) → IsTree T
 tree_alike T nodes alike v = record {
   root = v.root;
-  root_directory = directory_is (node_at T root_id) (sym (alike root_id).directory ∙ ap is_directory_node v.root_directory);
+  root_directory = sym (alike root_id).directory ∙ v.root_directory;
   parents = λ p there. elim (v.parents p there) [ inl root ↦ inl root | inr d ↦ inr (d.0, d.1, sym (alike d.0).directory ∙ d.2) ];
   one_path = λ id dir p q at_p at_q. v.one_path id ((alike id).directory ∙ dir) p q at_p at_q;
   named = λ id there. v.named id ((alike id).there ∙ there);

@@ -5,7 +5,7 @@ use Rattle.std.specs.Ordering.{is_eq, eq_by_cmp}
 use Rattle.std.proofs.lemmas.Bool.Decides.{nat_tests}
 use Rattle.tree_model.specs.PathText.{Route}
 use Rattle.tree_model.specs.Table.{get, insert, remove}
-use Rattle.tree_model.specs.Tree.{Tree, Node, Directory, File, Room, IsTree, route_cmp, route_cmp_total, is_root, parent, id_at, node_at, is_directory, is_directory_node, path_count, bytes_of}
+use Rattle.tree_model.specs.Tree.{Tree, Node, File, Room, IsTree, route_cmp, route_cmp_total, is_root, parent, id_at, node_at, is_directory, is_directory_node, path_count, bytes_of}
 use Rattle.tree_model.specs.Capacity.{Supply}
 use Rattle.tree_model.specs.Step.{refusal_with, id_of, is_same_node, with_new, with_path, with_bytes, with_moved, without_path, without_unnamed, overwritten, resized, tree_after}
 use Rattle.tree_model.specs.Accepted.{HasHolder, IsFileAt, MayMake, Accepted}
@@ -185,8 +185,8 @@ module _ (T : Tree) (t : IsTree T) (id : ℕ) (unused : node_at T id ≡ None) w
       leaves_without T t c path j holder.directory holder.below empty there (names_at T t c path j here there) holder.held (names_at T t c (parent path) holder.directory up holder.held)
 
   leaves_accepted : (supply : Supply) (room : Room) (c : Command) → Accepted supply T room c → Leaves T (tree_after id T c) c
-  leaves_accepted supply room (Create path) a = leaves_made supply room (Create path) path (File []) a (at_second path (parent path) [])
-  leaves_accepted supply room (Mkdir path) a = leaves_made supply room (Mkdir path) path Directory a (at_second path (parent path) [])
+  leaves_accepted supply room (Create path) a = leaves_made supply room (Create path) path _ a (at_second path (parent path) [])
+  leaves_accepted supply room (Mkdir path) a = leaves_made supply room (Mkdir path) path _ a (at_second path (parent path) [])
   leaves_accepted supply room (Link from to) a =
       let c = Link from to in
       let holder = a.place.holder in

@@ -6,7 +6,8 @@ use Rattle.tree_model.specs.Table.{Table, retain}
 use Rattle.tree_model.specs.Tree.{Tree, IsTree, route_cmp, route_cmp_total, parent, id_at, node_at, is_directory, is_directory_node, is_number, is_in, entries_in, path_count, link_count}
 use Rattle.tree_model.specs.declared.command.Command.{Command}
 use Rattle.tree_model.proofs.TableLaws.{get-retain, same_table, route_cmp-IsAntisymmetric}
-use Rattle.tree_model.proofs.TreeKept.{chosen, directory_is, none_some}
+use Rattle.tree_model.proofs.NodeLaws.{directory_is}
+use Rattle.tree_model.proofs.TreeKept.{chosen, none_some}
 use Rattle.naming_laws.specs.Naming.{names_inode}
 use Rattle.naming_laws.proofs.Named.{equal_test, number_is, not_number}
 use Rattle.naming_laws.proofs.Edits.{Leaves, other_id, other_test}

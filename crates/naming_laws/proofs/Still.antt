@@ -85,7 +85,7 @@ root_or_named : (T : Tree) (t : IsTree T) (from to q : Route) → names_inode T 
 root_or_named T t from to q = at_id (id_at T q) refl
   where
     at_id : (o : Option ℕ) → id_at T q ≡ o → is_some (node_at T (unwrap_or o root_id)) ≡ true
-    at_id None is = ap is_some t.root_directory
+    at_id None is = t.present [] root_id t.root
     at_id (Some i) is = t.present q i is
 
 -- ---- pages of the directories that gain and lose a name

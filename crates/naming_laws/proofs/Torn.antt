@@ -7,7 +7,7 @@ use Rattle.std.specs.FinMap.{nat_cmp-IsAntisymmetric}
 use Rattle.std.specs.FinMap.Entries.{length-put}
 use Rattle.layout.specs.Geometry.{pieces, inodes_of, data_pages_of}
 use Rattle.tree_model.specs.PathText.{Route}
-use Rattle.tree_model.specs.Tree.{Tree, Node, Directory, File, Room, IsTree, id_at, node_at, node_pages, is_directory, is_directory_node, bytes_of_node, is_number, entries_in, name_count, path_count, page_bytes, pages_in}
+use Rattle.tree_model.specs.Tree.{Tree, Node, File, Room, IsTree, id_at, node_at, node_pages, is_directory, is_directory_node, bytes_of_node, is_number, entries_in, name_count, path_count, page_bytes, pages_in}
 use Rattle.tree_model.specs.Capacity.{Supply, inodes_in_use, pages_in_use, free_inodes, free_pages}
 use Rattle.tree_model.specs.Step.{Status, Bytes, Space, refusal_with, id_of, without_path, without_unnamed, with_new, with_bytes, overwritten, resized, page_for_name, pages_after, room_after, answer_of, tree_after, need}
 use Rattle.tree_model.specs.Accepted.{Accepted}
@@ -196,8 +196,8 @@ module _ (T : Tree) (t : IsTree T) (file : ℕ) (bytes torn : List ℕ) (is : no
 
   others_same : (supply : Supply) (room : Room) (id : ℕ) (c : Command) → refusal_with supply T room c ≡ None → names_inode T c file ≡ false → Accepted supply T room c → names_all c ≡ false
       → (i : ℕ) → (i ≢ file) → node_at (tree_after id V c) i ≡ node_at (tree_after id T c) i
-  others_same supply room id (Create path) e apart a one i other = new_same path id (File []) i other
-  others_same supply room id (Mkdir path) e apart a one i other = new_same path id Directory i other
+  others_same supply room id (Create path) e apart a one i other = new_same path id _ i other
+  others_same supply room id (Mkdir path) e apart a one i other = new_same path id _ i other
   others_same supply room id (Link from to) e apart a one i other = other_node i other
   others_same supply room id (Unlink path) e apart a one i other = less_same path i other
   others_same supply room id (Rmdir path) e apart a one i other = less_same path i other

@@ -1,8 +1,8 @@
 -- An id that no node has, and that wasn't given, no node has afterwards.
-use Rattle.std.proofs.Common.{◌≡◌, ◌≢◌, ℕ, Bool, true, false, cond, ◌==◌, List, [], length, Option, Some, None, is_some, refl, sym, ap, ◌∙◌, true≢false}
+use Rattle.std.proofs.Common.{◌≡◌, ◌≢◌, ℕ, Bool, true, false, cond, ◌==◌, List, length, Option, Some, None, is_some, refl, sym, ap, ◌∙◌, true≢false}
 use Rattle.std.specs.List.{list_any}
 use Rattle.tree_model.specs.PathText.{Route}
-use Rattle.tree_model.specs.Tree.{Tree, Node, Directory, File, Room, node_at, bytes_of}
+use Rattle.tree_model.specs.Tree.{Tree, Node, Room, node_at, bytes_of}
 use Rattle.tree_model.specs.Capacity.{Supply}
 use Rattle.tree_model.specs.Step.{id_of, is_same_node, with_bytes, with_moved, without_path, without_unnamed, overwritten, resized, tree_after}
 use Rattle.tree_model.specs.Accepted.{IsFileAt, Accepted}
@@ -34,8 +34,8 @@ module _ (T : Tree) (free : ℕ) (none : node_at T free ≡ None) where
   none_chosen false U e = e
 
   pub none_after : (supply : Supply) (room : Room) (id : ℕ) (c : Command) → Accepted supply T room c → free ≢ id → node_at (tree_after id T c) free ≡ None
-  none_after supply room id (Create path) a other = node_at-with_new_other T path id (File []) free other ∙ none
-  none_after supply room id (Mkdir path) a other = node_at-with_new_other T path id Directory free other ∙ none
+  none_after supply room id (Create path) a other = node_at-with_new_other T path id _ free other ∙ none
+  none_after supply room id (Mkdir path) a other = node_at-with_new_other T path id _ free other ∙ none
   none_after supply room id (Link from to) a other = none
   none_after supply room id (Unlink path) a other = none_pruned (without_path T path) none
   none_after supply room id (Rmdir path) a other = none_pruned (without_path T path) none

@@ -3,7 +3,7 @@ use Rattle.std.proofs.Common.{◌≡◌, ℕ, ◌+◌, ◌-◌, ◌≤◌, ◌�
 use Rattle.std.proofs.lemmas.List.{length-take, length-replicate}
 use Rattle.std.proofs.lemmas.Bool.Decides.{nat_tests}
 use Rattle.tree_model.specs.PathText.{Route}
-use Rattle.tree_model.specs.Tree.{Tree, Node, Directory, File, Room, IsTree, root_id, is_root, parent, rest_after, is_above, id_at, node_at, is_directory, is_file, is_directory_node, is_file_node, is_number, bytes_of, bytes_of_node, name_count, path_count}
+use Rattle.tree_model.specs.Tree.{Tree, Node, File, Room, IsTree, root_id, is_root, parent, rest_after, is_above, id_at, node_at, is_directory, is_file, is_number, bytes_of, bytes_of_node, name_count, path_count}
 use Rattle.tree_model.specs.Capacity.{Supply, free_inodes, free_pages, file_limit}
 use Rattle.tree_model.specs.Walk.{walk, walk_to_parent}
 use Rattle.tree_model.specs.Step.{first, at, fault_of, id_of, is_there, is_same_node, page_for_name, need, rise, read_limit, lacks_inodes, lacks_pages, refusal_with, with_bytes, with_moved, without_path, without_unnamed, resized, overwritten}
@@ -11,6 +11,7 @@ use Rattle.tree_model.specs.Accepted.{HasHolder, IsNodeAt, IsFileAt, IsDirectory
 use Rattle.tree_model.specs.declared.command.Command.{Command}
 use Rattle.tree_model.specs.declared.command.Command.TheVariants.{Create, Mkdir, Link, Unlink, Rmdir, Rename, Write, Truncate, Read, Stat as Tell, List as Show, Df}
 use Rattle.tree_model.specs.declared.reply.Refusal.TheVariants.{Root, Exists, IsDir, NotDir, NotEmpty, IntoItself, TooBig, NoInodes, NoPages}
+use Rattle.tree_model.proofs.NodeLaws.{file_is, two_kinds, a_file, a_directory}
 use Rattle.tree_model.proofs.Accepted.{first-none, at-none, fault_of-none, not_there}
 use Rattle.tree_model.proofs.WalkLaws.{holder-from_walk, id_at-from_walk}
 use Rattle.tree_model.proofs.TreeLaws.{above, is_same_itself, least_free_id-free, name_count-not_directory, node_at-with_bytes_here}
@@ -29,16 +30,6 @@ not_less a b e = grind (arith, nat_tests)
 not_zero : (n : ℕ) → n == 0 ≡ false → 1 ≤ n
 not_zero n e = grind (arith, nat_tests)
 
-is_file_at : (o : Option Node) → is_some o ≡ true → is_directory_node o ≡ false → (bytes : List ℕ) × (o ≡ Some (File bytes))
-is_file_at None there e = cc
-is_file_at (Some Directory) there e = cc
-is_file_at (Some (File bytes)) there e = (bytes, refl)
-
-is_directory_at : (o : Option Node) → is_some o ≡ true → is_file_node o ≡ false → o ≡ Some Directory
-is_directory_at None there e = cc
-is_directory_at (Some Directory) there e = refl
-is_directory_at (Some (File bytes)) there e = cc
-
 one_test : (n m : ℕ) → n + 1 ≡ m → (n == 0) ≡ (m == 1)
 one_test n m e = grind (arith, nat_tests)
 
@@ -55,13 +46,13 @@ module _ (T' : Tree) (t : IsTree T') (path : Route) where
   file_at_path : fault_of (walk T' path) ≡ None → at IsDir (is_directory T' (id_of T' path)) ≡ None → IsFileAt T' path
   file_at_path e kind =
       let n = node_at_path e in
-      let file = is_file_at (node_at T' n.id) (ap is_some n.present) (ap (is_directory T') (sym n.is) ∙ at-none IsDir (is_directory T' (id_of T' path)) kind) in
+      let file = file_is (node_at T' n.id) (a_file (node_at T' n.id) (ap is_some n.present) (ap (is_directory T') (sym n.is) ∙ at-none IsDir (is_directory T' (id_of T' path)) kind)) in
       record { id = n.id; bytes = file.0; named = n.named; is = n.is; file = file.1 }
 
   directory_at_path : fault_of (walk T' path) ≡ None → at NotDir (is_file T' (id_of T' path)) ≡ None → IsDirectoryAt T' path
   directory_at_path e kind =
       let n = node_at_path e in
-      let directory = is_directory_at (node_at T' n.id) (ap is_some n.present) (ap (is_file T') (sym n.is) ∙ at-none NotDir (is_file T' (id_of T' path)) kind) in
+      let directory = a_directory (node_at T' n.id) (ap is_some n.present) (ap (is_file T') (sym n.is) ∙ at-none NotDir (is_file T' (id_of T' path)) kind) in
       record { id = n.id; named = n.named; is = n.is; directory = directory }
 
   holder_of : fault_of (walk_to_parent T' path) ≡ None → is_root path ≡ false → HasHolder T' path
@@ -160,17 +151,11 @@ may_remove supply T' room path t e =
       holder = holder_above T' t path directory.id directory.named under;
       source = directory;
       empty = empty;
-      goes = λ new. gone_with_its_path T' t path directory.id under directory.named (ap is_directory_node directory.directory)
+      goes = λ new. gone_with_its_path T' t path directory.id under directory.named directory.directory
           (HasNoNames-empty T' path directory.id directory.named empty) (node_at (without_unnamed (without_path T' path)) directory.id) refl;
     }
 
 -- ---- rename
-
--- a node is of one kind
-two_kinds : (o : Option Node) → is_some o ≡ true → (is_directory_node o ≡ true) × (is_file_node o ≡ false) ⊎ (is_directory_node o ≡ false) × (is_file_node o ≡ true)
-two_kinds None e = cc
-two_kinds (Some Directory) e = inl (refl, refl)
-two_kinds (Some (File bytes)) e = inr (refl, refl)
 
 both_of_three : (x y z : Bool) → x && y && z ≡ false → x ≡ true → y ≡ true → z ≡ false
 both_of_three true true z e p q = e

@@ -10,7 +10,7 @@ use Rattle.layout.specs.Geometry.{IsVolumeSize, pieces, inodes_of}
 use Rattle.layout.proofs.GeometryLaws.{some_inodes}
 use Rattle.tree_model.specs.PathText.{Route}
 use Rattle.tree_model.specs.Table.{Table, get, retain, insert}
-use Rattle.tree_model.specs.Tree.{Tree, Node, Directory, File, Room, IsTree, IsRoom, fresh, fresh_room, root_id, node_at, node_pages, file_pages, bytes_of, bytes_of_node, is_root, parent, is_directory, is_file, is_above, name_count}
+use Rattle.tree_model.specs.Tree.{Tree, Node, Directory, File, Room, IsTree, IsRoom, fresh, fresh_room, root_id, node_at, node_pages, file_pages, bytes_of, bytes_of_node, is_root, parent, is_directory, is_directory_node, is_file, is_above, name_count}
 use Rattle.tree_model.proofs.TableLaws.{get-insert, get-retain}
 use Rattle.tree_model.specs.Capacity.{Supply, untaken, inodes_in_use, pages_in_use, free_pages, free_inodes, file_limit, Fits}
 use Rattle.tree_model.specs.Walk.{walk, walk_to_parent}
@@ -20,6 +20,7 @@ use Rattle.tree_model.specs.declared.command.Command.TheVariants.{Create, Mkdir,
 use Rattle.tree_model.specs.declared.reply.Refusal.{Refusal}
 use Rattle.tree_model.specs.declared.reply.Refusal.TheVariants.{Root, Exists, IsDir, NotDir, NotEmpty, IntoItself, TooBig, NoInodes, NoPages}
 use Rattle.tree_model.proofs.EntryLaws.{measure_found, sum_by-put, sum_by-where_key-le, length-where_key-le}
+use Rattle.tree_model.proofs.NodeLaws.{bytes_bounded}
 use Rattle.tree_model.proofs.TreeLaws.{same_id, least_free_id-ge, least_free_id-free, least_free_id-le}
 use Rattle.tree_model.proofs.TreeKept.{chosen, none_some, same_some}
 use Rattle.tree_model.proofs.Accepted.{first-none, at-none, fault_of-none}
@@ -178,9 +179,9 @@ record NodesAfter (volume : ℕ) (T : Tree) (room : Room) (c : Command) (after :
   pages : node_total after + page_for_name T room (gaining T c) ≤ node_total T.nodes + need T room c
 
 created_nodes : (volume : ℕ) (T : Tree) (room : Room) (c : Command) (node : Node) → NodesFit volume T.nodes → is_some (node_at T root_id) ≡ true
-    → inodes_in_use T + 1 ≤ inodes_of volume → node_pages node ≡ 0 → ((bytes : List ℕ) → node ≡ File bytes → length bytes ≤ file_limit)
+    → inodes_in_use T + 1 ≤ inodes_of volume → node_pages node ≡ 0 → length (bytes_of_node (Some node)) ≡ 0
     → need T room c ≡ page_for_name T room (gaining T c) → NodesAfter volume T room c (insert nat_cmp_total T.nodes (least_free_id T) node)
-created_nodes volume T room c node fit root left empty short is =
+created_nodes volume T room c node fit root left empty none is =
     let id = least_free_id T in
     let low = least_free_id-ge T in
     let high = least_free_id-le T root in
@@ -189,7 +190,7 @@ created_nodes volume T room c node fit root left empty short is =
     let sum = sum_by-put nat_cmp nat_cmp_total node_pages id node T.nodes.entries T.nodes.sorted in
     let nothing : measure_found node_pages (find nat_cmp id T.nodes.entries) ≡ 0 = ap (measure_found node_pages) free in
     record {
-      fit = NodesFit-insert volume T.nodes id node fit (omega (arith, low), omega (arith, high, left)) (omega (arith, more, left)) short;
+      fit = NodesFit-insert volume T.nodes id node fit (omega (arith, low), omega (arith, high, left)) (omega (arith, more, left)) (λ bytes e. let same = ap (λ (n : Node). length (bytes_of_node (Some n))) e in omega (arith, same, none));
       pages = omega (arith, sum, nothing, empty, is);
     }
 
@@ -259,12 +260,6 @@ walked_there T t path e =
     let found = fault_of-none (walk T path) e in
     ap (λ n. is_some (node_at T n)) (id_of-walk T t path found.0 found.1) ∙ t.present path found.0.id (id_at-from_walk T path found.0 t found.1)
 
-not_too_long : (bytes : List ℕ) → File [] ≡ File bytes → length bytes ≤ file_limit
-not_too_long bytes e = let none : [] ≡ bytes = cc in subst (λ (b : List ℕ). length b ≤ file_limit) none (omega arith)
-
-no_bytes_in : {P : Type 0} (bytes : List ℕ) → Directory ≡ File bytes → P
-no_bytes_in bytes e = cc
-
 written_nodes : (volume : ℕ) (T : Tree) (room : Room) (path : Route) (offset : ℕ) (bytes : List ℕ) (none : Bool) → length bytes == 0 ≡ none → NodesFit volume T.nodes
     → is_some (node_at T (id_of T path)) ≡ true → offset + length bytes ≤ file_limit
     → NodesAfter volume T room (Write path offset bytes) (cond none T (with_bytes T (id_of T path) (overwritten (bytes_of T (id_of T path)) offset bytes))).nodes
@@ -275,13 +270,8 @@ written_nodes volume T room path offset bytes false is fit there short =
     let long = length-overwritten old offset bytes in
     let needs : need T room (Write path offset bytes) ≡ rise old (offset + length bytes) = ap (λ b. cond b 0 (rise old (offset + length bytes))) is in
     let pages = pages_of_more (length old) (offset + length bytes) (length new) long in
-    let was = old_short (node_at T (id_of T path)) (fit.sizes (id_of T path)) in
+    let was = bytes_bounded (node_at T (id_of T path)) file_limit (fit.sizes (id_of T path)) in
     edited_nodes volume T room (Write path offset bytes) (id_of T path) new fit there (omega (arith, long, short, was)) refl (omega (arith, needs, pages))
-  where
-    old_short : (o : Option Node) → ((b : List ℕ) → o ≡ Some (File b) → length b ≤ file_limit) → length (bytes_of_node o) ≤ file_limit
-    old_short None h = omega arith
-    old_short (Some Directory) h = omega arith
-    old_short (Some (File b)) h = h b refl
 
 moved_nodes : (volume : ℕ) (T : Tree) (room : Room) (from to : Route) (same : Bool) → NodesFit volume T.nodes
     → NodesAfter volume T room (Rename from to) (cond same T (without_unnamed (with_moved (without_path T to) from to))).nodes
@@ -296,13 +286,13 @@ nodes_after volume T room (Create path) t fit e =
     let two = first-none (at Root (is_root path)) _ one.1 in
     let three = first-none (at Exists (is_there T path)) _ two.1 in
     let left = first-none (at NoInodes (lacks_inodes (untaken volume) T)) _ three.1 in
-    created_nodes volume T room (Create path) (File []) fit (ap is_some t.root_directory) (some_inode_left volume T left.0) refl not_too_long refl
+    created_nodes volume T room (Create path) _ fit (t.present [] root_id t.root) (some_inode_left volume T left.0) refl refl refl
 nodes_after volume T room (Mkdir path) t fit e =
     let one = first-none (fault_of (walk_to_parent T path)) _ e in
     let two = first-none (at Root (is_root path)) _ one.1 in
     let three = first-none (at Exists (is_there T path)) _ two.1 in
     let left = first-none (at NoInodes (lacks_inodes (untaken volume) T)) _ three.1 in
-    created_nodes volume T room (Mkdir path) Directory fit (ap is_some t.root_directory) (some_inode_left volume T left.0) refl (λ bytes e. no_bytes_in bytes e) refl
+    created_nodes volume T room (Mkdir path) _ fit (t.present [] root_id t.root) (some_inode_left volume T left.0) refl refl refl
 nodes_after volume T room (Link from to) t fit e = same_nodes volume T room (Link from to) fit (omega arith)
 nodes_after volume T room (Unlink path) t fit e =
     fewer_nodes volume T room (Unlink path) (λ id. list_any (λ e. e.1 == id) (without_path T path).names.entries) fit (omega arith)
@@ -362,7 +352,7 @@ fresh_ids volume size id there =
 fresh_sizes : (id : ℕ) (bytes : List ℕ) → node_at fresh id ≡ Some (File bytes) → length bytes ≤ file_limit
 fresh_sizes id bytes e =
     elim (chosen (eq_by_cmp nat_cmp id root_id) (Some Directory) None (node_at fresh id) refl) [
-      | inl h ↦ no_bytes_in bytes (same_some Directory (File bytes) (sym h.1 ∙ e))
+      | inl h ↦ absurd (true≢false (ap is_directory_node (sym h.1 ∙ e)))
       | inr h ↦ none_some (File bytes) (sym h.1 ∙ e)
     ]
 

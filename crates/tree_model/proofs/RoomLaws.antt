@@ -11,6 +11,7 @@ use Rattle.tree_model.proofs.TableLaws.{get-table_of}
 use Rattle.tree_model.specs.Step.{tree_after, directories, directory_of, gaining, losing, page_for_name, pages_after, room_after}
 use Rattle.tree_model.specs.declared.command.Command.{Command}
 use Rattle.tree_model.proofs.EntryLaws.{front, back, find-below, find-first}
+use Rattle.tree_model.proofs.NodeLaws.{directory_is}
 use Rattle.tree_model.proofs.TreeLaws.{same_id, not_true, same_room}
 
 -- ---- a test of all entries, and what is found among them
@@ -94,12 +95,9 @@ module _ (T' : Tree) (room : Room) where
       page_count (name_count T' directory) pages (right_true (is_directory T' directory) (may_have (name_count T' directory) pages) one)
 
   pub room-has_directory : IsRoom T' room → (directory : ℕ) → is_directory T' directory ≡ true → is_some (get room directory) ≡ true
-  room-has_directory fits directory dir = has (node_at T' directory) refl dir
-    where
-      has : (o : Option Node) → node_at T' directory ≡ o → is_directory_node o ≡ true → is_some (get room directory) ≡ true
-      has None is dir = cc
-      has (Some Directory) is dir = found_passes (λ e. not (is_directory_node (Some e.1)) || contains_key room e.0) directory Directory T'.nodes.entries (right_true _ _ fits) is
-      has (Some (File bytes)) is dir = cc
+  room-has_directory fits directory dir =
+      let found = directory_is (node_at T' directory) dir in
+      found_passes (λ e. not (is_directory_node (Some e.1)) || contains_key room e.0) directory Directory T'.nodes.entries (right_true _ _ fits) found
 
   -- the room has exactly the directories, each with a number within its bounds
   pub IsRoom-from : ((directory pages : ℕ) → get room directory ≡ Some pages → (is_directory T' directory ≡ true) × IsPageCount (name_count T' directory) pages)

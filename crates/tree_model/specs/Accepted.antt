@@ -1,7 +1,7 @@
 -- What an accepted command found, and what it makes of it: one record a command.
 use Rattle.std.specs.Prelude.{◌≡◌, ◌≢◌, ℕ, ◌+◌, ◌≤◌, ◌==◌, true, false, if◌then◌else◌, max, List, length, Some, None, is_none, ◌⊎◌}
 use Rattle.tree_model.specs.PathText.{Route}
-use Rattle.tree_model.specs.Tree.{Tree, Node, Directory, File, Room, is_root, parent, rest_after, id_at, node_at, is_directory, name_count, path_count}
+use Rattle.tree_model.specs.Tree.{Tree, Node, File, Room, is_root, parent, rest_after, id_at, node_at, is_directory, name_count, path_count}
 use Rattle.tree_model.specs.Capacity.{Supply, free_inodes, free_pages, file_limit}
 use Rattle.tree_model.specs.Step.{id_of, is_same_node, least_free_id, page_for_name, rise, read_limit, resized, overwritten, tree_after}
 use Rattle.tree_model.specs.declared.command.Command.{Command}
@@ -35,7 +35,7 @@ pub record IsDirectoryAt (T : Tree) (path : Route) : Type 0 where
   pub id : ℕ
   pub named : id_at T path ≡ Some id
   pub is : id_of T path ≡ id
-  pub directory : node_at T id ≡ Some Directory
+  pub directory : is_directory T id ≡ true
 
 -- the path is free, and so is the page that its directory may need for it
 pub record MayName (supply : Supply) (T : Tree) (room : Room) (path : Route) : Type 0 where
