@@ -4,12 +4,13 @@ use Rattle.std.proofs.Common.{◌≡◌, ◌≢◌, ◌⊎◌, inl, inr, ℕ, �
 use Rattle.std.proofs.lemmas.Bool.{cases_eq, cases_lt}
 use Rattle.layout.specs.Geometry.{data_pages_of, page_of_slot, slot_word_of}
 use Rattle.layout.proofs.GeometryLaws.{page_of_slot_below, slot_below}
+use Rattle.layout.proofs.Widths.{descriptor_field_read}
 use Rattle.layout.specs.Fields.{word, inode_size, page_owner, page_kind, page_offset, slot_inode}
 use Rattle.tree_model.specs.Tree.{name_count, pages_in}
 use Rattle.tree_model.specs.Capacity.{pages_in_use, free_pages}
 use Rattle.tree_model.specs.Run.{State}
 use Rattle.image_reading.specs.Counts.{IsIn, Count}
-use Rattle.image_reading.specs.Reading.{IsDirectory, IsFile, HasBytes, slot_owner, IsLive, Reached, IsReachedSlot, IsRoomOf, pages_of_size}
+use Rattle.image_reading.specs.Reading.{IsDirectory, HasBytes, slot_owner, IsLive, Reached, IsReachedSlot, IsRoomOf, pages_of_size}
 use Rattle.image_reading.specs.Repairs.{IsKept, IsLitterPage, IsLitterSlot}
 use Rattle.image_reading.specs.Residue.{Residue}
 use Rattle.image_reading.specs.Soundness.{Rule, IsCoherent}
@@ -86,8 +87,8 @@ module _ (P : ℕ) (I : List ℕ) (residue : Residue) (state : State) (holds : R
   litter_page : (j : ℕ) → j < data_pages_of P → ¬ IsKept P I j → ¬ IsUnusedPage P I j → IsLitterPage P I j
   unfolding page_owner page_kind
   litter_page j within free used = elim (cases_eq (page_owner P I j) 0) [
-    | inr owned ↦ record { in_range = within; free = free; nonzero = (0, omega arith, owned) }
-    | inl none ↦ record { in_range = within; free = free; nonzero = (1, omega arith, λ kind. used (none, kind)) }
+    | inr owned ↦ record { in_range = within; free = free; nonzero = (0, descriptor_field_read I 0 (omega arith), owned) }
+    | inl none ↦ record { in_range = within; free = free; nonzero = (1, descriptor_field_read I 1 (omega arith), λ kind. used (none, kind)) }
   ]
 
   -- a page that has either is kept or litter
@@ -151,7 +152,7 @@ module _ (P : ℕ) (I : List ℕ) (residue : Residue) (state : State) (holds : R
     ]
 
     -- a file's pages are one for each page of its size
-    pub count_pages_of_file : IsFile I i → Count (IsPageIn P I i) (pages_of_size (inode_size I i))
+    pub count_pages_of_file : HasBytes I i → Count (IsPageIn P I i) (pages_of_size (inode_size I i))
     count_pages_of_file file = count_alike (IsFilePage P I i) (IsPageIn P I i) (pages_of_size (inode_size I i)) to from (count_file_pages P I coherent i reached file)
       where
         to : (j : ℕ) → IsFilePage P I i j → IsPageIn P I i j

@@ -5,6 +5,7 @@ use Rattle.std.specs.FinMap.{nat_cmp-IsAntisymmetric}
 use Rattle.std.proofs.lemmas.Bool.{cases_eq}
 use Rattle.layout.specs.Geometry.{inodes_of}
 use Rattle.layout.specs.Fields.{inode_kind}
+use Rattle.layout.proofs.Widths.{inode_field_read}
 use Rattle.tree_model.specs.Tree.{Tree, Node, node_at}
 use Rattle.tree_model.specs.Capacity.{inodes_in_use, free_inodes}
 use Rattle.tree_model.specs.Step.{least_free_id}
@@ -75,7 +76,7 @@ module _ (P : ℕ) (I : List ℕ) (T : Tree) (coherent : IsCoherent P I) (reads 
 module _ (P : ℕ) (I : List ℕ) (residue : Residue) (T : Tree) (coherent : IsCoherent P I) (beside : IsTidyBeside P I residue) (reads : Reads P I T) where
   litter_inode : (i : ℕ) → 1 ≤ i → i ≤ inodes_of P → inode_kind I i ≢ 0 → ¬ Reached P I i → IsLitterInode P I i
   unfolding inode_kind
-  litter_inode i least most kind unreached = record { least = least; most = most; unreached = unreached; nonzero = (0, omega arith, kind) }
+  litter_inode i least most kind unreached = record { least = least; most = most; unreached = unreached; nonzero = (0, inode_field_read I 0 (omega arith), kind) }
 
   -- an inode with a kind is reached or litter
   kind_litter : (i : ℕ) → 1 ≤ i → i ≤ inodes_of P → inode_kind I i ≢ 0 → Reached P I i ⊎ IsLitterInode P I i
@@ -89,8 +90,8 @@ module _ (P : ℕ) (I : List ℕ) (residue : Residue) (T : Tree) (coherent : IsC
 
   reached_kind : (i : ℕ) → Reached P I i → inode_kind I i ≢ 0
   reached_kind i reached zero = elim ((coherent Rule.kinds i).kind reached) [
-    | inl file ↦ let one : inode_kind I i ≡ 1 = file in omega (arith, one, zero)
-    | inr directory ↦ let two : inode_kind I i ≡ 2 = directory in omega (arith, two, zero)
+    | inl file ↦ omega (arith, file, zero)
+    | inr directory ↦ omega (arith, directory, zero)
   ]
 
   used_kind : (i : ℕ) → Reached P I i ⊎ IsIn i residue.inodes → inode_kind I i ≢ 0

@@ -2,12 +2,12 @@
 use Rattle.std.proofs.Common.{◌≡◌, inl, inr, ℕ, ◌+◌, ◌==◌, true, false, cond, List, [], ◌∷◌, reverse, filter, count_by, refl, sym, ap, subst, ◌∙◌, arith}
 use Rattle.std.proofs.lemmas.List.Sums.{length-filter}
 use Rattle.std.proofs.lemmas.Bool.{cases_eq}
-use Rattle.layout.specs.Fields.{inode_kind, inode_links, slot_inode}
+use Rattle.layout.specs.Fields.{inode_links, slot_inode}
 use Rattle.tree_model.specs.PathText.{Route}
 use Rattle.tree_model.specs.Tree.{Tree, is_directory, is_in, entries_in, path_count, link_count}
 use Rattle.tree_model.proofs.TreeLaws.{not_true}
 use Rattle.image_reading.specs.Counts.{IsIn, Count}
-use Rattle.image_reading.specs.Reading.{IsDirectory, IsFile, slot_owner, Reached, IsNameOf, IsChildOf, IsLinkCount, Reads}
+use Rattle.image_reading.specs.Reading.{IsDirectory, HasBytes, slot_owner, Reached, IsNameOf, IsChildOf, IsLinkCount, Reads}
 use Rattle.image_reading.specs.Residue.{Residue, no_residue, IsTidyBeside}
 use Rattle.image_reading.specs.Soundness.{Rule, IsCoherent}
 use Rattle.image_reading.proofs.Counts.{count_one}
@@ -21,11 +21,11 @@ pub last_inode : (P : ℕ) (I : List ℕ) (r : Route) (i s : ℕ) → IsLastSlot
 last_inode P I [] i s last = absurd last
 last_inode P I (n ∷ p) i s (names, leads) = leads.inode
 
-pub not_both_kinds : (I : List ℕ) (i : ℕ) → IsFile I i → IsDirectory I i → ⊥
-not_both_kinds I i file directory = let one : inode_kind I i ≡ 1 = file in let two : inode_kind I i ≡ 2 = directory in omega (arith, one, two)
+pub not_both_kinds : (I : List ℕ) (i : ℕ) → HasBytes I i → IsDirectory I i → ⊥
+not_both_kinds I i file directory = omega (arith, file, directory)
 
 module _ (P : ℕ) (I : List ℕ) (T : Tree) (coherent : IsCoherent P I) (reads : Reads P I T) where
-  count_paths : (i : ℕ) → IsFile I i → Count (IsNameOf P I i) (path_count T i)
+  count_paths : (i : ℕ) → HasBytes I i → Count (IsNameOf P I i) (path_count T i)
   count_paths i file =
       subst (Count (IsNameOf P I i)) (length-filter (λ e. e.1 == i) T.names.entries)
       (count_slots P I T coherent reads (λ e. Unit {0} × (e.1 == i ≡ true)) (IsNameOf P I i) (filter (λ e. e.1 == i) T.names.entries)
@@ -65,7 +65,7 @@ module _ (P : ℕ) (I : List ℕ) (T : Tree) (coherent : IsCoherent P I) (reads 
   file_links : (i : ℕ) → is_directory T i ≡ false → link_count T i ≡ path_count T i
   file_links i is = ap (λ b. cond b (2 + count_by (λ e. is_directory T e.1) (entries_in T i)) (path_count T i)) is
 
-  not_directory : (i : ℕ) → IsFile I i → is_directory T i ≡ false
+  not_directory : (i : ℕ) → HasBytes I i → is_directory T i ≡ false
   not_directory i file = not_true (is_directory T i) (λ is. not_both_kinds I i file (((has_sizes P I T coherent reads).directories i).0 is).1)
 
   -- the links of a reached inode are counted,

@@ -1,7 +1,8 @@
 -- The nodes of the tree that a coherent image reads as.
 use Rattle.std.proofs.Common.{◌≡◌, inl, inr, ℕ, zero, suc, ◌/◌, ◌%◌, ◌<◌, true, List, [], ◌∷◌, length, slice_index, Option, Some, None, is_some, refl, ap, arith}
 use Rattle.layout.specs.Fields.{inode_size, page_byte}
-use Rattle.tree_model.specs.Tree.{Tree, Node, Directory, File, node_at, is_directory_node, is_file_node}
+use Rattle.tree_model.specs.Tree.{Tree, Node, Directory, File, node_at, is_directory, is_directory_node, is_file, is_file_node}
+use Rattle.tree_model.proofs.NodeLaws.{directory_is, file_is}
 use Rattle.image_reading.specs.Reading.{IsFile, IsDirectory, HasBytes, Reached, IsPageOf, pages_of_size, IsContent, Reads}
 use Rattle.image_reading.specs.Soundness.{Rule, IsCoherent}
 use Rattle.image_counts.specs.Laws.{HasSizes, SizeLaw}
@@ -75,21 +76,20 @@ module _ (P : ℕ) (I : List ℕ) (T : Tree) (coherent : IsCoherent P I) (reads 
     | inr directory ↦ ap is_some (directory_node i reached directory)
   ]
 
-  directory_is : (i : ℕ) (o : Option Node) → node_at T i ≡ o → is_directory_node o ≡ true → Reached P I i × IsDirectory I i
-  directory_is i None is there = cc
-  directory_is i (Some Directory) is there = (reads.nodes i Directory).0 is
-  directory_is i (Some (File bytes)) is there = cc
+  is_directory_inode : (i : ℕ) → is_directory T i ≡ true → Reached P I i × IsDirectory I i
+  is_directory_inode i is = (reads.nodes i Directory).0 (directory_is (node_at T i) is)
 
-  file_is : (i : ℕ) (o : Option Node) → node_at T i ≡ o → is_file_node o ≡ true → Reached P I i × IsFile I i
-  file_is i None is there = cc
-  file_is i (Some Directory) is there = cc
-  file_is i (Some (File bytes)) is there = let (reached, node) = (reads.nodes i (File bytes)).0 is in (reached, node.0)
+  is_file_inode : (i : ℕ) → is_file T i ≡ true → Reached P I i × IsFile I i
+  is_file_inode i is =
+      let (bytes, at) = file_is (node_at T i) is in
+      let (reached, node) = (reads.nodes i (File bytes)).0 at in
+      (reached, node.0)
 
   pub has_sizes : HasSizes P I T
   has_sizes = record {
     sizes = λ i bytes is. (let (reached, node) = (reads.nodes i (File bytes)).0 is in node.1.size);
-    directories = λ i. ((λ is. directory_is i (node_at T i) refl is), (λ (reached, directory). ap is_directory_node (directory_node i reached directory)));
-    files = λ i. ((λ is. file_is i (node_at T i) refl is), (λ (reached, file). ap is_file_node (file_node i reached file).1));
+    directories = λ i. (is_directory_inode i, (λ (reached, directory). ap is_directory_node (directory_node i reached directory)));
+    files = λ i. (is_file_inode i, (λ (reached, file). ap is_file_node (file_node i reached file).1));
   }
 
 pub size_law : SizeLaw

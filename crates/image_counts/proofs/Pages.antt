@@ -7,10 +7,11 @@ use Rattle.tree_model.specs.Table.{get}
 use Rattle.tree_model.specs.Tree.{Tree, Node, Directory, File, Room, node_at, node_pages, file_pages, pages_in}
 use Rattle.tree_model.specs.Capacity.{pages_in_use}
 use Rattle.image_reading.specs.Counts.{IsIn, IsDistinct, Count}
-use Rattle.image_reading.specs.Reading.{IsDirectory, IsFile, Reached, IsPageOf, IsRoomOf, pages_of_size, Reads, HasRoom}
+use Rattle.image_reading.specs.Reading.{IsDirectory, HasBytes, Reached, IsPageOf, IsRoomOf, pages_of_size, Reads, HasRoom}
 use Rattle.image_reading.specs.Repairs.{IsKeptFilePage, IsKeptDirectoryPage, IsKept}
 use Rattle.image_reading.specs.Soundness.{Rule, IsCoherent}
 use Rattle.image_reading.proofs.Counts.{count_none}
+use Rattle.image_reading.proofs.FilePages.{page_from_place}
 use Rattle.image_counts.specs.Laws.{KeptPageLaw}
 use Rattle.image_counts.proofs.Nodes.{one_page, file_node}
 use Rattle.image_counts.proofs.Links.{not_both_kinds}
@@ -62,7 +63,7 @@ module _ (P : ℕ) (I : List ℕ) (coherent : IsCoherent P I) where
   unfolding offsets
   length-offsets i = length-run 0 (pages_of_size (inode_size I i))
 
-  matching : (i : ℕ) → Reached P I i → IsFile I i → IsMatching (IsPageOf P I i) (offsets i)
+  matching : (i : ℕ) → Reached P I i → HasBytes I i → IsMatching (IsPageOf P I i) (offsets i)
   matching i reached file = record {
     apart = offsets_apart i;
     each = λ k among. coherent Rule.all_pages i reached file k (offset_within i k among);
@@ -70,7 +71,7 @@ module _ (P : ℕ) (I : List ℕ) (coherent : IsCoherent P I) where
     own = λ k l j among there a b. sym a.offset ∙ b.offset;
   }
 
-  pub count_file_pages : (i : ℕ) → Reached P I i → IsFile I i → Count (IsFilePage P I i) (pages_of_size (inode_size I i))
+  pub count_file_pages : (i : ℕ) → Reached P I i → HasBytes I i → Count (IsFilePage P I i) (pages_of_size (inode_size I i))
   count_file_pages i reached file =
       subst (Count (IsFilePage P I i)) (length-offsets i)
       (count_alike (IsMatched (IsPageOf P I i) (offsets i)) (IsFilePage P I i) (length (offsets i)) to from (count_matched (IsPageOf P I i) (offsets i) (matching i reached file)))
@@ -80,7 +81,7 @@ module _ (P : ℕ) (I : List ℕ) (coherent : IsCoherent P I) where
         record {
           in_range = page.in_range;
           owner = subst (Reached P I) (sym page.owner) reached;
-          file = subst (IsFile I) (sym page.owner) file;
+          file = subst (HasBytes I) (sym page.owner) file;
           below = subst (λ z. page_offset P I j < pages_of_size (inode_size I z)) (sym page.owner) (subst (λ z. z < pages_of_size (inode_size I i)) (sym page.offset) (offset_within i k among));
         },
         page.owner,
@@ -90,7 +91,7 @@ module _ (P : ℕ) (I : List ℕ) (coherent : IsCoherent P I) where
       from j (kept, owner) = (
         page_offset P I j,
         offset_among i (page_offset P I j) (subst (λ z. page_offset P I j < pages_of_size (inode_size I z)) owner kept.below),
-        record { in_range = kept.in_range; owner = owner; kind = (coherent Rule.page_kinds j).file kept.in_range kept.owner kept.file; offset = refl },
+        page_from_place (record { in_range = kept.in_range; owner = owner; kind = (coherent Rule.page_kinds j).file kept.in_range kept.owner kept.file; offset = refl }),
       )
 
 module _ (P : ℕ) (I : List ℕ) (room : Room) (rooms : HasRoom P I room) where
@@ -111,7 +112,7 @@ module _ (P : ℕ) (I : List ℕ) (T : Tree) (room : Room) (coherent : IsCoheren
 
   count_node : (i : ℕ) (x : Node) → node_at T i ≡ Some x → Count (IsFilePage P I i) (node_pages x)
   count_node i Directory is = count_none (IsFilePage P I i) (λ j (kept, owner).
-      not_both_kinds I i (subst (IsFile I) owner kept.file) ((reads.nodes i Directory).0 is).1)
+      not_both_kinds I i (subst (HasBytes I) owner kept.file) ((reads.nodes i Directory).0 is).1)
   count_node i (File bytes) is =
       let (reached, node) = (reads.nodes i (File bytes)).0 is in
       subst (Count (IsFilePage P I i)) (sym (pages_of_bytes bytes (inode_size I i) node.1.size)) (count_file_pages P I coherent i reached node.0)

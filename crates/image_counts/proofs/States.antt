@@ -14,7 +14,7 @@ use Rattle.image_reading.specs.Soundness.{Rule, IsCoherent}
 use Rattle.image_counts.specs.Entries.{IsSlotOf}
 use Rattle.image_counts.specs.Laws.{StateLaw}
 use Rattle.image_counts.proofs.Paths.{root_reached, one_path, in_range, reached_slot}
-use Rattle.image_counts.proofs.Nodes.{directory_node, node_reached, reached_node, has_sizes}
+use Rattle.image_counts.proofs.Nodes.{node_reached, reached_node, has_sizes}
 use Rattle.image_counts.proofs.Distinct.{fewer}
 use Rattle.image_counts.proofs.Counting.{count_fewer, count_run}
 use Rattle.image_counts.proofs.Inodes.{count_reached}
@@ -64,7 +64,7 @@ module _ (P : ℕ) (I : List ℕ) (T : Tree) (coherent : IsCoherent P I) (reads 
   pub is_tree : IsTree T
   is_tree = record {
     root = (reads.names [] 1).1 refl;
-    root_directory = directory_node P I T coherent reads 1 (root_reached P I coherent) ((coherent Rule.root 1).directory refl);
+    root_directory = directory_is 1 (root_reached P I coherent) ((coherent Rule.root 1).directory refl);
     parents = parents;
     one_path = λ d is p q a b. same_reverse p q (one_path P I coherent (reverse p) (reverse q) d (is_directory_is d is).1 ((reads.names p d).0 a) ((reads.names q d).0 b));
     named = λ i there. (

@@ -8,7 +8,7 @@ use Rattle.tree_model.specs.Capacity.{Supply, inodes_in_use, pages_in_use, free_
 use Rattle.tree_model.specs.Step.{least_free_id}
 use Rattle.tree_model.specs.Run.{State, IsVolumeState}
 use Rattle.image_reading.specs.Counts.{IsIn, Count}
-use Rattle.image_reading.specs.Reading.{IsFile, IsDirectory, slot_owner, Reached, IsReachedSlot, IsLinkCount, pages_of_size, ReadsAs}
+use Rattle.image_reading.specs.Reading.{IsFile, IsDirectory, HasBytes, slot_owner, Reached, IsReachedSlot, IsLinkCount, pages_of_size, ReadsAs}
 use Rattle.image_reading.specs.Repairs.{IsKept}
 use Rattle.image_reading.specs.Residue.{Residue, IsTidyBeside}
 use Rattle.image_reading.specs.Soundness.{IsCoherent}
@@ -97,7 +97,7 @@ RoomLaw = (P : ℕ) (I : List ℕ) (state : State) → IsTidied P I → ReadsAs 
 
 -- A file's pages are one for each page of its size.
 abbrev pub FilePagesLaw : Type 0
-FilePagesLaw = (P : ℕ) (I : List ℕ) (state : State) → IsTidied P I → ReadsAs P I state → (i : ℕ) → Reached P I i → IsFile I i
+FilePagesLaw = (P : ℕ) (I : List ℕ) (state : State) → IsTidied P I → ReadsAs P I state → (i : ℕ) → Reached P I i → HasBytes I i
     → Count (IsPageIn P I i) (pages_of_size (inode_size I i))
 
 -- The pages in use are those that recovery would keep.
@@ -139,7 +139,7 @@ LinkWordBesideLaw = (P : ℕ) (I : List ℕ) (residue : Residue) (state : State)
     → link_count state.tree i ≡ inode_links I i
 
 abbrev pub FilePagesBesideLaw : Type 0
-FilePagesBesideLaw = (P : ℕ) (I : List ℕ) (residue : Residue) (state : State) → ReadsBeside P I residue state → (i : ℕ) → Reached P I i → IsFile I i → IsApart P I residue i
+FilePagesBesideLaw = (P : ℕ) (I : List ℕ) (residue : Residue) (state : State) → ReadsBeside P I residue state → (i : ℕ) → Reached P I i → HasBytes I i → IsApart P I residue i
     → Count (IsPageIn P I i) (pages_of_size (inode_size I i))
 
 -- An inode has a kind exactly where it is reached or the residue has it. One without is no node's, and there are as many as are free.

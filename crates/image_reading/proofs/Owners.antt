@@ -1,7 +1,6 @@
 -- What the tables say of a slot and its owner.
 use Rattle.std.proofs.Common.{◌≡◌, ℕ, ◌+◌, ◌≤◌, List, sym, subst, arith}
 use Rattle.layout.specs.Geometry.{IsVolumeSize, inodes_of, data_pages_of, slots_of}
-use Rattle.layout.specs.Fields.{inode_kind}
 use Rattle.image_reading.specs.Reading.{IsDirectory, slot_owner, IsLive, IsReachedSlot, Reached}
 use Rattle.image_reading.specs.Walk.{IsFound, Knows}
 use Rattle.image_reading.specs.declared.reach.Reach.{Reach}
@@ -13,7 +12,7 @@ module _ (P : ℕ) (I : List ℕ) (reach : Reach) (known : Knows P I reach) wher
   pub found_range : (i : ℕ) → IsVolumeSize P → IsFound reach i → (1 ≤ i) × (i ≤ inodes_of P)
   found_range i size found = reached_range P I i (one_inode P size) ((known.reached i).0 found)
 
-  pub reached_slot : (s owner : ℕ) → IsLive P I s → owner ≡ slot_owner P I s → IsFound reach owner → inode_kind I owner ≡ 2 → IsReachedSlot P I s
+  pub reached_slot : (s owner : ℕ) → IsLive P I s → owner ≡ slot_owner P I s → IsFound reach owner → IsDirectory I owner → IsReachedSlot P I s
   reached_slot s owner live is found kind = record {
     owner = subst (Reached P I) is ((known.reached owner).0 found);
     directory = subst (IsDirectory I) is kind;
@@ -23,7 +22,7 @@ module _ (P : ℕ) (I : List ℕ) (reach : Reach) (known : Knows P I reach) wher
   pub owner_found : (s owner : ℕ) → owner ≡ slot_owner P I s → IsReachedSlot P I s → IsFound reach owner
   owner_found s owner is slot = (known.reached owner).1 (subst (Reached P I) (sym is) slot.owner)
 
-  pub owner_directory : (s owner : ℕ) → owner ≡ slot_owner P I s → IsReachedSlot P I s → inode_kind I owner ≡ 2
+  pub owner_directory : (s owner : ℕ) → owner ≡ slot_owner P I s → IsReachedSlot P I s → IsDirectory I owner
   owner_directory s owner is slot = subst (IsDirectory I) (sym is) slot.directory
 
 -- ---- rules at what isn't reached

@@ -5,7 +5,7 @@ use Rattle.layout.proofs.GeometryLaws.{page_of_slot_below}
 use Rattle.layout.specs.Geometry.{data_pages_of, page_of_slot}
 use Rattle.layout.specs.Fields.{inode_links, inode_size, page_owner, page_offset, slot_inode}
 use Rattle.image_reading.specs.Counts.{Count}
-use Rattle.image_reading.specs.Reading.{IsFile, IsDirectory, IsHeld, slot_owner, Reached, IsNameOf, IsChildOf, IsLinkCount, pages_of_size}
+use Rattle.image_reading.specs.Reading.{HasBytes, IsDirectory, IsHeld, slot_owner, Reached, IsNameOf, IsChildOf, IsLinkCount, pages_of_size}
 use Rattle.image_reading.specs.Repairs.{IsKept, IsPointer, IsLeft}
 use Rattle.image_reading.specs.Litter.{HasLiveSlot}
 use Rattle.image_reading.specs.Scan.{IsCredit, IsRename}
@@ -25,17 +25,17 @@ module _ (P : ℕ) (I : List ℕ) where
   kept_owner j kept = elim kept [ inl page ↦ page.owner | inr room ↦ room.reached ]
 
   module _ (j : ℕ) where
-    pub kept_below : IsFile I (page_owner P I j) → IsKept P I j → page_offset P I j < pages_of_size (inode_size I (page_owner P I j))
+    pub kept_below : HasBytes I (page_owner P I j) → IsKept P I j → page_offset P I j < pages_of_size (inode_size I (page_owner P I j))
     kept_below file kept = elim kept [ inl page ↦ page.below | inr room ↦ absurd (let directory = room.directory in omega (arith, file, directory)) ]
 
-    pub kept_live : ¬ IsFile I (page_owner P I j) → IsKept P I j → HasLiveSlot P I j
+    pub kept_live : ¬ HasBytes I (page_owner P I j) → IsKept P I j → HasLiveSlot P I j
     kept_live other kept = elim kept [ inl page ↦ absurd (other page.file) | inr room ↦ let (s, at, owner, live) = room.slot in (s, at, live) ]
 
     owner_of_slot : (s : ℕ) → page_of_slot s ≡ j → slot_owner P I s ≡ page_owner P I j
     unfolding slot_owner
     owner_of_slot s at = ap (page_owner P I) at
 
-    pub live_kept : IsCoherent P I → Reached P I (page_owner P I j) → ¬ IsFile I (page_owner P I j) → HasLiveSlot P I j → IsKept P I j
+    pub live_kept : IsCoherent P I → Reached P I (page_owner P I j) → ¬ HasBytes I (page_owner P I j) → HasLiveSlot P I j → IsKept P I j
     live_kept coherent reached other (s, at, live) = inr (record {
       reached = reached;
       directory = elim ((coherent Rule.kinds (page_owner P I j)).kind reached) [ inl file ↦ absurd (other file) | inr directory ↦ directory ];

@@ -1,9 +1,9 @@
 -- What is tidied is tidy beside nothing, and a residue has as many places as there are repairs.
 use Rattle.std.proofs.Common.{◌≡◌, inl, inr, ℕ, List, [], ◌∷◌, length, Option, Some, None, refl, sym, subst}
-use Rattle.image_reading.specs.Counts.{IsIn, IsListOf, Count}
+use Rattle.image_reading.specs.Counts.{IsListOf, Count}
 use Rattle.image_reading.specs.Laws.{ResidueLaw, TidiedLaw}
-use Rattle.image_reading.specs.Repairs.{IsPointer, HasRepairs, no_repairs}
-use Rattle.image_reading.specs.Residue.{Residue, no_residue, one_of, repairs_of, IsTidyBeside}
+use Rattle.image_reading.specs.Repairs.{IsPointer}
+use Rattle.image_reading.specs.Residue.{no_residue, one_of, IsTidyBeside}
 use Rattle.image_reading.specs.Soundness.{IsCoherent}
 use Rattle.image_reading.specs.Tidy.{IsTidied}
 use Rattle.image_reading.proofs.Counts.{count_none, none_counted}

@@ -1,10 +1,10 @@
 -- When nothing is to be repaired in words that fit together.
-use Rattle.std.proofs.Common.{◌≡◌, ◌≢◌, inl, inr, ℕ, zero, suc, ◌+◌, ◌*◌, ◌%◌, ◌<◌, ◌≤◌, List, refl, sym, ap, subst, ◌∙◌, arith}
+use Rattle.std.proofs.Common.{◌≡◌, ◌≢◌, inl, inr, ℕ, ◌+◌, ◌*◌, ◌%◌, ◌<◌, ◌≤◌, List, refl, sym, ap, subst, ◌∙◌, arith}
 use Rattle.std.proofs.lemmas.Bool.{cases_eq, cases_lt}
 use Rattle.layout.proofs.GeometryLaws.{page_of_slot_below}
 use Rattle.layout.specs.Geometry.{inodes_of, data_pages_of, page_of_slot, inode_word_of, descriptor_word_of, slot_word_of}
-use Rattle.layout.specs.Fields.{word, inode_kind, inode_links, inode_size, inode_own, page_owner, page_kind, page_offset}
-use Rattle.image_reading.specs.Reading.{IsFile, Reached, IsNameOf, IsChildOf, IsLinkCount, IsRoomOf}
+use Rattle.layout.specs.Fields.{word, inode_links, page_owner}
+use Rattle.image_reading.specs.Reading.{HasBytes, Reached, IsNameOf, IsChildOf, IsLinkCount, IsRoomOf}
 use Rattle.image_reading.specs.Repairs.{IsKept, IsPointer, IsLitterSlot, IsLitterPage, IsLitterInode, IsLitterCount}
 use Rattle.image_reading.specs.Scan.{IsRename}
 use Rattle.image_reading.specs.Soundness.{Rule, IsCoherent}
@@ -59,31 +59,18 @@ module _ (P : ℕ) (I : List ℕ) where
 
   -- ---- inodes
 
-  zero_words : (i f : ℕ) → inode_kind I i ≡ 0 → inode_links I i ≡ 0 → inode_size I i ≡ 0 → inode_own I i ≡ 0 → f < 4 → word I (inode_word_of i f) ≡ 0
-  unfolding inode_kind inode_links inode_size inode_own
-  zero_words i zero kind links size own lt = kind
-  zero_words i (suc zero) kind links size own lt = links
-  zero_words i (suc (suc zero)) kind links size own lt = size
-  zero_words i (suc (suc (suc zero))) kind links size own lt = own
-  zero_words i (suc (suc (suc (suc f)))) kind links size own lt = absurd (omega arith)
-
   module _ (i : ℕ) (least : 1 ≤ i) (most : i ≤ inodes_of P) where
     pub zero_tidy : ¬ Reached P I i → IsZeroInode I i → IsTidyInode P I i
     zero_tidy unreached zeros = record {
-      inode = λ litter. let (f, lt, other) = litter.nonzero in other (zero_words i f zeros.kind zeros.links zeros.size zeros.own lt);
+      inode = λ litter. let (f, lt, other) = litter.nonzero in other (zeros f lt);
       links = λ litter. unreached litter.reached;
     }
 
-    module _ (unreached : ¬ Reached P I i) (tidy : IsTidyInode P I i) where
-      zero_word : (f : ℕ) → f < 4 → word I (inode_word_of i f) ≡ 0
-      zero_word f lt = elim (cases_eq (word I (inode_word_of i f)) 0) [
-        | inl is ↦ is
-        | inr other ↦ absurd (tidy.inode (record { least = least; most = most; unreached = unreached; nonzero = (f, lt, other) }))
-      ]
-
-      pub tidy_zero : IsZeroInode I i
-      unfolding inode_kind inode_links inode_size inode_own
-      tidy_zero = record { kind = zero_word 0 (omega arith); links = zero_word 1 (omega arith); size = zero_word 2 (omega arith); own = zero_word 3 (omega arith) }
+    pub tidy_zero : ¬ Reached P I i → IsTidyInode P I i → IsZeroInode I i
+    tidy_zero unreached tidy f lt = elim (cases_eq (word I (inode_word_of i f)) 0) [
+      | inl is ↦ is
+      | inr other ↦ absurd (tidy.inode (record { least = least; most = most; unreached = unreached; nonzero = (f, lt, other) }))
+    ]
 
   -- ---- a reached inode's links
 
@@ -108,36 +95,24 @@ module _ (P : ℕ) (I : List ℕ) where
 
   -- ---- pages
 
-  zero_descriptor : (j f : ℕ) → page_owner P I j ≡ 0 → page_kind P I j ≡ 0 → page_offset P I j ≡ 0 → f < 3 → word I (descriptor_word_of P j f) ≡ 0
-  unfolding page_owner page_kind page_offset
-  zero_descriptor j zero owner kind offset lt = owner
-  zero_descriptor j (suc zero) owner kind offset lt = kind
-  zero_descriptor j (suc (suc zero)) owner kind offset lt = offset
-  zero_descriptor j (suc (suc (suc f))) owner kind offset lt = absurd (omega arith)
-
   litter_kept : (j s : ℕ) → page_of_slot s ≡ j → IsLitterSlot P I s → IsRoomOf P I (page_owner P I j) j
   litter_kept j s at litter = subst (λ (k : ℕ). IsRoomOf P I (page_owner P I k) k) at litter.page
 
   module _ (j : ℕ) (within : j < data_pages_of P) (unkept : ¬ IsKept P I j) where
     pub zero_page_tidy : IsZeroDescriptor P I j → IsTidyPage P I j
     zero_page_tidy zeros = record {
-      page = λ litter. let (f, lt, other) = litter.nonzero in other (zero_descriptor j f zeros.owner zeros.kind zeros.offset lt);
+      page = λ litter. let (f, lt, other) = litter.nonzero in other (zeros f (omega arith) lt);
       slots = λ s at litter. unkept (inr (litter_kept j s at litter));
     }
 
-    module _ (tidy : IsTidyPage P I j) where
-      zero_of : (f : ℕ) → f < 3 → word I (descriptor_word_of P j f) ≡ 0
-      zero_of f lt = elim (cases_eq (word I (descriptor_word_of P j f)) 0) [
-        | inl is ↦ is
-        | inr other ↦ absurd (tidy.page (record { in_range = within; free = unkept; nonzero = (f, lt, other) }))
-      ]
-
-      pub tidy_zero_page : IsZeroDescriptor P I j
-      unfolding page_owner page_kind page_offset
-      tidy_zero_page = record { owner = zero_of 0 (omega arith); kind = zero_of 1 (omega arith); offset = zero_of 2 (omega arith) }
+    pub tidy_zero_page : IsTidyPage P I j → IsZeroDescriptor P I j
+    tidy_zero_page tidy f low lt = elim (cases_eq (word I (descriptor_word_of P j f)) 0) [
+      | inl is ↦ is
+      | inr other ↦ absurd (tidy.page (record { in_range = within; free = unkept; nonzero = (f, lt, other) }))
+    ]
 
   module _ (j : ℕ) (kept : IsKept P I j) where
-    pub file_page_tidy : IsFile I (page_owner P I j) → IsTidyPage P I j
+    pub file_page_tidy : HasBytes I (page_owner P I j) → IsTidyPage P I j
     file_page_tidy file = record {
       page = λ litter. litter.free kept;
       slots = λ s at litter. let directory = (litter_kept j s at litter).directory in omega (arith, file, directory);
@@ -149,10 +124,10 @@ module _ (P : ℕ) (I : List ℕ) where
       slots = λ s at litter. let (f, lt, nonzero) = litter.nonzero in nonzero (zeros s at litter.dead f lt);
     }
 
-    kept_room : ¬ IsFile I (page_owner P I j) → IsRoomOf P I (page_owner P I j) j
+    kept_room : ¬ HasBytes I (page_owner P I j) → IsRoomOf P I (page_owner P I j) j
     kept_room other = elim kept [ inl page ↦ absurd (other page.file) | inr room ↦ room ]
 
-    pub tidy_zeros : ¬ IsFile I (page_owner P I j) → IsTidyPage P I j → HasZeroSlots P I j
+    pub tidy_zeros : ¬ HasBytes I (page_owner P I j) → IsTidyPage P I j → HasZeroSlots P I j
     tidy_zeros other tidy s at dead f lt = elim (cases_eq (word I (slot_word_of P s f)) 0) [
       | inl is ↦ is
       | inr nonzero ↦ absurd (tidy.slots s at (record {

@@ -1,7 +1,7 @@
 -- What is read of an image to tell that it needs no recovery. P is the number of pages, I the words.
 use Rattle.std.specs.Prelude.{◌≡◌, ℕ, ◌<◌, ◌≤◌, List}
-use Rattle.layout.specs.Geometry.{inodes_of, page_of_slot, slot_word_of}
-use Rattle.layout.specs.Fields.{word, inode_kind, inode_links, inode_size, inode_own, page_owner, page_kind, page_offset}
+use Rattle.layout.specs.Geometry.{inodes_of, page_of_slot, inode_word_of, descriptor_word_of, slot_word_of}
+use Rattle.layout.specs.Fields.{word, inode_words, descriptor_words}
 use Rattle.image_reading.specs.Reading.{IsLive}
 use Rattle.image_reading.specs.Repairs.{IsLitterSlot, IsLitterPage, IsLitterInode, IsLitterCount}
 
@@ -10,18 +10,16 @@ pub record IsInode (P i : ℕ) : Type 0 where
   pub from_one : 1 ≤ i
   pub in_range : i ≤ inodes_of P
 
--- the words of a free inode that are read are zero
-pub record IsZeroInode (I : List ℕ) (i : ℕ) : Type 0 where
-  pub kind : inode_kind I i ≡ 0
-  pub links : inode_links I i ≡ 0
-  pub size : inode_size I i ≡ 0
-  pub own : inode_own I i ≡ 0
+-- the words of an inode that are read are zero
+abbrev pub IsZeroInode : List ℕ → ℕ → Type 0
+IsZeroInode I i = (f : ℕ) → f < inode_words I → word I (inode_word_of i f) ≡ 0
 
--- and those of a free page's descriptor
-pub record IsZeroDescriptor (P : ℕ) (I : List ℕ) (j : ℕ) : Type 0 where
-  pub owner : page_owner P I j ≡ 0
-  pub kind : page_kind P I j ≡ 0
-  pub offset : page_offset P I j ≡ 0
+-- and those of a page's descriptor from its field `first` on
+abbrev pub IsZeroDescriptorFrom : ℕ → List ℕ → ℕ → ℕ → Type 0
+IsZeroDescriptorFrom P I first j = (f : ℕ) → first ≤ f → f < descriptor_words I → word I (descriptor_word_of P j f) ≡ 0
+
+abbrev pub IsZeroDescriptor : ℕ → List ℕ → ℕ → Type 0
+IsZeroDescriptor P I j = IsZeroDescriptorFrom P I 0 j
 
 -- all words of a slot are zero
 abbrev pub IsZeroSlot : ℕ → List ℕ → ℕ → Type 0

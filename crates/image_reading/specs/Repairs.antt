@@ -1,7 +1,7 @@
 -- What a recovery would repair, counted.
 use Rattle.std.specs.Prelude.{◌≡◌, ◌≢◌, ◌⊎◌, ℕ, ◌+◌, ◌<◌, ◌≤◌, List}
 use Rattle.layout.specs.Geometry.{inodes_of, data_pages_of, page_of_slot, inode_word_of, descriptor_word_of, slot_word_of}
-use Rattle.layout.specs.Fields.{word, inode_links, inode_size, page_owner, page_offset, slot_inode, slot_pointer}
+use Rattle.layout.specs.Fields.{word, inode_words, descriptor_words, inode_links, inode_size, page_owner, page_offset, slot_inode, slot_pointer}
 use Rattle.image_reading.specs.Counts.{Count}
 use Rattle.image_reading.specs.Reading.{HasBytes, IsHeld, IsLive, Reached, IsRoomOf, IsLinkCount, pages_of_size}
 
@@ -22,14 +22,6 @@ abbrev pub IsKept : ℕ → List ℕ → ℕ → Type 0
 IsKept P I j = IsKeptFilePage P I j ⊎ IsKeptDirectoryPage P I j
 
 -- ---- what is repaired
-
--- so many first words of an inode are zero where it is free
-abbrev pub inode_words : ℕ
-inode_words = 4
-
--- and so many of a free page's descriptor
-abbrev pub descriptor_words : ℕ
-descriptor_words = 3
 
 -- a held slot with a rename pointer
 pub record IsPointer (P : ℕ) (I : List ℕ) (s : ℕ) : Type 0 where
@@ -57,14 +49,14 @@ pub record IsLitterSlot (P : ℕ) (I : List ℕ) (s : ℕ) : Type 0 where
 pub record IsLitterPage (P : ℕ) (I : List ℕ) (j : ℕ) : Type 0 where
   pub in_range : j < data_pages_of P
   pub free : IsKept P I j → ⊥
-  pub nonzero : (f : ℕ) × (f < descriptor_words) × (word I (descriptor_word_of P j f) ≢ 0)
+  pub nonzero : (f : ℕ) × (f < descriptor_words I) × (word I (descriptor_word_of P j f) ≢ 0)
 
 -- an inode that isn't reached and isn't zero
 pub record IsLitterInode (P : ℕ) (I : List ℕ) (i : ℕ) : Type 0 where
   pub least : 1 ≤ i
   pub most : i ≤ inodes_of P
   pub unreached : Reached P I i → ⊥
-  pub nonzero : (f : ℕ) × (f < inode_words) × (word I (inode_word_of i f) ≢ 0)
+  pub nonzero : (f : ℕ) × (f < inode_words I) × (word I (inode_word_of i f) ≢ 0)
 
 -- a reached inode whose link word isn't the counted number
 pub record IsLitterCount (P : ℕ) (I : List ℕ) (i : ℕ) : Type 0 where

@@ -5,26 +5,11 @@ ghost use Rattle.image_reading.specs.Images.{In};
 ghost use Rattle.image_reading.specs.Reading.{IsLive};
 ghost use Rattle.image_reading.specs.Repairs.{IsKept};
 ghost use Rattle.image_reading.specs.Scanned.{IsScanned};
-ghost use Rattle.image_reading.specs.Litter.{IsInode, IsZeroInode, IsZeroDescriptor, IsZeroSlot, HasZeroSlots, IsTidyPage, IsTidyInode};
+ghost use Rattle.image_reading.specs.Litter.{IsInode, IsZeroInode, IsZeroDescriptorFrom, IsZeroSlot, HasZeroSlots, IsTidyPage, IsTidyInode};
 
 use crate::image::Image;
 use crate::scanned::Scanned;
-use layout::{DescriptorFields, FILE, InodeFields, PAGE_SLOTS, SLOT_WORDS};
-
-// What the words of a free inode say.
-const FREE_INODE: InodeFields = InodeFields {
-    kind: 0,
-    links: 0,
-    size: 0,
-    own: 0,
-};
-
-// What those of a free page's descriptor say.
-const FREE_PAGE: DescriptorFields = DescriptorFields {
-    owner: 0,
-    kind: 0,
-    offset: 0,
-};
+use layout::{DESCRIPTOR_OWNER, FILE, PAGE_SLOTS, SLOT_WORDS, descriptor_words, inode_words};
 
 /// Whether the inode has the links that are counted where it is reached, and is zero elsewhere.
 pub fn is_tidy_inode(scanned: &Scanned<'_>, inode: u64) -> bool
@@ -39,12 +24,17 @@ pub fn is_tidy_inode(scanned: &Scanned<'_>, inode: u64) -> bool
     fields.links == scanned.links(inode)
 }
 
-// Whether the words of the inode that are read are zero.
-fn is_zero_inode(image: &Image<'_>, inode: u64) -> bool
+/// Whether the words of the inode that are read are zero.
+pub fn is_zero_inode(image: &Image<'_>, inode: u64) -> bool
     requires { IsInode image.now.geometry.pages inode }
     ensures { IsTrue result ↔ IsZeroInode image.now.words.now inode }
 {
-    image.geometry.inode_at(image.words, inode) == FREE_INODE
+    for field in 0..inode_words(image.words) {
+        if image.words[image.geometry.inode_word(inode, field) as usize] != 0 {
+            return false;
+        }
+    }
+    true
 }
 
 /// Whether the page is kept and its slots are live or zero, or its descriptor is zero.
@@ -54,17 +44,23 @@ pub fn is_tidy_page(scanned: &Scanned<'_>, page: u64) -> bool
     ensures { IsTrue result ↔ In scanned.now.image IsTidyPage page }
 {
     if !scanned.is_kept(page) {
-        return is_zero_descriptor(&scanned.image, page);
+        return is_zero_descriptor_from(&scanned.image, DESCRIPTOR_OWNER, page);
     }
     is_tidy_kept(scanned, page)
 }
 
-// Whether the words of the page's descriptor that are read are zero.
-fn is_zero_descriptor(image: &Image<'_>, page: u64) -> bool
+/// Whether the words of the page's descriptor that are read are zero, from its field `first` on.
+pub fn is_zero_descriptor_from(image: &Image<'_>, first: u64, page: u64) -> bool
     requires { page < data_pages_of image.now.geometry.pages }
-    ensures { IsTrue result ↔ In image.now IsZeroDescriptor page }
+    ensures { IsTrue result ↔ IsZeroDescriptorFrom image.now.geometry.pages image.now.words.now
+        first page }
 {
-    image.geometry.descriptor_at(image.words, page) == FREE_PAGE
+    for field in first..descriptor_words(image.words) {
+        if image.words[image.geometry.descriptor_word(page, field) as usize] != 0 {
+            return false;
+        }
+    }
+    true
 }
 
 // Whether the kept page is a file's, or its slots are live or zero.

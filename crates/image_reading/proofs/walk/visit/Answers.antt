@@ -1,5 +1,6 @@
-use Rattle.std.proofs.Common.{◌-◌, ◌<◌, get_or, sym, subst, arith, rules}
+use Rattle.std.proofs.Common.{◌-◌, ◌<◌, ◌≤◌, get_or, sym, subst, arith, rules}
 use Rattle.image_reading.specs.Walk.{IsPageTaken}
+use Rattle.layout.specs.Geometry.{most_pages}
 use Rattle.layout.proofs.GeometryLaws.{inodes_below}
 use Rattle.image_reading.proofs.Places.{one_inode}
 use Rattle.image_reading.proofs.Linked.{pages_begin, pages_map, pages_step, pages_smaller, pages_left}
@@ -23,7 +24,7 @@ offset_bounds-lists-inode c =
     let g = c.args.image.now.geometry in
     let most = (lemmas.reached_range g.pages c.args.image.now.words.now c.args.inode (one_inode g.pages g.volume_size) c.requires.reached).1 in
     let few = inodes_below g.pages g.volume_size in
-    let small : c.args.inode < 65537 = omega (arith, most, few, g.volume_size) in
+    let small : c.args.inode ≤ most_pages = omega (arith, most, few, g.volume_size) in
     search (rules, small)
 
 pub bounds-lists-inode : goal.bounds-lists-inode

@@ -1,4 +1,5 @@
-use Rattle.std.proofs.Common.{◌+◌, ◌<◌, get_or, length, sym, ap, subst, ◌∙◌, arith, rules}
+use Rattle.std.proofs.Common.{◌+◌, ◌≤◌, get_or, length, sym, ap, subst, ◌∙◌, arith, rules}
+use Rattle.layout.specs.Geometry.{most_pages}
 use Rattle.layout.proofs.GeometryLaws.{inodes_below}
 use Rattle.image_reading.specs.Reading.{slot_owner}
 use Rattle.image_reading.specs.Scan.{HasNumber, credited as credited_of}
@@ -29,7 +30,7 @@ offset_bounds-tally-inode c =
     let within = lemmas.credited_within P I s g.inodes (g.inodes + 1) slot (c.requires.walked.numbers s) g.inodes_exact (omega arith) owner in
     let is = c.credited-inode.ensures ∙ ap (credited_of P I) c.from.ensures in
     let few = inodes_below P g.volume_size in
-    let small : c.credited-inode.result < 65537 = omega (arith, within, few, is, g.inodes_exact, g.volume_size) in
+    let small : c.credited-inode.result ≤ most_pages = omega (arith, within, few, is, g.inodes_exact, g.volume_size) in
     search (rules, small)
 
 pub bounds-tally-inode : goal.bounds-tally-inode

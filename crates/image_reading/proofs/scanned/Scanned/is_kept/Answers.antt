@@ -1,7 +1,7 @@
 use Rattle.std.proofs.Common.{◌≡◌, inl, sym, ap, subst, ◌∙◌, lt-ltb, ltb-true, arith}
 use Rattle.std.proofs.lemmas.Bool.{false≢true, iff_false}
 use Rattle.layout.specs.Fields.{inode_kind, inode_size, page_owner}
-use Rattle.image_reading.specs.Reading.{Reached, IsFile, pages_of_size}
+use Rattle.image_reading.specs.Reading.{Reached, HasBytes, pages_of_size}
 use Rattle.image_reading.specs.Walk.{IsFound}
 use Rattle.image_reading.proofs.Owners.{found_range}
 use Rattle.image_reading.proofs.Readers.{kept_within, kept_owner, kept_below, kept_live, live_kept}
@@ -41,7 +41,7 @@ returns-then-inode-eq-FILE c =
     let I = image.words.now in
     let is = c.descriptor_at-descriptor.ensures.owner in
     let offset = c.descriptor_at-descriptor.ensures.offset in
-    let file : IsFile I (page_owner P I c.args.page) = ap (inode_kind I) (sym is) ∙ sym c.inode_at-inode.ensures.kind ∙ c.if-inode-eq-FILE.true in
+    let file : HasBytes I (page_owner P I c.args.page) = ap (inode_kind I) (sym is) ∙ sym c.inode_at-inode.ensures.kind ∙ c.if-inode-eq-FILE.true in
     let reached : Reached P I (page_owner P I c.args.page) = subst (Reached P I) is ((c.requires.known.reached _).0 (c.has.ensures.0 c.if-not-has.false)) in
     let count : c.div_ceil.result ≡ pages_of_size (inode_size I (page_owner P I c.args.page)) =
     c.div_ceil.ensures ∙ pages_of c.inode_at-inode.result.size ∙ ap pages_of_size (c.inode_at-inode.ensures.size ∙ ap (inode_size I) is) in (
@@ -60,7 +60,7 @@ returns c =
     let P = image.geometry.pages in
     let I = image.words.now in
     let is = c.descriptor_at-descriptor.ensures.owner in
-    let other : ¬ IsFile I (page_owner P I c.args.page) = λ file. c.if-inode-eq-FILE.false (c.inode_at-inode.ensures.kind ∙ ap (inode_kind I) is ∙ file) in
+    let other : ¬ HasBytes I (page_owner P I c.args.page) = λ file. c.if-inode-eq-FILE.false (c.inode_at-inode.ensures.kind ∙ ap (inode_kind I) is ∙ file) in
     let reached : Reached P I (page_owner P I c.args.page) = subst (Reached P I) is ((c.requires.known.reached _).0 (c.has.ensures.0 c.if-not-has.false)) in (
       (λ t. live_kept P I c.args.page c.requires.coherent reached other (c.has_live_slot.ensures.0 t)),
       (λ kept. c.has_live_slot.ensures.1 (kept_live P I c.args.page other kept)),

@@ -1,4 +1,5 @@
-use Rattle.std.proofs.Common.{◌<◌, get_or, sym, ◌∙◌, arith, rules}
+use Rattle.std.proofs.Common.{◌≤◌, get_or, sym, ◌∙◌, arith, rules}
+use Rattle.layout.specs.Geometry.{most_pages}
 use Rattle.layout.proofs.GeometryLaws.{inodes_below}
 use Rattle.image_reading.proofs.Readers.{directory_links, name_links, enough_links}
 use Rattle.image_reading.proofs.Tidying.{in_range}
@@ -20,7 +21,7 @@ offset_bounds-self-inode c =
     let image = c.args.self.now.image in
     let most = (in_range image.geometry.pages image.words.now c.args.inode c.requires.known.coherent c.requires.reached).1 in
     let few = inodes_below image.geometry.pages image.geometry.volume_size in
-    let small : c.args.inode < 65537 = omega (arith, most, few, image.geometry.volume_size) in
+    let small : c.args.inode ≤ most_pages = omega (arith, most, few, image.geometry.volume_size) in
     search (rules, small)
 
 pub bounds-self-inode : goal.bounds-self-inode
