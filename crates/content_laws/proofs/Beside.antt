@@ -18,7 +18,7 @@ inside_keeps P I J i offset bytes writes = words_keep I J (λ a low. writes.othe
 low_not_filled : (P : ℕ) (W : List ℕ) (i : ℕ) (pages : List ℕ) {a : ℕ} → IsFillWord P W i pages a → (b : ℕ) → IsSuperblockWord b → b ≢ a
 low_not_filled P W i pages (IsFillWord.old k j w page few) b low = head-ne_page P j w b low
 low_not_filled P W i pages (IsFillWord.new j w among few) b low = head-ne_page P j w b low
-low_not_filled P W i pages (IsFillWord.descriptor j f among least few) b low = head-ne_descriptor P j f b low
+low_not_filled P W i pages (IsFillWord.descriptor j f among which) b low = head-ne_descriptor P j f b low
 
 pub fills_keeps : (P : ℕ) (I J : List ℕ) (i offset : ℕ) (bytes pages : List ℕ) → FillsFile P I J i offset bytes pages → KeepsWords IsSuperblockWord I J
 fills_keeps P I J i offset bytes pages fills = words_keep I J (λ a low. fills.others a (λ filled. low_not_filled P I i pages filled a low refl))

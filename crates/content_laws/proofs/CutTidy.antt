@@ -3,6 +3,7 @@ use Rattle.std.proofs.Common.{◌≡◌, ◌≢◌, ◌↔◌, ◌⊎◌, inl, i
 use Rattle.std.proofs.lemmas.Bool.{cases_lt}
 use Rattle.layout.specs.Fields.{inode_size, page_owner, page_offset}
 use Rattle.layout.specs.Geometry.{data_pages_of, inode_word_of}
+use Rattle.layout.proofs.Widths.{descriptor_field_read}
 use Rattle.tree_model.specs.Step.{resized}
 use Rattle.tree_model.specs.Tree.{Tree, File, bytes_of}
 use Rattle.tree_model.proofs.TreeLaws.{node_at-with_bytes_here}
@@ -68,7 +69,7 @@ module _ (P : ℕ) (W : List ℕ) (i z : ℕ) (can : CanCut P W i z) where
 module _ (P : ℕ) (W : List ℕ) (i z : ℕ) (can : CanCut P W i z) (J K : List ℕ) (h : Cuts P W J K i z) where
   no_owner : (j : ℕ) → IsPastCut P W i z j → page_owner P K j ≡ 0
   unfolding page_owner
-  no_owner j g = words.past_zero P W i z can J K h j 0 g (omega arith)
+  no_owner j g = words.past_zero P W i z can J K h j 0 g (descriptor_field_read K 0 (omega arith))
 
   keeps : KeepsOthers P W K i (IsPastCut P W i z)
   keeps =
@@ -79,10 +80,11 @@ module _ (P : ℕ) (W : List ℕ) (i z : ℕ) (can : CanCut P W i z) (J K : List
         reached = can.reached;
         file = can.file;
         coherent = last.coherent;
+        version = words.head_same P W i z can J K h 1 (omega arith);
         names = λ q x. ((λ b. (last.names q x).0 ((resizing.names q x).0 b)), (λ b. (resizing.names q x).1 ((last.names q x).1 b)));
         inodes = words.inode_same P W i z can J K h;
         slots = λ t f held lt. words.slot_same P W i z can J K h t f;
-        descriptors = λ j f lt l3 none. words.descriptor_same P W i z can J K h j f (omega (arith, l3)) none;
+        descriptors = λ j f lt l8 none. words.descriptor_same P W i z can J K h j f l8 none;
         before = λ j g. inr g.owner;
         after = λ j g. inl (no_owner j g);
       }

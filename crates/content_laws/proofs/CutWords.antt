@@ -2,13 +2,14 @@
 use Rattle.std.proofs.Common.{◌≡◌, ◌≢◌, ◌⊎◌, inl, inr, ℕ, ◌<◌, ◌≤◌, List, length, refl, sym, ap, subst, ◌∙◌, arith}
 use Rattle.std.proofs.lemmas.Bool.{cases_eq, cases_lt}
 use Rattle.std.proofs.lemmas.List.{get_or-set_same, get_or-set_other}
-use Rattle.layout.specs.Fields.{word, inode_size, page_owner, page_offset}
+use Rattle.layout.specs.Fields.{word, descriptor_words, inode_size, page_owner, page_offset}
 use Rattle.layout.specs.Geometry.{inodes_of, data_pages_of, inode_word_of, descriptor_word_of, slot_word_of}
 use Rattle.layout.proofs.GeometryLaws.{inode_word_within}
+use Rattle.layout.proofs.Widths.{in_descriptor, same_descriptor_words}
 use Rattle.image_reading.specs.Reading.{pages_of_size}
 use Rattle.image_reading.specs.Soundness.{Rule}
 use Rattle.image_laws.specs.Resize.{CanResize, HasResized}
-use Rattle.image_laws.proofs.Addresses.{descriptor-ne_inode, descriptor-ne_slot, inode-ne_inode, inode-ne_field, inode-ne_slot, descriptor_word-one}
+use Rattle.image_laws.proofs.Addresses.{head-ne_inode, head-ne_descriptor, descriptor-ne_inode, descriptor-ne_slot, inode-ne_inode, inode-ne_field, inode-ne_slot, descriptor_word-one}
 use Rattle.image_laws.proofs.Decide.{dec_eq}
 use Rattle.image_laws.proofs.Given as lost
 use Rattle.image_laws.proofs.Paths.{reached_pos, reached-le}
@@ -88,30 +89,39 @@ module _ (P : ℕ) (W : List ℕ) (i z : ℕ) (can : CanCut P W i z) where
     give_slot : (t f : ℕ) → word J (slot_word_of P t f) ≡ word (sized W i z) (slot_word_of P t f)
     give_slot = lost.give_slot P (sized W i z) J (IsPastCut P W i z) h.gives (λ j g. g.in_range)
 
+    give_head : (a : ℕ) → a < 512 → word J a ≡ word (sized W i z) a
+    give_head a low = h.gives.others a (λ j g. head-ne_descriptor P j 0 a low)
+
     -- ---- from the owners to the kinds and offsets
+
+    rest_head : (a : ℕ) → a < 512 → word K a ≡ word J a
+    rest_head a low = h.clears.others a (λ j k g least high. head-ne_descriptor P j k a low)
 
     rest_descriptor : (x f : ℕ) → f < 8 → (f ≡ 0) ⊎ (IsPastCut P W i z x → ⊥) → word K (descriptor_word_of P x f) ≡ word J (descriptor_word_of P x f)
     rest_descriptor x f l8 other = h.clears.others (descriptor_word_of P x f) (λ j k g low high e.
-        let (same_page, same_field) = descriptor_word-one P x f j k l8 (omega arith) e in
+        let (same_page, same_field) = descriptor_word-one P x f j k l8 (in_descriptor J k high) e in
         elim other [ inl zero ↦ omega (arith, zero, same_field, low) | inr none ↦ none (subst (IsPastCut P W i z) (sym same_page) g) ])
 
     rest_inode : (x f : ℕ) → 1 ≤ x → x ≤ inodes_of P → f < 16 → word K (inode_word_of x f) ≡ word J (inode_word_of x f)
     rest_inode x f some high lt = h.clears.others (inode_word_of x f) (λ j k g low top e. descriptor-ne_inode P j k x f some high lt (sym e))
 
     rest_slot : (t f : ℕ) → word K (slot_word_of P t f) ≡ word J (slot_word_of P t f)
-    rest_slot t f = h.clears.others (slot_word_of P t f) (λ j k g low high e. descriptor-ne_slot P j k t f g.in_range (omega arith) (sym e))
+    rest_slot t f = h.clears.others (slot_word_of P t f) (λ j k g low high e. descriptor-ne_slot P j k t f g.in_range (in_descriptor J k high) (sym e))
 
     -- ---- from the first to the last
+
+    pub head_same : (a : ℕ) → a < 512 → word K a ≡ word W a
+    head_same a low = rest_head a low ∙ give_head a low ∙ sized_word a (head-ne_inode i 2 a low)
 
     pub descriptor_same : (x f : ℕ) → f < 8 → (IsPastCut P W i z x → ⊥) → word K (descriptor_word_of P x f) ≡ word W (descriptor_word_of P x f)
     descriptor_same x f l8 none =
         rest_descriptor x f l8 (inr none) ∙ give_descriptor x f l8 (inr none) ∙ sized_word (descriptor_word_of P x f) (descriptor-ne_inode P x f i 2 pos most (omega arith))
 
-    pub past_zero : (x f : ℕ) → IsPastCut P W i z x → f < 3 → word K (descriptor_word_of P x f) ≡ 0
+    pub past_zero : (x f : ℕ) → IsPastCut P W i z x → f < descriptor_words K → word K (descriptor_word_of P x f) ≡ 0
     unfolding page_owner
     past_zero x f g lt = elim (cases_eq f 0) [
       | inl e ↦ ap (λ k. word K (descriptor_word_of P x k)) e ∙ rest_descriptor x 0 (omega arith) (inl refl) ∙ h.gives.owners x g
-      | inr ne ↦ h.clears.rests x f g (omega (arith, ne)) lt
+      | inr ne ↦ h.clears.rests x f g (omega (arith, ne)) (subst (λ n. f < n) (same_descriptor_words J K (rest_head 1 (omega arith))) lt)
     ]
 
     pub inode_same : (x f : ℕ) → 1 ≤ x → x ≤ inodes_of P → f < 16 → (x ≢ i) ⊎ (f ≢ 2) → word K (inode_word_of x f) ≡ word W (inode_word_of x f)

@@ -4,6 +4,7 @@ use Rattle.std.specs.Prelude.{Contains}
 use Rattle.std.proofs.lemmas.Bool.{cases_eq}
 use Rattle.layout.specs.Fields.{word, inode_size, page_owner, page_byte}
 use Rattle.layout.specs.Geometry.{inodes_of, data_pages_of, inode_word_of, descriptor_word_of, page_word_of, slot_word_of}
+use Rattle.layout.proofs.Widths.{descriptor_field_read}
 use Rattle.image_reading.specs.Reading.{HasBytes, IsHeld, Reached, IsPageOf}
 use Rattle.image_reading.specs.Soundness.{IsCoherent}
 use Rattle.image_laws.specs.Frame.{SameBytes, SameMeaning}
@@ -28,7 +29,7 @@ module _ (P : ℕ) (W A : List ℕ) (i z offset : ℕ) (bytes pages : List ℕ) 
   content : {a : ℕ} → IsFillWord P W i pages a → IsBytesWord P W a
   content (IsFillWord.old k j w g lt) = IsBytesWord.bytes j w g.in_range lt g.kind
   content (IsFillWord.new j w c lt) = IsBytesWord.free j w (can.free j c).0 lt (can.free j c).1
-  content (IsFillWord.descriptor j f c l m) = IsBytesWord.descriptor j f (can.free j c).0 l m (can.free j c).1
+  content (IsFillWord.descriptor j f c which) = IsBytesWord.descriptor j f (can.free j c).0 (omega (arith, which)) (descriptor_field_read W f (omega (arith, which))) (can.free j c).1
 
   pub fill_stores : StoresContent P W A
   fill_stores = record { size = fills.size; others = λ a none. fills.others a (λ c. none (content c)) }
@@ -39,7 +40,7 @@ module _ (P : ℕ) (W A : List ℕ) (i z offset : ℕ) (bytes pages : List ℕ) 
       let (same, x) = page_word-one P h v j w l lt e in ne (sym g.owner ∙ ap (page_owner P W) (sym same) ∙ f.owner)
   foreign k n j w lt r ne g (IsFillWord.new h v c l) e =
       let (same, x) = page_word-one P h v j w l lt e in reached_pos P W k r (sym g.owner ∙ ap (page_owner P W) (sym same) ∙ (can.free h c).1)
-  foreign k n j w lt r ne g (IsFillWord.descriptor h f c l m) e = descriptor-ne_page P h f j w (can.free h c).0 (omega (arith, m)) e
+  foreign k n j w lt r ne g (IsFillWord.descriptor h f c which) e = descriptor-ne_page P h f j w (can.free h c).0 (omega (arith, which)) e
 
   other_bytes : (k : ℕ) → Reached P W k → HasBytes W k → k ≢ i → SameBytes P W A k
   unfolding page_byte
@@ -85,7 +86,7 @@ module _ (P : ℕ) (W A : List ℕ) (i z offset : ℕ) (bytes pages : List ℕ) 
   not_filled : (j f : ℕ) → j < data_pages_of P → f < 8 → ¬ Contains pages j → {a : ℕ} → IsFillWord P W i pages a → a ≡ descriptor_word_of P j f → ⊥
   not_filled j f lt l8 none (IsFillWord.old k h w g l) e = descriptor-ne_page P j f h w lt l8 (sym e)
   not_filled j f lt l8 none (IsFillWord.new h w c l) e = descriptor-ne_page P j f h w lt l8 (sym e)
-  not_filled j f lt l8 none (IsFillWord.descriptor h g c l m) e = none (subst (Contains pages) (descriptor_word-one P h g j f (omega (arith, m)) l8 e).0 c)
+  not_filled j f lt l8 none (IsFillWord.descriptor h g c which) e = none (subst (Contains pages) (descriptor_word-one P h g j f (omega (arith, which)) l8 e).0 c)
 
   pub fill_descriptor : (j f : ℕ) → j < data_pages_of P → f < 8 → ¬ Contains pages j → word A (descriptor_word_of P j f) ≡ word W (descriptor_word_of P j f)
   fill_descriptor j f lt l8 none = fills.others (descriptor_word_of P j f) (λ c. not_filled j f lt l8 none c refl)

@@ -10,10 +10,11 @@ use Rattle.tree_model.specs.Step.{with_bytes, overwritten, resized}
 use Rattle.tree_model.specs.Tree.{Node, Tree, Room, bytes_of}
 use Rattle.image_reading.specs.Reading.{IsHeld, Names, Reached, IsPageOf, IsContent, IsNode, pages_of_size, Reads, HasRoom}
 use Rattle.image_reading.specs.Soundness.{Rule}
+use Rattle.image_reading.proofs.FilePages.{page_from_place}
 use Rattle.image_laws.specs.Frame.{SameMeaning}
 use Rattle.image_laws.specs.Quiet.{IsMix}
 use Rattle.image_laws.specs.Resize.{IsStored, HasResized}
-use Rattle.image_laws.proofs.Addresses.{descriptor-ne_inode, inode-ne_inode, inode-ne_field, inode-ne_slot}
+use Rattle.image_laws.proofs.Addresses.{head-ne_inode, descriptor-ne_inode, inode-ne_inode, inode-ne_field, inode-ne_slot}
 use Rattle.image_laws.proofs.Free.{mix_one}
 use Rattle.image_laws.proofs.Paths.{reached_pos}
 use Rattle.image_laws.proofs.Resizes.{resize_law, resize_room_law}
@@ -24,7 +25,7 @@ use Rattle.content_laws.proofs.Filling.{filled, fill_slot}
 use Rattle.content_laws.proofs.Keeps.{Keeps, keeps_tidy, keeps_index}
 use Rattle.content_laws.proofs.Meaning.{forth, reads_with, shape_room}
 use Rattle.content_laws.proofs.Ranges.{written_at}
-use Rattle.content_laws.proofs.Taking.{pos, most, taken, take_byte, taken_inode, taken_slot, taken_descriptor, new_page, which_page, can_resize}
+use Rattle.content_laws.proofs.Taking.{pos, most, taken, take_byte, taken_head, taken_inode, taken_slot, taken_descriptor, new_page, which_page, can_resize}
 use Rattle.content_laws.proofs.Torn.{content_of}
 
 module _ (P : ℕ) (W A B : List ℕ) (i z offset : ℕ) (bytes pages : List ℕ) (can : CanGrow P W i z offset bytes pages) (fills : FillsFile P W A i offset bytes pages) (takes : TakesPages P A B i pages) where
@@ -98,7 +99,7 @@ module _ (P : ℕ) (W A B : List ℕ) (i z offset : ℕ) (bytes pages : List ℕ
 
   page_forward : (k j : ℕ) → IsPageOf P B i k j → IsPageOf P (sized B i z) i k j
   unfolding page_owner page_kind page_offset
-  page_forward k j g = record { in_range = g.in_range; owner = from_descriptor j 0 ∙ g.owner; kind = from_descriptor j 1 ∙ g.kind; offset = from_descriptor j 2 ∙ g.offset }
+  page_forward k j g = page_from_place (record { in_range = g.in_range; owner = from_descriptor j 0 ∙ g.owner; kind = from_descriptor j 1 ∙ g.kind; offset = from_descriptor j 2 ∙ g.offset })
 
   more_pages : (small large : ℕ) → small < large → pages_of_size small ≤ pages_of_size large
   unfolding pages_of_size
@@ -111,6 +112,7 @@ module _ (P : ℕ) (W A B : List ℕ) (i z offset : ℕ) (bytes pages : List ℕ
     reached = can.reached;
     file = can.file;
     names = names;
+    version = other 1 (head-ne_inode i 2 1 (omega arith)) ∙ taken_head P W A B i z offset bytes pages can fills takes 1 (omega arith);
     inode = inode;
     descriptor = λ j f lt l8 none. from_descriptor j f ∙ taken_descriptor P W A B i z offset bytes pages can fills takes j f lt l8 none;
     slot = slot;

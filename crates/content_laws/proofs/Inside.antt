@@ -18,7 +18,7 @@ use Rattle.content_laws.proofs.Bytes.{length-overwritten}
 use Rattle.content_laws.proofs.Keeps.{Keeps, keeps_tidy, keeps_index, keeps_page}
 use Rattle.content_laws.proofs.Lists.{contains_none}
 use Rattle.content_laws.proofs.Meaning.{reads_with, shape_room}
-use Rattle.content_laws.proofs.Quiet.{inode_same, slot_same, quiet}
+use Rattle.content_laws.proofs.Quiet.{head_same, inode_same, slot_same, quiet}
 use Rattle.content_laws.proofs.Ranges.{written_at}
 use Rattle.content_laws.proofs.Torn.{torn_law, same_torn_law, content_of}
 
@@ -60,6 +60,7 @@ module _ (P : ℕ) (W J : List ℕ) (i offset : ℕ) (bytes : List ℕ) (can : C
     reached = can.reached;
     file = can.file;
     names = whole.shape.names;
+    version = head_same P W J stores 1 (omega arith);
     inode = λ x f p m lt other. inode_same P W J stores x f p m lt;
     descriptor = λ j f lt l8 none. h.others (descriptor_word_of P j f) (λ k m w g l e. descriptor-ne_page P j f m w lt l8 e);
     slot = slot_same P W J stores;

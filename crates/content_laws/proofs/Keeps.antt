@@ -21,6 +21,7 @@ pub record Keeps (P : ℕ) (W K : List ℕ) (i : ℕ) (pages : List ℕ) : Type 
   pub reached : Reached P W i
   pub file : HasBytes W i
   pub names : (q : Route) (x : ℕ) → Names P W q x ↔ Names P K q x
+  pub version : word K 1 ≡ word W 1
   pub inode : (x f : ℕ) → 1 ≤ x → x ≤ inodes_of P → f < 16 → (x ≢ i) ⊎ (f ≢ 2) → word K (inode_word_of x f) ≡ word W (inode_word_of x f)
   pub descriptor : (j f : ℕ) → j < data_pages_of P → f < 8 → ¬ Contains pages j → word K (descriptor_word_of P j f) ≡ word W (descriptor_word_of P j f)
   pub slot : (s f : ℕ) → f < 16 → IsHeld P W s → word K (slot_word_of P s f) ≡ word W (slot_word_of P s f)
@@ -36,9 +37,10 @@ module _ (P : ℕ) (W K : List ℕ) (i : ℕ) (pages : List ℕ) (h : Keeps P W 
     file = h.file;
     coherent = h.coherent;
     names = h.names;
+    version = h.version;
     inodes = h.inode;
     slots = λ s f held lt. h.slot s f lt held;
-    descriptors = λ j f lt l3 none. h.descriptor j f lt (omega (arith, l3)) none;
+    descriptors = h.descriptor;
     before = λ j c. inl (h.free j c).1;
     after = λ j c. let (k, lt, at) = place_of pages j c in inr (h.new k j at).owner;
   }

@@ -4,6 +4,7 @@ use Rattle.std.proofs.lemmas.Bool.{cases_eq, cases_lt}
 use Rattle.layout.specs.Fields.{word, inode_kind, inode_links, inode_size, page_owner, page_kind, page_offset, slot_inode, slot_pointer, slot_name}
 use Rattle.layout.specs.Geometry.{inodes_of, data_pages_of, page_of_slot, inode_word_of, descriptor_word_of, slot_word_of}
 use Rattle.layout.proofs.GeometryLaws.{page_of_slot_below, slot_below}
+use Rattle.layout.proofs.Widths.{in_inode, in_descriptor, descriptor_field_read, same_inode_words}
 use Rattle.layout.specs.Name.{name_in_words}
 use Rattle.tree_model.specs.PathText.{Route}
 use Rattle.image_reading.specs.Reading.{HasBytes, slot_owner, IsHeld, IsLive, Names, Reached, IsReachedSlot, IsNameOf, IsChildOf, IsLinkCount, IsRoomOf, pages_of_size}
@@ -15,7 +16,7 @@ use Rattle.image_counts.specs.Entries.{IsEntryOf, IsSlotOf}
 use Rattle.image_counts.proofs.Counting.{none_counted}
 use Rattle.image_counts.proofs.Decided.{room_owner}
 use Rattle.image_laws.proofs.KeptPages as pages
-use Rattle.image_laws.proofs.KeptPages.{KeepsPages, by_words, held_owner_same, litter_page}
+use Rattle.image_laws.proofs.KeptPages.{KeepsPages, KeepsDescriptors, by_words, held_owner_same, litter_page}
 use Rattle.image_laws.proofs.KeptSlots as slot_laws
 use Rattle.image_laws.proofs.KeptSlots.{KeepsSlots}
 use Rattle.image_laws.proofs.Paths.{reached_pos, reached-le}
@@ -30,9 +31,10 @@ pub record KeepsOthers (P : ℕ) (W K : List ℕ) (i : ℕ) (Changes : ℕ → T
   pub file : HasBytes W i
   pub coherent : IsCoherent P K
   pub names : (q : Route) (x : ℕ) → Names P W q x ↔ Names P K q x
+  pub version : word K 1 ≡ word W 1
   pub inodes : (x f : ℕ) → 1 ≤ x → x ≤ inodes_of P → f < 16 → (x ≢ i) ⊎ (f ≢ 2) → word K (inode_word_of x f) ≡ word W (inode_word_of x f)
   pub slots : (t f : ℕ) → IsHeld P W t → f < 16 → word K (slot_word_of P t f) ≡ word W (slot_word_of P t f)
-  pub descriptors : (j f : ℕ) → j < data_pages_of P → f < 3 → (Changes j → ⊥) → word K (descriptor_word_of P j f) ≡ word W (descriptor_word_of P j f)
+  pub descriptors : (j f : ℕ) → j < data_pages_of P → f < 8 → (Changes j → ⊥) → word K (descriptor_word_of P j f) ≡ word W (descriptor_word_of P j f)
   pub before : (j : ℕ) → Changes j → (page_owner P W j ≡ 0) ⊎ (page_owner P W j ≡ i)
   pub after : (j : ℕ) → Changes j → (page_owner P K j ≡ 0) ⊎ (page_owner P K j ≡ i)
 
@@ -45,15 +47,18 @@ tidy_below P W i tidy reached file j lt own = elim (cases_lt (page_offset P W j)
     in_range = lt;
     free = λ kept. elim kept [
       | inl page ↦ (let low = subst (λ x. page_offset P W j < pages_of_size (inode_size W x)) own page.below in omega (arith, past, low))
-      | inr room ↦ (let two = room.directory in let one = subst (λ x. inode_kind W x ≡ 1) (sym own) file in omega (arith, one, two))
+      | inr room ↦ (let two = room.directory in let one = subst (HasBytes W) (sym own) file in omega (arith, one, two))
     ];
-    nonzero = (0, omega arith, λ zero. reached_pos P W i reached (sym own ∙ zero));
+    nonzero = (0, descriptor_field_read W 0 (omega arith), λ zero. reached_pos P W i reached (sym own ∙ zero));
   }))
 ]
 
 module _ (P : ℕ) (W K : List ℕ) (i : ℕ) (Changes : ℕ → Type 0) (h : KeepsOthers P W K i Changes) where
+  descriptors_read : KeepsDescriptors P W K Changes
+  descriptors_read j f lt few none = h.descriptors j f lt (in_descriptor W f few) none
+
   pub paged : KeepsPages P W K Changes
-  paged = by_words P W K Changes h.descriptors
+  paged = by_words P W K Changes descriptors_read
 
   -- ---- inodes
 
@@ -220,7 +225,7 @@ module _ (P : ℕ) (W K : List ℕ) (i : ℕ) (Changes : ℕ → Type 0) (h : Ke
         least = l.least;
         most = l.most;
         unreached = λ r. l.unreached (forth x r);
-        nonzero = (f, lt, λ e. nonzero (h.inodes x f l.least l.most (omega (arith, lt)) (inl other) ∙ e));
+        nonzero = (f, subst (λ n. f < n) (same_inode_words W K h.version) lt, λ e. nonzero (h.inodes x f l.least l.most (in_inode K f lt) (inl other) ∙ e));
       })
 
   no_count : (x : ℕ) → IsLitterCount P K x → ⊥
@@ -246,7 +251,7 @@ module _ (P : ℕ) (W K : List ℕ) (i : ℕ) (Changes : ℕ → Type 0) (h : Ke
     no_page dec changed j l = elim (dec j) [
       | yes c ↦ changed j c l
       | no none ↦ none_counted (IsLitterPage P W) h.tidy.repaired.of_pages j
-          (litter_page P W K Changes h.descriptors kept.kinds (λ k lt other r. forth (page_owner P W k) r) below_size (λ k lt other. (rooms (page_owner P W k) k).0) j none l)
+          (litter_page P W K Changes descriptors_read h.version kept.kinds (λ k lt other r. forth (page_owner P W k) r) below_size (λ k lt other. (rooms (page_owner P W k) k).0) j none l)
     ]
 
     -- where no page that changed is to be repaired, the last image is tidy

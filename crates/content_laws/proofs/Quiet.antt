@@ -2,6 +2,7 @@
 use Rattle.std.proofs.Common.{◌≡◌, ◌≢◌, ◌⊎◌, inl, inr, ℕ, ◌+◌, ◌<◌, ◌≤◌, List, refl, sym, ap, ◌∙◌, arith}
 use Rattle.layout.specs.Fields.{word, inode_links, page_owner, page_kind}
 use Rattle.layout.specs.Geometry.{inodes_of, data_pages_of, page_of_slot, inode_word_of, descriptor_word_of, slot_word_of}
+use Rattle.layout.proofs.Widths.{in_descriptor}
 use Rattle.image_reading.specs.Reading.{slot_owner, IsHeld, Reached}
 use Rattle.image_reading.specs.Soundness.{IsCoherent}
 use Rattle.image_laws.specs.Quiet.{IsQuiet}
@@ -27,13 +28,13 @@ module _ (P : ℕ) (I : List ℕ) where
   not_descriptor j f lt l8 why (IsBytesWord.bytes h w l n k) e = descriptor-ne_page P j f h w lt l8 (sym e)
   not_descriptor j f lt l8 why (IsBytesWord.free h w l n z) e = descriptor-ne_page P j f h w lt l8 (sym e)
   not_descriptor j f lt l8 why (IsBytesWord.descriptor h g l n o z) e =
-      let (x, y) = descriptor_word-one P h g j f (omega (arith, o)) l8 e in
+      let (x, y) = descriptor_word-one P h g j f (in_descriptor I g o) l8 e in
       elim why [ inl owned ↦ owned (ap (page_owner P I) (sym x) ∙ z) | inr first ↦ omega (arith, y, first, n) ]
 
   not_slot : (s f : ℕ) → f < 16 → page_kind P I (page_of_slot s) ≢ 1 → page_owner P I (page_of_slot s) ≢ 0 → {b : ℕ} → IsBytesWord P I b → b ≡ slot_word_of P s f → ⊥
   not_slot s f lt kind owned (IsBytesWord.bytes j w l n k) e = kind (ap (page_kind P I) (slot_in_page P s f j w lt n (sym e)) ∙ k)
   not_slot s f lt kind owned (IsBytesWord.free j w l n z) e = owned (ap (page_owner P I) (slot_in_page P s f j w lt n (sym e)) ∙ z)
-  not_slot s f lt kind owned (IsBytesWord.descriptor h g l n o z) e = descriptor-ne_slot P h g s f l (omega (arith, o)) e
+  not_slot s f lt kind owned (IsBytesWord.descriptor h g l n o z) e = descriptor-ne_slot P h g s f l (in_descriptor I g o) e
 
 module _ (P : ℕ) (I J : List ℕ) (stores : StoresContent P I J) where
   pub head_same : (a : ℕ) → a < 512 → word J a ≡ word I a

@@ -8,6 +8,7 @@ use Rattle.layout.specs.Geometry.{inodes_of, data_pages_of, inode_word_of, descr
 use Rattle.tree_model.proofs.TreeKept.{same_some}
 use Rattle.image_reading.specs.Reading.{Reached, IsPageOf, pages_of_size}
 use Rattle.image_reading.specs.Soundness.{Rule, IsCoherent}
+use Rattle.image_reading.proofs.FilePages.{page_from_place}
 use Rattle.image_laws.specs.Exempt.{IsExempt}
 use Rattle.image_laws.specs.Frame.{AllSameBytes, SameMeaning}
 use Rattle.image_laws.specs.Quiet.{IsMix, IsQuiet}
@@ -18,11 +19,12 @@ use Rattle.image_laws.proofs.Free.{mix_itself}
 use Rattle.image_laws.proofs.NewPage.{links_kept}
 use Rattle.image_laws.proofs.Paths.{reached_pos, reached-le}
 use Rattle.image_laws.proofs.Quiet.{mix_law}
-use Rattle.image_laws.proofs.Ready.{tidy_but}
 use Rattle.content_laws.specs.Growth.{CanGrow, FillsFile, TakesPages}
-use Rattle.content_laws.proofs.Filling.{filled, fill_inode, fill_owner, fill_descriptor}
+use Rattle.content_laws.proofs.Filling.{fill_stores, filled, fill_inode, fill_owner, fill_descriptor}
+use Rattle.content_laws.proofs.KeptFile.{tidy_below}
 use Rattle.content_laws.proofs.Lists.{contains_at, place_of, contains_or_not}
 use Rattle.content_laws.proofs.Meaning.{forth}
+use Rattle.content_laws.proofs.Quiet.{head_same}
 
 -- a used word is no owner
 used_not_owner : (P : ℕ) (I : List ℕ) → IsCoherent P I → (j : ℕ) → j < data_pages_of P → {a : ℕ} → IsUsed P I a → a ≡ descriptor_word_of P j 0 → ⊥
@@ -119,6 +121,9 @@ module _ (P : ℕ) (W A B : List ℕ) (i z offset : ℕ) (bytes pages : List ℕ
 
   -- ---- words of W
 
+  pub taken_head : (a : ℕ) → a < 512 → word B a ≡ word W a
+  taken_head a low = takes.others a (λ j c. head-ne_descriptor P j 0 a low) ∙ head_same P W A (fill_stores P W A i z offset bytes pages can fills) a low
+
   pub taken_inode : (x f : ℕ) → 1 ≤ x → x ≤ inodes_of P → f < 16 → word B (inode_word_of x f) ≡ word W (inode_word_of x f)
   taken_inode x f p m lt = take_inode x f p m lt ∙ fill_inode P W A i z offset bytes pages can fills x f p m lt
 
@@ -140,7 +145,7 @@ module _ (P : ℕ) (W A B : List ℕ) (i z offset : ℕ) (bytes pages : List ℕ
   -- a new page, with its place, or an old one
   pub new_page : (k j : ℕ) → slice_get pages k ≡ Some j → IsPageOf P B i (pages_of_size (inode_size W i) + k) j
   new_page k j at = let c = contains_at pages k j at in
-      record { in_range = range j c; owner = takes.owners j c; kind = kind_after j ∙ fills.kinds k j at; offset = offset_after j ∙ fills.offsets k j at }
+      page_from_place (record { in_range = range j c; owner = takes.owners j c; kind = kind_after j ∙ fills.kinds k j at; offset = offset_after j ∙ fills.offsets k j at })
 
   old_page : (j : ℕ) → page_owner P W j ≡ i → ¬ Contains pages j
   old_page j owner c = let free = (can.free j c).1 in let p = pos in omega (arith, owner, free, p)
@@ -151,7 +156,7 @@ module _ (P : ℕ) (W A B : List ℕ) (i z offset : ℕ) (bytes pages : List ℕ
 
   pub kept_page : (k j : ℕ) → IsPageOf P W i k j → IsPageOf P B i k j
   kept_page k j g = let (o, n, f) = fields j g.in_range (old_page j g.owner) in
-      record { in_range = g.in_range; owner = o ∙ g.owner; kind = n ∙ g.kind; offset = f ∙ g.offset }
+      page_from_place (record { in_range = g.in_range; owner = o ∙ g.owner; kind = n ∙ g.kind; offset = f ∙ g.offset })
 
   pub record IsNewPage (k j : ℕ) : Type 0 where
     pub place : ℕ
@@ -163,28 +168,12 @@ module _ (P : ℕ) (W A B : List ℕ) (i z offset : ℕ) (bytes pages : List ℕ
     | inl c ↦ (let (m, lt, at) = place_of pages j c in
         inl (record { place = m; at = at; stands = sym g.offset ∙ (new_page m j at).offset }))
     | inr none ↦ (let (o, n, f) = fields j g.in_range none in
-        inr (record { in_range = g.in_range; owner = sym o ∙ g.owner; kind = sym n ∙ g.kind; offset = sym f ∙ g.offset }))
+        inr (page_from_place (record { in_range = g.in_range; owner = sym o ∙ g.owner; kind = sym n ∙ g.kind; offset = sym f ∙ g.offset })))
   ]
 
   -- in W each page of the file is below its end
   pub old_below : (k j : ℕ) → IsPageOf P W i k j → k < pages_of_size (inode_size W i)
-  unfolding page_owner
-  old_below k j g = elim (cases_lt k (pages_of_size (inode_size W i))) [
-    | inl lt ↦ lt
-    | inr ge ↦
-        let owner = g.owner in
-        let offset = g.offset in
-        let p = pos in
-        let wrong : j ≡ j + 1 = (tidy_but P W (j + 1) can.tidy).pages j (record {
-          in_range = g.in_range;
-          free = λ kept. elim kept [
-            | inl page ↦ (let below = subst (λ x. page_offset P W j < pages_of_size (inode_size W x)) owner page.below in omega (arith, below, offset, ge))
-            | inr room ↦ (let two = ap (inode_kind W) (sym owner) ∙ room.directory in let one = can.file in omega (arith, one, two))
-          ];
-          nonzero = (0, omega arith, λ zero. omega (arith, zero, owner, p));
-        }) in
-        absurd (omega (arith, wrong))
-  ]
+  old_below k j g = subst (λ n. n < pages_of_size (inode_size W i)) g.offset (tidy_below P W i can.tidy can.reached can.file j g.in_range g.owner)
 
   -- ---- the size may be stored
 

@@ -1,6 +1,6 @@
 -- The intervals of a truncation to less: the size; owners of the pages past the new end; the rest of their descriptors.
 use Rattle.std.specs.Prelude.{◌≡◌, ◌≢◌, ◌↔◌, ◌⊎◌, ℕ, ◌<◌, ◌≤◌, List, length, Some, Contains}
-use Rattle.layout.specs.Fields.{word, inode_kind, inode_size, page_owner, page_offset, slot_inode}
+use Rattle.layout.specs.Fields.{word, descriptor_words, inode_kind, inode_size, page_owner, page_offset, slot_inode}
 use Rattle.layout.specs.Geometry.{inodes_of, data_pages_of, descriptor_word_of}
 use Rattle.tree_model.specs.PathText.{Route}
 use Rattle.tree_model.specs.Run.{State}
@@ -31,11 +31,11 @@ pub record IsPastCut (P : ℕ) (W : List ℕ) (i z j : ℕ) : Type 0 where
   pub owner : page_owner P W j ≡ i
   pub past : pages_of_size z ≤ page_offset P W j
 
--- From J to K the kinds and offsets of the pages that were given back become zero.
+-- From J to K the rest of the descriptors of the pages that were given back becomes zero.
 pub record ClearsPages (P : ℕ) (J K : List ℕ) (given : ℕ → Type 0) : Type 0 where
   pub size : length K ≡ length J
-  pub rests : (j f : ℕ) → given j → 1 ≤ f → f < 3 → word K (descriptor_word_of P j f) ≡ 0
-  pub others : (a : ℕ) → ((j f : ℕ) → given j → 1 ≤ f → f < 3 → a ≢ descriptor_word_of P j f) → word K a ≡ word J a
+  pub rests : (j f : ℕ) → given j → 1 ≤ f → f < descriptor_words J → word K (descriptor_word_of P j f) ≡ 0
+  pub others : (a : ℕ) → ((j f : ℕ) → given j → 1 ≤ f → f < descriptor_words J → a ≢ descriptor_word_of P j f) → word K a ≡ word J a
 
 -- the intervals after the size
 pub record Cuts (P : ℕ) (W J K : List ℕ) (i z : ℕ) : Type 0 where

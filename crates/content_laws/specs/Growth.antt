@@ -1,7 +1,7 @@
 -- A write past the size and a truncation to more, in three intervals: the bytes with the new pages' kinds and offsets; the
 -- new pages' owners, where there are new pages; the size.
 use Rattle.std.specs.Prelude.{◌≡◌, ◌≢◌, ◌⊎◌, ℕ, ◌+◌, ◌-◌, ◌/◌, ◌%◌, ◌^◌, ◌<◌, ◌≤◌, List, length, set, Contains, Some, slice_get}
-use Rattle.layout.specs.Fields.{word, inode_kind, inode_size, page_owner, page_kind, page_offset, page_byte}
+use Rattle.layout.specs.Fields.{word, IsKindOrOffset, inode_kind, inode_size, page_owner, page_kind, page_offset, page_byte}
 use Rattle.layout.specs.Geometry.{inode_word_of, descriptor_word_of, page_word_of}
 use Rattle.tree_model.specs.Step.{with_bytes, overwritten, resized}
 use Rattle.tree_model.specs.Tree.{Tree, Room, bytes_of}
@@ -30,7 +30,7 @@ pub record CanGrow (P : ℕ) (W : List ℕ) (i z offset : ℕ) (bytes pages : Li
 pub data IsFillWord (P : ℕ) (W : List ℕ) (i : ℕ) (pages : List ℕ) : ℕ → Type 0 where
   old : (k j w : ℕ) → IsPageOf P W i k j → w < 512 → IsFillWord P W i pages (page_word_of P j w)
   new : (j w : ℕ) → Contains pages j → w < 512 → IsFillWord P W i pages (page_word_of P j w)
-  descriptor : (j f : ℕ) → Contains pages j → 1 ≤ f → f < 3 → IsFillWord P W i pages (descriptor_word_of P j f)
+  descriptor : (j f : ℕ) → Contains pages j → IsKindOrOffset f → IsFillWord P W i pages (descriptor_word_of P j f)
 
 -- From W to A the range is written below the size, and past it in the file's old pages and in the new ones, which follow them;
 -- beside it there are zeros past the size. No other word changes.

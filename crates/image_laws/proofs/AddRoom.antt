@@ -4,14 +4,17 @@ use Rattle.std.proofs.lemmas.Bool.{cases_eq}
 use Rattle.std.specs.Cmp.{nat_cmp_total}
 use Rattle.layout.specs.Fields.{inode_kind, slot_inode, slot_name}
 use Rattle.layout.specs.Geometry.{page_of_slot}
+use Rattle.layout.specs.Kinds.{node_code}
+use Rattle.layout.specs.declared.kinds.NodeKind.{NodeKind}
+use Rattle.layout.specs.declared.kinds.NodeKind.TheVariants.{File, Directory}
 use Rattle.tree_model.specs.PathText.{Route}
 use Rattle.tree_model.specs.Table.{get, insert}
-use Rattle.tree_model.specs.Tree.{Node, Directory, File, Room, pages_in}
+use Rattle.tree_model.specs.Tree.{Room, pages_in}
 use Rattle.tree_model.proofs.TableLaws.{get-insert}
 use Rattle.tree_model.proofs.TreeLaws.{same_id_itself, other_id}
 use Rattle.tree_model.proofs.TreeKept.{same_some}
 use Rattle.image_reading.specs.Counts.{Count}
-use Rattle.image_reading.specs.Reading.{slot_owner, Reached, IsNode, IsRoomOf, HasRoom}
+use Rattle.image_reading.specs.Reading.{IsFile, IsDirectory, slot_owner, Reached, IsRoomOf, HasRoom}
 use Rattle.image_reading.proofs.Counts.{count_none, count_one}
 use Rattle.image_reading.proofs.Credits.{count_same, count_more}
 use Rattle.image_counts.proofs.Decided.{room_counted}
@@ -70,7 +73,7 @@ module _ (P : ℕ) (I J : List ℕ) (p : Route) (d s i : ℕ) (c : CanAdd P I p 
   }
 
   -- a directory with the same pages
-  entry_same : (x n : ℕ) → (x ≡ i → inode_kind I i ≡ 1) → (x ≡ d → IsRoomOf P I d (page_of_slot s)) → IsEntry P I x n ↔ IsEntry P J x n
+  entry_same : (x n : ℕ) → (x ≡ i → IsFile I i) → (x ≡ d → IsRoomOf P I d (page_of_slot s)) → IsEntry P I x n ↔ IsEntry P J x n
   entry_same x n file there = (
     (λ (r, k, count). (reached_forward P I J p d s i c only stored x r, kind_reached only c.coherent x r ∙ k, count_same (IsRoomOf P I x) (IsRoomOf P J x) n pages count)),
     (λ (r, k, count).
@@ -102,7 +105,7 @@ module _ (P : ℕ) (I J : List ℕ) (p : Route) (d s i : ℕ) (c : CanAdd P I p 
   )
 
   -- a new directory
-  entry_new : inode_kind I i ≡ 2 → IsEntry P J i 0
+  entry_new : IsDirectory I i → IsEntry P J i 0
   entry_new two = (
     (slot_name P I s ∷ p, names_new P I J p d s i c only stored),
     only.node_kind i c.most ∙ two,
@@ -120,12 +123,12 @@ module _ (P : ℕ) (I J : List ℕ) (p : Route) (d s i : ℕ) (c : CanAdd P I p 
 
   -- ---- the rooms
 
-  with_node_has : (room : Room) (node : Node) → IsNode P I i node → ((x n : ℕ) → (x ≡ i → inode_kind I i ≡ 1) → (get room x ≡ Some n) ↔ IsEntry P J x n) → HasRoom P J (with_node room i node)
+  with_node_has : (room : Room) (kind : NodeKind) → inode_kind I i ≡ node_code kind → ((x n : ℕ) → (x ≡ i → IsFile I i) → (get room x ≡ Some n) ↔ IsEntry P J x n) → HasRoom P J (with_node room i kind)
   with_node_has room Directory two others x n = inserted P J room i 0 x n (λ other. others x n (λ e. absurd (other e))) (entry_new two)
-  with_node_has room (File bytes) (one, content) others x n = others x n (λ _. one)
+  with_node_has room File one others x n = others x n (λ _. one)
 
-  old_page_room : (room : Room) (node : Node) → HasRoom P I room → IsNode P I i node → IsRoomOf P I d (page_of_slot s) → HasRoom P J (with_node room i node)
-  old_page_room room node has is_node there = with_node_has room node is_node (λ x n file.
+  old_page_room : (room : Room) (kind : NodeKind) → HasRoom P I room → inode_kind I i ≡ node_code kind → IsRoomOf P I d (page_of_slot s) → HasRoom P J (with_node room i kind)
+  old_page_room room kind has is there = with_node_has room kind is (λ x n file.
       let same = entry_same x n file (λ _. there) in ((λ e. same.0 ((has x n).0 e)), (λ r. (has x n).1 (same.1 r))))
 
   directory_entry : (room : Room) → HasRoom P I room → IsEntry P I d (pages_in room d)
@@ -134,8 +137,8 @@ module _ (P : ℕ) (I J : List ℕ) (p : Route) (d s i : ℕ) (c : CanAdd P I p 
       let e = (has d n).1 ((p, c.slot.path), c.slot.directory, count) in
       ((p, c.slot.path), c.slot.directory, subst (Count (IsRoomOf P I d)) (sym (ap (λ o. unwrap_or o 0) e)) count)
 
-  new_page_room : (room : Room) (node : Node) → HasRoom P I room → IsNode P I i node → (IsRoomOf P I d (page_of_slot s) → ⊥) → HasRoom P J (with_node (with_page room d) i node)
-  new_page_room room node has is_node none = with_node_has (with_page room d) node is_node (λ x n file.
+  new_page_room : (room : Room) (kind : NodeKind) → HasRoom P I room → inode_kind I i ≡ node_code kind → (IsRoomOf P I d (page_of_slot s) → ⊥) → HasRoom P J (with_node (with_page room d) i kind)
+  new_page_room room kind has is none = with_node_has (with_page room d) kind is (λ x n file.
       inserted P J room d (pages_in room d + 1) x n
       (λ other. let same = entry_same x n file (λ e. absurd (other e)) in ((λ e. same.0 ((has x n).0 e)), (λ r. (has x n).1 (same.1 r))))
       (entry_more (pages_in room d) none (directory_entry room has)))

@@ -8,12 +8,13 @@ use Rattle.layout.specs.Name.{IsNameWords}
 use Rattle.tree_model.specs.PathText.{Route}
 use Rattle.tree_model.specs.Tree.{Node}
 use Rattle.image_reading.specs.Counts.{AtMost}
-use Rattle.image_reading.specs.Reading.{slot_owner, IsHeld, IsLive, Names, Reached, IsReachedSlot, IsNode, pages_of_size, IsNameOf, IsChildOf}
+use Rattle.image_reading.specs.Reading.{IsDirectory, HasBytes, slot_owner, IsHeld, IsLive, Names, Reached, IsReachedSlot, IsNode, pages_of_size, IsNameOf, IsChildOf}
 use Rattle.image_reading.specs.Soundness.{Rule, IsCoherent, HasLinks}
 use Rattle.image_counts.proofs.Paths.{one_path}
 use Rattle.image_laws.specs.Add.{IsNewNode, CanAdd}
 use Rattle.image_laws.proofs.Counts.{at_most, at_most_more}
 use Rattle.image_reading.proofs.Counts.{at_most_none}
+use Rattle.image_laws.proofs.Meaning.{same_head, formed}
 use Rattle.image_laws.proofs.OnlySlot.{OnlySlot, same_owner, same_name, held_forward, held_back, pointers_kept, one_pointer_kept, kind_reached, whole_kept, page_kind_kept, only_node}
 use Rattle.image_laws.proofs.Paths.{reach, reached-le}
 use Rattle.image_laws.proofs.Within.{IsWhole, OldSlot, NewSlot, NewInode, Within, within_coherent}
@@ -53,7 +54,7 @@ module _ (P : ℕ) (I J : List ℕ) (p : Route) (d s i : ℕ) (c : CanAdd P I p 
   ]
 
   -- the inode has no slots of its own
-  pub leaf : (t : ℕ) → IsHeld P I t → slot_owner P I t ≡ i → inode_kind I i ≡ 2 → ⊥
+  pub leaf : (t : ℕ) → IsHeld P I t → slot_owner P I t ≡ i → IsDirectory I i → ⊥
   unfolding slot_owner
   leaf t h e k = elim c.node [
     | inl f ↦ f.no_pages (page_of_slot t) (page_of_slot_below P t h.in_range) e
@@ -97,7 +98,7 @@ module _ (P : ℕ) (I J : List ℕ) (p : Route) (d s i : ℕ) (c : CanAdd P I p 
       elim (names_cases q (slot_owner P I t) (subst (Names P J q) o b)) [
         | inr new ↦ absurd (leaf t mine new.1 (sym (only.node_kind i c.most) ∙ ap (inode_kind J) (sym (o ∙ new.1)) ∙ l.directory))
         | inl old ↦
-            let directory : inode_kind I (slot_owner P I t) ≡ 2 = sym (kind_reached only c.coherent (slot_owner P I t) (q, old)) ∙ ap (inode_kind J) (sym o) ∙ l.directory in
+            let directory : IsDirectory I (slot_owner P I t) = sym (kind_reached only c.coherent (slot_owner P I t) (q, old)) ∙ ap (inode_kind J) (sym o) ∙ l.directory in
             elim (live_cases t l.live) [
               | inl e ↦
                   let path : q ≡ p = one_path P I c.coherent q p d c.slot.directory (subst (Names P I q) (ap (slot_owner P I) e ∙ c.slot.owner) old) c.slot.path in
@@ -141,7 +142,7 @@ module _ (P : ℕ) (I J : List ℕ) (p : Route) (d s i : ℕ) (c : CanAdd P I p 
   slot_range t r = (c.coherent Rule.inodes t).most r
 
   -- a fresh inode that is a file has no pages below its end
-  fresh_whole : IsNewNode P I i → inode_kind J i ≡ 1 → IsWhole P J i
+  fresh_whole : IsNewNode P I i → HasBytes J i → IsWhole P J i
   unfolding pages_of_size
   fresh_whole f one =
       let z : inode_size J i ≡ 0 = only.node_size i c.most ∙ f.empty (sym (only.node_kind i c.most) ∙ one) in
@@ -149,7 +150,7 @@ module _ (P : ℕ) (I J : List ℕ) (p : Route) (d s i : ℕ) (c : CanAdd P I p 
       record { small = omega (arith, z); full = λ k lt. absurd (none k lt); one = λ h j k lt below. absurd (none k below) }
 
   -- i is a directory only where it is new, and then no slot of I names it
-  no_second : (t : ℕ) → IsReachedSlot P I t → slot_inode P I t ≡ i → inode_kind I i ≡ 2 → ⊥
+  no_second : (t : ℕ) → IsReachedSlot P I t → slot_inode P I t ≡ i → IsDirectory I i → ⊥
   no_second t r e k = elim c.node [
     | inl f ↦ f.unreached (subst (Reached P I) e (reach P I t r (slot_range t r)))
     | inr o ↦ let one = o.file in omega (arith, one, k)
@@ -174,7 +175,7 @@ module _ (P : ℕ) (I J : List ℕ) (p : Route) (d s i : ℕ) (c : CanAdd P I p 
     | inr old ↦ inr (record { slot = old; inode = sym (same_inode t old) ∙ n.inode })
   ]
 
-  child_of : (x t : ℕ) → IsChildOf P J x t → ((t ≡ s) × (x ≡ d) × (inode_kind I i ≡ 2)) ⊎ IsChildOf P I x t
+  child_of : (x t : ℕ) → IsChildOf P J x t → ((t ≡ s) × (x ≡ d) × IsDirectory I i) ⊎ IsChildOf P I x t
   child_of x t n =
       let o = same_owner only t n.slot.live.held.in_range in
       elim (slot_cases t n.slot) [
@@ -190,19 +191,19 @@ module _ (P : ℕ) (I J : List ℕ) (p : Route) (d s i : ℕ) (c : CanAdd P I p 
         })
       ]
 
-  kind_of : (inode_kind I i ≡ 1) ⊎ (inode_kind I i ≡ 2)
+  kind_of : HasBytes I i ⊎ IsDirectory I i
   kind_of = elim c.node [ inl f ↦ f.kind | inr q ↦ inl q.file ]
 
   -- the names of the inode itself
-  links_self : inode_kind I i ≡ 1 → AtMost 0 (IsNameOf P J i) (inode_links I i)
+  links_self : HasBytes I i → AtMost 0 (IsNameOf P J i) (inode_links I i)
   links_self k = at_most_more 0 (inode_links I i) s (IsNameOf P I i) (IsNameOf P J i)
       (λ t n. elim (name_of i t n) [ inl e ↦ inl e.0 | inr old ↦ inr old ]) (c.name_link k)
 
-  links_file : (x : ℕ) → Reached P I x → x ≢ i → inode_kind I x ≡ 1 → AtMost 0 (IsNameOf P J x) (inode_links I x)
+  links_file : (x : ℕ) → Reached P I x → x ≢ i → HasBytes I x → AtMost 0 (IsNameOf P J x) (inode_links I x)
   links_file x r ne k = at_most 0 (inode_links I x) (IsNameOf P I x) (IsNameOf P J x)
       (λ t n. elim (name_of x t n) [ inl e ↦ absurd (ne e.1) | inr old ↦ old ]) ((c.coherent Rule.links x r).file k)
 
-  links_new : IsNewNode P I i → inode_kind I i ≡ 2 → AtMost 2 (IsChildOf P J i) (inode_links I i)
+  links_new : IsNewNode P I i → IsDirectory I i → AtMost 2 (IsChildOf P J i) (inode_links I i)
   links_new f k = at_most_none 2 (inode_links I i) (IsChildOf P J i)
       (λ t n. elim (child_of i t n) [
         | inl e ↦ f.unreached (subst (Reached P I) (sym e.1) (p, c.slot.path))
@@ -210,7 +211,7 @@ module _ (P : ℕ) (I J : List ℕ) (p : Route) (d s i : ℕ) (c : CanAdd P I p 
       ])
       (f.no_children k)
 
-  links_directory : (x : ℕ) → Reached P I x → inode_kind I x ≡ 2 → AtMost 2 (IsChildOf P J x) (inode_links I x)
+  links_directory : (x : ℕ) → Reached P I x → IsDirectory I x → AtMost 2 (IsChildOf P J x) (inode_links I x)
   links_directory x r k = elim kind_of [
     | inl one ↦ at_most 2 (inode_links I x) (IsChildOf P I x) (IsChildOf P J x)
         (λ t n. elim (child_of x t n) [ inl e ↦ (let two = e.2 in absurd (omega (arith, one, two))) | inr old ↦ old ]) ((c.coherent Rule.links x r).directory k)
@@ -259,14 +260,14 @@ module _ (P : ℕ) (I J : List ℕ) (p : Route) (d s i : ℕ) (c : CanAdd P I p 
   node_fits : IsNewNode P I i → NewInode J i
   node_fits f = record {
     other = λ e. let two = c.least in omega (arith, two, e);
-    kind = subst (λ k. (k ≡ 1) ⊎ (k ≡ 2)) (sym (only.node_kind i c.most)) f.kind;
+    kind = formed I J i (only.node_kind i c.most) f.kind;
     own = only.own i c.most ∙ f.own;
   }
 
   within : Within P I J (λ t. t ≡ s)
   within = record {
     size = only.size;
-    head = only.head;
+    head = λ x. same_head P I J x only.size only.head (c.coherent Rule.head x);
     pointers = pointers_kept only c.coherent;
     one_pointer = one_pointer_kept only c.coherent;
     slots = λ t r. elim (slot_cases t r) [ inl e ↦ inl e | inr old ↦ inr (old_slot t old) ];

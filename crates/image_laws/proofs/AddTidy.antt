@@ -4,6 +4,7 @@ use Rattle.std.proofs.lemmas.Bool.{cases_eq}
 use Rattle.layout.specs.Fields.{word, inode_kind, page_owner, page_offset, slot_inode, slot_pointer, slot_name}
 use Rattle.layout.specs.Geometry.{inodes_of, data_pages_of, page_of_slot, inode_word_of, descriptor_word_of, slot_word_of}
 use Rattle.layout.specs.Name.{name_in_words}
+use Rattle.layout.proofs.Widths.{in_inode, in_descriptor, same_inode_words}
 use Rattle.tree_model.specs.PathText.{Route}
 use Rattle.image_reading.specs.Reading.{slot_owner, IsLive, Reached, IsReachedSlot, IsRoomOf, pages_of_size}
 use Rattle.image_reading.specs.Repairs.{IsPointer, IsLitterSlot, IsLitterPage, IsLitterInode, IsLitterCount}
@@ -15,7 +16,7 @@ use Rattle.image_counts.proofs.Paths.{in_range}
 use Rattle.image_laws.specs.Add.{CanAdd}
 use Rattle.image_laws.specs.Grown.{HasGrown}
 use Rattle.image_laws.specs.Stages.{IsReadySlot}
-use Rattle.image_laws.proofs.Addresses.{descriptor-ne_slot, inode-ne_slot, slot-ne_slot}
+use Rattle.image_laws.proofs.Addresses.{head-ne_slot, descriptor-ne_slot, inode-ne_slot, slot-ne_slot}
 use Rattle.image_laws.proofs.AddRoom.{room_cases, room_forward, room_here}
 use Rattle.image_laws.proofs.AddSlot as added
 use Rattle.image_laws.proofs.KeptInodes.{KeepsInodes, by_inodes}
@@ -54,12 +55,15 @@ module _ {P : ℕ} {B C D : List ℕ} {p : Route} {d s i y : ℕ} {name : List �
   pointer_same t = only.pointer t ∙ written.named.slots t 1 (omega arith) (inl (omega arith))
 
   pub nodes : KeepsInodes B D (Reached P B) (λ x. x ≡ y)
-  nodes = by_inodes P B D (Reached P B) (λ x. x ≡ y) (in_range P B place.coherent) (λ x f r some most lt links. inode_same x f some most (omega (arith, lt)) (inl r) links)
+  nodes = by_inodes P B D (Reached P B) (λ x. x ≡ y) (in_range P B place.coherent) (λ x f r some most lt links. inode_same x f some most (in_inode B f lt) (inl r) links)
 
   -- ---- what is reached
 
   entries : SameEntries P B C
   entries = naming.entries place written.named
+
+  version : word D 1 ≡ word B 1
+  version = others 1 (head-ne_slot P s 0 1 (omega arith)) ∙ entries.version
 
   pub reached_forward : (x : ℕ) → Reached P B x → Reached P D x
   reached_forward x (q, b) = added.reached_forward P C D p d s i can only stored x (q, (entries.same.names q x).0 b)
@@ -101,7 +105,7 @@ module _ {P : ℕ} {B C D : List ℕ} {p : Route} {d s i y : ℕ} {name : List �
   old_slot t r e = r.live.names (ap (slot_inode P B) e ∙ place.slot.free)
 
   kept_words : KeepsDescriptors P B D (λ j. ⊥)
-  kept_words j f lt l3 none = descriptor_same j f lt (omega (arith, l3))
+  kept_words j f lt read none = descriptor_same j f lt (in_descriptor B f read)
 
   paged : KeepsPages P B D (λ j. ⊥)
   paged = by_words P B D (λ j. ⊥) kept_words
@@ -152,7 +156,7 @@ module _ {P : ℕ} {B C D : List ℕ} {p : Route} {d s i y : ℕ} {name : List �
     ]
 
     page_cases : (j : ℕ) → IsLitterPage P D j → j ≡ page_of_slot s
-    page_cases j l = rest.but.pages j (litter_page P B D (λ j. ⊥) kept_words kept.kinds
+    page_cases j l = rest.but.pages j (litter_page P B D (λ j. ⊥) kept_words version kept.kinds
         (λ k lt none r. reached_forward (page_owner P B k) r)
         (λ k none file. subst (λ z. page_offset P B k < pages_of_size z) (sym (nodes.size (page_owner P B k) file.owner)) file.below)
         (λ k lt none room. room_forth (page_owner P B k) k room)
@@ -166,13 +170,14 @@ module _ {P : ℕ} {B C D : List ℕ} {p : Route} {d s i y : ℕ} {name : List �
     no_inode : (x : ℕ) → IsLitterInode P D x → ⊥
     no_inode x l =
         let (f, lt, nonzero) = l.nonzero in
+        let read = subst (λ n. f < n) (same_inode_words B D version) lt in
         let other : x ≢ i = λ e. l.unreached (subst (Reached P D) (sym e) new_reached) in
         let links : x ≢ y = λ e. l.unreached (subst (Reached P D) (sym e) (reached_forward y written.linked)) in
         rest.but.inodes x (record {
           least = l.least;
           most = l.most;
           unreached = λ r. l.unreached (reached_forward x r);
-          nonzero = (f, lt, λ z. nonzero (inode_same x f l.least l.most (omega arith) (inr other) (inr links) ∙ z));
+          nonzero = (f, read, λ z. nonzero (inode_same x f l.least l.most (in_inode B f read) (inr other) (inr links) ∙ z));
         })
 
     pub tidy_but_links : ((x : ℕ) → IsLitterCount P D x → ⊥) → IsTidied P D

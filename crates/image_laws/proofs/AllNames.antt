@@ -5,7 +5,7 @@ use Rattle.layout.specs.Fields.{inode_kind, slot_inode, slot_name}
 use Rattle.layout.specs.Geometry.{inodes_of, slots_of}
 use Rattle.tree_model.specs.PathText.{Route}
 use Rattle.image_reading.specs.Counts.{IsIn, IsDistinct}
-use Rattle.image_reading.specs.Reading.{slot_owner, Names}
+use Rattle.image_reading.specs.Reading.{IsDirectory, slot_owner, Names}
 use Rattle.image_reading.specs.Soundness.{IsCoherent}
 use Rattle.image_counts.proofs.Paths.{one_path}
 use Rattle.image_laws.proofs.Counts.{at_most_below}
@@ -147,7 +147,7 @@ module _ (P : ℕ) (I : List ℕ) where
 
   -- each has a shorter path
   through_path : (q : Route) (x : ℕ) (b : Names P I q x) (y : ℕ) → IsIn y (through q x b) →
-      (p : Route) × Names P I p y × (inode_kind I y ≡ 2) × (length p < length q)
+      (p : Route) × Names P I p y × IsDirectory I y × (length p < length q)
   unfolding through
   through_path [] x e y h = absurd h
   through_path (n ∷ q) x (s, b, l) y h = elim h [

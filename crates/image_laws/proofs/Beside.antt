@@ -6,7 +6,7 @@ use Rattle.pm_trait.specs.Unfolds.{KeepsWords}
 use Rattle.layout.specs.Fields.{word}
 use Rattle.layout.specs.Geometry.{descriptor_word_of, slot_word_of}
 use Rattle.layout.specs.Superblock.{IsSuperblockWord}
-use Rattle.tree_model.specs.Tree.{Node}
+use Rattle.layout.specs.declared.kinds.NodeKind.{NodeKind}
 use Rattle.image_laws.specs.Create.{IsMadeWord, MakesNode, IsPageMadeWord, MakesEmptyPage, MakesNamedPage, committed, owned}
 use Rattle.image_laws.specs.Drop.{dropped, ClearsName, GivesPages, ClearsRest}
 use Rattle.image_laws.specs.Link.{IsLinkedWord, MakesLink}
@@ -48,17 +48,17 @@ rest_keeps P I J given gone i clears = words_keep I J (λ a low. clears.others a
 
 -- ---- a name comes
 
-low_not_made : (P : ℕ) (node : Node) (d s i a : ℕ) → IsSuperblockWord a → ¬ IsMadeWord P node d s i a
-low_not_made P node d s i a low = not_made P node d s i a (λ f few. head-ne_inode i f a low) (λ k few. head-ne_slot P s (2 + k) a low) (head-ne_inode d 1 a low)
+low_not_made : (P : ℕ) (I : List ℕ) (kind : NodeKind) (d s i a : ℕ) → IsSuperblockWord a → ¬ IsMadeWord P I kind d s i a
+low_not_made P I kind d s i a low = not_made P I kind d s i a (λ f few. head-ne_inode i f a low) (λ k few. head-ne_slot P s (2 + k) a low) (head-ne_inode d 1 a low)
 
 low_not_linked : (P s i a : ℕ) → IsSuperblockWord a → ¬ IsLinkedWord P s i a
 low_not_linked P s i a low = not_linked P s i a (λ k few. head-ne_slot P s (2 + k) a low) (head-ne_inode i 1 a low)
 
 low_not_page_made : (P j a : ℕ) → IsSuperblockWord a → ¬ IsPageMadeWord P j a
-low_not_page_made P j a low = not_page_made P j a (λ w few. head-ne_page P j w a low) (λ f least few. head-ne_descriptor P j f a low)
+low_not_page_made P j a low = not_page_made P j a (λ w few. head-ne_page P j w a low) (λ f is. head-ne_descriptor P j f a low)
 
-pub node_keeps : (P : ℕ) (I J : List ℕ) (node : Node) (d s i : ℕ) (name : List ℕ) → MakesNode P I J node d s i name → KeepsWords IsSuperblockWord I J
-node_keeps P I J node d s i name makes = words_keep I J (λ a low. makes.others a (low_not_made P node d s i a low))
+pub node_keeps : (P : ℕ) (I J : List ℕ) (kind : NodeKind) (d s i : ℕ) (name : List ℕ) → MakesNode P I J kind d s i name → KeepsWords IsSuperblockWord I J
+node_keeps P I J kind d s i name makes = words_keep I J (λ a low. makes.others a (low_not_made P I kind d s i a low))
 
 pub link_keeps : (P : ℕ) (I J : List ℕ) (s i : ℕ) (name : List ℕ) → MakesLink P I J s i name → KeepsWords IsSuperblockWord I J
 link_keeps P I J s i name makes = words_keep I J (λ a low. makes.others a (low_not_linked P s i a low))
@@ -69,8 +69,8 @@ empty_page_keeps P I J j makes = words_keep I J (λ a low. makes.others a (low_n
 pub named_page_keeps : (P : ℕ) (I J : List ℕ) (j d : ℕ) (name : List ℕ) → MakesNamedPage P I J j d name → KeepsWords IsSuperblockWord I J
 named_page_keeps P I J j d name makes = empty_page_keeps P I J j makes.empty
 
-pub paged_node_keeps : (P : ℕ) (I J : List ℕ) (node : Node) (d j s i : ℕ) (name : List ℕ) → MakesPagedNode P I J node d j s i name → KeepsWords IsSuperblockWord I J
-paged_node_keeps P I J node d j s i name makes = words_keep I J (λ a low. makes.others a (low_not_page_made P j a low) (low_not_made P node d s i a low))
+pub paged_node_keeps : (P : ℕ) (I J : List ℕ) (kind : NodeKind) (d j s i : ℕ) (name : List ℕ) → MakesPagedNode P I J kind d j s i name → KeepsWords IsSuperblockWord I J
+paged_node_keeps P I J kind d j s i name makes = words_keep I J (λ a low. makes.others a (low_not_page_made P j a low) (low_not_made P I kind d s i a low))
 
 pub paged_link_keeps : (P : ℕ) (I J : List ℕ) (j s i : ℕ) (name : List ℕ) → MakesPagedLink P I J j s i name → KeepsWords IsSuperblockWord I J
 paged_link_keeps P I J j s i name makes = words_keep I J (λ a low. makes.others a (low_not_page_made P j a low) (low_not_linked P s i a low))

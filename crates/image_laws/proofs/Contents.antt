@@ -2,10 +2,10 @@
 use Rattle.std.proofs.Common.{◌≡◌, ◌⊎◌, inl, inr, ℕ, zero, suc, ◌/◌, ◌<◌, List, [], ◌∷◌, refl, sym, ap, subst, ◌∙◌, arith}
 use Rattle.std.proofs.lemmas.Bool.{cases_eq}
 use Rattle.std.proofs.lemmas.List.{ext_get_or}
-use Rattle.layout.specs.Fields.{inode_kind, inode_size}
+use Rattle.layout.specs.Fields.{inode_size}
 use Rattle.tree_model.specs.PathText.{Route}
 use Rattle.tree_model.specs.Tree.{Node, Directory, File}
-use Rattle.image_reading.specs.Reading.{Reached, IsNode}
+use Rattle.image_reading.specs.Reading.{IsDirectory, HasBytes, Reached, IsNode}
 use Rattle.image_reading.specs.Soundness.{Rule, IsCoherent}
 use Rattle.image_counts.proofs.Nodes.{some_content}
 use Rattle.image_laws.proofs.Addresses.{page_of_byte-lt}
@@ -14,11 +14,11 @@ use Rattle.image_laws.proofs.Decide.{dec_eq}
 use Rattle.image_laws.proofs.Entries.{Listed}
 
 module _ (P : ℕ) (I : List ℕ) (coherent : IsCoherent P I) where
-  node_in : (i : ℕ) (r : Reached P I i) → (inode_kind I i ≡ 1) ⊎ (inode_kind I i ≡ 2) → Node
+  node_in : (i : ℕ) (r : Reached P I i) → HasBytes I i ⊎ IsDirectory I i → Node
   node_in i r (inl k) = File (some_content P I coherent i r k).0
   node_in i r (inr k) = Directory
 
-  node_in_is : (i : ℕ) (r : Reached P I i) (c : (inode_kind I i ≡ 1) ⊎ (inode_kind I i ≡ 2)) → IsNode P I i (node_in i r c)
+  node_in_is : (i : ℕ) (r : Reached P I i) (c : HasBytes I i ⊎ IsDirectory I i) → IsNode P I i (node_in i r c)
   unfolding node_in
   node_in_is i r (inl k) = (k, (some_content P I coherent i r k).1)
   node_in_is i r (inr k) = k

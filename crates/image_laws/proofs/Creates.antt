@@ -3,15 +3,16 @@ use Rattle.std.proofs.Common.{◌≡◌, ◌⊎◌, inl, inr, ℕ, ◌<◌, List
 use Rattle.layout.specs.Fields.{word, page_owner}
 use Rattle.layout.specs.Geometry.{page_of_slot, slot_word_of}
 use Rattle.layout.specs.Name.{name_in_words}
+use Rattle.layout.specs.declared.kinds.NodeKind.{NodeKind}
 use Rattle.tree_model.specs.PathText.{Route}
-use Rattle.tree_model.specs.Tree.{Node, Tree, Room}
-use Rattle.tree_model.specs.Step.{with_new}
+use Rattle.tree_model.specs.Tree.{Tree, Room}
+use Rattle.tree_model.specs.Step.{new_node, with_new}
 use Rattle.image_reading.specs.Reading.{slot_owner, IsLive, Reached, IsRoomOf, Reads, HasRoom}
 use Rattle.image_reading.specs.Soundness.{IsCoherent}
 use Rattle.image_reading.specs.Tidy.{IsTidied}
 use Rattle.image_laws.specs.Add.{IsFreeSlot, with_node}
 use Rattle.image_laws.specs.Commits.{Commits}
-use Rattle.image_laws.specs.Create.{IsEmptyNode, MakesNode, CanName, CanMake, IsVacant, committed, CreateLaw}
+use Rattle.image_laws.specs.Create.{MakesNode, CanName, CanMake, IsVacant, committed, CreateLaw}
 use Rattle.image_laws.specs.Frame.{SameMeaning}
 use Rattle.image_laws.specs.Quiet.{IsMix}
 use Rattle.image_laws.proofs.Adds.{inside, only, stored, add_law, add_tree_law, add_room_law}
@@ -26,10 +27,10 @@ use Rattle.image_laws.specs.Stages.{IsReady, IsReadySlot, IsFreeInode}
 
 -- ---- from an image that is ready
 
-module _ (P : ℕ) (W B C : List ℕ) (p path : Route) (node : Node) (d s i : ℕ) (name : List ℕ) (start : SameMeaning P W B) (ready : IsReady P B p d s i name)
-    (empty : IsEmptyNode node) (makes : MakesNode P B C node d s i name) (is : reverse path ≡ name_in_words name ∷ p) where
+module _ (P : ℕ) (W B C : List ℕ) (p path : Route) (kind : NodeKind) (d s i : ℕ) (name : List ℕ) (start : SameMeaning P W B) (ready : IsReady P B p d s i name)
+    (makes : MakesNode P B C kind d s i name) (is : reverse path ≡ name_in_words name ∷ p) where
   same_made : SameMeaning P W C
-  same_made = same_chained P W B C start (naming.entries ready.place (making.named P B C p node d s i name ready makes)).same
+  same_made = same_chained P W B C start (naming.entries ready.place (making.named P B C p kind d s i name ready makes)).same
 
   commit : (M : List ℕ) → IsMix C (committed P C s i) M → SameMeaning P W M ⊎ (M ≡ committed P C s i)
   commit M m = elim (mix_one C M (slot_word_of P s 0) i (inside P C s 0 same_made.coherent ready.place.slot.held.in_range (omega arith)) m) [
@@ -38,26 +39,26 @@ module _ (P : ℕ) (W B C : List ℕ) (p path : Route) (node : Node) (d s i : �
   ]
 
   coherent : IsCoherent P (committed P C s i)
-  coherent = (add_law P C p d s i (making.can_add P B C p node d s i name ready makes)).coherent
+  coherent = (add_law P C p d s i (making.can_add P B C p kind d s i name ready makes)).coherent
 
   tidy : IsCleanSlot P B s → IsTidied P (committed P C s i)
   tidy rest =
-      let can = making.can_add P B C p node d s i name ready makes in
-      tidy_after P B C (committed P C s i) p node d s i name ready makes can (only P C s i can.coherent) (stored P C s i can.coherent can.slot.held.in_range) (other_word C (slot_word_of P s 0) i)
+      let can = making.can_add P B C p kind d s i name ready makes in
+      tidy_after P B C (committed P C s i) p kind d s i name ready makes can (only P C s i can.coherent) (stored P C s i can.coherent can.slot.held.in_range) (other_word C (slot_word_of P s 0) i)
       coherent rest
 
-  reads : (T : Tree) → Reads P W T → Reads P (committed P C s i) (with_new T path i node)
+  reads : (T : Tree) → Reads P W T → Reads P (committed P C s i) (with_new T path i (new_node kind))
   reads T h =
-      let can = making.can_add P B C p node d s i name ready makes in
-      let path_is = is ∙ ap (λ n. n ∷ p) (sym (naming.name_is ready.place (making.named P B C p node d s i name ready makes))) in
-      (add_tree_law P C p path d s i can path_is).new_node T node (same_made.reads T h) (making.new_node P B C p node d s i name ready makes) (making.node_made P B C p node d s i name ready makes empty)
+      let can = making.can_add P B C p kind d s i name ready makes in
+      let path_is = is ∙ ap (λ n. n ∷ p) (sym (naming.name_is ready.place (making.named P B C p kind d s i name ready makes))) in
+      (add_tree_law P C p path d s i can path_is).new_node T (new_node kind) (same_made.reads T h) (making.is_new P B C p kind d s i name ready makes) (making.node_made P B C p kind d s i name ready makes)
 
-  pub named : (after : Room → Room) → ((room : Room) → HasRoom P C room → HasRoom P (committed P C s i) (after room)) → IsNamed P W (committed P C s i) (λ T. with_new T path i node) after
+  pub named : (after : Room → Room) → ((room : Room) → HasRoom P C room → HasRoom P (committed P C s i) (after room)) → IsNamed P W (committed P C s i) (λ T. with_new T path i (new_node kind)) after
   named after room = record { coherent = coherent; reads = reads; room = λ r h. room r (same_made.room r h) }
 
-  pub created : (after : Room → Room) → ((room : Room) → HasRoom P C room → HasRoom P (committed P C s i) (after room)) → IsCleanSlot P B s → Commits P W B C (committed P C s i) (λ T. with_new T path i node) after
+  pub created : (after : Room → Room) → ((room : Room) → HasRoom P C room → HasRoom P (committed P C s i) (after room)) → IsCleanSlot P B s → Commits P W B C (committed P C s i) (λ T. with_new T path i (new_node kind)) after
   created after room rest = record {
-    before = λ M m. same_chained P W B M start (stores_law P B C M ready.place.coherent (making.stores P B C p node d s i name ready makes) m);
+    before = λ M m. same_chained P W B M start (stores_law P B C M ready.place.coherent (making.stores P B C p kind d s i name ready makes) m);
     commit = commit;
     tidy = tidy rest;
     reads = reads;
@@ -114,22 +115,22 @@ module _ (P : ℕ) (W : List ℕ) (p : Route) (d s : ℕ) (name : List ℕ) (can
 pub is_ready : (P : ℕ) (W : List ℕ) (p : Route) (d s i : ℕ) (name : List ℕ) → CanMake P W p d i name → IsVacant P W d s → IsReady P W p d s i name
 is_ready P W p d s i name can vacant = record { place = ready_slot P W p d s name can.place vacant; inode = free_inode P W p d i name can }
 
-module _ (P : ℕ) (W I : List ℕ) (p path : Route) (node : Node) (d s i : ℕ) (name : List ℕ) (can : CanMake P W p d i name) (vacant : IsVacant P W d s) (empty : IsEmptyNode node) (makes : MakesNode P W I node d s i name)
+module _ (P : ℕ) (W I : List ℕ) (p path : Route) (kind : NodeKind) (d s i : ℕ) (name : List ℕ) (can : CanMake P W p d i name) (vacant : IsVacant P W d s) (makes : MakesNode P W I kind d s i name)
     (is : reverse path ≡ name_in_words name ∷ p) where
   ready : IsReady P W p d s i name
   ready = is_ready P W p d s i name can vacant
 
-  room_after : (room : Room) → HasRoom P I room → HasRoom P (committed P I s i) (with_node room i node)
+  room_after : (room : Room) → HasRoom P I room → HasRoom P (committed P I s i) (with_node room i kind)
   room_after room has =
-      let here = ((naming.entries ready.place (making.named P W I p node d s i name ready makes)).rooms d (page_of_slot s)).0 (room_here P W p d s name can.place vacant) in
-      (add_room_law P I p d s i (making.can_add P W I p node d s i name ready makes)).old_page room node has (making.node_made P W I p node d s i name ready makes empty) here
+      let here = ((naming.entries ready.place (making.named P W I p kind d s i name ready makes)).rooms d (page_of_slot s)).0 (room_here P W p d s name can.place vacant) in
+      (add_room_law P I p d s i (making.can_add P W I p kind d s i name ready makes)).old_page room kind has (making.made_kind P W I p kind d s i name ready makes) here
 
-  pub create_named : IsNamed P W (committed P I s i) (λ T. with_new T path i node) (λ room. with_node room i node)
-  create_named = named P W W I p path node d s i name (same_itself P W can.place.tidy.coherent) ready empty makes is (λ room. with_node room i node) room_after
+  pub create_named : IsNamed P W (committed P I s i) (λ T. with_new T path i (new_node kind)) (λ room. with_node room i kind)
+  create_named = named P W W I p path kind d s i name (same_itself P W can.place.tidy.coherent) ready makes is (λ room. with_node room i kind) room_after
 
-  pub create_made : Commits P W W I (committed P I s i) (λ T. with_new T path i node) (λ room. with_node room i node)
-  create_made = created P W W I p path node d s i name (same_itself P W can.place.tidy.coherent) ready empty makes is (λ room. with_node room i node) room_after
+  pub create_made : Commits P W W I (committed P I s i) (λ T. with_new T path i (new_node kind)) (λ room. with_node room i kind)
+  create_made = created P W W I p path kind d s i name (same_itself P W can.place.tidy.coherent) ready makes is (λ room. with_node room i kind) room_after
       (clean_slot P W p d s name can.place vacant)
 
 pub create_law : CreateLaw
-create_law P W I p path node d s i name can vacant empty makes is = create_made P W I p path node d s i name can vacant empty makes is
+create_law P W I p path kind d s i name can vacant makes is = create_made P W I p path kind d s i name can vacant makes is

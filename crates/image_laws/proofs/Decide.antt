@@ -3,7 +3,7 @@ use Rattle.std.proofs.Common.{◌≡◌, ◌⊎◌, inl, inr, ℕ, ◌≤◌, Li
 use Rattle.std.proofs.lemmas.Bool.{cases_eq, cases_lt}
 use Rattle.layout.specs.Fields.{inode_kind, slot_inode}
 use Rattle.layout.specs.Geometry.{inodes_of}
-use Rattle.image_reading.specs.Reading.{slot_owner, IsLive}
+use Rattle.image_reading.specs.Reading.{IsDirectory, slot_owner, IsLive}
 use Rattle.image_counts.proofs.Decided.{IsDecided, live_or_not}
 
 -- what is told of A, as a decision
@@ -38,7 +38,7 @@ dec_live P I s = told (live_or_not P I s)
 -- a step from directory d
 pub record IsStep (P : ℕ) (I : List ℕ) (d s : ℕ) : Type 0 where
   pub owner : slot_owner P I s ≡ d
-  pub directory : inode_kind I d ≡ 2
+  pub directory : IsDirectory I d
   pub live : IsLive P I s
   pub in_range : slot_inode P I s ≤ inodes_of P
 

@@ -2,8 +2,9 @@
 use Rattle.std.proofs.Common.{◌≡◌, ◌≢◌, ◌↔◌, ◌⊎◌, inl, inr, ℕ, ◌+◌, ◌*◌, ◌<◌, ◌≤◌, List, refl, sym, ap, subst, ◌∙◌, arith, length, get_or, set, length-set}
 use Rattle.std.proofs.lemmas.Bool.{cases_eq}
 use Rattle.std.proofs.lemmas.List.{get_or-set_other, ext_get_or}
-use Rattle.layout.specs.Fields.{word, inode_size, page_owner, page_kind}
+use Rattle.layout.specs.Fields.{word, inode_words, descriptor_words, inode_size, page_owner, page_kind}
 use Rattle.layout.specs.Geometry.{inodes_of, data_pages_of, page_of_slot, inode_word_of, descriptor_word_of, page_word_of, slot_word_of}
+use Rattle.layout.proofs.Widths.{inode_field_read, descriptor_field_read}
 use Rattle.image_reading.specs.Reading.{slot_owner, IsHeld, Reached, IsReachedSlot, IsPageOf, IsRoomOf}
 use Rattle.image_reading.specs.Soundness.{IsCoherent}
 use Rattle.image_laws.specs.Free.{IsFree, Stores, FreeLaw, StoresLaw}
@@ -23,7 +24,7 @@ module _ (P : ℕ) (I : List ℕ) (coherent : IsCoherent P I) where
   pos i r = let h = reached_pos P I i r in omega arith
 
   -- what is used at an address
-  used_inode : (i f : ℕ) → 1 ≤ i → i ≤ inodes_of P → f < 16 → {a : ℕ} → IsUsed P I a → a ≡ inode_word_of i f → Reached P I i × (f ≢ 1) × (f < 4)
+  used_inode : (i f : ℕ) → 1 ≤ i → i ≤ inodes_of P → f < 16 → {a : ℕ} → IsUsed P I a → a ≡ inode_word_of i f → Reached P I i × (f ≢ 1) × (f < inode_words I)
   used_inode i f p m lt (IsUsed.head a l) e = absurd (head-ne_inode i f a (omega arith) e)
   used_inode i f p m lt (IsUsed.kind j l o) e = absurd (descriptor-ne_inode P j 1 i f p m lt e)
   used_inode i f p m lt (IsUsed.offset j l o) e = absurd (descriptor-ne_inode P j 2 i f p m lt e)
@@ -31,18 +32,18 @@ module _ (P : ℕ) (I : List ℕ) (coherent : IsCoherent P I) where
   used_inode i f p m lt (IsUsed.pointer s h) e = absurd (inode-ne_slot P i f s 1 p m lt (sym e))
   used_inode i f p m lt (IsUsed.name s g l r) e = absurd (inode-ne_slot P i f s (2 + g) p m lt (sym e))
   used_inode i f p m lt (IsUsed.node_kind k r) e = let (x, y) = inode_word-one k 0 i f (pos k r) p (omega arith) lt e in
-      (subst (Reached P I) x r, λ z. omega (arith, y, z), omega (arith, y))
+      (subst (Reached P I) x r, λ z. omega (arith, y, z), inode_field_read I f (omega (arith, y)))
   used_inode i f p m lt (IsUsed.size k r) e = let (x, y) = inode_word-one k 2 i f (pos k r) p (omega arith) lt e in
-      (subst (Reached P I) x r, λ z. omega (arith, y, z), omega (arith, y))
+      (subst (Reached P I) x r, λ z. omega (arith, y, z), inode_field_read I f (omega (arith, y)))
   used_inode i f p m lt (IsUsed.own k r) e = let (x, y) = inode_word-one k 3 i f (pos k r) p (omega arith) lt e in
-      (subst (Reached P I) x r, λ z. omega (arith, y, z), omega (arith, y))
+      (subst (Reached P I) x r, λ z. omega (arith, y, z), inode_field_read I f (omega (arith, y)))
 
-  used_descriptor : (j f : ℕ) → j < data_pages_of P → f < 8 → {a : ℕ} → IsUsed P I a → a ≡ descriptor_word_of P j f → (page_owner P I j ≢ 0) × (f ≢ 0) × (f < 3)
+  used_descriptor : (j f : ℕ) → j < data_pages_of P → f < 8 → {a : ℕ} → IsUsed P I a → a ≡ descriptor_word_of P j f → (page_owner P I j ≢ 0) × (f ≢ 0) × (f < descriptor_words I)
   used_descriptor j f lt l8 (IsUsed.head a l) e = absurd (head-ne_descriptor P j f a (omega arith) e)
   used_descriptor j f lt l8 (IsUsed.kind k l o) e = let (x, y) = descriptor_word-one P k 1 j f (omega arith) l8 e in
-      (λ z. o (ap (page_owner P I) x ∙ z), λ z. omega (arith, y, z), omega (arith, y))
+      (λ z. o (ap (page_owner P I) x ∙ z), λ z. omega (arith, y, z), descriptor_field_read I f (omega (arith, y)))
   used_descriptor j f lt l8 (IsUsed.offset k l o) e = let (x, y) = descriptor_word-one P k 2 j f (omega arith) l8 e in
-      (λ z. o (ap (page_owner P I) x ∙ z), λ z. omega (arith, y, z), omega (arith, y))
+      (λ z. o (ap (page_owner P I) x ∙ z), λ z. omega (arith, y, z), descriptor_field_read I f (omega (arith, y)))
   used_descriptor j f lt l8 (IsUsed.slot_inode s h) e = absurd (descriptor-ne_slot P j f s 0 lt l8 (sym e))
   used_descriptor j f lt l8 (IsUsed.pointer s h) e = absurd (descriptor-ne_slot P j f s 1 lt l8 (sym e))
   used_descriptor j f lt l8 (IsUsed.name s g l r) e = absurd (descriptor-ne_slot P j f s (2 + g) lt l8 (sym e))
@@ -158,14 +159,19 @@ mix_itself I J size = record { size = size; words = λ a. inr refl }
 
 -- an interval that stores to free words leaves what is alike
 pub alike_stores : (P : ℕ) (I J : List ℕ) → IsCoherent P I → Stores P I J → Alike P I J
-alike_stores P I J coherent stores = alike P I J (agrees_from_words P I J (quiet_agrees P I J coherent (free_law P I J coherent stores).0)) coherent
+alike_stores P I J coherent stores = alike P I J (agrees_from_words P I J coherent (quiet_agrees P I J coherent (free_law P I J coherent stores).0)) coherent
+
+-- the version isn't free
+pub version_stores : (P : ℕ) (I J : List ℕ) → IsCoherent P I → Stores P I J → word J 1 ≡ word I 1
+version_stores P I J coherent stores = (free_law P I J coherent stores).0.words 1 (IsUsed.head 1 (omega arith))
 
 pub same_stores : (P : ℕ) (I J : List ℕ) → IsCoherent P I → Stores P I J → SameMeaning P I J
 same_stores P I J coherent stores = stores_law P I J J coherent stores (mix_itself I J stores.size)
 
--- J means what I means, with the same reached slots and rooms
+-- J means what I means, with the same version, reached slots and rooms
 pub record SameEntries (P : ℕ) (I J : List ℕ) : Type 0 where
   pub same : SameMeaning P I J
+  pub version : word J 1 ≡ word I 1
   pub slots : (t : ℕ) → IsReachedSlot P I t ↔ IsReachedSlot P J t
   pub rooms : (x j : ℕ) → IsRoomOf P I x j ↔ IsRoomOf P J x j
 
@@ -174,6 +180,7 @@ entries_stores P I J coherent stores =
     let same = alike_stores P I J coherent stores in
     record {
       same = same_stores P I J coherent stores;
+      version = version_stores P I J coherent stores;
       slots = λ t. ((λ r. (reached_slot_forward P I J same t r).1), (λ r. (reached_slot P I J same t r).1));
       rooms = (shape P I J coherent same).directories;
     }
@@ -181,6 +188,7 @@ entries_stores P I J coherent stores =
 pub entries_chained : (P : ℕ) (I J K : List ℕ) → SameEntries P I J → SameEntries P J K → SameEntries P I K
 entries_chained P I J K first second = record {
   same = same_chained P I J K first.same second.same;
+  version = second.version ∙ first.version;
   slots = λ t. ((λ r. (second.slots t).0 ((first.slots t).0 r)), (λ r. (first.slots t).1 ((second.slots t).1 r)));
   rooms = λ x j. ((λ room. (second.rooms x j).0 ((first.rooms x j).0 room)), (λ room. (first.rooms x j).1 ((second.rooms x j).1 room)));
 }

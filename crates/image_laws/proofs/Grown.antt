@@ -1,8 +1,8 @@
 -- What an index of the image holds after create and mkdir.
 use Rattle.std.proofs.Common.{◌≡◌, inl, inr, ℕ, List, sym, ◌∙◌}
 use Rattle.layout.specs.Geometry.{page_of_slot, slot_word_of}
+use Rattle.layout.specs.declared.kinds.NodeKind.{NodeKind}
 use Rattle.tree_model.specs.PathText.{Route}
-use Rattle.tree_model.specs.Tree.{Node}
 use Rattle.image_counts.specs.Entries.{IsFreePage}
 use Rattle.image_laws.specs.Create.{CanName, MakesEmptyPage, MakesNode, committed, owned}
 use Rattle.image_laws.specs.Grown.{HasGrown, GrownLaw, NewPageGrownLaw}
@@ -16,13 +16,13 @@ use Rattle.image_laws.proofs.Words.{other_word}
 use Rattle.image_laws.specs.Stages.{IsReady}
 
 -- from an image that is ready
-grown_from : (P : ℕ) (B I : List ℕ) (p : Route) (node : Node) (d s i : ℕ) (name : List ℕ) → IsReady P B p d s i name → MakesNode P B I node d s i name → HasGrown P B (committed P I s i) d s i name
-grown_from P B I p node d s i name ready makes =
-    let can = making.can_add P B I p node d s i name ready makes in
-    grown_after P B I (committed P I s i) p node d s i name ready makes can (only P I s i can.coherent) (stored P I s i can.coherent can.slot.held.in_range) (other_word I (slot_word_of P s 0) i) (add_law P I p d s i can).coherent
+grown_from : (P : ℕ) (B I : List ℕ) (p : Route) (kind : NodeKind) (d s i : ℕ) (name : List ℕ) → IsReady P B p d s i name → MakesNode P B I kind d s i name → HasGrown P B (committed P I s i) d s i name
+grown_from P B I p kind d s i name ready makes =
+    let can = making.can_add P B I p kind d s i name ready makes in
+    grown_after P B I (committed P I s i) p kind d s i name ready makes can (only P I s i can.coherent) (stored P I s i can.coherent can.slot.held.in_range) (other_word I (slot_word_of P s 0) i) (add_law P I p d s i can).coherent
 
 pub grown_law : GrownLaw
-grown_law P W I p node d s i name can vacant makes = grown_from P W I p node d s i name (is_ready P W p d s i name can vacant) makes
+grown_law P W I p kind d s i name can vacant makes = grown_from P W I p kind d s i name (is_ready P W p d s i name can vacant) makes
 
 -- from the image in which the directory owns the new page to the one before
 pub grown_with_page : (P : ℕ) (W A J : List ℕ) (p : Route) (d j s i : ℕ) (name : List ℕ) (can : CanName P W p d name) (page : IsFreePage P W j) (at : page_of_slot s ≡ j) (made : MakesEmptyPage P W A j)
@@ -56,8 +56,8 @@ grown_with_page P W A J p d j s i name can page at made g =
     }
 
 pub new_page_grown_law : NewPageGrownLaw
-new_page_grown_law P W A I p node d j s i name can page at made makes =
+new_page_grown_law P W A I p kind d j s i name can page at made makes =
     let t = taken P W A p d j s name can.place page at made in
     let inode = inode_ready P W (owned P A j d) p d j s name can.place page at t i (free_inode P W p d i name can) in
     grown_with_page P W A (committed P I s i) p d j s i name can.place page at made
-    (grown_from P (owned P A j d) I p node d s i name (record { place = page_ready P W (owned P A j d) p d j s name can.place page at t; inode = inode }) makes)
+    (grown_from P (owned P A j d) I p kind d s i name (record { place = page_ready P W (owned P A j d) p d j s name can.place page at t; inode = inode }) makes)

@@ -1,10 +1,12 @@
 -- Descriptors that stay, but of the pages that are named: owners, kinds, offsets and held slots stay with them.
 use Rattle.std.proofs.Common.{◌≡◌, ◌↔◌, inl, inr, ℕ, ◌<◌, List, sym, ap, subst, ◌∙◌, arith}
-use Rattle.layout.specs.Fields.{word, inode_kind, inode_size, page_owner, page_kind, page_offset}
+use Rattle.layout.specs.Fields.{word, descriptor_words, inode_kind, inode_size, page_owner, page_kind, page_offset}
 use Rattle.layout.specs.Geometry.{data_pages_of, page_of_slot, descriptor_word_of}
 use Rattle.layout.proofs.GeometryLaws.{page_of_slot_below, slot_below}
+use Rattle.layout.proofs.Widths.{descriptor_field_read, same_descriptor_words}
 use Rattle.image_reading.specs.Reading.{slot_owner, IsHeld, Reached, IsRoomOf, IsPageOf, pages_of_size}
 use Rattle.image_reading.specs.Repairs.{IsKeptFilePage, IsKept, IsLitterPage}
+use Rattle.image_reading.proofs.FilePages.{page_from_place}
 
 -- the slots of a page are held together
 pub owner_with : (P : ℕ) (I : List ℕ) (s t : ℕ) → page_of_slot t ≡ page_of_slot s → slot_owner P I t ≡ slot_owner P I s
@@ -25,11 +27,15 @@ pub record KeepsPages (P : ℕ) (A K : List ℕ) (Page : ℕ → Type 0) : Type 
 
 -- the words of descriptors stay
 abbrev pub KeepsDescriptors : ℕ → List ℕ → List ℕ → (ℕ → Type 0) → Type 0
-KeepsDescriptors P A K Page = (j f : ℕ) → j < data_pages_of P → f < 3 → ¬ Page j → word K (descriptor_word_of P j f) ≡ word A (descriptor_word_of P j f)
+KeepsDescriptors P A K Page = (j f : ℕ) → j < data_pages_of P → f < descriptor_words A → ¬ Page j → word K (descriptor_word_of P j f) ≡ word A (descriptor_word_of P j f)
 
 pub by_words : (P : ℕ) (A K : List ℕ) (Page : ℕ → Type 0) → KeepsDescriptors P A K Page → KeepsPages P A K Page
 unfolding page_owner page_kind page_offset
-by_words P A K Page same = record { owner = λ j lt. same j 0 lt (omega arith); kind = λ j lt. same j 1 lt (omega arith); offset = λ j lt. same j 2 lt (omega arith) }
+by_words P A K Page same = record {
+  owner = λ j lt. same j 0 lt (descriptor_field_read A 0 (omega arith));
+  kind = λ j lt. same j 1 lt (descriptor_field_read A 1 (omega arith));
+  offset = λ j lt. same j 2 lt (descriptor_field_read A 2 (omega arith));
+}
 
 module _ {P : ℕ} {A K : List ℕ} {Page : ℕ → Type 0} (keeps : KeepsPages P A K Page) where
   pub held_owner_same : (t : ℕ) → IsHeld P A t → ¬ Page (page_of_slot t) → slot_owner P K t ≡ slot_owner P A t
@@ -51,22 +57,22 @@ module _ {P : ℕ} {A K : List ℕ} {Page : ℕ → Type 0} (keeps : KeepsPages 
 
   pub page_same : (x k j : ℕ) → ¬ Page j → IsPageOf P K x k j ↔ IsPageOf P A x k j
   page_same x k j none = (
-    (λ g. record {
+    (λ g. page_from_place (record {
       in_range = g.in_range;
       owner = sym (keeps.owner j g.in_range none) ∙ g.owner;
       kind = sym (keeps.kind j g.in_range none) ∙ g.kind;
       offset = sym (keeps.offset j g.in_range none) ∙ g.offset;
-    }),
-    (λ g. record {
+    })),
+    (λ g. page_from_place (record {
       in_range = g.in_range;
       owner = keeps.owner j g.in_range none ∙ g.owner;
       kind = keeps.kind j g.in_range none ∙ g.kind;
       offset = keeps.offset j g.in_range none ∙ g.offset;
-    }),
+    })),
   )
 
 -- Descriptors of other pages stay, and the kinds of reached inodes. These pages keep owners that are reached, places below the ends of their files, and names.
-module _ (P : ℕ) (A K : List ℕ) (Page : ℕ → Type 0) (words : KeepsDescriptors P A K Page) (kinds : (x : ℕ) → Reached P A x → Reached P K x → inode_kind K x ≡ inode_kind A x)
+module _ (P : ℕ) (A K : List ℕ) (Page : ℕ → Type 0) (words : KeepsDescriptors P A K Page) (version : word K 1 ≡ word A 1) (kinds : (x : ℕ) → Reached P A x → Reached P K x → inode_kind K x ≡ inode_kind A x)
     (owners : (j : ℕ) → j < data_pages_of P → ¬ Page j → Reached P A (page_owner P A j) → Reached P K (page_owner P A j))
     (below : (j : ℕ) → ¬ Page j → IsKeptFilePage P A j → page_offset P A j < pages_of_size (inode_size K (page_owner P A j)))
     (rooms : (j : ℕ) → j < data_pages_of P → ¬ Page j → IsRoomOf P A (page_owner P A j) j → IsRoomOf P K (page_owner P A j) j) where
@@ -94,4 +100,5 @@ module _ (P : ℕ) (A K : List ℕ) (Page : ℕ → Type 0) (words : KeepsDescri
   pub litter_page : (j : ℕ) → ¬ Page j → IsLitterPage P K j → IsLitterPage P A j
   litter_page j none l =
       let (f, lt, nonzero) = l.nonzero in
-      record { in_range = l.in_range; free = λ kept. l.free (kept_page j l.in_range none kept); nonzero = (f, lt, λ z. nonzero (words j f l.in_range lt none ∙ z)) }
+      let read = subst (λ n. f < n) (same_descriptor_words A K version) lt in
+      record { in_range = l.in_range; free = λ kept. l.free (kept_page j l.in_range none kept); nonzero = (f, read, λ z. nonzero (words j f l.in_range read none ∙ z)) }

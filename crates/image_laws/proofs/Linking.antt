@@ -3,6 +3,7 @@ use Rattle.std.proofs.Common.{◌≡◌, ◌≢◌, ◌⊎◌, inl, inr, ℕ, �
 use Rattle.std.proofs.lemmas.Bool.{cases_eq}
 use Rattle.layout.specs.Fields.{word, inode_links, page_owner, slot_inode}
 use Rattle.layout.specs.Geometry.{inodes_of, data_pages_of, inode_word_of, descriptor_word_of, slot_word_of}
+use Rattle.layout.proofs.Widths.{in_inode}
 use Rattle.tree_model.specs.PathText.{Route}
 use Rattle.image_reading.specs.Counts.{AtMost}
 use Rattle.image_reading.specs.Reading.{IsLive, Reached, IsNameOf}
@@ -78,7 +79,7 @@ module _ (P : ℕ) (B C : List ℕ) (p : Route) (d s i : ℕ) (name : List ℕ) 
       (λ e. inode-ne_slot P i 1 t f i_pos i_most (omega arith) (sym e))
 
   nodes : KeepsInodes B C (Reached P B) (λ x. x ≡ i)
-  nodes = by_inodes P B C (Reached P B) (λ x. x ≡ i) range (λ x f r some most lt links. inode_same x f some most (omega (arith, lt)) links)
+  nodes = by_inodes P B C (Reached P B) (λ x. x ≡ i) range (λ x f r some most lt links. inode_same x f some most (in_inode B f lt) links)
 
   -- ---- the stores are free
 

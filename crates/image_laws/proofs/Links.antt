@@ -1,15 +1,16 @@
 -- Link, in a page that the directory has and in a new one.
-use Rattle.std.proofs.Common.{◌≡◌, ◌⊎◌, inl, inr, ℕ, List, ◌∷◌, reverse, refl, sym, ap, subst, ◌∙◌, arith}
+use Rattle.std.proofs.Common.{◌≡◌, ◌⊎◌, inl, inr, ℕ, List, ◌∷◌, reverse, sym, ap, subst, ◌∙◌, arith}
 use Rattle.layout.specs.Geometry.{page_of_slot, slot_word_of}
 use Rattle.layout.specs.Name.{name_in_words}
+use Rattle.layout.specs.declared.kinds.NodeKind.TheVariants.{File}
 use Rattle.tree_model.specs.PathText.{Route}
 use Rattle.tree_model.specs.Step.{with_path}
-use Rattle.tree_model.specs.Tree.{Node, Directory, File, Tree, Room}
-use Rattle.image_reading.specs.Reading.{HasBytes, IsNode, IsRoomOf, Reads, HasRoom}
+use Rattle.tree_model.specs.Tree.{Tree, Room}
+use Rattle.image_reading.specs.Reading.{IsRoomOf, Reads, HasRoom}
 use Rattle.image_reading.specs.Soundness.{IsCoherent}
 use Rattle.image_reading.specs.Tidy.{IsTidied}
 use Rattle.image_counts.specs.Entries.{IsFreePage}
-use Rattle.image_laws.specs.Add.{CanAdd, IsOldFile, with_page, with_node}
+use Rattle.image_laws.specs.Add.{CanAdd, IsOldFile, with_page}
 use Rattle.image_laws.specs.Commits.{Commits}
 use Rattle.image_laws.specs.Create.{IsVacant, MakesEmptyPage, committed, owned}
 use Rattle.image_laws.specs.Frame.{SameMeaning}
@@ -17,7 +18,6 @@ use Rattle.image_laws.specs.Grown.{HasGrown}
 use Rattle.image_laws.specs.Link.{MakesLink, CanLink, LinkLaw, NewPageLinkLaw}
 use Rattle.image_laws.specs.Quiet.{IsMix}
 use Rattle.image_laws.proofs.Adds.{inside, only, stored, add_law, add_tree_law, add_room_law}
-use Rattle.image_laws.proofs.Contents.{node_of, node_is}
 use Rattle.image_laws.proofs.Creates.{ready_slot, clean_slot, room_here}
 use Rattle.image_laws.proofs.Free.{mix_one, stores_law}
 use Rattle.image_laws.proofs.Grown.{grown_with_page}
@@ -30,11 +30,6 @@ use Rattle.image_laws.proofs.PageReady.{HasTaken, page_ready, forth, kind_as_bef
 use Rattle.image_laws.proofs.Ready.{IsCleanSlot, IsNamed}
 use Rattle.image_laws.proofs.Words.{other_word}
 use Rattle.image_laws.specs.Stages.{IsReadySlot}
-
--- a file takes no place in a room
-no_place : (P : ℕ) (I : List ℕ) (i : ℕ) (node : Node) (room : Room) → HasBytes I i → IsNode P I i node → with_node room i node ≡ room
-no_place P I i Directory room one two = absurd (omega (arith, one, two))
-no_place P I i (File bytes) room one node = refl
 
 module _ (P : ℕ) (W B C : List ℕ) (p path : Route) (d s i : ℕ) (name : List ℕ) (start : SameMeaning P W B) (place : IsReadySlot P B p d s name) (file : IsOldFile P B i)
     (makes : MakesLink P B C s i name) (is : reverse path ≡ name_in_words name ∷ p) where
@@ -66,22 +61,12 @@ module _ (P : ℕ) (W B C : List ℕ) (p path : Route) (d s i : ℕ) (name : Lis
       let path_is = is ∙ ap (λ n. n ∷ p) (sym (naming.name_is place (linking.named P B C p d s i name place file makes))) in
       (add_tree_law P C p path d s i can path_is).old_file T (same_linked.reads T h) (linking.old_file P B C p d s i name place file makes)
 
-  -- the node that the file is
-  node : Node
-  node = node_of P C can.coherent i (linking.old_file P B C p d s i name place file makes).reached
-
-  node_here : IsNode P C i node
-  unfolding node
-  node_here = node_is P C can.coherent i (linking.old_file P B C p d s i name place file makes).reached
-
-  forget : (room : Room) → with_node room i node ≡ room
-  forget room = no_place P C i node room (linking.old_file P B C p d s i name place file makes).file node_here
-
+  -- a file takes no place in a room
   pub old_page_room : IsRoomOf P C d (page_of_slot s) → (room : Room) → HasRoom P C room → HasRoom P (committed P C s i) room
-  old_page_room here room has = subst (HasRoom P (committed P C s i)) (forget room) ((add_room_law P C p d s i can).old_page room node has node_here here)
+  old_page_room here room has = (add_room_law P C p d s i can).old_page room File has (linking.old_file P B C p d s i name place file makes).file here
 
   pub new_page_room : (IsRoomOf P C d (page_of_slot s) → ⊥) → (room : Room) → HasRoom P C room → HasRoom P (committed P C s i) (with_page room d)
-  new_page_room none room has = subst (HasRoom P (committed P C s i)) (forget (with_page room d)) ((add_room_law P C p d s i can).new_page room node has node_here none)
+  new_page_room none room has = (add_room_law P C p d s i can).new_page room File has (linking.old_file P B C p d s i name place file makes).file none
 
   pub named_link : (after : Room → Room) → ((room : Room) → HasRoom P C room → HasRoom P (committed P C s i) (after room)) → IsNamed P W (committed P C s i) (λ T. with_path T path i) after
   named_link after room = record { coherent = coherent; reads = reads; room = λ r h. room r (same_linked.room r h) }

@@ -1,10 +1,12 @@
 -- Once the slot has the new node's number, nothing is to be repaired.
-use Rattle.std.proofs.Common.{◌≡◌, ◌≢◌, ◌↔◌, inl, inr, ℕ, ◌+◌, List, [], ◌∷◌, slice_index, refl, sym, ap, subst, ◌∙◌, arith}
+use Rattle.std.proofs.Common.{◌≡◌, ◌≢◌, ◌↔◌, inl, inr, ℕ, ◌+◌, List, [], ◌∷◌, refl, sym, ap, subst, ◌∙◌, arith}
 use Rattle.std.proofs.lemmas.Bool.{cases_eq}
 use Rattle.layout.specs.Fields.{word, inode_kind, inode_links, slot_inode}
 use Rattle.layout.specs.Geometry.{slot_word_of}
+use Rattle.layout.specs.Kinds.{node_code}
+use Rattle.layout.specs.declared.kinds.NodeKind.{NodeKind}
+use Rattle.layout.specs.declared.kinds.NodeKind.TheVariants.{File, Directory}
 use Rattle.tree_model.specs.PathText.{Route}
-use Rattle.tree_model.specs.Tree.{Node, Directory, File}
 use Rattle.image_reading.specs.Counts.{Count}
 use Rattle.image_reading.specs.Reading.{HasBytes, slot_owner, Reached, IsReachedSlot, IsNameOf, IsChildOf, IsLinkCount}
 use Rattle.image_reading.specs.Repairs.{IsLitterCount}
@@ -12,7 +14,7 @@ use Rattle.image_reading.specs.Soundness.{Rule, IsCoherent}
 use Rattle.image_reading.specs.Tidy.{IsTidied}
 use Rattle.image_reading.proofs.Counts.{count_none}
 use Rattle.image_laws.specs.Add.{CanAdd}
-use Rattle.image_laws.specs.Create.{node_words, parent_links, MakesNode}
+use Rattle.image_laws.specs.Create.{parent_links, MakesNode}
 use Rattle.image_laws.specs.Grown.{HasGrown}
 use Rattle.image_laws.specs.Stages.{IsReady}
 use Rattle.image_laws.proofs.AddTidy as adds
@@ -28,7 +30,7 @@ use Rattle.image_laws.proofs.Ready.{IsCleanSlot}
 count_single : (Q : ℕ → Type 0) (s : ℕ) → ((x : ℕ) → Q x ↔ (x ≡ s)) → Count Q 1
 count_single Q s is = (s ∷ [], ((λ c. c), tt), (λ x. ((λ c. elim c [ inl e ↦ (is x).1 e | inr n ↦ absurd n ]), (λ q. inl ((is x).0 q)))), refl)
 
-module _ (P : ℕ) (B C D : List ℕ) (p : Route) (node : Node) (d s i : ℕ) (name : List ℕ) (ready : IsReady P B p d s i name) (makes : MakesNode P B C node d s i name)
+module _ (P : ℕ) (B C D : List ℕ) (p : Route) (kind : NodeKind) (d s i : ℕ) (name : List ℕ) (ready : IsReady P B p d s i name) (makes : MakesNode P B C kind d s i name)
     (can : CanAdd P C p d s i) (only : OnlySlot P C D s) (stored : slot_inode P D s ≡ i) (others : (a : ℕ) → a ≢ slot_word_of P s 0 → word D a ≡ word C a) (coherent : IsCoherent P D) where
   d_reached : Reached P B d
   d_reached = (p, ready.place.slot.path)
@@ -38,9 +40,9 @@ module _ (P : ℕ) (B C D : List ℕ) (p : Route) (node : Node) (d s i : ℕ) (n
 
   written : IsWritten P B C s i d name
   written = record {
-    named = making.named P B C p node d s i name ready makes;
+    named = making.named P B C p kind d s i name ready makes;
     linked = d_reached;
-    inodes = λ x f some most lt old links. making.inode_same P B C p node d s i name ready makes x f some most lt (elim old [ inl r ↦ other_inode x r | inr ne ↦ ne ]) links;
+    inodes = λ x f some most lt old links. making.inode_same P B C p kind d s i name ready makes x f some most lt (elim old [ inl r ↦ other_inode x r | inr ne ↦ ne ]) links;
   }
 
   kept : KeepsSlots P B D (λ t. t ≡ s)
@@ -61,14 +63,14 @@ module _ (P : ℕ) (B C D : List ℕ) (p : Route) (node : Node) (d s i : ℕ) (n
   old_slot : (t : ℕ) → IsReachedSlot P B t → t ≢ s
   old_slot = adds.old_slot ready.place written can only stored others coherent
 
-  parent_links_after : inode_links D d ≡ parent_links node (inode_links B d)
+  parent_links_after : inode_links D d ≡ parent_links kind (inode_links B d)
   parent_links_after = only.links d (reached-le P B ready.place.coherent d d_reached) ∙ makes.parent
 
-  made_kind : inode_kind D i ≡ slice_index (node_words node i) 0
-  made_kind = only.node_kind i ready.inode.most ∙ making.made_kind P B C p node d s i name ready makes
+  made_kind : inode_kind D i ≡ node_code kind
+  made_kind = only.node_kind i ready.inode.most ∙ making.made_kind P B C p kind d s i name ready makes
 
-  made_links : inode_links D i ≡ slice_index (node_words node i) 0
-  made_links = only.links i ready.inode.most ∙ making.made_links P B C p node d s i name ready makes
+  made_links : inode_links D i ≡ node_code kind
+  made_links = only.links i ready.inode.most ∙ making.made_links P B C p kind d s i name ready makes
 
   -- ---- links
 
@@ -90,12 +92,12 @@ module _ (P : ℕ) (B C D : List ℕ) (p : Route) (node : Node) (d s i : ℕ) (n
     | inr ne ↦ (let was = (slot_laws.children kept i t ne).1 n in ready.inode.unreached (subst (Reached P B) was.owner was.slot.owner))
   ]
 
-  new_links : (kind : Node) → inode_kind D i ≡ slice_index (node_words kind i) 0 → inode_links D i ≡ slice_index (node_words kind i) 0 → IsLinkCount P D i (inode_links D i)
+  new_links : (kind : NodeKind) → inode_kind D i ≡ node_code kind → inode_links D i ≡ node_code kind → IsLinkCount P D i (inode_links D i)
   new_links Directory is links = record {
     file = λ one. absurd (omega (arith, one, is));
     directory = λ _. (0, count_none (IsChildOf P D i) no_child, links);
   }
-  new_links (File bytes) is links = record {
+  new_links File is links = record {
     file = λ _. subst (Count (IsNameOf P D i)) (sym links) (count_single (IsNameOf P D i) s name_new);
     directory = λ two. absurd (omega (arith, two, is));
   }
@@ -115,22 +117,22 @@ module _ (P : ℕ) (B C D : List ℕ) (p : Route) (node : Node) (d s i : ℕ) (n
   children_same : (x m : ℕ) → (IsChildOf P D x s → ⊥) → Count (IsChildOf P B x) m → Count (IsChildOf P D x) m
   children_same x m none = count_kept (IsChildOf P B x) (IsChildOf P D x) s m (slot_laws.children kept x) (λ n. old_slot s n.slot refl) none
 
-  new_child : IsChildOf P D d s ↔ (slice_index (node_words node i) 0 ≡ 2)
+  new_child : IsChildOf P D d s ↔ (node_code kind ≡ 2)
   new_child = (
     (λ n. sym made_kind ∙ ap (inode_kind D) (sym stored) ∙ n.directory),
     (λ two. record { slot = new_slot; owner = new_owner; directory = ap (inode_kind D) stored ∙ made_kind ∙ two }),
   )
 
-  parent_children : (kind : Node) → slice_index (node_words node i) 0 ≡ slice_index (node_words kind i) 0 → inode_links D d ≡ parent_links kind (inode_links B d) → HasChildren B d → HasChildren D d
+  parent_children : (other : NodeKind) → node_code kind ≡ node_code other → inode_links D d ≡ parent_links other (inode_links B d) → HasChildren B d → HasChildren D d
   unfolding HasChildren
   parent_children Directory is links (m, count, e) =
       (m + 1, count_gained (IsChildOf P B d) (IsChildOf P D d) s m (slot_laws.children kept d) (λ n. old_slot s n.slot refl) (new_child.1 is) count, omega (arith, links, e))
-  parent_children (File bytes) is links (m, count, e) = (m, children_same d m (λ n. (let two = new_child.0 n in omega (arith, two, is))) count, links ∙ e)
+  parent_children File is links (m, count, e) = (m, children_same d m (λ n. (let two = new_child.0 n in omega (arith, two, is))) count, links ∙ e)
 
   directory_children : (x : ℕ) → Reached P B x → HasChildren B x → HasChildren D x
   unfolding HasChildren
   directory_children x r h = elim (cases_eq x d) [
-    | inl e ↦ subst (HasChildren D) (sym e) (parent_children node refl parent_links_after (subst (HasChildren B) e h))
+    | inl e ↦ subst (HasChildren D) (sym e) (parent_children kind refl parent_links_after (subst (HasChildren B) e h))
     | inr ne ↦ (let (m, count, e) = h in (m, children_same x m (λ n. ne (sym n.owner ∙ new_owner)) count, links_same x r ne ∙ e))
   ]
 
@@ -144,7 +146,7 @@ module _ (P : ℕ) (B C D : List ℕ) (p : Route) (node : Node) (d s i : ℕ) (n
   no_count : IsCleanSlot P B s → (x : ℕ) → IsLitterCount P D x → ⊥
   no_count rest x l = elim (adds.reached_cases ready.place written can only stored others coherent x l.reached) [
     | inl old ↦ rest.but.counts x (record { reached = old; other = λ count. l.other (old_links x old count) })
-    | inr e ↦ l.other (subst (λ y. IsLinkCount P D y (inode_links D y)) (sym e) (new_links node made_kind made_links))
+    | inr e ↦ l.other (subst (λ y. IsLinkCount P D y (inode_links D y)) (sym e) (new_links kind made_kind made_links))
   ]
 
   pub tidy_after : IsCleanSlot P B s → IsTidied P D

@@ -1,17 +1,21 @@
 -- The words of a new node and of its name are stored: nothing is meant by them yet.
-use Rattle.std.proofs.Common.{◌≡◌, ◌≢◌, ◌⊎◌, inl, inr, ℕ, ◌+◌, ◌<◌, ◌≤◌, List, length, slice_index, refl, sym, ap, subst, ◌∙◌, arith}
+use Rattle.std.proofs.Common.{◌≡◌, ◌≢◌, ◌⊎◌, inl, inr, ℕ, ◌+◌, ◌<◌, ◌≤◌, List, slice_index, refl, sym, ap, subst, ◌∙◌, arith}
 use Rattle.std.proofs.lemmas.Bool.{cases_eq}
-use Rattle.layout.specs.Fields.{word, inode_kind, inode_links, inode_size, inode_own, page_owner, slot_inode}
+use Rattle.layout.specs.Fields.{word, inode_words, inode_kind, inode_links, inode_size, inode_own, page_owner, slot_inode}
 use Rattle.layout.specs.Geometry.{inodes_of, data_pages_of, inode_word_of, descriptor_word_of, slot_word_of}
+use Rattle.layout.specs.Kinds.{node_code}
+use Rattle.layout.specs.declared.kinds.NodeKind.{NodeKind}
+use Rattle.layout.specs.declared.kinds.NodeKind.TheVariants.{File, Directory}
+use Rattle.layout.proofs.Widths.{in_inode, inode_field_read}
 use Rattle.tree_model.specs.PathText.{Route}
-use Rattle.tree_model.specs.Tree.{Node, Directory, File}
+use Rattle.tree_model.specs.Step.{new_node}
 use Rattle.image_reading.specs.Counts.{AtMost}
-use Rattle.image_reading.specs.Reading.{IsLive, Reached, IsNode, IsNameOf, IsChildOf}
+use Rattle.image_reading.specs.Reading.{HasBytes, IsDirectory, IsLive, Reached, IsNode, IsNameOf, IsChildOf}
 use Rattle.image_reading.specs.Soundness.{Rule, HasLinks}
 use Rattle.image_reading.proofs.Counts.{at_most_none}
 use Rattle.image_counts.proofs.Paths.{in_range}
 use Rattle.image_laws.specs.Add.{IsNewNode, CanAdd}
-use Rattle.image_laws.specs.Create.{IsEmptyNode, node_words, parent_links, IsMadeWord, MakesNode}
+use Rattle.image_laws.specs.Create.{node_words, parent_links, IsMadeWord, MakesNode}
 use Rattle.image_laws.specs.Free.{IsFree, Stores}
 use Rattle.image_laws.proofs.Addresses.{descriptor-ne_inode, descriptor-ne_slot, inode-ne_inode, inode-ne_field, inode-ne_slot, slot-ne_slot, slot-ne_field}
 use Rattle.image_laws.proofs.Counts.{at_most}
@@ -20,7 +24,7 @@ use Rattle.image_laws.proofs.KeptInodes.{KeepsInodes, by_inodes}
 use Rattle.image_laws.proofs.Naming as names
 use Rattle.image_laws.proofs.Naming.{StoresName}
 use Rattle.image_laws.proofs.Paths.{reach}
-use Rattle.image_laws.proofs.Ready.{dec_made, not_made}
+use Rattle.image_laws.proofs.Ready.{dec_made, made_cases, not_made}
 use Rattle.image_laws.specs.Stages.{IsReady}
 
 -- one link more is enough too
@@ -30,28 +34,21 @@ links_more P I x n h = record {
   directory = λ k xs d all. let le = h.directory k xs d all in omega (arith, le);
 }
 
-pub links_for : (node : Node) (P : ℕ) (I : List ℕ) (x n : ℕ) → HasLinks P I x n → HasLinks P I x (parent_links node n)
+pub links_for : (kind : NodeKind) (P : ℕ) (I : List ℕ) (x n : ℕ) → HasLinks P I x n → HasLinks P I x (parent_links kind n)
 links_for Directory P I x n h = links_more P I x n h
-links_for (File bytes) P I x n h = h
+links_for File P I x n h = h
 
--- what the words of an empty node say
-kind_word : (node : Node) (i : ℕ) → (slice_index (node_words node i) 0 ≡ 1) ⊎ (slice_index (node_words node i) 0 ≡ 2)
-kind_word Directory i = inr refl
-kind_word (File bytes) i = inl refl
+-- what the words of a new node say: a file has one link, a directory two
+pub node_says : (kind : NodeKind) (i : ℕ)
+    → (slice_index (node_words kind i) 0 ≡ node_code kind) × (slice_index (node_words kind i) 1 ≡ node_code kind) × (slice_index (node_words kind i) 2 ≡ 0) × (slice_index (node_words kind i) 3 ≡ i)
+node_says Directory i = (refl, refl, refl, refl)
+node_says File i = (refl, refl, refl, refl)
 
-own_word : (node : Node) (i : ℕ) → slice_index (node_words node i) 3 ≡ i
-own_word Directory i = refl
-own_word (File bytes) i = refl
+pub kind_told : (I : List ℕ) (i : ℕ) (kind : NodeKind) → inode_kind I i ≡ node_code kind → HasBytes I i ⊎ IsDirectory I i
+kind_told I i Directory is = inr is
+kind_told I i File is = inl is
 
-size_word : (node : Node) (i : ℕ) → slice_index (node_words node i) 2 ≡ 0
-size_word Directory i = refl
-size_word (File bytes) i = refl
-
-links_word : (node : Node) (i : ℕ) → slice_index (node_words node i) 1 ≡ slice_index (node_words node i) 0
-links_word Directory i = refl
-links_word (File bytes) i = refl
-
-module _ (P : ℕ) (B C : List ℕ) (p : Route) (node : Node) (d s i : ℕ) (name : List ℕ) (ready : IsReady P B p d s i name) (makes : MakesNode P B C node d s i name) where
+module _ (P : ℕ) (B C : List ℕ) (p : Route) (kind : NodeKind) (d s i : ℕ) (name : List ℕ) (ready : IsReady P B p d s i name) (makes : MakesNode P B C kind d s i name) where
   i_pos : 1 ≤ i
   i_pos = let least = ready.inode.least in omega (arith, least)
 
@@ -69,19 +66,19 @@ module _ (P : ℕ) (B C : List ℕ) (p : Route) (node : Node) (d s i : ℕ) (nam
 
   -- ---- which words stay
 
-  same_word : (a : ℕ) → ((f : ℕ) → f < 4 → a ≢ inode_word_of i f) → ((k : ℕ) → k < 14 → a ≢ slot_word_of P s (2 + k)) → a ≢ inode_word_of d 1 → word C a ≡ word B a
-  same_word a f g h = makes.others a (not_made P node d s i a f g h)
+  same_word : (a : ℕ) → ((f : ℕ) → f < inode_words B → a ≢ inode_word_of i f) → ((k : ℕ) → k < 14 → a ≢ slot_word_of P s (2 + k)) → a ≢ inode_word_of d 1 → word C a ≡ word B a
+  same_word a f g h = makes.others a (not_made P B kind d s i a f g h)
 
   pub descriptor_same : (j f : ℕ) → j < data_pages_of P → f < 8 → word C (descriptor_word_of P j f) ≡ word B (descriptor_word_of P j f)
   descriptor_same j f lt l8 = same_word (descriptor_word_of P j f)
-      (λ g l. descriptor-ne_inode P j f i g i_pos ready.inode.most (omega arith))
+      (λ g l. descriptor-ne_inode P j f i g i_pos ready.inode.most (in_inode B g l))
       (λ k l. descriptor-ne_slot P j f s (2 + k) lt l8)
       (descriptor-ne_inode P j f d 1 (range d d_reached).0 (range d d_reached).1 (omega arith))
 
   -- an inode's words, but the made inode's and the parent's link word
   pub inode_same : (x f : ℕ) → 1 ≤ x → x ≤ inodes_of P → f < 16 → x ≢ i → (f ≢ 1) ⊎ (x ≢ d) → word C (inode_word_of x f) ≡ word B (inode_word_of x f)
   inode_same x f some most lt other parent = same_word (inode_word_of x f)
-      (λ g l. inode-ne_inode x f i g some i_pos other lt (omega arith))
+      (λ g l. inode-ne_inode x f i g some i_pos other lt (in_inode B g l))
       (λ k l. inode-ne_slot P x f s (2 + k) some most lt)
       (elim parent [
         | inl field ↦ inode-ne_field x f d 1 lt (omega arith) field
@@ -91,7 +88,7 @@ module _ (P : ℕ) (B C : List ℕ) (p : Route) (node : Node) (d s i : ℕ) (nam
   -- a slot's words, but name words of the slot
   pub slot_same : (t f : ℕ) → f < 16 → (f < 2) ⊎ (t ≢ s) → word C (slot_word_of P t f) ≡ word B (slot_word_of P t f)
   slot_same t f lt other = same_word (slot_word_of P t f)
-      (λ g l e. inode-ne_slot P i g t f i_pos ready.inode.most (omega arith) (sym e))
+      (λ g l e. inode-ne_slot P i g t f i_pos ready.inode.most (in_inode B g l) (sym e))
       (λ k l. elim other [
         | inl low ↦ slot-ne_field P t f s (2 + k) lt (omega arith) (λ e. omega (arith, e, low))
         | inr ne ↦ slot-ne_slot P t f s (2 + k) lt (omega arith) ne
@@ -99,47 +96,40 @@ module _ (P : ℕ) (B C : List ℕ) (p : Route) (node : Node) (d s i : ℕ) (nam
       (λ e. inode-ne_slot P d 1 t f (range d d_reached).0 (range d d_reached).1 (omega arith) (sym e))
 
   nodes : KeepsInodes B C (Reached P B) (λ x. x ≡ d)
-  nodes = by_inodes P B C (Reached P B) (λ x. x ≡ d) range (λ x f r some most lt links. inode_same x f some most (omega (arith, lt)) (other_inode x r) links)
+  nodes = by_inodes P B C (Reached P B) (λ x. x ≡ d) range (λ x f r some most lt links. inode_same x f some most (in_inode B f lt) (other_inode x r) links)
 
   -- ---- the made inode
 
-  pub made_kind : inode_kind C i ≡ slice_index (node_words node i) 0
+  pub made_kind : inode_kind C i ≡ node_code kind
   unfolding inode_kind
-  made_kind = makes.inode 0 (omega arith)
+  made_kind = makes.inode 0 (inode_field_read B 0 (omega arith)) ∙ (node_says kind i).0
 
-  pub made_links : inode_links C i ≡ slice_index (node_words node i) 0
+  pub made_links : inode_links C i ≡ node_code kind
   unfolding inode_links
-  made_links = makes.inode 1 (omega arith) ∙ links_word node i
+  made_links = makes.inode 1 (inode_field_read B 1 (omega arith)) ∙ (node_says kind i).1
 
   made_size : inode_size C i ≡ 0
   unfolding inode_size
-  made_size = makes.inode 2 (omega arith) ∙ size_word node i
+  made_size = makes.inode 2 (inode_field_read B 2 (omega arith)) ∙ (node_says kind i).2
 
   made_own : inode_own C i ≡ i
   unfolding inode_own
-  made_own = makes.inode 3 (omega arith) ∙ own_word node i
+  made_own = makes.inode 3 (inode_field_read B 3 (omega arith)) ∙ (node_says kind i).3
 
   -- ---- the stores are free
 
-  free_made : (node : Node) (a : ℕ) → IsMadeWord P node d s i a → IsFree P B a
-  free_made Directory a m = elim m [
-    | inl (f, lt, e) ↦ subst (IsFree P B) (sym e) (IsFree.inode i f i_pos ready.inode.most (omega arith) ready.inode.unreached)
+  free_made : (a : ℕ) → IsMadeWord P B kind d s i a → IsFree P B a
+  free_made a m = elim (made_cases P B kind d s i a m) [
+    | inl (f, lt, e) ↦ subst (IsFree P B) (sym e) (IsFree.inode i f i_pos ready.inode.most (in_inode B f lt) ready.inode.unreached)
     | inr n ↦ elim n [
-      | inl (k, lt, e) ↦ subst (IsFree P B) (sym e) (free_name k lt)
+      | inl (k, lt, e) ↦ subst (IsFree P B) (sym e) (IsFree.name s (2 + k) (omega arith) (omega arith) ready.place.slot.held (λ r. not_live s r.live refl))
       | inr e ↦ subst (IsFree P B) (sym e) (IsFree.link d (range d d_reached).0 (range d d_reached).1)
     ]
-  ]
-    where
-      free_name : (k : ℕ) → k < 14 → IsFree P B (slot_word_of P s (2 + k))
-      free_name k lt = IsFree.name s (2 + k) (omega arith) (omega arith) ready.place.slot.held (λ r. not_live s r.live refl)
-  free_made (File bytes) a m = elim m [
-    | inl (f, lt, e) ↦ subst (IsFree P B) (sym e) (IsFree.inode i f i_pos ready.inode.most (omega arith) ready.inode.unreached)
-    | inr (k, lt, e) ↦ subst (IsFree P B) (sym e) (IsFree.name s (2 + k) (omega arith) (omega arith) ready.place.slot.held (λ r. not_live s r.live refl))
   ]
 
   enough_links : (x : ℕ) → Reached P B x → HasLinks P B x (inode_links C x)
   enough_links x r = elim (cases_eq x d) [
-    | inl e ↦ subst (λ y. HasLinks P B y (inode_links C y)) (sym e) (subst (HasLinks P B d) (sym makes.parent) (links_for node P B d (inode_links B d) (ready.place.coherent Rule.links d d_reached)))
+    | inl e ↦ subst (λ y. HasLinks P B y (inode_links C y)) (sym e) (subst (HasLinks P B d) (sym makes.parent) (links_for kind P B d (inode_links B d) (ready.place.coherent Rule.links d d_reached)))
     | inr ne ↦ subst (HasLinks P B x) (sym (nodes.links x r ne)) (ready.place.coherent Rule.links x r)
   ]
 
@@ -147,7 +137,7 @@ module _ (P : ℕ) (B C : List ℕ) (p : Route) (node : Node) (d s i : ℕ) (nam
   unfolding page_owner
   stores = record {
     size = makes.size;
-    words = λ a. elim (dec_made P node d s i a) [ no n ↦ inl (makes.others a n) | yes m ↦ inr (free_made node a m) ];
+    words = λ a. elim (dec_made P B kind d s i a) [ no n ↦ inl (makes.others a n) | yes m ↦ inr (free_made a m) ];
     owners = λ j lt. inl (descriptor_same j 0 lt (omega arith));
     links = enough_links;
   }
@@ -163,11 +153,11 @@ module _ (P : ℕ) (B C : List ℕ) (p : Route) (node : Node) (d s i : ℕ) (nam
   unreached_after : Reached P C i → ⊥
   unreached_after (q, b) = ready.inode.unreached (q, (entries.same.names q i).1 b)
 
-  pub new_node : IsNewNode P C i
-  new_node = record {
+  pub is_new : IsNewNode P C i
+  is_new = record {
     unreached = unreached_after;
     no_pages = λ j lt e. ready.inode.no_pages j lt (sym ((names.paged ready.place named).owner j lt (λ none. none)) ∙ e);
-    kind = elim (kind_word node i) [ inl e ↦ inl (made_kind ∙ e) | inr e ↦ inr (made_kind ∙ e) ];
+    kind = kind_told C i kind made_kind;
     own = made_own;
     empty = λ _. made_size;
     no_children = λ two. let e = sym made_kind ∙ two in let links = made_links in omega (arith, e, links);
@@ -177,11 +167,11 @@ module _ (P : ℕ) (B C : List ℕ) (p : Route) (node : Node) (d s i : ℕ) (nam
   no_name t n = unreached_after (subst (Reached P C) n.inode (reach P C t n.slot ((entries.same.coherent Rule.inodes t).most n.slot)))
 
   one_link : 1 ≤ inode_links C i
-  one_link = let e = made_links in elim (kind_word node i) [ inl k ↦ omega (arith, e, k) | inr k ↦ omega (arith, e, k) ]
+  one_link = let e = sym made_kind in let links = made_links in elim (kind_told C i kind made_kind) [ inl one ↦ omega (arith, e, links, one) | inr two ↦ omega (arith, e, links, two) ]
 
-  child_room : (kind : Node) → inode_links C d ≡ parent_links kind (inode_links B d) → slice_index (node_words kind i) 0 ≡ 2 → AtMost 2 (IsChildOf P C d) (inode_links B d) → AtMost 3 (IsChildOf P C d) (inode_links C d)
+  child_room : (kind : NodeKind) → inode_links C d ≡ parent_links kind (inode_links B d) → node_code kind ≡ 2 → AtMost 2 (IsChildOf P C d) (inode_links B d) → AtMost 3 (IsChildOf P C d) (inode_links C d)
   child_room Directory links two few xs distinct all = let le = few xs distinct all in omega (arith, le, links)
-  child_room (File bytes) links two few xs distinct all = omega (arith, two)
+  child_room File links two few xs distinct all = omega (arith, two)
 
   child_back : (t : ℕ) → IsChildOf P C d t → IsChildOf P B d t
   child_back t n =
@@ -194,16 +184,16 @@ module _ (P : ℕ) (B C : List ℕ) (p : Route) (node : Node) (d s i : ℕ) (nam
       }
 
   pub can_add : CanAdd P C p d s i
-  can_add = names.may_add ready.place named i ready.inode.least ready.inode.most (inl new_node) (λ _. at_most_none 1 (inode_links C i) (IsNameOf P C i) no_name one_link)
-      (λ two. child_room node makes.parent (sym made_kind ∙ two) (at_most 2 (inode_links B d) (IsChildOf P B d) (IsChildOf P C d) child_back ((ready.place.coherent Rule.links d d_reached).directory ready.place.slot.directory)))
+  can_add = names.may_add ready.place named i ready.inode.least ready.inode.most (inl is_new) (λ _. at_most_none 1 (inode_links C i) (IsNameOf P C i) no_name one_link)
+      (λ two. child_room kind makes.parent (sym made_kind ∙ two) (at_most 2 (inode_links B d) (IsChildOf P B d) (IsChildOf P C d) child_back ((ready.place.coherent Rule.links d d_reached).directory ready.place.slot.directory)))
 
   -- the made inode is the node
-  pub node_made : IsEmptyNode node → IsNode P C i node
-  node_made empty = is_node node made_kind empty
+  pub node_made : IsNode P C i (new_node kind)
+  node_made = is_node kind made_kind
     where
       no : (o : ℕ) → o < 0 → ⊥
       no o lt = omega arith
 
-      is_node : (kind : Node) → inode_kind C i ≡ slice_index (node_words kind i) 0 → IsEmptyNode kind → IsNode P C i kind
-      is_node Directory is empty = is
-      is_node (File bytes) is empty = (is, record { size = ap length empty ∙ sym made_size; bytes_at = λ o j lt g. absurd (no o (subst (λ z. o < z) made_size lt)) })
+      is_node : (kind : NodeKind) → inode_kind C i ≡ node_code kind → IsNode P C i (new_node kind)
+      is_node Directory is = is
+      is_node File is = (is, record { size = sym made_size; bytes_at = λ o j lt g. absurd (no o (subst (λ z. o < z) made_size lt)) })

@@ -4,9 +4,10 @@ use Rattle.layout.specs.Fields.{word, inode_kind, inode_links, inode_size, inode
 use Rattle.layout.specs.Geometry.{page_of_slot, inode_word_of, descriptor_word_of, slot_word_of, page_word_of}
 use Rattle.layout.specs.Name.{name_in_words}
 use Rattle.layout.specs.Superblock.{mark_word}
+use Rattle.layout.proofs.Widths.{same_inode_words, same_descriptor_words}
 use Rattle.tree_model.specs.PathText.{Route}
 use Rattle.image_reading.specs.Counts.{Count}
-use Rattle.image_reading.specs.Reading.{slot_owner, IsHeld, IsLive, Leads, Names, Reached, IsReachedSlot, IsNameOf, IsChildOf, IsLinkCount, IsRoomOf, pages_of_size}
+use Rattle.image_reading.specs.Reading.{IsDirectory, slot_owner, IsHeld, IsLive, Leads, Names, Reached, IsReachedSlot, IsNameOf, IsChildOf, IsLinkCount, IsRoomOf, pages_of_size}
 use Rattle.image_reading.specs.Repairs.{IsKeptFilePage, IsKept, IsPointer, IsLitterSlot, IsLitterPage, IsLitterInode, IsLitterCount, HasRepairs, no_repairs}
 use Rattle.image_reading.specs.Soundness.{Rule, HasLinks, IsCoherent}
 use Rattle.image_reading.proofs.Counts.{count_none, none_counted}
@@ -17,6 +18,7 @@ use Rattle.image_laws.specs.Frame.{AllSameBytes, SameMeaning}
 use Rattle.image_laws.specs.Marking.{SameButMark, MarkLaw}
 use Rattle.image_laws.proofs.Addresses.{head-ne_inode, head-ne_slot, head-ne_descriptor, head-ne_page}
 use Rattle.image_laws.proofs.Frame.{frame}
+use Rattle.image_laws.proofs.Meaning.{same_head}
 use Rattle.image_laws.proofs.Words.{slot_words-same}
 
 -- and the other way round
@@ -112,7 +114,7 @@ module _ (P : ℕ) {I J : List ℕ} (same : SameButMark I J) where
         (sym (same_slot_inode P same d) ∙ number ∙ same_slot_inode P same s);
   }
 
-  directory_marked : (s : ℕ) → inode_kind I (slot_owner P I s) ≡ 2 → inode_kind J (slot_owner P J s) ≡ 2
+  directory_marked : (s : ℕ) → IsDirectory I (slot_owner P I s) → IsDirectory J (slot_owner P J s)
   directory_marked s directory = same_inode_kind same (slot_owner P J s) ∙ ap (inode_kind I) (same_slot_owner P same s) ∙ directory
 
   leads_marked : (s : ℕ) (n : List ℕ) (i : ℕ) → Leads P I s n i → Leads P J s n i
@@ -184,6 +186,9 @@ module _ (P : ℕ) {I J : List ℕ} (same : SameButMark I J) where
   back : SameButMark J I
   back = marked_back same
 
+  version : word J 1 ≡ word I 1
+  version = other_word same 1 (λ e. omega (arith, e))
+
   pointer_back : (s : ℕ) → IsPointer P J s → IsPointer P I s
   pointer_back s pointer = record { held = held_marked P back s pointer.held; nonzero = λ z. pointer.nonzero (same_slot_pointer P same s ∙ z) }
 
@@ -199,16 +204,18 @@ module _ (P : ℕ) {I J : List ℕ} (same : SameButMark I J) where
   litter_page_back : (j : ℕ) → IsLitterPage P J j → IsLitterPage P I j
   litter_page_back j litter =
       let (f, lt, nonzero) = litter.nonzero in
-      record { in_range = litter.in_range; free = λ kept. litter.free (kept_marked P same j kept); nonzero = (f, lt, λ z. nonzero (descriptor_word P same j f ∙ z)) }
+      let read = subst (λ n. f < n) (same_descriptor_words I J version) lt in
+      record { in_range = litter.in_range; free = λ kept. litter.free (kept_marked P same j kept); nonzero = (f, read, λ z. nonzero (descriptor_word P same j f ∙ z)) }
 
   litter_inode_back : (i : ℕ) → IsLitterInode P J i → IsLitterInode P I i
   litter_inode_back i litter =
       let (f, lt, nonzero) = litter.nonzero in
+      let read = subst (λ n. f < n) (same_inode_words I J version) lt in
       record {
         least = litter.least;
         most = litter.most;
         unreached = λ reached. litter.unreached (reached_marked P same i reached);
-        nonzero = (f, lt, λ z. nonzero (inode_word same i f ∙ z));
+        nonzero = (f, read, λ z. nonzero (inode_word same i f ∙ z));
       }
 
   link_count_marked : (i n : ℕ) → IsLinkCount P I i n → IsLinkCount P J i n
@@ -239,7 +246,7 @@ module _ (P : ℕ) {I J : List ℕ} (same : SameButMark I J) where
   agrees : IsCoherent P I → Agrees P I J
   agrees coherent = record {
     size = same.long;
-    head = λ x lt. other_word same x (λ e. omega (arith, e));
+    head = λ x. same_head P I J x same.long (λ a lt. other_word same a (λ e. omega (arith, lt, e))) (coherent Rule.head x);
     pages = λ j lt. inl (record {
       owner = same_page_owner P same j;
       kind = λ owned. same_page_kind P same j;

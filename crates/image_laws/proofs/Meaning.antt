@@ -6,9 +6,10 @@ use Rattle.layout.proofs.GeometryLaws.{page_of_slot_below}
 use Rattle.layout.specs.Name.{name_in_words, IsNameWords}
 use Rattle.tree_model.specs.PathText.{Route}
 use Rattle.tree_model.specs.Tree.{Node, Directory, File}
-use Rattle.image_reading.specs.Reading.{slot_owner, IsLive, Leads, Names, Reached, IsReachedSlot, IsPageOf, IsContent, IsNode, pages_of_size, IsRoomOf, IsNameOf, IsChildOf}
+use Rattle.image_reading.specs.Reading.{IsDirectory, HasBytes, slot_owner, IsLive, Leads, Names, Reached, IsReachedSlot, IsPageOf, IsContent, IsNode, pages_of_size, IsRoomOf, IsNameOf, IsChildOf}
 use Rattle.image_reading.specs.Soundness.{Rule, Obeys, IsCoherent, HasHead, HasLinks}
 use Rattle.image_reading.proofs.Credits.{count_same}
+use Rattle.image_reading.proofs.FilePages.{page_from_place}
 use Rattle.image_laws.specs.Agrees.{IsUnneeded, SameDescriptor, Alike, ShapeLaw}
 use Rattle.image_laws.specs.Frame.{SameBytes, AllSameBytes, SameShape, SameMeaning, NodeLaw, MeaningsChain}
 use Rattle.image_laws.proofs.Addresses.{page_of_byte-lt}
@@ -22,6 +23,10 @@ same_head P I J x size head h = record {
   whole = λ z. size ∙ h.whole z;
   head = λ lt. head x lt ∙ h.head lt;
 }
+
+-- an inode with the kind of one that is well-formed
+pub formed : (I J : List ℕ) (i : ℕ) → inode_kind J i ≡ inode_kind I i → HasBytes I i ⊎ IsDirectory I i → HasBytes J i ⊎ IsDirectory J i
+formed I J i same kind = elim kind [ inl bytes ↦ inl (same ∙ bytes) | inr directory ↦ inr (same ∙ directory) ]
 
 -- rule 10, as one fact
 pub page_kind_is : (P : ℕ) (I : List ℕ) → IsCoherent P I → (j : ℕ) → j < data_pages_of P → Reached P I (page_owner P I j) → page_kind P I j ≡ inode_kind I (page_owner P I j)
@@ -83,7 +88,7 @@ module _ (P : ℕ) (I J : List ℕ) (a : Alike P I J) where
       )
 
   -- what a live slot of J in a page of a directory that I reaches is in I
-  pub slot_back : (s : ℕ) → Reached P I (slot_owner P J s) → inode_kind J (slot_owner P J s) ≡ 2 → IsLive P J s → SameDescriptor P I J (page_of_slot s) × IsReachedSlot P I s
+  pub slot_back : (s : ℕ) → Reached P I (slot_owner P J s) → IsDirectory J (slot_owner P J s) → IsLive P J s → SameDescriptor P I J (page_of_slot s) × IsReachedSlot P I s
   slot_back s r k l =
       let h = needed_back s r l in
       let e = same_owner s h in
@@ -138,11 +143,11 @@ module _ (P : ℕ) (I J : List ℕ) (a : Alike P I J) where
   same_inode s h r = (a.slots s r.live.held.in_range h r.owner).inode r.live
 
   -- a page of a reached file, below its end
-  page_back : (i k j : ℕ) → Reached P I i → inode_kind I i ≡ 1 → k < pages_of_size (inode_size I i) → IsPageOf P J i k j → IsPageOf P I i k j
+  page_back : (i k j : ℕ) → Reached P I i → HasBytes I i → k < pages_of_size (inode_size I i) → IsPageOf P J i k j → IsPageOf P I i k j
   page_back i k j r file lt g = elim (a.pages j g.in_range) [
     | inl h ↦
         let owned : page_owner P I j ≢ 0 = λ z. reached_pos P I i r (sym g.owner ∙ h.owner ∙ z) in
-        record { in_range = g.in_range; owner = sym h.owner ∙ g.owner; kind = sym (h.kind owned) ∙ g.kind; offset = sym (h.offset owned) ∙ g.offset }
+        page_from_place (record { in_range = g.in_range; owner = sym h.owner ∙ g.owner; kind = sym (h.kind owned) ∙ g.kind; offset = sym (h.offset owned) ∙ g.offset })
     | inr h ↦
         elim (h.1 (λ z. reached_pos P I i r (sym g.owner ∙ z)) (subst (Reached P I) (sym g.owner) r)) [
           | inl e ↦ let past = subst (λ x. pages_of_size (inode_size I x) ≤ page_offset P J j) g.owner e.past in
@@ -151,11 +156,11 @@ module _ (P : ℕ) (I J : List ℕ) (a : Alike P I J) where
         ]
   ]
 
-  page_forward : (i k j : ℕ) → Reached P I i → inode_kind I i ≡ 1 → k < pages_of_size (inode_size I i) → IsPageOf P I i k j → IsPageOf P J i k j
+  page_forward : (i k j : ℕ) → Reached P I i → HasBytes I i → k < pages_of_size (inode_size I i) → IsPageOf P I i k j → IsPageOf P J i k j
   page_forward i k j r file lt g =
       let owned : page_owner P I j ≢ 0 = λ z. reached_pos P I i r (sym g.owner ∙ z) in
       elim (a.pages j g.in_range) [
-        | inl h ↦ record { in_range = g.in_range; owner = h.owner ∙ g.owner; kind = h.kind owned ∙ g.kind; offset = h.offset owned ∙ g.offset }
+        | inl h ↦ page_from_place (record { in_range = g.in_range; owner = h.owner ∙ g.owner; kind = h.kind owned ∙ g.kind; offset = h.offset owned ∙ g.offset })
         | inr h ↦ elim (h.0 owned (subst (Reached P I) (sym g.owner) r)) [
           | inl e ↦ let past = subst (λ x. pages_of_size (inode_size I x) ≤ page_offset P I j) g.owner e.past in
               absurd (omega (arith, past, g.offset))
@@ -219,7 +224,7 @@ module _ (P : ℕ) (I J : List ℕ) (a : Alike P I J) where
             record { slot = m; owner = sym (same_owner s h) ∙ n.owner; directory = sym (a.inodes (slot_inode P I s) reached).kind ∙ ap (inode_kind J) (sym (same_inode s h m)) ∙ n.directory }
 
     coherent_after : IsCoherent P J
-    coherent_after Rule.head x = same_head P I J x a.size a.head (coherent Rule.head x)
+    coherent_after Rule.head x = a.head x
     coherent_after Rule.root x = record {
       directory = λ z. (a.inodes x ([], z)).kind ∙ (coherent Rule.root x).directory z;
       own = λ z. (a.inodes x ([], z)).own ∙ (coherent Rule.root x).own z;
@@ -232,7 +237,7 @@ module _ (P : ℕ) (I J : List ℕ) (a : Alike P I J) where
     }
     coherent_after Rule.names x = λ r. let (h, m) = reached_slot x r in subst IsNameWords (sym (a.names x m)) (coherent Rule.names x m)
     coherent_after Rule.kinds x = record {
-      kind = λ r. let m = reached_back x r in subst (λ k. (k ≡ 1) ⊎ (k ≡ 2)) (sym (a.inodes x m).kind) ((coherent Rule.kinds x).kind m);
+      kind = λ r. let m = reached_back x r in formed I J x (a.inodes x m).kind ((coherent Rule.kinds x).kind m);
       own = λ r. let m = reached_back x r in (a.inodes x m).own ∙ (coherent Rule.kinds x).own m;
     }
     coherent_after Rule.own_names x = rule8 x
@@ -244,13 +249,13 @@ module _ (P : ℕ) (I J : List ℕ) (a : Alike P I J) where
     coherent_after Rule.all_pages x = λ r file k lt. let m = reached_back x r in
         let same = a.inodes x m in
         let lt' : k < pages_of_size (inode_size I x) = subst (λ z. k < pages_of_size z) same.size lt in
-        let file' : inode_kind I x ≡ 1 = sym same.kind ∙ file in
+        let file' : HasBytes I x = sym same.kind ∙ file in
         let (j, g) = coherent Rule.all_pages x m file' k lt' in
         (j, page_forward x k j m file' lt' g)
     coherent_after Rule.own_offsets x = λ h i k lt r file below g1 g2. let m = reached_back i r in
         let same = a.inodes i m in
         let below' : k < pages_of_size (inode_size I i) = subst (λ z. k < pages_of_size z) same.size below in
-        let file' : inode_kind I i ≡ 1 = sym same.kind ∙ file in
+        let file' : HasBytes I i = sym same.kind ∙ file in
         coherent Rule.own_offsets x h i k lt m file' below' (page_back i k h m file' below' g1) (page_back i k x m file' below' g2)
     coherent_after Rule.links x = has_links x
 
@@ -280,7 +285,7 @@ pub shape : ShapeLaw
 shape P I J coherent a = same_shape P I J a coherent
 
 module _ (P : ℕ) (I J : List ℕ) (h : SameShape P I J) where
-  content_forward : (i : ℕ) (bs : List ℕ) → Reached P I i → inode_kind I i ≡ 1 → SameBytes P I J i → IsContent P I i bs → IsContent P J i bs
+  content_forward : (i : ℕ) (bs : List ℕ) → Reached P I i → HasBytes I i → SameBytes P I J i → IsContent P I i bs → IsContent P J i bs
   content_forward i bs r file b c =
       let same = h.inodes i r in
       record {
@@ -291,7 +296,7 @@ module _ (P : ℕ) (I J : List ℕ) (h : SameShape P I J) where
             c.bytes_at o j lt' g' ∙ sym (b.bytes o j lt' g');
       }
 
-  content_back : (i : ℕ) (bs : List ℕ) → Reached P I i → inode_kind I i ≡ 1 → SameBytes P I J i → IsContent P J i bs → IsContent P I i bs
+  content_back : (i : ℕ) (bs : List ℕ) → Reached P I i → HasBytes I i → SameBytes P I J i → IsContent P J i bs → IsContent P I i bs
   content_back i bs r file b c =
       let same = h.inodes i r in
       record {
@@ -301,7 +306,7 @@ module _ (P : ℕ) (I J : List ℕ) (h : SameShape P I J) where
             c.bytes_at o j (subst (λ z. o < z) (sym same.size) lt) g' ∙ b.bytes o j lt g;
       }
 
-  same_node : (i : ℕ) (x : Node) → Reached P I i → (inode_kind I i ≡ 1 → SameBytes P I J i) → IsNode P I i x ↔ IsNode P J i x
+  same_node : (i : ℕ) (x : Node) → Reached P I i → (HasBytes I i → SameBytes P I J i) → IsNode P I i x ↔ IsNode P J i x
   same_node i Directory r b = (λ k. (h.inodes i r).kind ∙ k, λ k. sym (h.inodes i r).kind ∙ k)
   same_node i (File bs) r b = (
     (λ (k, c). ((h.inodes i r).kind ∙ k, content_forward i bs r k (b k) c)),

@@ -6,11 +6,12 @@ use Rattle.layout.specs.Geometry.{inodes_of}
 use Rattle.layout.specs.Name.{IsNameWords}
 use Rattle.tree_model.specs.PathText.{Route}
 use Rattle.image_reading.specs.Counts.{AtMost}
-use Rattle.image_reading.specs.Reading.{slot_owner, IsLive, Leads, Names, Reached, IsReachedSlot, IsNameOf, IsChildOf}
+use Rattle.image_reading.specs.Reading.{IsDirectory, HasBytes, slot_owner, IsLive, Leads, Names, Reached, IsReachedSlot, IsNameOf, IsChildOf}
 use Rattle.image_reading.specs.Soundness.{Rule, IsCoherent, HasLinks}
 use Rattle.image_counts.proofs.Paths.{one_path, one_inode, same_slot, same_directory}
 use Rattle.image_laws.proofs.Counts.{at_most, at_most_swap}
 use Rattle.image_laws.specs.Move.{CanMove}
+use Rattle.image_laws.proofs.Meaning.{same_head}
 use Rattle.image_laws.proofs.OnlySlot.{GetsNumber, same_owner, same_name, held_forward, held_back, pointers_kept, one_pointer_kept, kind_reached, whole_kept, page_kind_kept}
 use Rattle.image_laws.proofs.Paths.{slot_of, reach, reached-le}
 use Rattle.image_laws.proofs.Within.{NewSlot, Within, within_coherent}
@@ -258,7 +259,7 @@ module _ (P : ℕ) (I J : List ℕ) (pa pb : Route) (s d : ℕ) (c : CanMove P I
     | inr old ↦ inr (record { slot = old.0; inode = sym (a.only.inode t old.2) ∙ n.inode }, old.1)
   ]
 
-  child_of : (x t : ℕ) → IsChildOf P J x t → ((t ≡ d) × (x ≡ slot_owner P I d) × (inode_kind I (slot_inode P I s) ≡ 2)) ⊎ (IsChildOf P I x t × (t ≢ s))
+  child_of : (x t : ℕ) → IsChildOf P J x t → ((t ≡ d) × (x ≡ slot_owner P I d) × IsDirectory I (slot_inode P I s)) ⊎ (IsChildOf P I x t × (t ≢ s))
   child_of x t n =
       let o = same_owner a.only t n.slot.live.held.in_range in
       elim (slot_cases t n.slot) [
@@ -266,7 +267,7 @@ module _ (P : ℕ) (I J : List ℕ) (pa pb : Route) (s d : ℕ) (c : CanMove P I
         | inr old ↦ inr (record { slot = old.0; owner = sym o ∙ n.owner; directory = sym (kind_named t old.0 old.2) ∙ n.directory }, old.1)
       ]
 
-  links_file : (x : ℕ) → Reached P I x → inode_kind I x ≡ 1 → AtMost 0 (IsNameOf P J x) (inode_links I x)
+  links_file : (x : ℕ) → Reached P I x → HasBytes I x → AtMost 0 (IsNameOf P J x) (inode_links I x)
   links_file x r k = elim (cases_eq x (slot_inode P I s)) [
     | inl e ↦ at_most_swap 0 (inode_links I x) s d (IsNameOf P I x) (IsNameOf P J x) (record { slot = source_slot; inode = sym e })
         (λ t n. elim (name_of x t n) [ inl h ↦ inl h.0 | inr old ↦ inr old ]) ((c.coherent Rule.links x r).file k)
@@ -275,11 +276,11 @@ module _ (P : ℕ) (I J : List ℕ) (pa pb : Route) (s d : ℕ) (c : CanMove P I
   ]
 
   -- children of x, where the moved slot isn't one
-  links_other : (x : ℕ) → Reached P I x → inode_kind I x ≡ 2 → (x ≡ slot_owner P I d → inode_kind I (slot_inode P I s) ≡ 2 → ⊥) → AtMost 2 (IsChildOf P J x) (inode_links I x)
+  links_other : (x : ℕ) → Reached P I x → IsDirectory I x → (x ≡ slot_owner P I d → IsDirectory I (slot_inode P I s) → ⊥) → AtMost 2 (IsChildOf P J x) (inode_links I x)
   links_other x r k never = at_most 2 (inode_links I x) (IsChildOf P I x) (IsChildOf P J x)
       (λ t n. elim (child_of x t n) [ inl h ↦ absurd (never h.1 h.2) | inr old ↦ old.0 ]) ((c.coherent Rule.links x r).directory k)
 
-  links_parent : inode_kind I (slot_inode P I s) ≡ 2 → AtMost 2 (IsChildOf P J (slot_owner P I d)) (inode_links I (slot_owner P I d))
+  links_parent : IsDirectory I (slot_inode P I s) → AtMost 2 (IsChildOf P J (slot_owner P I d)) (inode_links I (slot_owner P I d))
   links_parent two = elim (cases_eq (slot_owner P I d) (slot_owner P I s)) [
     | inl e ↦ at_most_swap 2 (inode_links I (slot_owner P I d)) s d (IsChildOf P I (slot_owner P I d)) (IsChildOf P J (slot_owner P I d))
         (record { slot = source_slot; owner = sym e; directory = two })
@@ -289,7 +290,7 @@ module _ (P : ℕ) (I J : List ℕ) (pa pb : Route) (s d : ℕ) (c : CanMove P I
         (λ t n. elim (child_of (slot_owner P I d) t n) [ inl h ↦ inl h.0 | inr old ↦ inr old.0 ]) (c.child_link two ne)
   ]
 
-  links_directory : (x : ℕ) → Reached P I x → inode_kind I x ≡ 2 → AtMost 2 (IsChildOf P J x) (inode_links I x)
+  links_directory : (x : ℕ) → Reached P I x → IsDirectory I x → AtMost 2 (IsChildOf P J x) (inode_links I x)
   links_directory x r k = elim (cases_eq x (slot_owner P I d)) [
     | inl e ↦ elim ((c.coherent Rule.kinds (slot_inode P I s)).kind (reach P I s source_slot i_range.1)) [
       | inl one ↦ links_other x r k (λ h two. omega (arith, one, two))
@@ -312,7 +313,7 @@ module _ (P : ℕ) (I J : List ℕ) (pa pb : Route) (s d : ℕ) (c : CanMove P I
   within : Within P I J (λ t. t ≡ d)
   within = record {
     size = a.only.size;
-    head = a.only.head;
+    head = λ x. same_head P I J x a.only.size a.only.head (c.coherent Rule.head x);
     pointers = pointers_kept a.only c.coherent;
     one_pointer = one_pointer_kept a.only c.coherent;
     slots = λ t r. elim (slot_cases t r) [

@@ -3,6 +3,7 @@ use Rattle.std.proofs.Common.{◌≡◌, ◌≢◌, ◌⊎◌, inl, ℕ, ◌<◌
 use Rattle.layout.specs.Fields.{word, inode_links, slot_inode, slot_pointer, slot_name, slot_words}
 use Rattle.layout.specs.Geometry.{inodes_of, data_pages_of, descriptor_word_of, slot_word_of}
 use Rattle.layout.specs.Name.{IsNameWords, name_in_words}
+use Rattle.layout.proofs.Widths.{in_descriptor}
 use Rattle.tree_model.specs.PathText.{Route}
 use Rattle.image_reading.specs.Counts.{AtMost}
 use Rattle.image_reading.specs.Reading.{HasBytes, IsDirectory, slot_owner, IsHeld, IsNameOf, IsChildOf}
@@ -29,7 +30,7 @@ module _ {P : ℕ} {B C : List ℕ} {p : Route} {d s : ℕ} {name : List ℕ} (p
   alike = alike_stores P B C place.coherent named.stores
 
   pub paged : KeepsPages P B C (λ j. ⊥)
-  paged = by_words P B C (λ j. ⊥) (λ j f lt l3 none. named.descriptors j f lt (omega (arith, l3)))
+  paged = by_words P B C (λ j. ⊥) (λ j f lt read none. named.descriptors j f lt (in_descriptor B f read))
 
   pub owner_same : (t : ℕ) → IsHeld P B t → slot_owner P C t ≡ slot_owner P B t
   owner_same t held = held_owner_same paged t held (λ none. none)

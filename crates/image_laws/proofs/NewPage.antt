@@ -2,7 +2,7 @@
 use Rattle.std.proofs.Common.{◌≡◌, ◌≢◌, ◌⊎◌, inl, inr, ℕ, ◌-◌, ◌<◌, ◌≤◌, List, length, length-set, refl, sym, ap, subst, ◌∙◌, arith}
 use Rattle.std.proofs.lemmas.Bool.{cases_eq}
 use Rattle.std.proofs.lemmas.List.{get_or-set_same}
-use Rattle.layout.specs.Fields.{word, inode_links, page_owner, page_kind, page_offset, slot_inode, slot_pointer}
+use Rattle.layout.specs.Fields.{word, IsKindOrOffset, inode_links, page_owner, page_kind, page_offset, slot_inode, slot_pointer}
 use Rattle.layout.specs.Geometry.{inodes_of, data_pages_of, page_of_slot, inode_word_of, descriptor_word_of, slot_word_of, page_word_of}
 use Rattle.layout.proofs.GeometryLaws.{descriptor_word_within}
 use Rattle.image_reading.specs.Reading.{IsDirectory, slot_owner, IsHeld, Reached}
@@ -20,11 +20,16 @@ use Rattle.image_laws.proofs.Words.{other_word}
 pub dec_page_made : (P j a : ℕ) → Dec (IsPageMadeWord P j a)
 dec_page_made P j a = dec_either _ _ (dec_among (page_word_of P j) 512 a) (dec_either _ _ (dec_eq a (descriptor_word_of P j 1)) (dec_eq a (descriptor_word_of P j 2)))
 
-pub not_page_made : (P j a : ℕ) → ((w : ℕ) → w < 512 → a ≢ page_word_of P j w) → ((f : ℕ) → 1 ≤ f → f < 3 → a ≢ descriptor_word_of P j f) → IsPageMadeWord P j a → ⊥
+pub not_page_made : (P j a : ℕ) → ((w : ℕ) → w < 512 → a ≢ page_word_of P j w) → ((f : ℕ) → IsKindOrOffset f → a ≢ descriptor_word_of P j f) → IsPageMadeWord P j a → ⊥
 not_page_made P j a f g m = elim m [
   | inl (w, lt, e) ↦ f w lt e
-  | inr n ↦ elim n [ inl e ↦ g 1 (omega arith) (omega arith) e | inr e ↦ g 2 (omega arith) (omega arith) e ]
+  | inr n ↦ elim n [ inl e ↦ g 1 (inl refl) e | inr e ↦ g 2 (inr refl) e ]
 ]
+
+-- kind and offset stand behind the owner
+pub behind_owner : (f : ℕ) → IsKindOrOffset f → (1 ≤ f) × (f < 8)
+behind_owner f (inl one) = (omega (arith, one), omega (arith, one))
+behind_owner f (inr two) = (omega (arith, two), omega (arith, two))
 
 -- the words of a free page are free
 pub free_page_word : (P : ℕ) (W : List ℕ) (j : ℕ) → IsFreePage P W j → (a : ℕ) → IsPageMadeWord P j a → IsFree P W a
@@ -65,19 +70,20 @@ module _ (P : ℕ) (W A : List ℕ) (j : ℕ) (coherent : IsCoherent P W) (page 
   pub made_descriptor : (x f : ℕ) → x < data_pages_of P → f < 8 → (x ≢ j) ⊎ (f ≡ 0) → word A (descriptor_word_of P x f) ≡ word W (descriptor_word_of P x f)
   made_descriptor x f lt l8 other = makes.others (descriptor_word_of P x f) (not_page_made P j (descriptor_word_of P x f)
       (λ w l. descriptor-ne_page P x f j w lt l8)
-      (λ g low high e.
-      let (same_page, same_field) = descriptor_word-one P x f j g l8 (omega arith) e in
+      (λ g is e.
+      let (low, high) = behind_owner g is in
+      let (same_page, same_field) = descriptor_word-one P x f j g l8 high e in
       elim other [ inl ne ↦ ne same_page | inr z ↦ omega (arith, z, same_field, low) ]))
 
   pub made_inode : (x f : ℕ) → 1 ≤ x → x ≤ inodes_of P → f < 16 → word A (inode_word_of x f) ≡ word W (inode_word_of x f)
   made_inode x f some most lt = makes.others (inode_word_of x f) (not_page_made P j (inode_word_of x f)
       (λ w l e. page-ne_inode P j w x f some most lt (sym e))
-      (λ g low high e. descriptor-ne_inode P j g x f some most lt (sym e)))
+      (λ g is e. descriptor-ne_inode P j g x f some most lt (sym e)))
 
   pub made_slot : (t f : ℕ) → f < 16 → page_of_slot t ≢ j → word A (slot_word_of P t f) ≡ word W (slot_word_of P t f)
   made_slot t f lt ne = makes.others (slot_word_of P t f) (not_page_made P j (slot_word_of P t f)
       (λ w l e. page-ne_slot P j w t f l lt (λ z. ne (sym z)) (sym e))
-      (λ g low high e. descriptor-ne_slot P j g t f page.0 (omega arith) (sym e)))
+      (λ g is e. descriptor-ne_slot P j g t f page.0 (behind_owner g is).1 (sym e)))
 
   pub made_owner : (x : ℕ) → x < data_pages_of P → page_owner P A x ≡ page_owner P W x
   unfolding page_owner

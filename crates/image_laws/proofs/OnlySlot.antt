@@ -6,7 +6,7 @@ use Rattle.layout.specs.Geometry.{inodes_of, data_pages_of, slots_of, page_of_sl
 use Rattle.layout.proofs.GeometryLaws.{page_of_slot_below, slot_word_within}
 use Rattle.layout.specs.Name.{name_in_words}
 use Rattle.tree_model.specs.Tree.{Node, Directory, File}
-use Rattle.image_reading.specs.Reading.{slot_owner, IsHeld, Reached, IsPageOf, IsNode}
+use Rattle.image_reading.specs.Reading.{HasBytes, slot_owner, IsHeld, Reached, IsPageOf, IsNode}
 use Rattle.image_reading.specs.Soundness.{Rule, PointsAtHeld, IsOnlyPointer, IsCoherent}
 use Rattle.image_laws.proofs.Addresses.{head-ne_slot, descriptor-ne_slot, inode-ne_slot0, slot-ne_slot, slot-ne_field, page-ne_slot}
 use Rattle.image_laws.proofs.KeptPages as pages
@@ -101,7 +101,7 @@ module _ {P : ℕ} {I J : List ℕ} {s : ℕ} (only : OnlySlot P I J s) where
   pub kind_reached : IsCoherent P I → (x : ℕ) → Reached P I x → inode_kind J x ≡ inode_kind I x
   kind_reached coherent x r = only.node_kind x (reached-le P I coherent x r)
 
-  pub whole_kept : IsCoherent P I → (x : ℕ) → Reached P I x → inode_kind J x ≡ 1 → IsWhole P J x
+  pub whole_kept : IsCoherent P I → (x : ℕ) → Reached P I x → HasBytes J x → IsWhole P J x
   whole_kept coherent x r k =
       whole_same P I J x (only.node_size x (reached-le P I coherent x r)) (λ n j lt g. page_forward x n j g) (λ n j lt g. page_back x n j g)
       (whole P I x coherent r (sym (kind_reached coherent x r) ∙ k))

@@ -3,14 +3,15 @@ use Rattle.std.proofs.Common.{◌≡◌, inl, inr, ℕ, ◌<◌, List, ◌∷◌
 use Rattle.layout.specs.Fields.{word, page_owner, page_kind, slot_inode, slot_pointer}
 use Rattle.layout.specs.Geometry.{page_of_slot, page_word_of}
 use Rattle.layout.specs.Name.{name_in_words}
+use Rattle.layout.specs.declared.kinds.NodeKind.{NodeKind}
 use Rattle.tree_model.specs.PathText.{Route}
-use Rattle.tree_model.specs.Step.{with_new}
-use Rattle.tree_model.specs.Tree.{Node, Room}
+use Rattle.tree_model.specs.Step.{new_node, with_new}
+use Rattle.tree_model.specs.Tree.{Room}
 use Rattle.image_reading.specs.Reading.{IsDirectory, Reached, IsRoomOf, HasRoom}
 use Rattle.image_counts.specs.Entries.{IsFreePage}
 use Rattle.image_laws.specs.Add.{with_page, with_node}
 use Rattle.image_laws.specs.Commits.{Commits}
-use Rattle.image_laws.specs.Create.{IsEmptyNode, MakesEmptyPage, MakesNode, CanName, owned, committed, NewPageLaw}
+use Rattle.image_laws.specs.Create.{MakesEmptyPage, MakesNode, CanName, owned, committed, NewPageLaw}
 use Rattle.image_laws.specs.Frame.{SameMeaning}
 use Rattle.image_laws.specs.Free.{Stores}
 use Rattle.image_laws.proofs.Adds.{add_room_law}
@@ -60,6 +61,7 @@ module _ (P : ℕ) (W A : List ℕ) (p : Route) (d j s : ℕ) (name : List ℕ) 
     inodes = λ x f some most lt. owned_inode P A j d same_page.coherent d_reached d_directory page.0 unowned makes.kind makes.numbers makes.pointers x f some most lt
         ∙ made_inode P W A j can.tidy.coherent page makes x f some most lt;
     slots = λ t f lt ne. owned_slot P A j d same_page.coherent d_reached d_directory page.0 unowned makes.kind makes.numbers makes.pointers t f ∙ made_slot P W A j can.tidy.coherent page makes t f lt ne;
+    version = entries.version;
     same = entries.same;
     reached_slots = entries.slots;
     rooms = entries.rooms;
@@ -70,26 +72,26 @@ module _ (P : ℕ) (W A : List ℕ) (p : Route) (d j s : ℕ) (name : List ℕ) 
   clean zeros = page_clean P W (owned P A j d) p d j s name can page at_s taken
       (λ t f at lt. owned_slot P A j d same_page.coherent d_reached d_directory page.0 unowned makes.kind makes.numbers makes.pointers t f ∙ zero_slot P A j zeros t f at lt)
 
-  module _ (I : List ℕ) (path : Route) (node : Node) (i : ℕ) (free : IsFreeInode P W i) (empty : IsEmptyNode node) (made : MakesNode P (owned P A j d) I node d s i name) (is : reverse path ≡ name_in_words name ∷ p) where
+  module _ (I : List ℕ) (path : Route) (kind : NodeKind) (i : ℕ) (free : IsFreeInode P W i) (made : MakesNode P (owned P A j d) I kind d s i name) (is : reverse path ≡ name_in_words name ∷ p) where
     ready : IsReady P (owned P A j d) p d s i name
     ready = record {
       place = page_ready P W (owned P A j d) p d j s name can page at_s taken;
       inode = inode_ready P W (owned P A j d) p d j s name can page at_s taken i free;
     }
 
-    room_after : (room : Room) → HasRoom P I room → HasRoom P (committed P I s i) (with_node (with_page room d) i node)
+    room_after : (room : Room) → HasRoom P I room → HasRoom P (committed P I s i) (with_node (with_page room d) i kind)
     room_after room has =
         let none : IsRoomOf P I d (page_of_slot s) → ⊥ = λ old. no_room P W (owned P A j d) p d j s name can page at_s taken
-        (((naming.entries ready.place (making.named P (owned P A j d) I p node d s i name ready made)).rooms d (page_of_slot s)).1 old) in
-        (add_room_law P I p d s i (making.can_add P (owned P A j d) I p node d s i name ready made)).new_page room node has (making.node_made P (owned P A j d) I p node d s i name ready made empty) none
+        (((naming.entries ready.place (making.named P (owned P A j d) I p kind d s i name ready made)).rooms d (page_of_slot s)).1 old) in
+        (add_room_law P I p d s i (making.can_add P (owned P A j d) I p kind d s i name ready made)).new_page room kind has (making.made_kind P (owned P A j d) I p kind d s i name ready made) none
 
-    pub page_named : IsNamed P W (committed P I s i) (λ T. with_new T path i node) (λ room. with_node (with_page room d) i node)
-    page_named = named P W (owned P A j d) I p path node d s i name entries.same ready empty made is (λ room. with_node (with_page room d) i node) room_after
+    pub page_named : IsNamed P W (committed P I s i) (λ T. with_new T path i (new_node kind)) (λ room. with_node (with_page room d) i kind)
+    page_named = named P W (owned P A j d) I p path kind d s i name entries.same ready made is (λ room. with_node (with_page room d) i kind) room_after
 
-    pub page_created : IsCleanSlot P (owned P A j d) s → Commits P W (owned P A j d) I (committed P I s i) (λ T. with_new T path i node) (λ room. with_node (with_page room d) i node)
-    page_created rest = created P W (owned P A j d) I p path node d s i name entries.same ready empty made is (λ room. with_node (with_page room d) i node) room_after rest
+    pub page_created : IsCleanSlot P (owned P A j d) s → Commits P W (owned P A j d) I (committed P I s i) (λ T. with_new T path i (new_node kind)) (λ room. with_node (with_page room d) i kind)
+    page_created rest = created P W (owned P A j d) I p path kind d s i name entries.same ready made is (λ room. with_node (with_page room d) i kind) room_after rest
 
 pub new_page_law : NewPageLaw
-new_page_law P W A I p path node d j s i name can page at_s empty zero made is =
+new_page_law P W A I p path kind d j s i name can page at_s zero made is =
     let makes = zero.empty in
-    page_created P W A p d j s name can.place page at_s makes I path node i (free_inode P W p d i name can) empty made is (clean P W A p d j s name can.place page at_s makes zero.zeros)
+    page_created P W A p d j s name can.place page at_s makes I path kind i (free_inode P W p d i name can) made is (clean P W A p d j s name can.place page at_s makes zero.zeros)

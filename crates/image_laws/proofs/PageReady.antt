@@ -4,6 +4,7 @@ use Rattle.std.proofs.lemmas.Bool.{cases_eq}
 use Rattle.layout.specs.Fields.{word, inode_links, page_owner, page_kind, page_offset, slot_inode, slot_pointer, slot_name}
 use Rattle.layout.specs.Geometry.{inodes_of, data_pages_of, page_of_slot, inode_word_of, descriptor_word_of, slot_word_of}
 use Rattle.layout.proofs.GeometryLaws.{slot_below}
+use Rattle.layout.proofs.Widths.{in_inode, in_descriptor, same_inode_words}
 use Rattle.layout.specs.Name.{name_in_words}
 use Rattle.tree_model.specs.PathText.{Route}
 use Rattle.image_reading.specs.Reading.{HasBytes, slot_owner, IsHeld, IsLive, Reached, IsReachedSlot, IsNameOf, IsChildOf, IsLinkCount, IsRoomOf, pages_of_size, IsPageOf}
@@ -33,6 +34,7 @@ pub record HasTaken (P : ℕ) (W B : List ℕ) (j d : ℕ) : Type 0 where
   pub descriptors : (x f : ℕ) → x < data_pages_of P → f < 8 → x ≢ j → word B (descriptor_word_of P x f) ≡ word W (descriptor_word_of P x f)
   pub inodes : (x f : ℕ) → 1 ≤ x → x ≤ inodes_of P → f < 16 → word B (inode_word_of x f) ≡ word W (inode_word_of x f)
   pub slots : (t f : ℕ) → f < 16 → page_of_slot t ≢ j → word B (slot_word_of P t f) ≡ word W (slot_word_of P t f)
+  pub version : word B 1 ≡ word W 1
   pub same : SameMeaning P W B
   pub reached_slots : (t : ℕ) → IsReachedSlot P W t ↔ IsReachedSlot P B t
   pub rooms : (x y : ℕ) → IsRoomOf P W x y ↔ IsRoomOf P B x y
@@ -50,10 +52,10 @@ module _ (P : ℕ) (W B : List ℕ) (p : Route) (d j s : ℕ) (name : List ℕ) 
   -- ---- fields
 
   nodes : KeepsInodes W B (Reached P W) (λ x. ⊥)
-  nodes = by_inodes P W B (Reached P W) (λ x. ⊥) (in_range P W can.tidy.coherent) (λ x f r some most lt links. taken.inodes x f some most (omega (arith, lt)))
+  nodes = by_inodes P W B (Reached P W) (λ x. ⊥) (in_range P W can.tidy.coherent) (λ x f r some most lt links. taken.inodes x f some most (in_inode W f lt))
 
   kept_words : KeepsDescriptors P W B (λ x. x ≡ j)
-  kept_words x f lt l3 ne = taken.descriptors x f lt (omega (arith, l3)) ne
+  kept_words x f lt read ne = taken.descriptors x f lt (in_descriptor W f read) ne
 
   paged : KeepsPages P W B (λ x. x ≡ j)
   paged = by_words P W B (λ x. x ≡ j) kept_words
@@ -116,7 +118,7 @@ module _ (P : ℕ) (W B : List ℕ) (p : Route) (d j s : ℕ) (name : List ℕ) 
   only_page : (x : ℕ) → IsLitterPage P B x → x ≡ j
   only_page x l = elim (cases_eq x j) [
     | inl e ↦ e
-    | inr ne ↦ (tidy_but P W j can.tidy).pages x (litter_page P W B (λ y. y ≡ j) kept_words kept.kinds (λ y lt other r. forth (page_owner P W y) r)
+    | inr ne ↦ (tidy_but P W j can.tidy).pages x (litter_page P W B (λ y. y ≡ j) kept_words taken.version kept.kinds (λ y lt other r. forth (page_owner P W y) r)
         (λ y other file. subst (λ z. page_offset P W y < pages_of_size z) (sym (nodes.size (page_owner P W y) file.owner)) file.below) (λ y lt other. (taken.rooms (page_owner P W y) y).0) x ne l)
   ]
 
@@ -127,7 +129,7 @@ module _ (P : ℕ) (W B : List ℕ) (p : Route) (d j s : ℕ) (name : List ℕ) 
         least = l.least;
         most = l.most;
         unreached = λ r. l.unreached (forth x r);
-        nonzero = (f, lt, λ z. nonzero (taken.inodes x f l.least l.most (omega arith) ∙ z));
+        nonzero = (f, subst (λ n. f < n) (same_inode_words W B taken.version) lt, λ z. nonzero (taken.inodes x f l.least l.most (in_inode B f lt) ∙ z));
       })
 
   -- ---- links

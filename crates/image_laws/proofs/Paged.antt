@@ -1,10 +1,11 @@
 -- A directory takes a page together with a node or a link: no meaning changes until its name gets a number.
-use Rattle.std.proofs.Common.{◌≡◌, ◌≢◌, inl, inr, ℕ, ◌+◌, ◌<◌, ◌≤◌, List, length, sym, subst, ◌∙◌, arith}
+use Rattle.std.proofs.Common.{◌≡◌, ◌≢◌, inl, inr, ℕ, ◌+◌, ◌<◌, ◌≤◌, List, length, refl, sym, subst, ◌∙◌, arith}
 use Rattle.std.proofs.lemmas.Bool.{cases_eq}
-use Rattle.layout.specs.Fields.{word, inode_links, page_owner, page_kind, page_offset, slot_inode, slot_pointer}
+use Rattle.layout.specs.Fields.{word, IsKindOrOffset, inode_links, page_owner, page_kind, page_offset, slot_inode, slot_pointer}
 use Rattle.layout.specs.Geometry.{inodes_of, data_pages_of, page_of_slot, inode_word_of, descriptor_word_of, slot_word_of, page_word_of}
+use Rattle.layout.specs.declared.kinds.NodeKind.{NodeKind}
+use Rattle.layout.proofs.Widths.{in_inode}
 use Rattle.tree_model.specs.PathText.{Route}
-use Rattle.tree_model.specs.Tree.{Node, Directory, File}
 use Rattle.image_reading.specs.Reading.{Reached}
 use Rattle.image_reading.specs.Soundness.{Rule, IsCoherent, HasLinks}
 use Rattle.image_counts.specs.Entries.{IsFreePage}
@@ -16,8 +17,8 @@ use Rattle.image_laws.specs.Taking.{FillsPage, IsNamedPage, MakesPagedNode, Make
 use Rattle.image_laws.proofs.Addresses.{descriptor-ne_inode, descriptor-ne_page, descriptor-ne_slot, descriptor_word-one, inode-ne_inode, inode-ne_slot, page-ne_inode, slot_word-in_page, word_in_page, word_in_page-lt}
 use Rattle.image_laws.proofs.Linking.{dec_linked, not_linked}
 use Rattle.image_laws.proofs.Making.{links_for, links_more}
-use Rattle.image_laws.proofs.NewPage.{dec_page_made, not_page_made, free_page_word}
-use Rattle.image_laws.proofs.Ready.{dec_made, not_made}
+use Rattle.image_laws.proofs.NewPage.{dec_page_made, not_page_made, behind_owner, free_page_word}
+use Rattle.image_laws.proofs.Ready.{dec_made, made_cases, not_made}
 use Rattle.image_laws.proofs.Taking.{taking_law}
 use Rattle.image_laws.proofs.Words.{slot_words-same}
 
@@ -34,7 +35,7 @@ named_page P I J j s name makes = record {
 }
 
 module _ (P : ℕ) (I J : List ℕ) (j s : ℕ) (name : List ℕ) (at : page_of_slot s ≡ j) (words : (w : ℕ) → w < 512 → word J (page_word_of P j w) ≡ word I (page_word_of P j w))
-    (descriptor : (f : ℕ) → 1 ≤ f → f < 3 → word J (descriptor_word_of P j f) ≡ word I (descriptor_word_of P j f)) (named : IsNamedPage P I j s name) where
+    (descriptor : (f : ℕ) → IsKindOrOffset f → word J (descriptor_word_of P j f) ≡ word I (descriptor_word_of P j f)) (named : IsNamedPage P I j s name) where
   slot_kept : (t f : ℕ) → page_of_slot t ≡ j → f < 16 → word J (slot_word_of P t f) ≡ word I (slot_word_of P t f)
   slot_kept t f here lt =
       let is : slot_word_of P t f ≡ page_word_of P j (word_in_page t f) = subst (λ (z : ℕ). slot_word_of P t f ≡ page_word_of P z (word_in_page t f)) here (slot_word-in_page P t f) in
@@ -43,8 +44,8 @@ module _ (P : ℕ) (I J : List ℕ) (j s : ℕ) (name : List ℕ) (at : page_of_
   pub named_page_same : IsNamedPage P J j s name
   unfolding page_kind page_offset slot_inode slot_pointer
   named_page_same = record {
-    kind = descriptor 1 (omega arith) (omega arith) ∙ named.kind;
-    offset = descriptor 2 (omega arith) (omega arith) ∙ named.offset;
+    kind = descriptor 1 (inl refl) ∙ named.kind;
+    offset = descriptor 2 (inr refl) ∙ named.offset;
     numbers = λ t here. slot_kept t 0 here (omega arith) ∙ named.numbers t here;
     pointers = λ t here. slot_kept t 1 here (omega arith) ∙ named.pointers t here;
     name_is = slot_words-same P I J s (λ f lt. slot_kept s (2 + f) at (omega arith)) ∙ named.name_is;
@@ -73,7 +74,7 @@ module _ (P : ℕ) (W A : List ℕ) (j s : ℕ) (name : List ℕ) (beside : ℕ 
   owner_kept x lt = stored.others (descriptor_word_of P x 0)
       (not_page_made P j (descriptor_word_of P x 0)
       (λ w l. descriptor-ne_page P x 0 j w lt (omega arith))
-      (λ f low high e. let field = (descriptor_word-one P x 0 j f (omega arith) (omega arith) e).1 in omega (arith, low, field)))
+      (λ f is e. let (low, high) = behind_owner f is in let field = (descriptor_word-one P x 0 j f (omega arith) high e).1 in omega (arith, low, field)))
       (stored.no_owner x lt)
 
   fills : FillsPage P W A j
@@ -95,7 +96,7 @@ module _ (P : ℕ) (W A : List ℕ) (j s : ℕ) (name : List ℕ) (beside : ℕ 
 
 -- ---- a node
 
-module _ (P : ℕ) (W A : List ℕ) (p : Route) (node : Node) (d j s i : ℕ) (name : List ℕ) (can : CanMake P W p d i name) (page : IsFreePage P W j) (at : page_of_slot s ≡ j) (makes : MakesPagedNode P W A node d j s i name) where
+module _ (P : ℕ) (W A : List ℕ) (p : Route) (kind : NodeKind) (d j s i : ℕ) (name : List ℕ) (can : CanMake P W p d i name) (page : IsFreePage P W j) (at : page_of_slot s ≡ j) (makes : MakesPagedNode P W A kind d j s i name) where
   coherent : IsCoherent P W
   coherent = can.place.tidy.coherent
 
@@ -113,40 +114,33 @@ module _ (P : ℕ) (W A : List ℕ) (p : Route) (node : Node) (d j s i : ℕ) (n
   links_kept x r ne = makes.others (inode_word_of x 1)
       (not_page_made P j (inode_word_of x 1)
       (λ w l e. page-ne_inode P j w x 1 (range x r).0 (range x r).1 (omega arith) (sym e))
-      (λ f low high e. descriptor-ne_inode P j f x 1 (range x r).0 (range x r).1 (omega arith) (sym e)))
-      (not_made P node d s i (inode_word_of x 1)
-      (λ f lt. inode-ne_inode x 1 i f (range x r).0 i_pos (λ e. can.unreached (subst (Reached P W) e r)) (omega arith) (omega arith))
+      (λ f is e. descriptor-ne_inode P j f x 1 (range x r).0 (range x r).1 (omega arith) (sym e)))
+      (not_made P W kind d s i (inode_word_of x 1)
+      (λ f lt. inode-ne_inode x 1 i f (range x r).0 i_pos (λ e. can.unreached (subst (Reached P W) e r)) (omega arith) (in_inode W f lt))
       (λ k lt. inode-ne_slot P x 1 s (2 + k) (range x r).0 (range x r).1 (omega arith))
       (inode-ne_inode x 1 d 1 (range x r).0 (range d d_reached).0 ne (omega arith) (omega arith)))
 
   node_links : (x : ℕ) → Reached P W x → HasLinks P W x (inode_links A x)
   node_links x r = elim (cases_eq x d) [
-    | inl e ↦ subst (λ (y : ℕ). HasLinks P W y (inode_links A y)) (sym e) (subst (HasLinks P W d) (sym makes.parent) (links_for node P W d (inode_links W d) (coherent Rule.links d d_reached)))
+    | inl e ↦ subst (λ (y : ℕ). HasLinks P W y (inode_links A y)) (sym e) (subst (HasLinks P W d) (sym makes.parent) (links_for kind P W d (inode_links W d) (coherent Rule.links d d_reached)))
     | inr ne ↦ subst (HasLinks P W x) (sym (links_kept x r ne)) (coherent Rule.links x r)
   ]
 
-  free_inode_word : (f : ℕ) → f < 4 → IsFree P W (inode_word_of i f)
-  free_inode_word f lt = IsFree.inode i f i_pos can.most (omega arith) can.unreached
-
-  free_made : (kind : Node) (a : ℕ) → IsMadeWord P kind d s i a → IsFree P W a
-  free_made Directory a m = elim m [
-    | inl (f, lt, e) ↦ subst (IsFree P W) (sym e) (free_inode_word f lt)
+  free_made : (a : ℕ) → IsMadeWord P W kind d s i a → IsFree P W a
+  free_made a m = elim (made_cases P W kind d s i a m) [
+    | inl (f, lt, e) ↦ subst (IsFree P W) (sym e) (IsFree.inode i f i_pos can.most (in_inode W f lt) can.unreached)
     | inr n ↦ elim n [
       | inl (k, lt, e) ↦ subst (IsFree P W) (sym e) (free_name P W j s page at k lt)
       | inr e ↦ subst (IsFree P W) (sym e) (IsFree.link d (range d d_reached).0 (range d d_reached).1)
     ]
   ]
-  free_made (File bytes) a m = elim m [
-    | inl (f, lt, e) ↦ subst (IsFree P W) (sym e) (free_inode_word f lt)
-    | inr (k, lt, e) ↦ subst (IsFree P W) (sym e) (free_name P W j s page at k lt)
-  ]
 
   pub paged_node_fills : FillsPage P W A j
-  paged_node_fills = fills P W A j s name (IsMadeWord P node d s i) page makes.size makes.page (record {
-    decided = dec_made P node d s i;
-    free = free_made node;
-    no_owner = λ x lt. not_made P node d s i (descriptor_word_of P x 0)
-        (λ f l. descriptor-ne_inode P x 0 i f i_pos can.most (omega arith))
+  paged_node_fills = fills P W A j s name (IsMadeWord P W kind d s i) page makes.size makes.page (record {
+    decided = dec_made P W kind d s i;
+    free = free_made;
+    no_owner = λ x lt. not_made P W kind d s i (descriptor_word_of P x 0)
+        (λ f l. descriptor-ne_inode P x 0 i f i_pos can.most (in_inode W f l))
         (λ k l. descriptor-ne_slot P x 0 s (2 + k) lt (omega arith))
         (descriptor-ne_inode P x 0 d 1 (range d d_reached).0 (range d d_reached).1 (omega arith));
     links = node_links;
@@ -154,8 +148,8 @@ module _ (P : ℕ) (W A : List ℕ) (p : Route) (node : Node) (d j s i : ℕ) (n
   })
 
 pub paged_node_law : PagedNodeLaw
-paged_node_law P W A p node d j s i name can page at makes =
-    taking_law P W A p d j can.place.tidy.coherent can.place.path can.place.directory page (paged_node_fills P W A p node d j s i name can page at makes)
+paged_node_law P W A p kind d j s i name can page at makes =
+    taking_law P W A p d j can.place.tidy.coherent can.place.path can.place.directory page (paged_node_fills P W A p kind d j s i name can page at makes)
 
 -- ---- a link
 
@@ -171,7 +165,7 @@ module _ (P : ℕ) (W A : List ℕ) (p : Route) (d j s i : ℕ) (name : List ℕ
   other_links x r ne = makes.others (inode_word_of x 1)
       (not_page_made P j (inode_word_of x 1)
       (λ w l e. page-ne_inode P j w x 1 (file_range x r).0 (file_range x r).1 (omega arith) (sym e))
-      (λ f low high e. descriptor-ne_inode P j f x 1 (file_range x r).0 (file_range x r).1 (omega arith) (sym e)))
+      (λ f is e. descriptor-ne_inode P j f x 1 (file_range x r).0 (file_range x r).1 (omega arith) (sym e)))
       (not_linked P s i (inode_word_of x 1)
       (λ k lt. inode-ne_slot P x 1 s (2 + k) (file_range x r).0 (file_range x r).1 (omega arith))
       (inode-ne_inode x 1 i 1 (file_range x r).0 (file_range i can.file.reached).0 ne (omega arith) (omega arith)))

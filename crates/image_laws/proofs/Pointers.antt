@@ -11,7 +11,7 @@ use Rattle.image_laws.specs.Agrees.{SameSlot}
 use Rattle.image_laws.specs.Frame.{SameInode, SameMeaning}
 use Rattle.image_laws.specs.Pointers.{CanPoint, PointerLaw, IsLeft, LeaveLaw}
 use Rattle.image_laws.proofs.Addresses.{head-ne_slot, descriptor-ne_slot, some_inode, slot-ne_slot, slot-ne_field, page-ne_slot, inode-ne_slot0}
-use Rattle.image_laws.proofs.Meaning.{shape, meaning}
+use Rattle.image_laws.proofs.Meaning.{same_head, shape, meaning}
 use Rattle.image_laws.proofs.KeptPages as pages
 use Rattle.image_laws.proofs.KeptPages.{KeepsPages, held_forth}
 use Rattle.image_laws.proofs.Paths.{reached-le}
@@ -67,7 +67,7 @@ module _ (P : ℕ) (I J : List ℕ) (s : ℕ) (coherent : IsCoherent P I) (n : N
   near_means : ((t : ℕ) → SameSlot P I J t) → ((t : ℕ) → PointsAtHeld P J t) → ((t : ℕ) → IsOnlyPointer P J t) → SameMeaning P I J
   near_means slots three four = meaning P I J (shape P I J coherent (record {
     size = n.size;
-    head = n.head;
+    head = λ x. same_head P I J x n.size n.head (coherent Rule.head x);
     pages = λ j lt. inl (record { owner = n.owner j lt; kind = λ owned. n.kind j lt; offset = λ owned. n.offset j lt });
     slots = λ t lt e r. slots t;
     pointers = three;

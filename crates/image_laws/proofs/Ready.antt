@@ -1,10 +1,13 @@
 -- What create and mkdir need of the image in which they make a node, and that words are or aren't among those stored.
 use Rattle.std.proofs.Common.{◌≡◌, ◌≢◌, ◌⊎◌, inl, inr, ℕ, ◌+◌, ◌<◌, List, sym, ap, subst, ◌∙◌, arith}
 use Rattle.std.proofs.lemmas.Bool.{cases_eq, cases_lt}
-use Rattle.layout.specs.Fields.{word, inode_kind, page_owner, slot_pointer}
+use Rattle.layout.specs.Fields.{word, inode_words, inode_kind, page_owner, slot_pointer}
 use Rattle.layout.specs.Geometry.{data_pages_of, page_of_slot, inode_word_of, slot_word_of}
+use Rattle.layout.specs.declared.kinds.NodeKind.{NodeKind}
+use Rattle.layout.specs.declared.kinds.NodeKind.TheVariants.{File, Directory}
 use Rattle.layout.proofs.GeometryLaws.{page_of_slot_below}
-use Rattle.tree_model.specs.Tree.{Node, Directory, File, Tree, Room}
+use Rattle.layout.proofs.Widths.{descriptor_field_read}
+use Rattle.tree_model.specs.Tree.{Tree, Room}
 use Rattle.image_reading.specs.Reading.{IsDirectory, slot_owner, IsHeld, IsLive, Reached, IsRoomOf, Reads, HasRoom}
 use Rattle.image_reading.specs.Repairs.{IsKept, IsPointer, IsLitterSlot, IsLitterPage, IsLitterInode, IsLitterCount}
 use Rattle.image_reading.specs.Soundness.{IsCoherent}
@@ -54,7 +57,7 @@ no_pointer P I j t s h = elim (cases_eq (slot_pointer P I s) 0) [ inl e ↦ e | 
 -- what has an owner is kept
 pub owned_kept : (P : ℕ) (W : List ℕ) (j : ℕ) → IsTidied P W → j < data_pages_of P → page_owner P W j ≢ 0 → ¬ IsKept P W j → ⊥
 unfolding page_owner
-owned_kept P W j tidy lt owned free = none_counted (IsLitterPage P W) tidy.repaired.of_pages j (record { in_range = lt; free = free; nonzero = (0, omega arith, owned) })
+owned_kept P W j tidy lt owned free = none_counted (IsLitterPage P W) tidy.repaired.of_pages j (record { in_range = lt; free = free; nonzero = (0, descriptor_field_read W 0 (omega arith), owned) })
 
 -- a directory's page has a name,
 pub held_room : (P : ℕ) (W : List ℕ) (d s : ℕ) → IsTidied P W → Reached P W d → IsDirectory W d → IsHeld P W s → slot_owner P W s ≡ d → IsRoomOf P W d (page_of_slot s)
@@ -107,15 +110,20 @@ dec_either A B (yes a) b = yes (inl a)
 dec_either A B (no n) (yes b) = yes (inr b)
 dec_either A B (no n) (no m) = no (λ h. elim h [ inl a ↦ n a | inr b ↦ m b ])
 
-pub dec_made : (P : ℕ) (node : Node) (d s i a : ℕ) → Dec (IsMadeWord P node d s i a)
-dec_made P Directory d s i a =
-    dec_either _ _ (dec_among (inode_word_of i) 4 a) (dec_either _ _ (dec_among (λ k. slot_word_of P s (2 + k)) 14 a) (dec_eq a (inode_word_of d 1)))
-dec_made P (File bytes) d s i a = dec_either _ _ (dec_among (inode_word_of i) 4 a) (dec_among (λ k. slot_word_of P s (2 + k)) 14 a)
+pub dec_made : (P : ℕ) (I : List ℕ) (kind : NodeKind) (d s i a : ℕ) → Dec (IsMadeWord P I kind d s i a)
+dec_made P I Directory d s i a =
+    dec_either _ _ (dec_among (inode_word_of i) (inode_words I) a) (dec_either _ _ (dec_among (λ k. slot_word_of P s (2 + k)) 14 a) (dec_eq a (inode_word_of d 1)))
+dec_made P I File d s i a = dec_either _ _ (dec_among (inode_word_of i) (inode_words I) a) (dec_among (λ k. slot_word_of P s (2 + k)) 14 a)
 
-pub not_made : (P : ℕ) (node : Node) (d s i a : ℕ) → ((f : ℕ) → f < 4 → a ≢ inode_word_of i f) → ((k : ℕ) → k < 14 → a ≢ slot_word_of P s (2 + k)) → a ≢ inode_word_of d 1
-    → IsMadeWord P node d s i a → ⊥
-not_made P Directory d s i a f g h m = elim m [ inl (k, lt, e) ↦ f k lt e | inr n ↦ elim n [ inl (k, lt, e) ↦ g k lt e | inr e ↦ h e ] ]
-not_made P (File bytes) d s i a f g h m = elim m [ inl (k, lt, e) ↦ f k lt e | inr (k, lt, e) ↦ g k lt e ]
+-- a made word is one of these
+pub made_cases : (P : ℕ) (I : List ℕ) (kind : NodeKind) (d s i a : ℕ) → IsMadeWord P I kind d s i a
+    → IsAmong (inode_word_of i) (inode_words I) a ⊎ (IsAmong (λ k. slot_word_of P s (2 + k)) 14 a ⊎ (a ≡ inode_word_of d 1))
+made_cases P I Directory d s i a m = m
+made_cases P I File d s i a m = elim m [ inl inode ↦ inl inode | inr name ↦ inr (inl name) ]
+
+pub not_made : (P : ℕ) (I : List ℕ) (kind : NodeKind) (d s i a : ℕ) → ((f : ℕ) → f < inode_words I → a ≢ inode_word_of i f) → ((k : ℕ) → k < 14 → a ≢ slot_word_of P s (2 + k)) → a ≢ inode_word_of d 1
+    → IsMadeWord P I kind d s i a → ⊥
+not_made P I kind d s i a f g h m = elim (made_cases P I kind d s i a m) [ inl (k, lt, e) ↦ f k lt e | inr n ↦ elim n [ inl (k, lt, e) ↦ g k lt e | inr e ↦ h e ] ]
 
 -- ---- the name is there
 

@@ -7,6 +7,7 @@ use Rattle.image_reading.specs.Reading.{slot_owner, IsLive, Names, Reached, IsRe
 use Rattle.image_reading.specs.Soundness.{Rule, IsCoherent, HasLinks}
 use Rattle.image_counts.proofs.Paths.{one_path, one_inode, same_slot}
 use Rattle.image_laws.specs.Remove.{CanRemove}
+use Rattle.image_laws.proofs.Meaning.{same_head}
 use Rattle.image_laws.proofs.OnlySlot.{GetsNumber, same_owner, same_name, held_forward, held_back, pointers_kept, one_pointer_kept, kind_reached, whole_kept, page_kind_kept}
 use Rattle.image_laws.proofs.Paths.{reached-le}
 use Rattle.image_laws.proofs.Within.{OldSlot, Within, within_coherent, old_links}
@@ -123,7 +124,7 @@ module _ (P : ℕ) (I J : List ℕ) (p : Route) (s : ℕ) (c : CanRemove P I p s
   within : Within P I J (λ t. ⊥)
   within = record {
     size = a.only.size;
-    head = a.only.head;
+    head = λ x. same_head P I J x a.only.size a.only.head (c.coherent Rule.head x);
     pointers = pointers_kept a.only c.coherent;
     one_pointer = one_pointer_kept a.only c.coherent;
     slots = λ t r. inr (slot_back t r);

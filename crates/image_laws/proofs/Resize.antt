@@ -8,13 +8,13 @@ use Rattle.layout.proofs.GeometryLaws.{page_of_slot_below}
 use Rattle.layout.specs.Name.{name_in_words}
 use Rattle.tree_model.specs.PathText.{Route}
 use Rattle.tree_model.specs.Tree.{Node, Directory, File, Room}
-use Rattle.image_reading.specs.Reading.{slot_owner, IsHeld, IsLive, Names, Reached, IsReachedSlot, IsPageOf, IsContent, IsNode, IsRoomOf, HasRoom, pages_of_size}
+use Rattle.image_reading.specs.Reading.{HasBytes, slot_owner, IsHeld, IsLive, Names, Reached, IsReachedSlot, IsPageOf, IsContent, IsNode, IsRoomOf, HasRoom, pages_of_size}
 use Rattle.image_reading.specs.Soundness.{Rule, IsCoherent, HasLinks}
 use Rattle.image_reading.proofs.Credits.{count_same}
 use Rattle.image_laws.specs.Resize.{IsStored}
 use Rattle.image_laws.proofs.Addresses.{head-ne_inode, descriptor-ne_inode, inode-ne_slot, inode-ne_inode, inode-ne_field, page-ne_inode}
 use Rattle.image_laws.proofs.KeptPages.{KeepsPages, held_forth, held_back, page_same}
-use Rattle.image_laws.proofs.Meaning.{page_kind_is}
+use Rattle.image_laws.proofs.Meaning.{same_head, page_kind_is}
 use Rattle.image_laws.proofs.Paths.{reached_pos}
 use Rattle.image_laws.proofs.Within.{IsWhole, whole, whole_same, OldSlot, Within, within_coherent, old_links}
 use Rattle.image_laws.proofs.Words.{slot_words-same}
@@ -58,7 +58,7 @@ only_size P I i v pos most = record {
 pub record Resizes (P : ℕ) (I J : List ℕ) (i z : ℕ) : Type 0 where
   pub only : OnlySize P I J i
   pub reached : Reached P I i
-  pub file : inode_kind I i ≡ 1
+  pub file : HasBytes I i
   pub size : inode_size J i ≡ z
   pub small : z ≤ 2 ^ 40
   pub full : (k : ℕ) → k < pages_of_size z → (j : ℕ) × IsPageOf P I i k j
@@ -146,7 +146,7 @@ module _ (P : ℕ) (I J : List ℕ) (i z : ℕ) (coherent : IsCoherent P I) (a :
   pos : (x : ℕ) → Reached P I x → 1 ≤ x
   pos x r = let h = reached_pos P I x r in omega arith
 
-  files : (x : ℕ) → Reached P J x → inode_kind J x ≡ 1 → IsWhole P J x
+  files : (x : ℕ) → Reached P J x → HasBytes J x → IsWhole P J x
   files x r k = let m = reached_back x r in elim (cases_eq x i) [
     | inl e ↦ subst (IsWhole P J) (sym e) (record {
       small = subst (λ y. y ≤ 2 ^ 40) (sym a.size) a.small;
@@ -160,7 +160,7 @@ module _ (P : ℕ) (I J : List ℕ) (i z : ℕ) (coherent : IsCoherent P I) (a :
   within : Within P I J (λ t. ⊥)
   within = record {
     size = a.only.size;
-    head = a.only.head;
+    head = λ x. same_head P I J x a.only.size a.only.head (coherent Rule.head x);
     pointers = λ t. record {
       other = λ held z. (coherent Rule.pointers t).other (held_back paged t (λ none. none) held) (sym (a.only.pointer t) ∙ z);
       held = λ held nonzero.

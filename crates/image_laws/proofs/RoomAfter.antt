@@ -1,15 +1,17 @@
 -- The room after create and mkdir, as an insertion.
-use Rattle.std.proofs.Common.{◌≡◌, ◌≢◌, inl, inr, ℕ, ◌+◌, ◌==◌, Bool, true, false, cond, [], Option, Some, None, is_some, unwrap_or, refl, sym, ap, subst, ◌∙◌, arith, add-zero}
+use Rattle.std.proofs.Common.{◌≡◌, ◌≢◌, inl, inr, ℕ, ◌+◌, ◌==◌, Bool, true, false, cond, Option, Some, None, is_some, unwrap_or, refl, sym, ap, subst, ◌∙◌, arith, add-zero}
 use Rattle.std.proofs.lemmas.Bool.{cases_eq}
 use Rattle.std.proofs.lemmas.Bool.Decides.{nat_tests}
+use Rattle.layout.specs.declared.kinds.NodeKind.{NodeKind}
+use Rattle.layout.specs.declared.kinds.NodeKind.TheVariants.{File, Directory}
 use Rattle.tree_model.specs.PathText.{Route}
 use Rattle.tree_model.proofs.RoomLaws.{directory-from_room, room-has_directory, get-room_after}
-use Rattle.tree_model.specs.Step.{with_new, is_full, room_after, pages_after, page_for_name, tree_after}
+use Rattle.tree_model.specs.Step.{making, new_node, with_new, is_full, room_after, pages_after, page_for_name, tree_after}
 use Rattle.tree_model.specs.Table.{get}
-use Rattle.tree_model.specs.Tree.{Node, Directory, File, Tree, Room, IsRoom, root_id, is_directory, is_directory_node, is_number, pages_in}
+use Rattle.tree_model.specs.Tree.{Tree, Room, IsRoom, root_id, is_directory, is_directory_node, is_number, pages_in}
 use Rattle.tree_model.proofs.TreeLaws.{same_room, node_at-with_new_here, node_at-with_new_other}
 use Rattle.image_laws.specs.Add.{with_page, with_node}
-use Rattle.image_laws.specs.CreateStep.{making, CanBeMade, HasRoomAfter, RoomAfterLaw}
+use Rattle.image_laws.specs.CreateStep.{CanBeMade, HasRoomAfter, RoomAfterLaw}
 use Rattle.image_laws.proofs.AddRoom.{get-here, get-other}
 
 pub clash : true ≡ false → ⊥
@@ -25,14 +27,9 @@ room_at T room x fits = at (get room x) refl (is_directory T x) refl
     at None is true dir = absurd (clash (sym (room-has_directory T room fits x dir) ∙ ap is_some is))
     at None is false dir = is
 
--- the empty node that the command makes
-abbrev pub empty_node : Node → Node
-empty_node Directory = Directory
-empty_node (File bytes) = File []
-
-pub tree_is : (T : Tree) (node : Node) (path : Route) (i : ℕ) → tree_after i T (making node path) ≡ with_new T path i (empty_node node)
+pub tree_is : (T : Tree) (kind : NodeKind) (path : Route) (i : ℕ) → tree_after i T (making kind path) ≡ with_new T path i (new_node kind)
 tree_is T Directory path i = refl
-tree_is T (File bytes) path i = refl
+tree_is T File path i = refl
 
 pub is_same : (d : ℕ) → (d == d) ≡ true
 is_same d = grind (arith, nat_tests)
@@ -58,24 +55,24 @@ module _ (T : Tree) (room : Room) (d : ℕ) where
   gained_here full e =
       ap (λ b. pages_in room d + cond b (page_for_name T room (Some d)) 0) (is_same d) ∙ ap (λ b. pages_in room d + cond b 1 0) e
 
-module _ (T : Tree) (room : Room) (node : Node) (path : Route) (d i : ℕ) (can : CanBeMade T room path d i) where
-  pages_are : (gives : Bool) (x : ℕ) → pages_after T room (making node path) gives x ≡ gained T room d x
+module _ (T : Tree) (room : Room) (kind : NodeKind) (path : Route) (d i : ℕ) (can : CanBeMade T room path d i) where
+  pages_are : (gives : Bool) (x : ℕ) → pages_after T room (making kind path) gives x ≡ gained T room d x
   unfolding gained
-  pages_are gives x = by_node node
+  pages_are gives x = by_kind kind
     where
-      by_node : (kind : Node) → pages_after T room (making kind path) gives x ≡ pages_in room x + cond (is_number (Some d) x) (page_for_name T room (Some x)) 0
-      by_node Directory = ap (λ o. pages_in room x + cond (is_number (Some (unwrap_or o root_id)) x) (page_for_name T room (Some x)) 0) can.above
-      by_node (File bytes) = ap (λ o. pages_in room x + cond (is_number (Some (unwrap_or o root_id)) x) (page_for_name T room (Some x)) 0) can.above
+      by_kind : (kind : NodeKind) → pages_after T room (making kind path) gives x ≡ pages_in room x + cond (is_number (Some d) x) (page_for_name T room (Some x)) 0
+      by_kind Directory = ap (λ o. pages_in room x + cond (is_number (Some (unwrap_or o root_id)) x) (page_for_name T room (Some x)) 0) can.above
+      by_kind File = ap (λ o. pages_in room x + cond (is_number (Some (unwrap_or o root_id)) x) (page_for_name T room (Some x)) 0) can.above
 
   after : (gives : Bool) → Room
-  after gives = room_after i T room (making node path) gives
+  after gives = room_after i T room (making kind path) gives
 
-  after_at : (gives : Bool) (x : ℕ) → get (after gives) x ≡ cond (is_directory (with_new T path i (empty_node node)) x) (Some (gained T room d x)) None
+  after_at : (gives : Bool) (x : ℕ) → get (after gives) x ≡ cond (is_directory (with_new T path i (new_node kind)) x) (Some (gained T room d x)) None
   unfolding after
   after_at gives x =
-      get-room_after i T room (making node path) gives x
-      ∙ ap (λ U. cond (is_directory U x) (Some (pages_after T room (making node path) gives x)) None) (tree_is T node path i)
-      ∙ ap (λ n. cond (is_directory (with_new T path i (empty_node node)) x) (Some n) None) (pages_are gives x)
+      get-room_after i T room (making kind path) gives x
+      ∙ ap (λ U. cond (is_directory U x) (Some (pages_after T room (making kind path) gives x)) None) (tree_is T kind path i)
+      ∙ ap (λ n. cond (is_directory (with_new T path i (new_node kind)) x) (Some n) None) (pages_are gives x)
 
   not_directory : is_directory T i ≡ false
   not_directory = ap is_directory_node can.absent
@@ -89,29 +86,29 @@ module _ (T : Tree) (room : Room) (node : Node) (path : Route) (d i : ℕ) (can 
 
   -- at any other number
   after_other : (gives : Bool) (x : ℕ) → x ≢ i → get (after gives) x ≡ cond (is_directory T x) (Some (gained T room d x)) None
-  after_other gives x ne = after_at gives x ∙ ap (λ o. cond (is_directory_node o) (Some (gained T room d x)) None) (node_at-with_new_other T path i (empty_node node) x ne)
+  after_other gives x ne = after_at gives x ∙ ap (λ o. cond (is_directory_node o) (Some (gained T room d x)) None) (node_at-with_new_other T path i (new_node kind) x ne)
 
-  after_new : (gives : Bool) → get (after gives) i ≡ cond (is_directory_node (Some (empty_node node))) (Some 0) None
+  after_new : (gives : Bool) → get (after gives) i ≡ cond (is_directory_node (Some (new_node kind))) (Some 0) None
   after_new gives =
-      after_at gives i ∙ ap (λ o. cond (is_directory_node o) (Some (gained T room d i)) None) (node_at-with_new_here T path i (empty_node node))
-      ∙ ap (λ n. cond (is_directory_node (Some (empty_node node))) (Some n) None) (gained_other T room d i other ∙ ap (λ o. unwrap_or o 0) no_entry)
+      after_at gives i ∙ ap (λ o. cond (is_directory_node o) (Some (gained T room d i)) None) (node_at-with_new_here T path i (new_node kind))
+      ∙ ap (λ n. cond (is_directory_node (Some (new_node kind))) (Some n) None) (gained_other T room d i other ∙ ap (λ o. unwrap_or o 0) no_entry)
 
   -- a room R with these entries becomes the room after
-  from : (gives : Bool) (R : Room) → get R i ≡ None → ((x : ℕ) → x ≢ i → get R x ≡ cond (is_directory T x) (Some (gained T room d x)) None) → after gives ≡ with_node R i node
-  from gives R absent others = same_room (after gives) (with_node R i node) (λ x. elim (cases_eq x i) [
-    | inl e ↦ subst (λ y. get (after gives) y ≡ get (with_node R i node) y) (sym e) (after_new gives ∙ new_at node)
-    | inr ne ↦ after_other gives x ne ∙ sym (others x ne) ∙ old_at node x ne
+  from : (gives : Bool) (R : Room) → get R i ≡ None → ((x : ℕ) → x ≢ i → get R x ≡ cond (is_directory T x) (Some (gained T room d x)) None) → after gives ≡ with_node R i kind
+  from gives R absent others = same_room (after gives) (with_node R i kind) (λ x. elim (cases_eq x i) [
+    | inl e ↦ subst (λ y. get (after gives) y ≡ get (with_node R i kind) y) (sym e) (after_new gives ∙ new_at kind)
+    | inr ne ↦ after_other gives x ne ∙ sym (others x ne) ∙ old_at kind x ne
   ])
     where
-      new_at : (kind : Node) → cond (is_directory_node (Some (empty_node kind))) (Some 0) None ≡ get (with_node R i kind) i
+      new_at : (kind : NodeKind) → cond (is_directory_node (Some (new_node kind))) (Some 0) None ≡ get (with_node R i kind) i
       new_at Directory = sym (get-here R i 0)
-      new_at (File bytes) = sym absent
+      new_at File = sym absent
 
-      old_at : (kind : Node) (x : ℕ) → x ≢ i → get R x ≡ get (with_node R i kind) x
+      old_at : (kind : NodeKind) (x : ℕ) → x ≢ i → get R x ≡ get (with_node R i kind) x
       old_at Directory x ne = sym (get-other R i 0 x ne)
-      old_at (File bytes) x ne = refl
+      old_at File x ne = refl
 
-  pub room_after_is : HasRoomAfter T room node path d i
+  pub room_after_is : HasRoomAfter T room kind path d i
   unfolding after
   room_after_is = record {
     not_full = λ gives e. from gives room no_entry (λ x ne. room_at T room x can.fits ∙ ap (λ n. cond (is_directory T x) (Some n) None) (elim (cases_eq d x) [
@@ -127,4 +124,4 @@ module _ (T : Tree) (room : Room) (node : Node) (path : Route) (d i : ℕ) (can 
   }
 
 pub room_after_law : RoomAfterLaw
-room_after_law T room node path d i can = room_after_is T room node path d i can
+room_after_law T room kind path d i can = room_after_is T room kind path d i can

@@ -2,15 +2,17 @@
 use Rattle.std.proofs.Common.{◌≡◌, ◌≢◌, inl, inr, ℕ, zero, suc, ◌+◌, ◌-◌, ◌*◌, ◌/◌, ◌%◌, ◌<◌, ◌≤◌, List, length, length-set, set, refl, sym, ap, subst, ◌∙◌, arith}
 use Rattle.std.proofs.lemmas.Bool.{cases_eq}
 use Rattle.std.proofs.lemmas.List.{get_or-set_same, get_or-set_other}
-use Rattle.layout.specs.Fields.{word, inode_links, page_kind, page_offset, slot_inode, slot_pointer, slot_words}
+use Rattle.layout.specs.Fields.{word, inode_words, inode_links, page_kind, page_offset, slot_inode, slot_pointer, slot_words}
 use Rattle.layout.specs.Geometry.{IsVolumeSize, inodes_of, page_of_slot, inode_word_of, descriptor_word_of, slot_word_of, page_word_of}
+use Rattle.layout.specs.declared.kinds.NodeKind.{NodeKind}
+use Rattle.layout.specs.declared.kinds.NodeKind.TheVariants.{File, Directory}
 use Rattle.layout.proofs.GeometryLaws.{page_of_entry, page_word_within, descriptor_word_within}
-use Rattle.tree_model.specs.Tree.{Node, Directory, File}
+use Rattle.layout.proofs.Widths.{in_inode, same_inode_words}
 use Rattle.image_reading.specs.Soundness.{Rule, IsCoherent}
 use Rattle.image_counts.specs.Entries.{IsFreePage}
 use Rattle.image_laws.specs.Create.{IsAmong, IsMadeWord, parent_links, IsPageMadeWord, MakesPage, owned}
 use Rattle.image_laws.specs.Taking.{IsNamedPage, SameEndLaw, SameLinkEndLaw}
-use Rattle.image_laws.proofs.Addresses.{descriptor-ne_inode, descriptor-ne_page, descriptor-ne_slot, descriptor_word-one, page-ne_inode}
+use Rattle.image_laws.proofs.Addresses.{head-ne_descriptor, head-ne_page, descriptor-ne_inode, descriptor-ne_page, descriptor-ne_slot, descriptor_word-one, page-ne_inode}
 use Rattle.image_laws.proofs.NewPage.{dec_page_made, not_page_made, makes_page}
 use Rattle.image_laws.proofs.Paths.{reached_pos, reached-le}
 use Rattle.image_laws.proofs.Words.{slot_words-same, other_word}
@@ -173,33 +175,46 @@ module _ (P : ℕ) (W A : List ℕ) (d j s : ℕ) (name : List ℕ) (volume : Is
   links_blank x some most = other_word B (descriptor_word_of P j 0) d (inode_word_of x 1) (λ e. descriptor-ne_inode P j 0 x 1 some most (omega arith) (sym e))
       ∙ blank_others P W j volume whole page (inode_word_of x 1) (not_page_made P j (inode_word_of x 1)
       (λ w l e. page-ne_inode P j w x 1 some most (omega arith) (sym e))
-      (λ f low high e. descriptor-ne_inode P j f x 1 some most (omega arith) (sym e)))
+      (λ f is e. descriptor-ne_inode P j f x 1 some most (omega arith) (sym e)))
+
+  -- and no word of the superblock
+  width_blank : inode_words (owned P B j d) ≡ inode_words W
+  width_blank = same_inode_words W (owned P B j d) (other_word B (descriptor_word_of P j 0) d 1 (head-ne_descriptor P j 0 1 (omega arith))
+      ∙ blank_others P W j volume whole page 1 (not_page_made P j 1 (λ w l. head-ne_page P j w 1 (omega arith)) (λ f is. head-ne_descriptor P j f 1 (omega arith))))
 
 -- ---- the laws
 
-name_made : (P : ℕ) (node : Node) (d s i a : ℕ) → IsAmong (λ k. slot_word_of P s (2 + k)) 14 a → IsMadeWord P node d s i a
-name_made P Directory d s i a h = inr (inl h)
-name_made P (File bytes) d s i a h = inr h
+name_made : (P : ℕ) (I : List ℕ) (kind : NodeKind) (d s i a : ℕ) → IsAmong (λ k. slot_word_of P s (2 + k)) 14 a → IsMadeWord P I kind d s i a
+name_made P I Directory d s i a h = inr (inl h)
+name_made P I File d s i a h = inr h
+
+-- where the widths are equal, the same words are made
+made_too : (P : ℕ) (I J : List ℕ) (kind : NodeKind) (d s i a : ℕ) → inode_words J ≡ inode_words I → IsMadeWord P I kind d s i a → IsMadeWord P J kind d s i a
+made_too P I J Directory d s i a width m = elim m [ inl (f, lt, e) ↦ inl (f, subst (λ n. f < n) (sym width) lt, e) | inr other ↦ inr other ]
+made_too P I J File d s i a width m = elim m [ inl (f, lt, e) ↦ inl (f, subst (λ n. f < n) (sym width) lt, e) | inr other ↦ inr other ]
 
 pub same_end_law : SameEndLaw
-same_end_law P W A p node d j s i name can page at makes =
+same_end_law P W A p kind d j s i name can page at makes =
     let coherent : IsCoherent P W = can.place.tidy.coherent in
     let volume : IsVolumeSize P = (coherent Rule.head 0).size refl in
     let whole : length W ≡ 512 * P = (coherent Rule.head 0).whole refl in
     let d_pos : 1 ≤ d = (let h = reached_pos P W d (p, can.place.path) in omega (arith, h)) in
     let d_most : d ≤ inodes_of P = reached-le P W coherent d (p, can.place.path) in
     let i_pos : 1 ≤ i = (let two = can.least in omega (arith, two)) in
+    let width : inode_words (owned P (blank_page P W j) j d) ≡ inode_words W = width_blank P W A d j s name volume whole page makes.size makes.page in
     record {
       blank = blank_page P W j;
       page = blank_made P W j volume whole page;
       made = record {
         size = owned_size P W A d j s name volume whole page makes.size makes.page;
-        inode = λ f lt. inode_end P W A d j s name volume whole page makes.size makes.page i f i_pos can.most (omega arith) ∙ makes.inode f lt;
+        inode = λ f lt. let read = subst (λ n. f < n) width lt in
+            inode_end P W A d j s name volume whole page makes.size makes.page i f i_pos can.most (in_inode W f read) ∙ makes.inode f read;
         words = name_end P W A d j s name volume whole page makes.size makes.page;
         parent = links_end P W A d j s name volume whole page makes.size makes.page d d_pos d_most ∙ makes.parent
-            ∙ sym (ap (parent_links node) (links_blank P W A d j s name volume whole page makes.size makes.page d d_pos d_most));
+            ∙ sym (ap (parent_links kind) (links_blank P W A d j s name volume whole page makes.size makes.page d d_pos d_most));
         others = λ a none. end_same P W A d j s name volume whole page makes.size makes.page a
-            (λ k lt e. none (name_made P node d s i a (k, lt, e))) (λ n. makes.others a n none);
+            (λ k lt e. none (name_made P (owned P (blank_page P W j) j d) kind d s i a (k, lt, e)))
+            (λ n. makes.others a n (λ m. none (made_too P W (owned P (blank_page P W j) j d) kind d s i a width m)));
       };
     }
 

@@ -5,12 +5,11 @@ use Rattle.std.specs.Cmp.{nat_cmp_total}
 use Rattle.std.specs.FinMap.{nat_cmp-IsAntisymmetric}
 use Rattle.std.proofs.Common.{nat_cmp}
 use Rattle.layout.specs.Geometry.{inodes_of}
-use Rattle.layout.specs.Fields.{inode_kind}
 use Rattle.tree_model.specs.PathText.{Route}
 use Rattle.tree_model.specs.Table.{table_of}
 use Rattle.tree_model.specs.Tree.{Node, Tree, route_cmp, route_cmp_total, is_directory, parent, last_name}
 use Rattle.tree_model.proofs.TableLaws.{get-table_of, route_cmp-IsAntisymmetric}
-use Rattle.image_reading.specs.Reading.{Names, Reached, IsNode, Reads}
+use Rattle.image_reading.specs.Reading.{IsDirectory, Names, Reached, IsNode, Reads}
 use Rattle.image_reading.specs.Soundness.{IsCoherent}
 use Rattle.image_counts.proofs.Paths.{one_inode}
 use Rattle.image_counts.proofs.Nodes.{has_sizes}
@@ -92,10 +91,10 @@ module _ (P : ℕ) (I : List ℕ) (coherent : IsCoherent P I) where
 -- ---- it is well formed
 
 module _ (P : ℕ) (I : List ℕ) (T : Tree) (coherent : IsCoherent P I) (reads : Reads P I T) where
-  pub directory_is : (i : ℕ) → is_directory T i ≡ true → Reached P I i × (inode_kind I i ≡ 2)
+  pub directory_is : (i : ℕ) → is_directory T i ≡ true → Reached P I i × IsDirectory I i
   directory_is i = ((has_sizes P I T coherent reads).directories i).0
 
-  pub is_directory-reached : (i : ℕ) → Reached P I i → inode_kind I i ≡ 2 → is_directory T i ≡ true
+  pub is_directory-reached : (i : ℕ) → Reached P I i → IsDirectory I i → is_directory T i ≡ true
   is_directory-reached i r k = ((has_sizes P I T coherent reads).directories i).1 (r, k)
 
 pub form_law : FormLaw

@@ -1,12 +1,12 @@
 -- An image is coherent whose reached slots are slots of a coherent one, or new ones that fit.
 use Rattle.std.proofs.Common.{◌≡◌, ◌≢◌, ◌⊎◌, inl, inr, ℕ, ◌^◌, ◌<◌, ◌≤◌, List, [], length, sym, ap, subst, ◌∙◌, arith}
-use Rattle.layout.specs.Fields.{word, inode_kind, inode_links, inode_size, inode_own, page_owner, page_kind, slot_inode, slot_name, slot_words}
+use Rattle.layout.specs.Fields.{inode_kind, inode_links, inode_size, inode_own, page_owner, page_kind, slot_inode, slot_name, slot_words}
 use Rattle.layout.specs.Geometry.{inodes_of, data_pages_of}
 use Rattle.layout.specs.Name.{name_in_words, IsNameWords}
-use Rattle.image_reading.specs.Reading.{IsDirectory, slot_owner, Reached, IsReachedSlot, IsPageOf, pages_of_size, IsNameOf, IsChildOf}
-use Rattle.image_reading.specs.Soundness.{Rule, PointsAtHeld, IsOnlyPointer, IsCoherent, HasLinks}
+use Rattle.image_reading.specs.Reading.{IsDirectory, HasBytes, slot_owner, Reached, IsReachedSlot, IsPageOf, pages_of_size, IsNameOf, IsChildOf}
+use Rattle.image_reading.specs.Soundness.{Rule, HasHead, PointsAtHeld, IsOnlyPointer, IsCoherent, HasLinks}
 use Rattle.image_laws.proofs.Counts.{at_most}
-use Rattle.image_laws.proofs.Meaning.{same_head}
+use Rattle.image_laws.proofs.Meaning.{formed}
 
 -- what rules 11 to 13 say of a file
 pub record IsWhole (P : ℕ) (I : List ℕ) (i : ℕ) : Type 0 where
@@ -14,7 +14,7 @@ pub record IsWhole (P : ℕ) (I : List ℕ) (i : ℕ) : Type 0 where
   pub full : (k : ℕ) → k < pages_of_size (inode_size I i) → (j : ℕ) × IsPageOf P I i k j
   pub one : (h j k : ℕ) → h < j → k < pages_of_size (inode_size I i) → IsPageOf P I i k h → IsPageOf P I i k j → ⊥
 
-pub whole : (P : ℕ) (I : List ℕ) (i : ℕ) → IsCoherent P I → Reached P I i → inode_kind I i ≡ 1 → IsWhole P I i
+pub whole : (P : ℕ) (I : List ℕ) (i : ℕ) → IsCoherent P I → Reached P I i → HasBytes I i → IsWhole P I i
 whole P I i coherent r k = record {
   small = coherent Rule.sizes i r k;
   full = coherent Rule.all_pages i r k;
@@ -53,12 +53,12 @@ pub record OldInode (P : ℕ) (I J : List ℕ) (i : ℕ) : Type 0 where
 
 pub record NewInode (J : List ℕ) (i : ℕ) : Type 0 where
   pub other : i ≢ 1
-  pub kind : (inode_kind J i ≡ 1) ⊎ (inode_kind J i ≡ 2)
+  pub kind : HasBytes J i ⊎ IsDirectory J i
   pub own : inode_own J i ≡ i
 
 pub record Within (P : ℕ) (I J : List ℕ) (New : ℕ → Type 0) : Type 0 where
   pub size : length J ≡ length I
-  pub head : (x : ℕ) → x < 5 → word J x ≡ word I x
+  pub head : (x : ℕ) → HasHead P J x
   pub pointers : (s : ℕ) → PointsAtHeld P J s
   pub one_pointer : (s : ℕ) → IsOnlyPointer P J s
   pub slots : (s : ℕ) → IsReachedSlot P J s → New s ⊎ OldSlot P I J New s
@@ -67,7 +67,7 @@ pub record Within (P : ℕ) (I J : List ℕ) (New : ℕ → Type 0) : Type 0 whe
   pub inodes : (i : ℕ) → Reached P J i → OldInode P I J i ⊎ NewInode J i
   pub links : (i : ℕ) → Reached P J i → HasLinks P J i (inode_links J i)
   pub kinds : (j : ℕ) → j < data_pages_of P → Reached P J (page_owner P J j) → page_kind P J j ≡ inode_kind J (page_owner P J j)
-  pub files : (i : ℕ) → Reached P J i → inode_kind J i ≡ 1 → IsWhole P J i
+  pub files : (i : ℕ) → Reached P J i → HasBytes J i → IsWhole P J i
 
 module _ (P : ℕ) (I J : List ℕ) (New : ℕ → Type 0) (coherent : IsCoherent P I) (w : Within P I J New) where
   name_same : (s : ℕ) → OldSlot P I J New s → slot_name P J s ≡ slot_name P I s
@@ -81,7 +81,7 @@ module _ (P : ℕ) (I J : List ℕ) (New : ℕ → Type 0) (coherent : IsCoheren
   ]
 
   pub within_coherent : IsCoherent P J
-  within_coherent Rule.head x = same_head P I J x w.size w.head (coherent Rule.head x)
+  within_coherent Rule.head x = w.head x
   within_coherent Rule.root x = record {
     directory = λ z. elim (w.inodes x ([], z)) [ inl o ↦ o.kind ∙ (coherent Rule.root x).directory z | inr new ↦ absurd (new.other z) ];
     own = λ z. elim (w.inodes x ([], z)) [ inl o ↦ o.own ∙ (coherent Rule.root x).own z | inr new ↦ new.own ];
@@ -91,7 +91,7 @@ module _ (P : ℕ) (I J : List ℕ) (New : ℕ → Type 0) (coherent : IsCoheren
   within_coherent Rule.inodes x = record { least = λ r. (range x r).0; most = λ r. (range x r).1 }
   within_coherent Rule.names x = λ r. elim (w.slots x r) [ inl new ↦ (w.new x new).words | inr o ↦ subst IsNameWords (sym o.words) (coherent Rule.names x o.reached) ]
   within_coherent Rule.kinds x = record {
-    kind = λ r. elim (w.inodes x r) [ inl o ↦ subst (λ k. (k ≡ 1) ⊎ (k ≡ 2)) (sym o.kind) ((coherent Rule.kinds x).kind o.reached) | inr new ↦ new.kind ];
+    kind = λ r. elim (w.inodes x r) [ inl o ↦ formed I J x o.kind ((coherent Rule.kinds x).kind o.reached) | inr new ↦ new.kind ];
     own = λ r. elim (w.inodes x r) [ inl o ↦ o.own ∙ (coherent Rule.kinds x).own o.reached | inr new ↦ new.own ];
   }
   within_coherent Rule.own_names x = λ r lt a b owners names. elim (w.slots r a) [

@@ -3,12 +3,12 @@ use Rattle.std.proofs.Common.{◌≡◌, ◌≢◌, inl, inr, ℕ, zero, suc, �
 use Rattle.std.proofs.lemmas.List.{get_or-set_other}
 use Rattle.layout.specs.Fields.{word, words_from, inode_kind, inode_size, inode_own, page_owner, page_kind, page_offset, slot_inode, slot_pointer, slot_words, page_byte}
 use Rattle.layout.specs.Geometry.{inode_word_of, descriptor_word_of, page_word_of, slot_word_of}
-use Rattle.image_reading.specs.Soundness.{IsCoherent}
+use Rattle.image_reading.specs.Soundness.{Rule, IsCoherent}
 use Rattle.image_laws.specs.Agrees.{Agrees}
 use Rattle.image_laws.specs.Frame.{SameBytes, SameShape}
 use Rattle.image_laws.specs.Words.{IsUsed, IsByteOf, BytesAgree, WordsAgree, WordLaw}
 use Rattle.image_laws.proofs.Frame.{alike, frame}
-use Rattle.image_laws.proofs.Meaning.{shape}
+use Rattle.image_laws.proofs.Meaning.{same_head, shape}
 
 pub other_word : (I : List ℕ) (x v a : ℕ) → a ≢ x → word (set I x v) a ≡ word I a
 unfolding word
@@ -37,11 +37,11 @@ byte_in_page o = omega arith
 byte_below : (o size : ℕ) → o < size → 4096 * (o / 4096) + 8 * (o % 4096 / 8) < size
 byte_below o size h = omega arith
 
-pub agrees_from_words : (P : ℕ) (I J : List ℕ) → WordsAgree P I J → Agrees P I J
+pub agrees_from_words : (P : ℕ) (I J : List ℕ) → IsCoherent P I → WordsAgree P I J → Agrees P I J
 unfolding inode_kind inode_size inode_own page_owner page_kind page_offset slot_inode slot_pointer page_byte
-agrees_from_words P I J w = record {
+agrees_from_words P I J coherent w = record {
   size = w.size;
-  head = λ a lt. w.words a (IsUsed.head a lt);
+  head = λ x. same_head P I J x w.size (λ a lt. w.words a (IsUsed.head a lt)) (coherent Rule.head x);
   pages = λ j lt. elim (w.owners j lt) [
     | inl e ↦ inl (record {
       owner = e;
@@ -69,7 +69,7 @@ bytes_from_words P I J i b = record {
 }
 
 pub shape_from_words : (P : ℕ) (I J : List ℕ) → IsCoherent P I → WordsAgree P I J → SameShape P I J
-shape_from_words P I J coherent w = shape P I J coherent (alike P I J (agrees_from_words P I J w) coherent)
+shape_from_words P I J coherent w = shape P I J coherent (alike P I J (agrees_from_words P I J coherent w) coherent)
 
 pub word_law : WordLaw
-word_law P I J coherent w b = frame P I J coherent (agrees_from_words P I J w) b
+word_law P I J coherent w b = frame P I J coherent (agrees_from_words P I J coherent w) b

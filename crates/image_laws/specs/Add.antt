@@ -1,12 +1,15 @@
 -- The word that commits create, mkdir and link: a free slot takes an inode number.
 use Rattle.std.specs.Prelude.{◌≡◌, ◌≢◌, ◌↔◌, ◌⊎◌, ℕ, ◌+◌, ◌<◌, ◌≤◌, List, ◌∷◌, reverse, set}
 use Rattle.std.specs.Cmp.{nat_cmp_total}
-use Rattle.layout.specs.Fields.{inode_links, inode_size, inode_own, page_owner, slot_inode, slot_pointer, slot_name, slot_words}
+use Rattle.layout.specs.Fields.{inode_kind, inode_links, inode_size, inode_own, page_owner, slot_inode, slot_pointer, slot_name, slot_words}
 use Rattle.layout.specs.Geometry.{inodes_of, data_pages_of, page_of_slot, slot_word_of}
 use Rattle.layout.specs.Name.{IsNameWords}
 use Rattle.tree_model.specs.PathText.{Route}
 use Rattle.tree_model.specs.Table.{insert}
-use Rattle.tree_model.specs.Tree.{Node, Directory, File, Tree, Room, pages_in}
+use Rattle.layout.specs.Kinds.{node_code}
+use Rattle.layout.specs.declared.kinds.NodeKind.{NodeKind}
+use Rattle.layout.specs.declared.kinds.NodeKind.TheVariants.{File, Directory}
+use Rattle.tree_model.specs.Tree.{Node, Tree, Room, pages_in}
 use Rattle.tree_model.specs.Step.{with_new, with_path}
 use Rattle.image_reading.specs.Counts.{AtMost}
 use Rattle.image_reading.specs.Reading.{HasBytes, IsDirectory, slot_owner, IsHeld, Names, Reached, IsReachedSlot, IsNode, IsRoomOf, IsNameOf, IsChildOf, Reads, HasRoom}
@@ -76,14 +79,14 @@ abbrev pub with_page : Room → ℕ → Room
 with_page room d = insert nat_cmp_total room d (pages_in room d + 1)
 
 -- the room with a new node: a directory has no page
-abbrev pub with_node : Room → ℕ → Node → Room
+abbrev pub with_node : Room → ℕ → NodeKind → Room
 with_node room i Directory = insert nat_cmp_total room i 0
-with_node room i (File bytes) = room
+with_node room i File = room
 
 -- The directory has a page more exactly where the slot's page had no live slot before.
 pub record HasRoomAdded (P : ℕ) (I J : List ℕ) (d s i : ℕ) : Type 0 where
-  pub old_page : (room : Room) (node : Node) → HasRoom P I room → IsNode P I i node → IsRoomOf P I d (page_of_slot s) → HasRoom P J (with_node room i node)
-  pub new_page : (room : Room) (node : Node) → HasRoom P I room → IsNode P I i node → (IsRoomOf P I d (page_of_slot s) → ⊥) → HasRoom P J (with_node (with_page room d) i node)
+  pub old_page : (room : Room) (kind : NodeKind) → HasRoom P I room → inode_kind I i ≡ node_code kind → IsRoomOf P I d (page_of_slot s) → HasRoom P J (with_node room i kind)
+  pub new_page : (room : Room) (kind : NodeKind) → HasRoom P I room → inode_kind I i ≡ node_code kind → (IsRoomOf P I d (page_of_slot s) → ⊥) → HasRoom P J (with_node (with_page room d) i kind)
 
 abbrev pub AddRoomLaw : Type 0
 AddRoomLaw = (P : ℕ) (I : List ℕ) (p : Route) (d s i : ℕ) → CanAdd P I p d s i → HasRoomAdded P I (set I (slot_word_of P s 0) i) d s i

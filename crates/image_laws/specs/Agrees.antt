@@ -1,9 +1,9 @@
 -- What of an image is used: where J agrees with I on it, J means what I means.
 use Rattle.std.specs.Prelude.{◌≡◌, ◌≢◌, ◌⊎◌, ℕ, ◌+◌, ◌<◌, ◌≤◌, List, length}
-use Rattle.layout.specs.Fields.{word, inode_links, inode_size, page_owner, page_kind, page_offset, slot_inode, slot_pointer, slot_words}
+use Rattle.layout.specs.Fields.{inode_links, inode_size, page_owner, page_kind, page_offset, slot_inode, slot_pointer, slot_words}
 use Rattle.layout.specs.Geometry.{data_pages_of, slots_of, page_of_slot}
 use Rattle.image_reading.specs.Reading.{IsDirectory, HasBytes, slot_owner, IsHeld, IsLive, Reached, IsReachedSlot, pages_of_size}
-use Rattle.image_reading.specs.Soundness.{HasLinks, PointsAtHeld, IsOnlyPointer, IsCoherent}
+use Rattle.image_reading.specs.Soundness.{HasHead, HasLinks, PointsAtHeld, IsOnlyPointer, IsCoherent}
 use Rattle.image_laws.specs.Frame.{SameInode, AllSameBytes, SameShape, SameMeaning}
 
 -- The owner, what is used of the page's descriptor, and of its slots where it is held as a directory page.
@@ -54,7 +54,7 @@ pub record SameSlot (P : ℕ) (I J : List ℕ) (s : ℕ) : Type 0 where
 -- J has the live slots of I, and agrees with I on what else is read.
 pub record Alike (P : ℕ) (I J : List ℕ) : Type 0 where
   pub size : length J ≡ length I
-  pub head : (x : ℕ) → x < 5 → word J x ≡ word I x
+  pub head : (x : ℕ) → HasHead P J x
   pub pages : (j : ℕ) → j < data_pages_of P → SameDescriptor P I J j ⊎ (IsUnneeded P I I j × IsUnneeded P I J j)
   pub slots : (s : ℕ) → s < slots_of P → SameDescriptor P I J (page_of_slot s) → Reached P I (slot_owner P I s) → SameSlot P I J s
   pub pointers : (s : ℕ) → PointsAtHeld P J s
@@ -66,7 +66,7 @@ pub record Alike (P : ℕ) (I J : List ℕ) : Type 0 where
 -- J agrees with I on what is used of I, but for owners of pages that aren't needed and link words within bounds.
 pub record Agrees (P : ℕ) (I J : List ℕ) : Type 0 where
   pub size : length J ≡ length I
-  pub head : (x : ℕ) → x < 5 → word J x ≡ word I x
+  pub head : (x : ℕ) → HasHead P J x
   pub pages : (j : ℕ) → j < data_pages_of P → SamePage P I J j ⊎ AreIdle P I J j
   pub inodes : (i : ℕ) → Reached P I i → SameInode I J i
   pub links : (i : ℕ) → Reached P I i → HasLinks P I i (inode_links J i)

@@ -1,12 +1,13 @@
 -- The intervals of create and mkdir: a new page of the directory where it needs one, the node's and the name's words,
 -- and the slot's inode number.
 use Rattle.std.specs.Prelude.{◌≡◌, ◌≢◌, ◌⊎◌, ℕ, ◌+◌, ◌<◌, ◌≤◌, List, [], ◌∷◌, length, reverse, set, slice_index}
-use Rattle.layout.specs.Fields.{word, inode_links, page_kind, page_offset, slot_inode, slot_pointer, slot_name, slot_words}
+use Rattle.layout.specs.Fields.{word, inode_words, inode_links, page_kind, page_offset, slot_inode, slot_pointer, slot_name, slot_words}
 use Rattle.layout.specs.Geometry.{inodes_of, page_of_slot, inode_word_of, descriptor_word_of, slot_word_of, page_word_of}
 use Rattle.layout.specs.Name.{IsNameWords, name_in_words}
+use Rattle.layout.specs.declared.kinds.NodeKind.{NodeKind}
+use Rattle.layout.specs.declared.kinds.NodeKind.TheVariants.{File, Directory}
 use Rattle.tree_model.specs.PathText.{Route}
-use Rattle.tree_model.specs.Tree.{Node, Directory, File}
-use Rattle.tree_model.specs.Step.{with_new}
+use Rattle.tree_model.specs.Step.{new_node, with_new}
 use Rattle.image_reading.specs.Litter.{IsZeroSlot}
 use Rattle.image_reading.specs.Reading.{IsDirectory, slot_owner, IsHeld, Names, Reached, IsReachedSlot}
 use Rattle.image_reading.specs.Soundness.{IsCoherent}
@@ -23,33 +24,28 @@ IsAmong f n a = (k : ℕ) × (k < n) × (a ≡ f k)
 
 -- ---- the node and its name
 
--- a directory, or a file without bytes
-abbrev pub IsEmptyNode : Node → Type 0
-IsEmptyNode Directory = Unit {0}
-IsEmptyNode (File bytes) = bytes ≡ []
-
--- the first words of such a node's inode
-abbrev pub node_words : Node → ℕ → List ℕ
+-- the first words of a new node's inode
+abbrev pub node_words : NodeKind → ℕ → List ℕ
 node_words Directory i = 2 ∷ 2 ∷ 0 ∷ i ∷ []
-node_words (File bytes) i = 1 ∷ 1 ∷ 0 ∷ i ∷ []
+node_words File i = 1 ∷ 1 ∷ 0 ∷ i ∷ []
 
 -- the links of the directory that it is made in
-abbrev pub parent_links : Node → ℕ → ℕ
+abbrev pub parent_links : NodeKind → ℕ → ℕ
 parent_links Directory links = links + 1
-parent_links (File bytes) links = links
+parent_links File links = links
 
 -- a word of inode i, a name word of slot s, or with a directory the link word of its parent d
-abbrev pub IsMadeWord : ℕ → Node → ℕ → ℕ → ℕ → ℕ → Type 0
-IsMadeWord P Directory d s i a = IsAmong (inode_word_of i) 4 a ⊎ (IsAmong (λ k. slot_word_of P s (2 + k)) 14 a ⊎ (a ≡ inode_word_of d 1))
-IsMadeWord P (File bytes) d s i a = IsAmong (inode_word_of i) 4 a ⊎ IsAmong (λ k. slot_word_of P s (2 + k)) 14 a
+abbrev pub IsMadeWord : ℕ → List ℕ → NodeKind → ℕ → ℕ → ℕ → ℕ → Type 0
+IsMadeWord P I Directory d s i a = IsAmong (inode_word_of i) (inode_words I) a ⊎ (IsAmong (λ k. slot_word_of P s (2 + k)) 14 a ⊎ (a ≡ inode_word_of d 1))
+IsMadeWord P I File d s i a = IsAmong (inode_word_of i) (inode_words I) a ⊎ IsAmong (λ k. slot_word_of P s (2 + k)) 14 a
 
 -- From I to J those words become the node's, the name's and the parent's, and no other word changes.
-pub record MakesNode (P : ℕ) (I J : List ℕ) (node : Node) (d s i : ℕ) (name : List ℕ) : Type 0 where
+pub record MakesNode (P : ℕ) (I J : List ℕ) (kind : NodeKind) (d s i : ℕ) (name : List ℕ) : Type 0 where
   pub size : length J ≡ length I
-  pub inode : (f : ℕ) → f < 4 → word J (inode_word_of i f) ≡ slice_index (node_words node i) f
+  pub inode : (f : ℕ) → f < inode_words I → word J (inode_word_of i f) ≡ slice_index (node_words kind i) f
   pub words : slot_words P J s ≡ name
-  pub parent : inode_links J d ≡ parent_links node (inode_links I d)
-  pub others : (a : ℕ) → (IsMadeWord P node d s i a → ⊥) → word J a ≡ word I a
+  pub parent : inode_links J d ≡ parent_links kind (inode_links I d)
+  pub others : (a : ℕ) → (IsMadeWord P I kind d s i a → ⊥) → word J a ≡ word I a
 
 -- ---- what a call needs of a tidy image
 
@@ -82,9 +78,9 @@ committed P I s i = set I (slot_word_of P s 0) i
 
 -- The directory has a vacant slot.
 abbrev pub CreateLaw : Type 0
-CreateLaw = (P : ℕ) (W I : List ℕ) (p path : Route) (node : Node) (d s i : ℕ) (name : List ℕ) → CanMake P W p d i name → IsVacant P W d s
-    → IsEmptyNode node → MakesNode P W I node d s i name → reverse path ≡ name_in_words name ∷ p
-    → Commits P W W I (committed P I s i) (λ T. with_new T path i node) (λ room. with_node room i node)
+CreateLaw = (P : ℕ) (W I : List ℕ) (p path : Route) (kind : NodeKind) (d s i : ℕ) (name : List ℕ) → CanMake P W p d i name → IsVacant P W d s
+    → MakesNode P W I kind d s i name → reverse path ≡ name_in_words name ∷ p
+    → Commits P W W I (committed P I s i) (λ T. with_new T path i (new_node kind)) (λ room. with_node room i kind)
 
 -- ---- a new page
 
@@ -125,9 +121,9 @@ pub record IsPageQuiet (P : ℕ) (W A B : List ℕ) : Type 0 where
 
 -- The directory takes page j, and then slot s of it.
 abbrev pub NewPageLaw : Type 0
-NewPageLaw = (P : ℕ) (W A I : List ℕ) (p path : Route) (node : Node) (d j s i : ℕ) (name : List ℕ) → CanMake P W p d i name → IsFreePage P W j → page_of_slot s ≡ j
-    → IsEmptyNode node → MakesPage P W A j → MakesNode P (owned P A j d) I node d s i name → reverse path ≡ name_in_words name ∷ p
-    → Commits P W (owned P A j d) I (committed P I s i) (λ T. with_new T path i node) (λ room. with_node (with_page room d) i node)
+NewPageLaw = (P : ℕ) (W A I : List ℕ) (p path : Route) (kind : NodeKind) (d j s i : ℕ) (name : List ℕ) → CanMake P W p d i name → IsFreePage P W j → page_of_slot s ≡ j
+    → MakesPage P W A j → MakesNode P (owned P A j d) I kind d s i name → reverse path ≡ name_in_words name ∷ p
+    → Commits P W (owned P A j d) I (committed P I s i) (λ T. with_new T path i (new_node kind)) (λ room. with_node (with_page room d) i kind)
 
 -- The page's own steps mean nothing, whatever is made in it.
 abbrev pub PageQuietLaw : Type 0

@@ -1,7 +1,7 @@
 -- The intervals of unlink and rmdir: the slot's inode number; a link word and the rest of the slot; owners of pages that are
 -- given back; the rest of their descriptors, and the words of an inode that has no name left.
 use Rattle.std.specs.Prelude.{◌≡◌, ◌≢◌, ◌⊎◌, ℕ, ◌+◌, ◌<◌, ◌≤◌, List, ◌∷◌, length, reverse, set}
-use Rattle.layout.specs.Fields.{word, inode_links, page_owner, slot_inode, slot_name}
+use Rattle.layout.specs.Fields.{word, inode_words, descriptor_words, inode_links, page_owner, slot_inode, slot_name}
 use Rattle.layout.specs.Geometry.{data_pages_of, page_of_slot, inode_word_of, descriptor_word_of, slot_word_of}
 use Rattle.tree_model.specs.PathText.{Route}
 use Rattle.tree_model.specs.Step.{without_path, without_unnamed}
@@ -49,9 +49,9 @@ pub record GivesPages (P : ℕ) (I J : List ℕ) (given : ℕ → Type 0) : Type
 -- From I to J the rest of their descriptors becomes zero, and the words of the inode where it is gone.
 pub record ClearsRest (P : ℕ) (I J : List ℕ) (given : ℕ → Type 0) (gone : Type 0) (i : ℕ) : Type 0 where
   pub size : length J ≡ length I
-  pub rests : (j f : ℕ) → given j → 1 ≤ f → f < 3 → word J (descriptor_word_of P j f) ≡ 0
-  pub inode : gone → (f : ℕ) → f < 4 → word J (inode_word_of i f) ≡ 0
-  pub others : (a : ℕ) → ((j f : ℕ) → given j → 1 ≤ f → f < 3 → a ≢ descriptor_word_of P j f) → (gone → (f : ℕ) → f < 4 → a ≢ inode_word_of i f) → word J a ≡ word I a
+  pub rests : (j f : ℕ) → given j → 1 ≤ f → f < descriptor_words I → word J (descriptor_word_of P j f) ≡ 0
+  pub inode : gone → (f : ℕ) → f < inode_words I → word J (inode_word_of i f) ≡ 0
+  pub others : (a : ℕ) → ((j f : ℕ) → given j → 1 ≤ f → f < descriptor_words I → a ≢ descriptor_word_of P j f) → (gone → (f : ℕ) → f < inode_words I → a ≢ inode_word_of i f) → word J a ≡ word I a
 
 -- all four intervals
 pub record Drops (P : ℕ) (W I J K : List ℕ) (s y : ℕ) : Type 0 where

@@ -1,6 +1,6 @@
 -- Words that an interval may store to.
 use Rattle.std.specs.Prelude.{◌≡◌, ◌⊎◌, ℕ, ◌+◌, ◌*◌, ◌<◌, ◌≤◌, List, length}
-use Rattle.layout.specs.Fields.{word, inode_links, inode_size, page_owner}
+use Rattle.layout.specs.Fields.{word, inode_words, descriptor_words, inode_links, inode_size, page_owner}
 use Rattle.layout.specs.Geometry.{inodes_of, data_pages_of, inode_word_of, descriptor_word_of, page_word_of, slot_word_of}
 use Rattle.image_reading.specs.Reading.{IsHeld, Reached, IsReachedSlot, IsPageOf}
 use Rattle.image_reading.specs.Soundness.{IsCoherent, HasLinks}
@@ -13,10 +13,10 @@ use Rattle.image_laws.specs.Words.{AllBytesAgree}
 pub data IsFree (P : ℕ) (I : List ℕ) : ℕ → Type 0 where
   superblock : (a : ℕ) → 5 ≤ a → a < 512 → IsFree P I a
   link : (i : ℕ) → 1 ≤ i → i ≤ inodes_of P → IsFree P I (inode_word_of i 1)
-  rest : (i f : ℕ) → 1 ≤ i → i ≤ inodes_of P → 4 ≤ f → f < 16 → IsFree P I (inode_word_of i f)
+  rest : (i f : ℕ) → 1 ≤ i → i ≤ inodes_of P → inode_words I ≤ f → f < 16 → IsFree P I (inode_word_of i f)
   inode : (i f : ℕ) → 1 ≤ i → i ≤ inodes_of P → f < 16 → (Reached P I i → ⊥) → IsFree P I (inode_word_of i f)
   owner : (j : ℕ) → j < data_pages_of P → IsFree P I (descriptor_word_of P j 0)
-  tail : (j f : ℕ) → j < data_pages_of P → 3 ≤ f → f < 8 → IsFree P I (descriptor_word_of P j f)
+  tail : (j f : ℕ) → j < data_pages_of P → descriptor_words I ≤ f → f < 8 → IsFree P I (descriptor_word_of P j f)
   descriptor : (j f : ℕ) → j < data_pages_of P → f < 8 → page_owner P I j ≡ 0 → IsFree P I (descriptor_word_of P j f)
   name : (s f : ℕ) → 2 ≤ f → f < 16 → IsHeld P I s → (IsReachedSlot P I s → ⊥) → IsFree P I (slot_word_of P s f)
   page : (j w : ℕ) → j < data_pages_of P → w < 512 → page_owner P I j ≡ 0 → IsFree P I (page_word_of P j w)

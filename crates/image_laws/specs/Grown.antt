@@ -3,8 +3,8 @@ use Rattle.std.specs.Prelude.{◌≡◌, ◌≢◌, ◌↔◌, ◌⊎◌, ℕ, �
 use Rattle.layout.specs.Fields.{page_owner, slot_inode, slot_name}
 use Rattle.layout.specs.Geometry.{data_pages_of, page_of_slot}
 use Rattle.layout.specs.Name.{name_in_words}
+use Rattle.layout.specs.declared.kinds.NodeKind.{NodeKind}
 use Rattle.tree_model.specs.PathText.{Route}
-use Rattle.tree_model.specs.Tree.{Node}
 use Rattle.image_reading.specs.Reading.{HasBytes, Reached, IsReachedSlot, IsPageOf, IsRoomOf}
 use Rattle.image_counts.specs.Entries.{IsSlotOf, IsFreePage}
 use Rattle.image_laws.specs.Create.{CanMake, IsVacant, MakesNode, MakesEmptyPage, committed, owned}
@@ -23,9 +23,9 @@ pub record HasGrown (P : ℕ) (W J : List ℕ) (d s i : ℕ) (name : List ℕ) :
   pub inodes : (t : ℕ) → IsReachedSlot P W t → slot_inode P J t ≡ slot_inode P W t
 
 abbrev pub GrownLaw : Type 0
-GrownLaw = (P : ℕ) (W I : List ℕ) (p : Route) (node : Node) (d s i : ℕ) (name : List ℕ) → CanMake P W p d i name → IsVacant P W d s → MakesNode P W I node d s i name
+GrownLaw = (P : ℕ) (W I : List ℕ) (p : Route) (kind : NodeKind) (d s i : ℕ) (name : List ℕ) → CanMake P W p d i name → IsVacant P W d s → MakesNode P W I kind d s i name
     → HasGrown P W (committed P I s i) d s i name
 
 abbrev pub NewPageGrownLaw : Type 0
-NewPageGrownLaw = (P : ℕ) (W A I : List ℕ) (p : Route) (node : Node) (d j s i : ℕ) (name : List ℕ) → CanMake P W p d i name → IsFreePage P W j → page_of_slot s ≡ j
-    → MakesEmptyPage P W A j → MakesNode P (owned P A j d) I node d s i name → HasGrown P W (committed P I s i) d s i name
+NewPageGrownLaw = (P : ℕ) (W A I : List ℕ) (p : Route) (kind : NodeKind) (d j s i : ℕ) (name : List ℕ) → CanMake P W p d i name → IsFreePage P W j → page_of_slot s ≡ j
+    → MakesEmptyPage P W A j → MakesNode P (owned P A j d) I kind d s i name → HasGrown P W (committed P I s i) d s i name

@@ -1,9 +1,9 @@
 -- A directory takes a page in one interval with what the name in it needs, a new node or one more link, and then the page gets its owner.
 use Rattle.std.specs.Prelude.{◌≡◌, ◌≢◌, ℕ, ◌+◌, ◌<◌, List, length, slice_index}
-use Rattle.layout.specs.Fields.{word, inode_links, page_owner, page_kind, page_offset, slot_inode, slot_pointer, slot_words}
+use Rattle.layout.specs.Fields.{word, inode_words, inode_links, page_owner, page_kind, page_offset, slot_inode, slot_pointer, slot_words}
 use Rattle.layout.specs.Geometry.{data_pages_of, page_of_slot, inode_word_of}
+use Rattle.layout.specs.declared.kinds.NodeKind.{NodeKind}
 use Rattle.tree_model.specs.PathText.{Route}
-use Rattle.tree_model.specs.Tree.{Node}
 use Rattle.image_reading.specs.Litter.{IsZeroSlot}
 use Rattle.image_reading.specs.Reading.{IsDirectory, Names}
 use Rattle.image_reading.specs.Soundness.{IsCoherent}
@@ -40,12 +40,12 @@ pub record IsNamedPage (P : ℕ) (I : List ℕ) (j s : ℕ) (name : List ℕ) : 
   pub zeros : (t : ℕ) → page_of_slot t ≡ j → t ≢ s → IsZeroSlot P I t
 
 -- From I to J page j becomes such a page, still without an owner, and its words, the node's and the parent's change. No other word does.
-pub record MakesPagedNode (P : ℕ) (I J : List ℕ) (node : Node) (d j s i : ℕ) (name : List ℕ) : Type 0 where
+pub record MakesPagedNode (P : ℕ) (I J : List ℕ) (kind : NodeKind) (d j s i : ℕ) (name : List ℕ) : Type 0 where
   pub size : length J ≡ length I
   pub page : IsNamedPage P J j s name
-  pub inode : (f : ℕ) → f < 4 → word J (inode_word_of i f) ≡ slice_index (node_words node i) f
-  pub parent : inode_links J d ≡ parent_links node (inode_links I d)
-  pub others : (a : ℕ) → (IsPageMadeWord P j a → ⊥) → (IsMadeWord P node d s i a → ⊥) → word J a ≡ word I a
+  pub inode : (f : ℕ) → f < inode_words I → word J (inode_word_of i f) ≡ slice_index (node_words kind i) f
+  pub parent : inode_links J d ≡ parent_links kind (inode_links I d)
+  pub others : (a : ℕ) → (IsPageMadeWord P j a → ⊥) → (IsMadeWord P I kind d s i a → ⊥) → word J a ≡ word I a
 
 -- or inode i has one link more in place of a node
 pub record MakesPagedLink (P : ℕ) (I J : List ℕ) (j s i : ℕ) (name : List ℕ) : Type 0 where
@@ -56,8 +56,8 @@ pub record MakesPagedLink (P : ℕ) (I J : List ℕ) (j s i : ℕ) (name : List 
 
 -- A crash leaves what means W.
 abbrev pub PagedNodeLaw : Type 0
-PagedNodeLaw = (P : ℕ) (W A : List ℕ) (p : Route) (node : Node) (d j s i : ℕ) (name : List ℕ) → CanMake P W p d i name → IsFreePage P W j → page_of_slot s ≡ j
-    → MakesPagedNode P W A node d j s i name → IsPageQuiet P W A (owned P A j d)
+PagedNodeLaw = (P : ℕ) (W A : List ℕ) (p : Route) (kind : NodeKind) (d j s i : ℕ) (name : List ℕ) → CanMake P W p d i name → IsFreePage P W j → page_of_slot s ≡ j
+    → MakesPagedNode P W A kind d j s i name → IsPageQuiet P W A (owned P A j d)
 
 abbrev pub PagedLinkLaw : Type 0
 PagedLinkLaw = (P : ℕ) (W A : List ℕ) (p : Route) (d j s i : ℕ) (name : List ℕ) → CanLink P W p d i name → IsFreePage P W j → page_of_slot s ≡ j
@@ -67,10 +67,10 @@ PagedLinkLaw = (P : ℕ) (W A : List ℕ) (p : Route) (d j s i : ℕ) (name : Li
 
 -- Once the page has its owner the words are those of an order in which the directory takes a page of zeros first, and the node is made in
 -- it then. The words with that page, `blank`, need never have been there.
-pub record EndsInNode (P : ℕ) (W A : List ℕ) (node : Node) (d j s i : ℕ) (name : List ℕ) : Type 0 where
+pub record EndsInNode (P : ℕ) (W A : List ℕ) (kind : NodeKind) (d j s i : ℕ) (name : List ℕ) : Type 0 where
   pub blank : List ℕ
   pub page : MakesPage P W blank j
-  pub made : MakesNode P (owned P blank j d) (owned P A j d) node d s i name
+  pub made : MakesNode P (owned P blank j d) (owned P A j d) kind d s i name
 
 -- or the link
 pub record EndsInLink (P : ℕ) (W A : List ℕ) (d j s i : ℕ) (name : List ℕ) : Type 0 where
@@ -79,8 +79,8 @@ pub record EndsInLink (P : ℕ) (W A : List ℕ) (d j s i : ℕ) (name : List �
   pub made : MakesLink P (owned P blank j d) (owned P A j d) s i name
 
 abbrev pub SameEndLaw : Type 0
-SameEndLaw = (P : ℕ) (W A : List ℕ) (p : Route) (node : Node) (d j s i : ℕ) (name : List ℕ) → CanMake P W p d i name → IsFreePage P W j → page_of_slot s ≡ j
-    → MakesPagedNode P W A node d j s i name → EndsInNode P W A node d j s i name
+SameEndLaw = (P : ℕ) (W A : List ℕ) (p : Route) (kind : NodeKind) (d j s i : ℕ) (name : List ℕ) → CanMake P W p d i name → IsFreePage P W j → page_of_slot s ≡ j
+    → MakesPagedNode P W A kind d j s i name → EndsInNode P W A kind d j s i name
 
 abbrev pub SameLinkEndLaw : Type 0
 SameLinkEndLaw = (P : ℕ) (W A : List ℕ) (p : Route) (d j s i : ℕ) (name : List ℕ) → CanLink P W p d i name → IsFreePage P W j → page_of_slot s ≡ j

@@ -4,6 +4,7 @@ use Rattle.std.proofs.Common.{◌≡◌, ◌≢◌, ◌↔◌, ◌⊎◌, inl, i
 use Rattle.std.proofs.lemmas.Bool.{cases_eq}
 use Rattle.layout.specs.Fields.{word, inode_kind, inode_links, page_owner, page_offset, slot_inode, slot_pointer}
 use Rattle.layout.specs.Geometry.{inodes_of, data_pages_of, page_of_slot, inode_word_of, descriptor_word_of, slot_word_of}
+use Rattle.layout.proofs.Widths.{in_inode, in_descriptor, inode_field_read, descriptor_field_read, same_inode_words}
 use Rattle.tree_model.specs.PathText.{Route}
 use Rattle.image_reading.specs.Reading.{slot_owner, IsHeld, IsLive, Reached, IsReachedSlot, IsNameOf, IsLinkCount, IsRoomOf, pages_of_size}
 use Rattle.image_reading.specs.Repairs.{IsKept, IsPointer, IsLitterSlot, IsLitterPage, IsLitterInode, IsLitterCount}
@@ -14,7 +15,7 @@ use Rattle.image_laws.specs.Frame.{SameMeaning}
 use Rattle.image_laws.specs.Move.{CanMove, moved}
 use Rattle.image_laws.proofs.Contents.{dec_reached}
 use Rattle.image_laws.proofs.KeptInodes.{KeepsInodes, by_inodes}
-use Rattle.image_laws.proofs.KeptPages.{KeepsPages, by_words, held_owner_same, held_forth, held_back, litter_page}
+use Rattle.image_laws.proofs.KeptPages.{KeepsPages, KeepsDescriptors, by_words, held_owner_same, held_forth, held_back, litter_page}
 use Rattle.image_laws.proofs.KeptSlots as slot_laws
 use Rattle.image_laws.proofs.KeptSlots.{KeepsSlots, count_some}
 use Rattle.image_laws.proofs.Paths.{reached_pos}
@@ -38,6 +39,7 @@ pub record IsBehind (P : ℕ) (I Y : List ℕ) (s d : ℕ) : Type 0 where
   pub pointer : (slot_pointer P Y d ≡ 0) ⊎ (slot_pointer P Y d ≡ s + 1)
   pub source : slot_pointer P Y s ≡ 0
   pub dead : ¬ IsLive P Y s
+  pub version : word Y 1 ≡ word I 1
 
 module _ (P : ℕ) (I : List ℕ) (pa pb : Route) (s d : ℕ) (c : CanMove P I pa pb s d) where
   pub low_or_not : (x : ℕ) → IsLowered P I s d x ⊎ ¬ IsLowered P I s d x
@@ -71,15 +73,18 @@ module _ (P : ℕ) (I Y : List ℕ) (pa pb : Route) (s d : ℕ) (c : CanMove P I
 
   nodes : KeepsInodes I Y (Reached P I) (λ x. Unit {0})
   nodes = by_inodes P I Y (Reached P I) (λ x. Unit) range (λ x f r some most lt links. elim links [
-    | inl other ↦ behind.inodes x f some most (omega (arith, lt)) other
+    | inl other ↦ behind.inodes x f some most (in_inode I f lt) other
     | inr none ↦ absurd (none tt)
   ])
 
   kind_after : (x : ℕ) → Reached P (moved P I s d) x → inode_kind Y x ≡ inode_kind (moved P I s d) x
   kind_after x r = let was = here.reached_back P I pa pb s d c x r in nodes.kind x was ∙ sym (here.kind_same P I pa pb s d c x was)
 
+  kept_words : (Page : ℕ → Type 0) → KeepsDescriptors P I Y Page
+  kept_words Page j f lt read other = behind.descriptors j f lt (in_descriptor I f read)
+
   paged : KeepsPages P I Y (λ j. ⊥)
-  paged = by_words P I Y (λ j. ⊥) (λ j f lt l3 none. behind.descriptors j f lt (omega (arith, l3)))
+  paged = by_words P I Y (λ j. ⊥) (kept_words (λ j. ⊥))
 
   owner_same : (j : ℕ) → j < data_pages_of P → page_owner P Y j ≡ page_owner P I j
   owner_same j lt = paged.owner j lt (λ none. none)
@@ -248,7 +253,7 @@ module _ (P : ℕ) (I Y : List ℕ) (pa pb : Route) (s d : ℕ) (c : CanMove P I
   page_spare j l = elim (spares.spare_or_not P I pa pb s d c j) [
     | inl spare ↦ spare
     | inr none ↦
-        let was = litter_page P I Y (IsSpare P I (moved P I s d) s d) (λ k f lt l3 other. behind.descriptors k f lt (omega (arith, l3))) (λ x was is. nodes.kind x was) (λ k lt other r. forth (page_owner P I k) (reached_kept k lt other r))
+        let was = litter_page P I Y (IsSpare P I (moved P I s d) s d) (kept_words (IsSpare P I (moved P I s d) s d)) behind.version (λ x was is. nodes.kind x was) (λ k lt other r. forth (page_owner P I k) (reached_kept k lt other r))
         (λ k other file. subst (λ z. page_offset P I k < pages_of_size z) (sym (nodes.size (page_owner P I k) file.owner)) file.below) kept_room j none l in
         absurd (l.free (target_kept j (near.pages j was)))
   ]
@@ -281,7 +286,7 @@ module _ (P : ℕ) (I Y : List ℕ) (pa pb : Route) (s d : ℕ) (c : CanMove P I
 
   pub spare_page : (j : ℕ) → IsSpare P I (moved P I s d) s d j → IsLitterPage P Y j
   unfolding page_owner
-  spare_page j spare = record { in_range = spare.in_range; free = spare_unkept j spare; nonzero = (0, omega arith, spare_owned j spare) }
+  spare_page j spare = record { in_range = spare.in_range; free = spare_unkept j spare; nonzero = (0, descriptor_field_read Y 0 (omega arith), spare_owned j spare) }
 
   -- ---- inodes
 
@@ -291,8 +296,9 @@ module _ (P : ℕ) (I Y : List ℕ) (pa pb : Route) (s d : ℕ) (c : CanMove P I
     | inl e ↦ (e, ((λ z. (let least = l.least in omega (arith, e, z, least))), (λ r. l.unreached (forth x (subst (Reached P (moved P I s d)) (sym e) r)))))
     | inr ne ↦
         let (f, lt, nonzero) = l.nonzero in
+        let read = subst (λ n. f < n) (same_inode_words I Y behind.version) lt in
         let same : word Y (inode_word_of x f) ≡ word I (inode_word_of x f) = elim (cases_eq f 1) [
-          | inr other ↦ behind.inodes x f l.least l.most (omega (arith, lt)) other
+          | inr other ↦ behind.inodes x f l.least l.most (in_inode I f read) other
           | inl one ↦ ap (λ g. word Y (inode_word_of x g)) one ∙ elim (behind.links x l.least l.most) [
             | inl stays ↦ stays
             | inr low ↦ elim low [
@@ -305,7 +311,7 @@ module _ (P : ℕ) (I Y : List ℕ) (pa pb : Route) (s d : ℕ) (c : CanMove P I
           least = l.least;
           most = l.most;
           unreached = λ r. l.unreached (forth x (here.reached_forward P I pa pb s d c x ne r));
-          nonzero = (f, lt, (λ z. nonzero (same ∙ z)));
+          nonzero = (f, read, (λ z. nonzero (same ∙ z)));
         }))
   ]
 
@@ -319,7 +325,7 @@ module _ (P : ℕ) (I Y : List ℕ) (pa pb : Route) (s d : ℕ) (c : CanMove P I
   unfolding inode_kind
   out_inode out =
       let (least, most) = range (slot_inode P I d) (here.replaced_reached P I pa pb s d c out.0) in
-      record { least = least; most = most; unreached = λ r. out.1 (back (slot_inode P I d) r); nonzero = (0, omega arith, out_kind out) }
+      record { least = least; most = most; unreached = λ r. out.1 (back (slot_inode P I d) r); nonzero = (0, inode_field_read Y 0 (omega arith), out_kind out) }
 
   -- ---- links
 

@@ -41,6 +41,7 @@ module _ (P : ℕ) (I J : List ℕ) (pa pb : Route) (s d : ℕ) (c : CanMove P I
     pointer = inl cleared.pointer;
     source = cleared.source 1 (omega arith);
     dead = λ live. live.names (cleared.source 0 (omega arith));
+    version = cleared.version;
   }
 
   no_pointer : (t : ℕ) → ¬ IsPointer P J t

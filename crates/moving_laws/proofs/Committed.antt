@@ -8,7 +8,7 @@ use Rattle.image_reading.specs.Repairs.{IsPointer}
 use Rattle.image_reading.specs.Residue.{IsTidyBeside}
 use Rattle.image_reading.specs.Soundness.{Rule}
 use Rattle.image_laws.specs.Move.{CanMove, moved}
-use Rattle.image_laws.proofs.Addresses.{descriptor-ne_slot, inode-ne_slot, slot-ne_slot, slot-ne_field}
+use Rattle.image_laws.proofs.Addresses.{head-ne_slot, descriptor-ne_slot, inode-ne_slot, slot-ne_slot, slot-ne_field}
 use Rattle.image_laws.proofs.Meaning.{same_itself}
 use Rattle.image_laws.proofs.Words.{other_word, slot_words-same}
 use Rattle.rename_laws.specs.Target.{Target, old_number}
@@ -51,6 +51,7 @@ module _ (P : ℕ) (I : List ℕ) (pa pb : Route) (s d : ℕ) (c : CanMove P I p
     pointer = inr (moved_pointer d ∙ c.pointer);
     source = moved_pointer s ∙ source_pointer;
     dead = λ live. live.stays d (here.held_forward P I pa pb s d c d c.held) (moved_pointer d ∙ c.pointer) (here.number_new P I pa pb s d c ∙ sym (here.source_number P I pa pb s d c));
+    version = moved_word 1 (head-ne_slot P d 0 1 (omega arith));
   }
 
   -- slot s still has its number
@@ -86,6 +87,7 @@ module _ (P : ℕ) (I : List ℕ) (pa pb : Route) (s d : ℕ) (c : CanMove P I p
     pointer = inr (left_pointer d ∙ c.pointer);
     source = left_pointer s ∙ source_pointer;
     dead = λ live. live.names (words.left_number P I pa pb s d c);
+    version = words.left_word P I pa pb s d c 1 (head-ne_slot P s 0 1 (omega arith)) (head-ne_slot P d 0 1 (omega arith));
   }
 
   left_name : slot_words P (left P I s d) s ≡ slot_words P I s

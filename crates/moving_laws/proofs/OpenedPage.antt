@@ -1,7 +1,8 @@
 -- A new page with the new name is to be repaired, without and with its owner, and nothing else is.
 use Rattle.std.proofs.Common.{◌≡◌, ◌≢◌, ◌⊎◌, inl, inr, ℕ, ◌<◌, ◌≤◌, List, [], refl, sym, subst, ◌∙◌, arith}
-use Rattle.layout.specs.Geometry.{inodes_of, data_pages_of, page_of_slot, inode_word_of, descriptor_word_of, slot_word_of, page_word_of}
-use Rattle.layout.specs.Fields.{word, inode_kind, inode_links, page_owner}
+use Rattle.layout.specs.Geometry.{inodes_of, data_pages_of, inode_word_of, descriptor_word_of}
+use Rattle.layout.specs.Fields.{word, inode_words, descriptor_words, inode_kind, inode_links, page_owner}
+use Rattle.layout.proofs.Widths.{in_inode, in_descriptor, inode_field_read, descriptor_field_read}
 use Rattle.tree_model.specs.PathText.{Route}
 use Rattle.image_reading.specs.Reading.{IsDirectory, Names}
 use Rattle.image_reading.specs.Repairs.{IsLitterPage, IsLitterInode}
@@ -12,9 +13,8 @@ use Rattle.image_counts.proofs.Paths.{in_range}
 use Rattle.image_laws.specs.Create.{MakesNamedPage}
 use Rattle.image_laws.specs.Frame.{SameMeaning}
 use Rattle.image_laws.specs.Taking.{IsNamedPage}
-use Rattle.image_laws.proofs.Addresses.{descriptor-ne_inode, descriptor-ne_page, descriptor-ne_slot, page-ne_inode, page-ne_slot}
 use Rattle.image_laws.proofs.Free.{mix_itself}
-use Rattle.image_laws.proofs.NewPage.{not_page_made}
+use Rattle.image_laws.proofs.NewPage.{made_descriptor, made_inode, made_slot}
 use Rattle.image_laws.proofs.PageQuiet.{page_quiet_law}
 use Rattle.rename_laws.specs.Target.{Opened, CanRename}
 use Rattle.image_reading.specs.Soundness.{Rule, HasLinks}
@@ -43,25 +43,15 @@ module _ (P : ℕ) (W A : List ℕ) (pa pb : Route) (s x d j : ℕ) (name : List
 
   -- ---- which words stay
 
-  same_word : (a : ℕ) → ((w : ℕ) → w < 512 → a ≢ page_word_of P j w) → ((f : ℕ) → 1 ≤ f → f < 3 → a ≢ descriptor_word_of P j f) → word A a ≡ word W a
-  same_word a page descriptor = makes.others a (not_page_made P j a page descriptor)
+  descriptor_same : (k f : ℕ) → k < data_pages_of P → f < descriptor_words W → (k ≢ j) ⊎ (f ≡ 0) → word A (descriptor_word_of P k f) ≡ word W (descriptor_word_of P k f)
+  descriptor_same k f lt read other = made_descriptor P W A j can.tidy.coherent free makes.empty k f lt (in_descriptor W f read) other
 
-  descriptor_same : (k f : ℕ) → k < data_pages_of P → f < 3 → (k ≢ j) ⊎ (f ≡ 0) → word A (descriptor_word_of P k f) ≡ word W (descriptor_word_of P k f)
-  descriptor_same k f lt l3 other = same_word (descriptor_word_of P k f) (λ w l. descriptor-ne_page P k f j w lt (omega (arith, l3))) (descriptor_apart P j k f l3 other)
-
-  slot_same : (t f : ℕ) → f < 16 → page_of_slot t ≢ j → word A (slot_word_of P t f) ≡ word W (slot_word_of P t f)
-  slot_same t f lt beside = same_word (slot_word_of P t f)
-      (λ w l e. page-ne_slot P j w t f l lt (λ z. beside (sym z)) (sym e))
-      (λ g low high e. descriptor-ne_slot P j g t f free.0 (omega arith) (sym e))
-
-  inode_same : (y f : ℕ) → 1 ≤ y → y ≤ inodes_of P → f < 4 → word A (inode_word_of y f) ≡ word W (inode_word_of y f)
-  inode_same y f some most lt = same_word (inode_word_of y f)
-      (λ w l e. page-ne_inode P j w y f some most (omega (arith, lt)) (sym e))
-      (λ g low high e. descriptor-ne_inode P j g y f some most (omega (arith, lt)) (sym e))
+  inode_same : (y f : ℕ) → 1 ≤ y → y ≤ inodes_of P → f < inode_words W → word A (inode_word_of y f) ≡ word W (inode_word_of y f)
+  inode_same y f some most read = made_inode P W A j can.tidy.coherent free makes.empty y f some most (in_inode W f read)
 
   links_same : inode_links A x ≡ inode_links W x
   unfolding inode_links
-  links_same = inode_same x 1 x_range.0 x_range.1 (omega arith)
+  links_same = inode_same x 1 x_range.0 x_range.1 (inode_field_read W 1 (omega arith))
 
   -- inode 0 stands for none
   change : ChangesPage P W A j 0 x
@@ -74,8 +64,8 @@ module _ (P : ℕ) (W A : List ℕ) (pa pb : Route) (s x d j : ℕ) (name : List
     linked = (pb, can.target_path);
     links = subst (HasLinks P W x) (sym links_same) (can.tidy.coherent Rule.links x (pb, can.target_path));
     descriptors = descriptor_same;
-    slots = slot_same;
-    inodes = λ y f some most lt old links. inode_same y f some most lt;
+    slots = made_slot P W A j can.tidy.coherent free makes.empty;
+    inodes = λ y f some most read old links. inode_same y f some most read;
   })
 
   no_page : ¬ IsLitterPage P W j
@@ -94,11 +84,11 @@ module _ (P : ℕ) (W A : List ℕ) (pa pb : Route) (s x d j : ℕ) (name : List
 
   directory : IsDirectory A x
   unfolding inode_kind
-  directory = inode_same x 0 x_range.0 x_range.1 (omega arith) ∙ can.target_directory
+  directory = inode_same x 0 x_range.0 x_range.1 (inode_field_read W 0 (omega arith)) ∙ can.target_directory
 
   free_then : IsFreePage P A j
   unfolding page_owner
-  free_then = (free.0, descriptor_same j 0 free.0 (omega arith) (inr refl) ∙ free.1)
+  free_then = (free.0, descriptor_same j 0 free.0 (descriptor_field_read W 0 (omega arith)) (inr refl) ∙ free.1)
 
   empty : IsEmptyPage P A j
   empty = record { kind = makes.kind; directory = λ r. absurd (reached_pos P A (page_owner P A j) r free_then.1); numbers = makes.numbers; pointers = makes.pointers }

@@ -5,6 +5,7 @@ use Rattle.std.proofs.lemmas.Bool.{cases_eq}
 use Rattle.layout.specs.Fields.{word, inode_kind, page_owner, page_kind, slot_inode, slot_pointer}
 use Rattle.layout.specs.Geometry.{page_of_slot, slot_word_of}
 use Rattle.layout.proofs.GeometryLaws.{page_of_slot_below}
+use Rattle.layout.proofs.Widths.{descriptor_field_read}
 use Rattle.tree_model.specs.PathText.{Route}
 use Rattle.image_reading.specs.Counts.{IsIn, IsListOf}
 use Rattle.image_reading.specs.Reading.{slot_owner, IsLive, Reached, IsChildOf, IsRoomOf}
@@ -114,7 +115,7 @@ module _ (P : ℕ) (W I : List ℕ) (pa pb : Route) (s x d : ℕ) (target : Targ
           omega (arith, one, two)
       | inr room ↦ unkept opened room
     ];
-    nonzero = (0, omega arith, owned_here);
+    nonzero = (0, descriptor_field_read I 0 (omega arith), owned_here);
   }
 
   pages_by : (now : Target) → CanTake P W pb s x d now → (IsOpenedPage now (page_of_slot d) → IsOpenedPage target (page_of_slot d)) → IsListOf (IsLitterPage P I) (pages_left (new_page now))

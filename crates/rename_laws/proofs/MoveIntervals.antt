@@ -2,6 +2,7 @@
 use Rattle.std.proofs.Common.{◌≡◌, ◌≢◌, ◌↔◌, ◌⊎◌, inl, inr, ℕ, ◌+◌, ◌<◌, ◌≤◌, List, Option, Some, None, refl, sym, subst, ◌∙◌, arith}
 use Rattle.layout.specs.Fields.{word, inode_links, slot_inode, slot_pointer}
 use Rattle.layout.specs.Geometry.{inodes_of, data_pages_of, inode_word_of, descriptor_word_of, slot_word_of}
+use Rattle.layout.proofs.Widths.{in_inode, in_descriptor, same_inode_words}
 use Rattle.tree_model.specs.PathText.{Route}
 use Rattle.image_reading.specs.Reading.{slot_owner, Reached, IsRoomOf}
 use Rattle.image_laws.specs.Drop.{ClearsRest}
@@ -9,6 +10,7 @@ use Rattle.image_laws.specs.Frame.{SameMeaning}
 use Rattle.image_laws.specs.Move.{CanMove, moved}
 use Rattle.image_laws.specs.Quiet.{IsMix}
 use Rattle.image_laws.specs.Stages.{MayGive, MayFree}
+use Rattle.image_laws.proofs.Beside.{gives_keeps, rest_keeps}
 use Rattle.image_laws.proofs.Meaning.{same_chained}
 use Rattle.image_laws.proofs.Paths.{reached_pos, reached-le}
 use Rattle.image_laws.proofs.Stages as stages
@@ -215,20 +217,26 @@ module _ (P : ℕ) (W I : List ℕ) (pa pb : Route) (s x d : ℕ) (target : Targ
       unfolding inode_links
       end_links y some most other = end_inode y 1 some most (omega arith) other
 
+      version_freed : word K 1 ≡ word G 1
+      unfolding word
+      version_freed = rest_keeps P G K (IsGivenUp P (moved P I s d) s target) (IsGone P (moved P I s d) target) (old_number target) frees 1 (omega arith)
+
       pub has_ended : HasEnded P I K s d
-      unfolding slot_inode slot_pointer
+      unfolding word slot_inode slot_pointer
       has_ended = record {
         means = means_end;
-        descriptors = λ j f lt l3 none. end_descriptor j f lt (omega (arith, l3)) (λ is. none ((given_spare j).0 is));
+        descriptors = λ j f lt read none. end_descriptor j f lt (in_descriptor I f read) (λ is. none ((given_spare j).0 is));
         spare = λ j f is lt. stages.given_zero P J G K (IsGivenUp P (moved P I s d) s target) (IsGone P (moved P I s d) target) freed.inode may_give given.gives may_free freed.rest j f ((given_spare j).1 is) lt;
-        inodes = λ y f some most lt ne other. end_inode y f some most (omega (arith, lt)) (other_gone y other) ∙ cleared.inodes y f some most (omega (arith, lt)) ne;
+        inodes = λ y f some most read ne other. let lt = in_inode I f read in end_inode y f some most lt (other_gone y other) ∙ cleared.inodes y f some most lt ne;
         links = λ y some most other. subst (IsFallen P I s d y) (sym (end_links y some most (other_gone y other))) (cleared.links y some most);
-        out = λ out f lt. subst (λ y. word K (inode_word_of y f) ≡ 0) (sym ready.number) (frees.inode (out_gone.1 out) f lt);
+        out = λ out f lt. subst (λ y. word K (inode_word_of y f) ≡ 0) (sym ready.number)
+            (frees.inode (out_gone.1 out) f (subst (λ n. f < n) (same_inode_words G K version_freed) lt));
         slots = λ t f ns nd lt. end_slot t f ∙ cleared.slots t f ns nd lt;
         source = λ f lt. end_slot s f ∙ cleared.source f lt;
         number = end_slot d 0 ∙ cleared.number;
         name = λ f low lt. end_slot d f ∙ cleared.name f low lt;
         pointer = end_slot d 1 ∙ cleared.pointer;
+        version = version_freed ∙ gives_keeps P J G (IsGivenUp P (moved P I s d) s target) given.gives 1 (omega arith) ∙ cleared.version;
       }
 
 -- ---- the laws

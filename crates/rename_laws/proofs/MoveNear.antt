@@ -4,6 +4,7 @@ use Rattle.std.proofs.lemmas.Bool.{cases_eq}
 use Rattle.layout.specs.Fields.{word, inode_kind, inode_links, inode_size, page_owner, page_offset, slot_inode, slot_name, slot_pointer}
 use Rattle.layout.specs.Name.{name_in_words}
 use Rattle.layout.specs.Geometry.{inodes_of, data_pages_of, page_of_slot, inode_word_of, descriptor_word_of, slot_word_of}
+use Rattle.layout.proofs.Widths.{in_inode, in_descriptor, same_inode_words}
 use Rattle.tree_model.specs.PathText.{Route}
 use Rattle.image_reading.specs.Counts.{Count}
 use Rattle.image_reading.specs.Litter.{IsZeroSlot}
@@ -16,9 +17,9 @@ use Rattle.image_counts.proofs.Decided.{room_owner}
 use Rattle.image_counts.proofs.Links.{links_counted, link_word_law}
 use Rattle.image_counts.proofs.Paths.{in_range}
 use Rattle.image_laws.specs.Move.{CanMove}
-use Rattle.image_laws.proofs.Addresses.{descriptor-ne_inode, descriptor-ne_page, descriptor-ne_slot, inode-ne_slot, page-ne_inode, page-ne_slot, slot-ne_slot, descriptor_word-one, inode_word-one}
+use Rattle.image_laws.proofs.Addresses.{head-ne_inode, head-ne_slot, head-ne_descriptor, head-ne_page, descriptor-ne_inode, descriptor-ne_page, descriptor-ne_slot, inode-ne_slot, page-ne_inode, page-ne_slot, slot-ne_slot, descriptor_word-one, inode_word-one}
 use Rattle.image_laws.proofs.KeptPages as pages
-use Rattle.image_laws.proofs.KeptPages.{KeepsPages, by_words, held_owner_same, held_forth, held_back}
+use Rattle.image_laws.proofs.KeptPages.{KeepsPages, KeepsDescriptors, by_words, held_owner_same, held_forth, held_back}
 use Rattle.image_laws.proofs.KeptSlots as slot_laws
 use Rattle.image_laws.proofs.KeptSlots.{KeepsSlots}
 use Rattle.image_laws.proofs.Paths.{reach}
@@ -47,31 +48,39 @@ opened_or_not (Taken r) j = inr (λ h. h)
 
 module _ (P : ℕ) (W : List ℕ) (pb : Route) (s x d : ℕ) where
   other_slot : (target : Target) (t f : ℕ) → CanTake P W pb s x d target → f < 16 → t ≢ d → (IsOpenedPage target (page_of_slot t) → ⊥)
-      → IsTargetWord P d target (slot_word_of P t f) → ⊥
+      → IsTargetWord P W d target (slot_word_of P t f) → ⊥
   other_slot (Vacant name) t f can lt ne old (k, l, e) = slot-ne_slot P t f d (2 + k) lt (omega (arith, l)) ne e
   other_slot (Opened page name) t f can lt ne old h = elim h [
     | inl (w, l, e) ↦ page-ne_slot P page w t f l lt (λ z. old (sym z)) (sym e)
-    | inr (g, l, e) ↦ descriptor-ne_slot P page g t f can.1.0 (omega (arith, l)) (sym e)
+    | inr (g, l, e) ↦ descriptor-ne_slot P page g t f can.1.0 (in_descriptor W g l) (sym e)
   ]
   other_slot (Taken r) t f can lt ne old h = h
 
   other_descriptor : (target : Target) (j f : ℕ) → CanTake P W pb s x d target → j < data_pages_of P → f < 8 → (IsOpenedPage target j → ⊥)
-      → IsTargetWord P d target (descriptor_word_of P j f) → ⊥
+      → IsTargetWord P W d target (descriptor_word_of P j f) → ⊥
   other_descriptor (Vacant name) j f can lt l8 old (k, l, e) = descriptor-ne_slot P j f d (2 + k) lt l8 e
   other_descriptor (Opened page name) j f can lt l8 old h = elim h [
     | inl (w, l, e) ↦ descriptor-ne_page P j f page w lt l8 e
-    | inr (g, l, e) ↦ old (descriptor_word-one P j f page g l8 (omega (arith, l)) e).0
+    | inr (g, l, e) ↦ old (descriptor_word-one P j f page g l8 (in_descriptor W g l) e).0
   ]
   other_descriptor (Taken r) j f can lt l8 old h = h
 
   other_inode : (target : Target) (y f : ℕ) → CanTake P W pb s x d target → 1 ≤ y → y ≤ inodes_of P → f < 16
-      → IsTargetWord P d target (inode_word_of y f) → ⊥
+      → IsTargetWord P W d target (inode_word_of y f) → ⊥
   other_inode (Vacant name) y f can some most lt (k, l, e) = inode-ne_slot P y f d (2 + k) some most lt e
   other_inode (Opened page name) y f can some most lt h = elim h [
     | inl (w, l, e) ↦ page-ne_inode P page w y f some most lt (sym e)
     | inr (g, l, e) ↦ descriptor-ne_inode P page g y f some most lt (sym e)
   ]
   other_inode (Taken r) y f can some most lt h = h
+
+  other_head : (target : Target) (a : ℕ) → a < 512 → IsTargetWord P W d target a → ⊥
+  other_head (Vacant name) a low (k, l, e) = head-ne_slot P d (2 + k) a low e
+  other_head (Opened page name) a low h = elim h [
+    | inl (w, l, e) ↦ head-ne_page P page w a low e
+    | inr (g, l, e) ↦ head-ne_descriptor P page g a low e
+  ]
+  other_head (Taken r) a low h = h
 
   pub unowned : (target : Target) (j : ℕ) → CanTake P W pb s x d target → IsOpenedPage target j → page_owner P W j ≡ 0
   unowned (Vacant name) j can new = absurd new
@@ -207,8 +216,14 @@ module _ (P : ℕ) (W I : List ℕ) (pa pb : Route) (s x d : ℕ) (target : Targ
       let (same, field) = inode_word-one y f x 1 some (range x x_reached).0 lt (omega arith) e in
       elim other [ inl ne ↦ ne same | inr ne ↦ ne field ]))
 
+  version : word I 1 ≡ word W 1
+  version = ready.others 1 (head-ne_slot P d 1 1 (omega arith)) (other_head P W pb s x d target 1 (omega arith)) (other_link 1 (head-ne_inode x 1 1 (omega arith)))
+
+  kept_words : KeepsDescriptors P W I (IsOpenedPage target)
+  kept_words j f lt read old = descriptor_same j f lt (in_descriptor W f read) old
+
   pub paged : KeepsPages P W I (IsOpenedPage target)
-  paged = by_words P W I (IsOpenedPage target) (λ j f lt l3 old. descriptor_same j f lt (omega (arith, l3)) old)
+  paged = by_words P W I (IsOpenedPage target) kept_words
 
   pub owner_same : (j : ℕ) → j < data_pages_of P → (IsOpenedPage target j → ⊥) → page_owner P I j ≡ page_owner P W j
   owner_same = paged.owner
@@ -398,19 +413,20 @@ module _ (P : ℕ) (W I : List ℕ) (pa pb : Route) (s x d : ℕ) (target : Targ
   litter_page : (j : ℕ) → IsLitterPage P I j → j ≡ page_of_slot d
   litter_page j l = elim (opened_or_not target j) [
     | inl new ↦ opened_here P W pb s x d target j take new
-    | inr old ↦ absurd (none_counted (IsLitterPage P W) ready.can.tidy.repaired.of_pages j (pages.litter_page P W I (IsOpenedPage target) (λ k f lt l3 other. descriptor_same k f lt (omega (arith, l3)) other) (λ y was is. kind_same y was) (λ k lt other r. forth (page_owner P W k) r)
+    | inr old ↦ absurd (none_counted (IsLitterPage P W) ready.can.tidy.repaired.of_pages j (pages.litter_page P W I (IsOpenedPage target) kept_words version (λ y was is. kind_same y was) (λ k lt other r. forth (page_owner P W k) r)
         (λ k other file. subst (λ z. page_offset P W k < pages_of_size z) (sym (size_same (page_owner P W k) file.owner)) file.below) (λ k lt other room. room_forth (page_owner P W k) k room) j old l))
   ]
 
   litter_inode : (y : ℕ) → IsLitterInode P I y → ⊥
   litter_inode y l =
       let (f, lt, nonzero) = l.nonzero in
+      let read = subst (λ n. f < n) (same_inode_words W I version) lt in
       let other : y ≢ x = λ e. l.unreached (forth y (subst (Reached P W) (sym e) x_reached)) in
       (tidy_but P W 0 ready.can.tidy).inodes y (record {
         least = l.least;
         most = l.most;
         unreached = λ r. l.unreached (forth y r);
-        nonzero = (f, lt, (λ z. nonzero (inode_same y f l.least l.most (omega (arith, lt)) (inl other) ∙ z)));
+        nonzero = (f, read, (λ z. nonzero (inode_same y f l.least l.most (in_inode W f read) (inl other) ∙ z)));
       })
 
   counted : (y : ℕ) → Reached P W y → IsLinkCount P W y (inode_links W y)

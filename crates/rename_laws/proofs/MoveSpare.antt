@@ -3,6 +3,7 @@ use Rattle.std.proofs.Common.{◌≡◌, ◌≢◌, ◌⊎◌, inl, inr, ℕ, �
 use Rattle.std.proofs.lemmas.Bool.{cases_eq, cases_lt}
 use Rattle.layout.specs.Fields.{word, inode_kind, inode_links, page_owner, page_kind, slot_inode, slot_pointer}
 use Rattle.layout.specs.Geometry.{inodes_of, data_pages_of, page_of_slot, inode_word_of, descriptor_word_of, slot_word_of}
+use Rattle.layout.proofs.Widths.{in_descriptor, descriptor_field_read}
 use Rattle.tree_model.specs.PathText.{Route}
 use Rattle.image_reading.specs.Reading.{IsDirectory, slot_owner, IsHeld, IsLive, Reached, IsReachedSlot, IsRoomOf}
 use Rattle.image_reading.specs.Soundness.{Rule, IsCoherent}
@@ -37,6 +38,7 @@ pub record HasCleared (P : ℕ) (I J : List ℕ) (s d : ℕ) : Type 0 where
   pub number : slot_inode P J d ≡ slot_inode P I s
   pub name : (f : ℕ) → 2 ≤ f → f < 16 → word J (slot_word_of P d f) ≡ word I (slot_word_of P d f)
   pub pointer : slot_pointer P J d ≡ 0
+  pub version : word J 1 ≡ word I 1
 
 module _ (P : ℕ) (I : List ℕ) (pa pb : Route) (s d : ℕ) (c : CanMove P I pa pb s d) where
   coherent : IsCoherent P (moved P I s d)
@@ -81,7 +83,7 @@ module _ (P : ℕ) (I : List ℕ) (pa pb : Route) (s d : ℕ) (c : CanMove P I p
               let (t, here_at, o, live) = room.slot in
               here.no_owner P I pa pb s d c t (reached_slot t (page_owner P I j) j room here_at o live) (o ∙ owner)
         ];
-        nonzero = (0, omega arith, (λ z. some (sym owner ∙ z)));
+        nonzero = (0, descriptor_field_read I 0 (omega arith), (λ z. some (sym owner ∙ z)));
       }) in
       here.no_owner P I pa pb s d c d (here.replaced_slot P I pa pb s d c some) (ap (page_owner P I) (sym at) ∙ owner)
 
@@ -97,7 +99,7 @@ module _ (P : ℕ) (I : List ℕ) (pa pb : Route) (s d : ℕ) (c : CanMove P I p
 
   module _ (J : List ℕ) (near : IsAlmostTidy P I s d) (cleared : HasCleared P I J s d) where
     paged : KeepsPages P I J (λ j. ⊥)
-    paged = by_words P I J (λ j. ⊥) (λ j f lt l3 none. cleared.descriptors j f lt (omega (arith, l3)))
+    paged = by_words P I J (λ j. ⊥) (λ j f lt read none. cleared.descriptors j f lt (in_descriptor I f read))
 
     owner_same : (j : ℕ) → j < data_pages_of P → page_owner P J j ≡ page_owner P I j
     owner_same j lt = paged.owner j lt (λ none. none)

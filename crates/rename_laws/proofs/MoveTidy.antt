@@ -1,9 +1,10 @@
 -- What the last words of a rename mean is what the commit left, and nothing is to be repaired then.
 use Rattle.std.proofs.Common.{◌≡◌, ◌≢◌, ◌↔◌, ◌⊎◌, inl, inr, ℕ, ◌<◌, ◌≤◌, List, sym, ap, subst, ◌∙◌, arith}
 use Rattle.std.proofs.lemmas.Bool.{cases_eq}
-use Rattle.layout.specs.Fields.{word, inode_kind, inode_links, page_owner, page_offset, slot_inode, slot_pointer}
+use Rattle.layout.specs.Fields.{word, inode_words, descriptor_words, inode_kind, inode_links, page_owner, page_offset, slot_inode, slot_pointer}
 use Rattle.layout.specs.Geometry.{inodes_of, data_pages_of, page_of_slot, inode_word_of, descriptor_word_of, slot_word_of}
 use Rattle.layout.proofs.GeometryLaws.{page_of_slot_below}
+use Rattle.layout.proofs.Widths.{descriptor_field_read, same_inode_words}
 use Rattle.tree_model.specs.PathText.{Route}
 use Rattle.image_reading.specs.Reading.{slot_owner, IsHeld, IsLive, Reached, IsReachedSlot, IsNameOf, IsChildOf, IsRoomOf, pages_of_size}
 use Rattle.image_reading.specs.Repairs.{IsKept, IsPointer, IsLitterSlot, IsLitterPage, IsLitterInode, IsLitterCount}
@@ -31,18 +32,19 @@ use Rattle.rename_laws.proofs.MoveSpare.{IsOut, IsSpare}
 -- the count that falls.
 pub record HasEnded (P : ℕ) (I K : List ℕ) (s d : ℕ) : Type 0 where
   pub means : SameMeaning P (moved P I s d) K
-  pub descriptors : (j f : ℕ) → j < data_pages_of P → f < 3 → (IsSpare P I (moved P I s d) s d j → ⊥)
+  pub descriptors : (j f : ℕ) → j < data_pages_of P → f < descriptor_words I → (IsSpare P I (moved P I s d) s d j → ⊥)
       → word K (descriptor_word_of P j f) ≡ word I (descriptor_word_of P j f)
-  pub spare : (j f : ℕ) → IsSpare P I (moved P I s d) s d j → f < 3 → word K (descriptor_word_of P j f) ≡ 0
-  pub inodes : (x f : ℕ) → 1 ≤ x → x ≤ inodes_of P → f < 4 → f ≢ 1 → (IsOut P I (moved P I s d) d → x ≢ slot_inode P I d)
+  pub spare : (j f : ℕ) → IsSpare P I (moved P I s d) s d j → f < descriptor_words K → word K (descriptor_word_of P j f) ≡ 0
+  pub inodes : (x f : ℕ) → 1 ≤ x → x ≤ inodes_of P → f < inode_words I → f ≢ 1 → (IsOut P I (moved P I s d) d → x ≢ slot_inode P I d)
       → word K (inode_word_of x f) ≡ word I (inode_word_of x f)
   pub links : (x : ℕ) → 1 ≤ x → x ≤ inodes_of P → (IsOut P I (moved P I s d) d → x ≢ slot_inode P I d) → IsFallen P I s d x (inode_links K x)
-  pub out : IsOut P I (moved P I s d) d → (f : ℕ) → f < 4 → word K (inode_word_of (slot_inode P I d) f) ≡ 0
+  pub out : IsOut P I (moved P I s d) d → (f : ℕ) → f < inode_words K → word K (inode_word_of (slot_inode P I d) f) ≡ 0
   pub slots : (t f : ℕ) → t ≢ s → t ≢ d → f < 16 → word K (slot_word_of P t f) ≡ word I (slot_word_of P t f)
   pub source : (f : ℕ) → f < 16 → word K (slot_word_of P s f) ≡ 0
   pub number : slot_inode P K d ≡ slot_inode P I s
   pub name : (f : ℕ) → 2 ≤ f → f < 16 → word K (slot_word_of P d f) ≡ word I (slot_word_of P d f)
   pub pointer : slot_pointer P K d ≡ 0
+  pub version : word K 1 ≡ word I 1
 
 module _ (P : ℕ) (I K : List ℕ) (pa pb : Route) (s d : ℕ) (c : CanMove P I pa pb s d) (near : IsAlmostTidy P I s d) (ended : HasEnded P I K s d) where
   coherent : IsCoherent P (moved P I s d)
@@ -67,7 +69,7 @@ module _ (P : ℕ) (I K : List ℕ) (pa pb : Route) (s d : ℕ) (c : CanMove P I
 
   nodes : KeepsInodes I K (Reached P (moved P I s d)) (λ x. Unit {0})
   nodes = by_inodes P I K (Reached P (moved P I s d)) (λ x. Unit) (λ x r. range x (here.reached_back P I pa pb s d c x r)) (λ x f r some most lt links. elim links [
-    | inl other ↦ ended.inodes x f some most (omega (arith, lt)) other (not_out x r)
+    | inl other ↦ ended.inodes x f some most lt other (not_out x r)
     | inr none ↦ absurd (none tt)
   ])
 
@@ -80,7 +82,7 @@ module _ (P : ℕ) (I K : List ℕ) (pa pb : Route) (s d : ℕ) (c : CanMove P I
 
   pub not_spare : (j : ℕ) → page_owner P K j ≢ 0 → IsSpare P I (moved P I s d) s d j → ⊥
   unfolding page_owner
-  not_spare j owned spare = owned (ended.spare j 0 spare (omega arith))
+  not_spare j owned spare = owned (ended.spare j 0 spare (descriptor_field_read K 0 (omega arith)))
 
   held_before : (t : ℕ) → IsHeld P K t → IsHeld P I t
   unfolding slot_owner
@@ -237,7 +239,7 @@ module _ (P : ℕ) (I K : List ℕ) (pa pb : Route) (s d : ℕ) (c : CanMove P I
   no_page : (j : ℕ) → IsLitterPage P K j → ⊥
   no_page j l = elim (spares.spare_or_not P I pa pb s d c j) [
     | inl spare ↦ (let (f, lt, nonzero) = l.nonzero in nonzero (ended.spare j f spare lt))
-    | inr none ↦ l.free (target_kept j (near.pages j (litter_page P I K (IsSpare P I (moved P I s d) s d) ended.descriptors (λ x was is. nodes.kind x (back x is)) (λ k lt other r. forth (page_owner P I k) (reached_kept k lt other r))
+    | inr none ↦ l.free (target_kept j (near.pages j (litter_page P I K (IsSpare P I (moved P I s d) s d) ended.descriptors ended.version (λ x was is. nodes.kind x (back x is)) (λ k lt other r. forth (page_owner P I k) (reached_kept k lt other r))
         (λ k other file. subst (λ z. page_offset P I k < pages_of_size z) (sym (nodes.size (page_owner P I k) (reached_kept k file.in_range other file.owner))) file.below) kept_room j none l)))
   ]
 
@@ -245,6 +247,7 @@ module _ (P : ℕ) (I K : List ℕ) (pa pb : Route) (s d : ℕ) (c : CanMove P I
   unfolding inode_links
   no_inode x l =
       let (f, lt, nonzero) = l.nonzero in
+      let read = subst (λ n. f < n) (same_inode_words I K ended.version) lt in
       let least = l.least in
       let replaced : x ≡ slot_inode P I d → ⊥ = λ e.
       let out : IsOut P I (moved P I s d) d = ((λ z. omega (arith, e, z, least)), (λ r. l.unreached (forth x (subst (Reached P (moved P I s d)) (sym e) r)))) in
@@ -256,13 +259,13 @@ module _ (P : ℕ) (I K : List ℕ) (pa pb : Route) (s d : ℕ) (c : CanMove P I
       let same : word K (inode_word_of x f) ≡ word I (inode_word_of x f) = elim (cases_eq f 1) [
         | inl one ↦ ap (λ g. word K (inode_word_of x g)) one ∙ (ended.links x l.least l.most (λ _. replaced)).stays never
             ∙ ap (λ g. word I (inode_word_of x g)) (sym one)
-        | inr other ↦ ended.inodes x f l.least l.most lt other (λ _. replaced)
+        | inr other ↦ ended.inodes x f l.least l.most read other (λ _. replaced)
       ] in
       near.inodes x (record {
         least = l.least;
         most = l.most;
         unreached = λ r. l.unreached (forth x (here.reached_forward P I pa pb s d c x replaced r));
-        nonzero = (f, lt, (λ z. nonzero (same ∙ z)));
+        nonzero = (f, read, (λ z. nonzero (same ∙ z)));
       })
 
   -- ---- links

@@ -3,6 +3,7 @@ use Rattle.std.proofs.Common.{◌≡◌, ◌≢◌, ◌↔◌, inl, inr, ℕ, �
 use Rattle.layout.specs.Fields.{inode_kind, page_owner, page_kind, slot_name}
 use Rattle.layout.specs.Geometry.{inodes_of, data_pages_of, page_of_slot}
 use Rattle.layout.specs.Name.{name_in_words}
+use Rattle.layout.proofs.Widths.{inode_field_read, descriptor_field_read}
 use Rattle.tree_model.specs.PathText.{Route}
 use Rattle.image_reading.specs.Reading.{Reached, IsReachedSlot, IsPageOf}
 use Rattle.image_laws.specs.Move.{CanMove, moved}
@@ -82,7 +83,7 @@ module _ (P : ℕ) (W I J G K : List ℕ) (pa pb : Route) (s x d : ℕ) (target 
 
   no_owner : (j : ℕ) → IsGivenUp P (moved P I s d) s target j → page_owner P K j ≡ 0
   unfolding page_owner
-  no_owner j given = ended.spare j 0 ((given_spare j).0 given) (omega arith)
+  no_owner j given = ended.spare j 0 ((given_spare j).0 given) (descriptor_field_read K 0 (omega arith))
 
   old_owner : (j : ℕ) → j < data_pages_of P → j ≢ page_of_slot d → (IsGivenUp P (moved P I s d) s target j → ⊥)
       → page_owner P K j ≡ page_owner P W j
@@ -116,12 +117,12 @@ module _ (P : ℕ) (W I J G K : List ℕ) (pa pb : Route) (s x d : ℕ) (target 
 
   gone_kind : IsGone P (moved P I s d) target → inode_kind K (old_number target) ≡ 0
   unfolding inode_kind
-  gone_kind gone = ap (inode_kind K) (sym ready.number) ∙ ended.out (out_gone.0 gone) 0 (omega arith)
+  gone_kind gone = ap (inode_kind K) (sym ready.number) ∙ ended.out (out_gone.0 gone) 0 (inode_field_read K 0 (omega arith))
 
   kind_kept : (y : ℕ) → 1 ≤ y → y ≤ inodes_of P → (IsGone P (moved P I s d) target → y ≢ old_number target) → inode_kind K y ≡ inode_kind W y
   unfolding inode_kind
   kind_kept y some most other =
-      ended.inodes y 0 some most (omega arith) (λ e. omega (arith, e)) (λ out e. other (out_gone.1 out) (e ∙ ready.number))
+      ended.inodes y 0 some most (inode_field_read I 0 (omega arith)) (λ e. omega (arith, e)) (λ out e. other (out_gone.1 out) (e ∙ ready.number))
       ∙ near.inode_same P W I pa pb s x d target rising ready y 0 some most (omega arith) (inr (λ e. omega (arith, e)))
 
   -- ---- the index

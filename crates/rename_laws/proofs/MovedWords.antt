@@ -13,7 +13,7 @@ use Rattle.image_laws.specs.Frame.{SameMeaning}
 use Rattle.image_laws.specs.Move.{CanMove, moved}
 use Rattle.image_laws.specs.Pointers.{CanPoint, IsLeft}
 use Rattle.image_laws.specs.Quiet.{IsMix}
-use Rattle.image_laws.proofs.Addresses.{descriptor-ne_inode, descriptor-ne_slot, inode-ne_slot, slot-ne_slot, slot-ne_field, inode_word-one, slot_word-one}
+use Rattle.image_laws.proofs.Addresses.{head-ne_inode, head-ne_slot, descriptor-ne_inode, descriptor-ne_slot, inode-ne_slot, slot-ne_slot, slot-ne_field, inode_word-one, slot_word-one}
 use Rattle.image_laws.proofs.Counts.{at_most}
 use Rattle.image_laws.proofs.Decide.{dec_eq}
 use Rattle.image_laws.proofs.Free.{mix_one}
@@ -287,4 +287,6 @@ module _ (P : ℕ) (I : List ℕ) (pa pb : Route) (s d : ℕ) (c : CanMove P I p
           ∙ left_word (slot_word_of P d f) (slot-ne_slot P d f s 0 lt (omega arith) (λ e. here.apart P I pa pb s d c (sym e)))
           (slot-ne_field P d f d 0 lt (omega arith) (λ e. omega (arith, e, low)));
       pointer = clears.pointer;
+      version = clears.others 1 (head-ne_slot P d 1 1 (omega arith)) (λ f low high. head-ne_slot P s f 1 (omega arith)) (λ y falls. head-ne_inode y 1 1 (omega arith))
+          ∙ left_word 1 (head-ne_slot P s 0 1 (omega arith)) (head-ne_slot P d 0 1 (omega arith));
     }

@@ -2,6 +2,7 @@
 use Rattle.std.proofs.Common.{◌≡◌, inl, inr, ℕ, ◌+◌, ◌<◌, ◌≤◌, List, length, length-set, refl, sym, subst, ◌∙◌, arith}
 use Rattle.layout.specs.Fields.{word, page_offset, slot_inode, slot_pointer, slot_name, slot_words}
 use Rattle.layout.specs.Geometry.{inodes_of, page_of_slot, inode_word_of, descriptor_word_of, slot_word_of}
+use Rattle.layout.proofs.Widths.{descriptor_field_read}
 use Rattle.tree_model.specs.PathText.{Route}
 use Rattle.image_reading.specs.Reading.{slot_owner, IsHeld, IsReachedSlot}
 use Rattle.image_counts.specs.Entries.{IsFreePage}
@@ -45,7 +46,7 @@ pub record IsOpen (P : ℕ) (W B : List ℕ) (x d : ℕ) (target : Target) : Typ
   pub inodes : (y f : ℕ) → 1 ≤ y → y ≤ inodes_of P → f < 16 → word B (inode_word_of y f) ≡ word W (inode_word_of y f)
   pub page : HasNewPage P B x d target
   pub size : length B ≡ length W
-  pub others : (a : ℕ) → (IsTargetWord P d target a → ⊥) → word B a ≡ word W a
+  pub others : (a : ℕ) → (IsTargetWord P W d target a → ⊥) → word B a ≡ word W a
 
 -- ---- in a page that was there
 
@@ -87,11 +88,11 @@ module _ (P : ℕ) (W A : List ℕ) (pb : Route) (x d j : ℕ) (name : List ℕ)
   unfolding after
   owned_slot t f = other_word A (descriptor_word_of P j 0) x (slot_word_of P t f) (λ e. descriptor-ne_slot P j 0 t f page.0 (omega arith) (sym e))
 
-  not_target : (a : ℕ) → (IsTargetWord P d (Opened j name) a → ⊥) → word after a ≡ word W a
+  not_target : (a : ℕ) → (IsTargetWord P W d (Opened j name) a → ⊥) → word after a ≡ word W a
   unfolding after
-  not_target a other = other_word A (descriptor_word_of P j 0) x a (λ e. other (inr (0, omega arith, e))) ∙ makes.empty.others a (λ made. elim made [
+  not_target a other = other_word A (descriptor_word_of P j 0) x a (λ e. other (inr (0, descriptor_field_read W 0 (omega arith), e))) ∙ makes.empty.others a (λ made. elim made [
     | inl w ↦ other (inl w)
-    | inr rest ↦ elim rest [ inl e ↦ other (inr (1, omega arith, e)) | inr e ↦ other (inr (2, omega arith, e)) ]
+    | inr rest ↦ elim rest [ inl e ↦ other (inr (1, descriptor_field_read W 1 (omega arith), e)) | inr e ↦ other (inr (2, descriptor_field_read W 2 (omega arith), e)) ]
   ])
 
   new_page : IsNewPage P after x d j

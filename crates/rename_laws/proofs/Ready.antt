@@ -5,6 +5,7 @@ use Rattle.layout.specs.Fields.{word, inode_kind, inode_links, page_owner, slot_
 use Rattle.layout.specs.Geometry.{inodes_of, data_pages_of, slots_of, page_of_slot, inode_word_of, descriptor_word_of, slot_word_of}
 use Rattle.layout.specs.Name.{IsNameWords, name_in_words}
 use Rattle.layout.proofs.GeometryLaws.{page_of_slot_below}
+use Rattle.layout.proofs.Widths.{in_descriptor}
 use Rattle.tree_model.specs.PathText.{Route}
 use Rattle.image_reading.specs.Counts.{AtMost}
 use Rattle.image_reading.specs.Reading.{HasBytes, IsDirectory, slot_owner, IsHeld, IsLive, Names, Reached, IsReachedSlot, IsChildOf}
@@ -54,10 +55,10 @@ name_word_among P d (Opened j name) a h = absurd h
 name_word_among P d (Taken r) a h = absurd h
 
 -- a word of a new name is one of a new name or page
-name_is_target : (P d : ℕ) (target : Target) (a : ℕ) → IsNewNameWord P d target a → IsTargetWord P d target a
-name_is_target P d (Vacant name) a h = h
-name_is_target P d (Opened j name) a h = absurd h
-name_is_target P d (Taken r) a h = absurd h
+name_is_target : (P : ℕ) (W : List ℕ) (d : ℕ) (target : Target) (a : ℕ) → IsNewNameWord P d target a → IsTargetWord P W d target a
+name_is_target P W d (Vacant name) a h = h
+name_is_target P W d (Opened j name) a h = absurd h
+name_is_target P W d (Taken r) a h = absurd h
 
 -- the inode that rises is directory x
 rising_is : (P : ℕ) (W : List ℕ) (s x : ℕ) (target : Target) (y : ℕ) → IsRising P W s x target y → y ≡ x
@@ -107,7 +108,7 @@ module _ (P : ℕ) (W B I : List ℕ) (pa pb : Route) (s x d : ℕ) (target : Ta
       ]
 
   paged : KeepsPages P B I (λ j. ⊥)
-  paged = by_words P B I (λ j. ⊥) (λ j f lt l3 none. descriptor_same j f lt (omega (arith, l3)))
+  paged = by_words P B I (λ j. ⊥) (λ j f lt read none. descriptor_same j f lt (in_descriptor B f read))
 
   owner_same : (j : ℕ) → j < data_pages_of P → page_owner P I j ≡ page_owner P B j
   owner_same j lt = paged.owner j lt (λ none. none)
@@ -327,7 +328,7 @@ module _ (P : ℕ) (W B I : List ℕ) (pa pb : Route) (s x d : ℕ) (target : Ta
   not_below : HasBytes W (slot_inode P W s) → (r : Route) (k : ℕ) → Names P W (r ++ slot_name P W s ∷ pa) k → IsDirectory W k → ⊥
   not_below file [] k names directory =
       let same = one_inode P W can.tidy.coherent (slot_name P W s ∷ pa) k (slot_inode P W s) names (s, can.source_path, slot_leads P W can.tidy.coherent s can.source) in
-      let two : inode_kind W (slot_inode P W s) ≡ 2 = ap (inode_kind W) (sym same) ∙ directory in
+      let two : IsDirectory W (slot_inode P W s) = ap (inode_kind W) (sym same) ∙ directory in
       omega (arith, two, file)
   not_below file (m ∷ r) k (t, names, leads) directory = not_below file r (slot_owner P W t) names leads.directory
 
@@ -450,7 +451,7 @@ module _ (P : ℕ) (W B I : List ℕ) (pa pb : Route) (s x d : ℕ) (target : Ta
     page = page_now;
     links = links_now rising rises points.links;
     size = points.size ∙ stands.size;
-    others = λ a pointer place link. points.others a pointer (λ h. place (name_is_target P d target a h)) link ∙ stands.others a place;
+    others = λ a pointer place link. points.others a pointer (λ h. place (name_is_target P W d target a h)) link ∙ stands.others a place;
   }
 
 pub ready_law : ReadyLaw

@@ -1,14 +1,13 @@
 -- The intervals of a rename before its commit: a new page of the directory where it needs one, and then the pointer, with the name and a
 -- link. W are the words before, B those with the new page, I those from which slot d may take its number.
 use Rattle.std.specs.Prelude.{◌≡◌, ◌≢◌, ◌⊎◌, ℕ, ◌+◌, List, length, Option}
-use Rattle.layout.specs.Fields.{word, page_owner, page_kind, page_offset, slot_inode, slot_pointer, slot_name, slot_words}
+use Rattle.layout.specs.Fields.{word, descriptor_words, page_owner, page_kind, page_offset, slot_inode, slot_pointer, slot_name, slot_words}
 use Rattle.layout.specs.Geometry.{page_of_slot, descriptor_word_of, slot_word_of, page_word_of}
 use Rattle.layout.specs.Kinds.{page_code}
 use Rattle.layout.specs.declared.kinds.PageKind.TheVariants.{Slots}
 use Rattle.tree_model.specs.PathText.{Route}
 use Rattle.image_reading.specs.Litter.{IsZeroSlot}
 use Rattle.image_reading.specs.Reading.{slot_owner}
-use Rattle.image_reading.specs.Repairs.{descriptor_words}
 use Rattle.image_laws.specs.Create.{IsAmong, MakesNamedPage, IsPageQuiet, owned}
 use Rattle.image_laws.specs.Frame.{SameMeaning}
 use Rattle.image_laws.specs.Links.{IsLinkWord, Rises}
@@ -62,10 +61,10 @@ HasNewPage P I x d (Opened j name) = IsNewPage P I x d j
 HasNewPage P I x d (Taken r) = Unit {0}
 
 -- a word of a new name, or of a new page or its descriptor
-abbrev pub IsTargetWord : ℕ → ℕ → Target → ℕ → Type 0
-IsTargetWord P d (Vacant name) a = IsNewNameWord P d (Vacant name) a
-IsTargetWord P d (Opened j name) a = IsAmong (page_word_of P j) 512 a ⊎ IsAmong (descriptor_word_of P j) descriptor_words a
-IsTargetWord P d (Taken r) a = ⊥
+abbrev pub IsTargetWord : ℕ → List ℕ → ℕ → Target → ℕ → Type 0
+IsTargetWord P W d (Vacant name) a = IsNewNameWord P d (Vacant name) a
+IsTargetWord P W d (Opened j name) a = IsAmong (page_word_of P j) 512 a ⊎ IsAmong (descriptor_word_of P j) (descriptor_words W) a
+IsTargetWord P W d (Taken r) a = ⊥
 
 -- I means what W means, slot d may take the number of slot s, and the words are those of W, but for d's pointer, its new name or page,
 -- and the rising links.
@@ -80,7 +79,7 @@ pub record IsMoveReady (P : ℕ) (W I : List ℕ) (pa pb : Route) (s x d : ℕ) 
   pub page : HasNewPage P I x d target
   pub links : Rises W I rising
   pub size : length I ≡ length W
-  pub others : (a : ℕ) → a ≢ slot_word_of P d 1 → (IsTargetWord P d target a → ⊥) → (IsLinkWord rising a → ⊥) → word I a ≡ word W a
+  pub others : (a : ℕ) → a ≢ slot_word_of P d 1 → (IsTargetWord P W d target a → ⊥) → (IsLinkWord rising a → ⊥) → word I a ≡ word W a
 
 -- ---- what a crash leaves
 

@@ -1,12 +1,13 @@
 -- Which words a step doesn't change, by their address.
 use Rattle.std.proofs.Common.{◌≡◌, ℕ, ◌<◌, ◌≤◌, List, refl, sym, subst, arith}
 use Rattle.layout.specs.Geometry.{inodes_of, data_pages_of, inode_word_of, descriptor_word_of, slot_word_of}
+use Rattle.layout.proofs.Widths.{in_inode, in_descriptor}
 use Rattle.image_reading.specs.Reading.{IsHeld, Reached, IsLinkCount}
 use Rattle.image_reading.specs.Soundness.{IsCoherent}
 use Rattle.image_counts.proofs.Paths.{in_range}
-use Rattle.image_laws.proofs.Addresses.{descriptor-ne_inode, descriptor-ne_slot, inode-ne_slot, inode_word-one, descriptor_word-one, slot_word-one}
+use Rattle.image_laws.proofs.Addresses.{head-ne_inode, head-ne_slot, head-ne_descriptor, descriptor-ne_inode, descriptor-ne_slot, inode-ne_slot, inode_word-one, descriptor_word-one, slot_word-one}
 use Rattle.image_reading.specs.Repairs.{WasLeft}
-use Rattle.repair_laws.specs.Mended.{GivesUp, Unpoints, Clears, Frees, IsDead, IsUnkept}
+use Rattle.repair_laws.specs.Mended.{GivesUp, Unpoints, Clears, Frees, Mends, IsDead, IsUnkept}
 
 module _ (P : ℕ) (W : List ℕ) where
   -- ---- the first step
@@ -60,16 +61,28 @@ module _ (P : ℕ) (W : List ℕ) where
   -- ---- the fourth
 
   pub frees_slot : {a v : ℕ} (t f : ℕ) → f < 16 → Frees P W a v → a ≡ slot_word_of P t f → ⊥
-  frees_slot t f small (Frees.descriptor j g unkept low lt) e = descriptor-ne_slot P j g t f unkept.in_range (omega (arith, lt)) e
-  frees_slot t f small (Frees.inode i g unreached lt) e = inode-ne_slot P i g t f unreached.least unreached.most (omega (arith, lt)) e
+  frees_slot t f small (Frees.descriptor j g unkept low lt) e = descriptor-ne_slot P j g t f unkept.in_range (in_descriptor W g lt) e
+  frees_slot t f small (Frees.inode i g unreached lt) e = inode-ne_slot P i g t f unreached.least unreached.most (in_inode W g lt) e
 
   pub frees_descriptor : {a v : ℕ} (j f : ℕ) → j < data_pages_of P → f < 8 → Frees P W a v → a ≡ descriptor_word_of P j f → (1 ≤ f) × IsUnkept P W j
   frees_descriptor j f lt small (Frees.descriptor k g unkept low high) e =
-      let (pages, fields) = descriptor_word-one P k g j f (omega (arith, high)) small e in
+      let (pages, fields) = descriptor_word-one P k g j f (in_descriptor W g high) small e in
       (subst (λ z. 1 ≤ z) fields low, subst (IsUnkept P W) pages unkept)
-  frees_descriptor j f lt small (Frees.inode i g unreached high) e = absurd (descriptor-ne_inode P j f i g unreached.least unreached.most (omega (arith, high)) (sym e))
+  frees_descriptor j f lt small (Frees.inode i g unreached high) e = absurd (descriptor-ne_inode P j f i g unreached.least unreached.most (in_inode W g high) (sym e))
 
   pub frees_inode : {a v : ℕ} (i f : ℕ) → 1 ≤ i → i ≤ inodes_of P → f < 16 → Frees P W a v → a ≡ inode_word_of i f → ¬ Reached P W i
   frees_inode i f least most small (Frees.descriptor k g unkept low high) e = absurd (descriptor-ne_inode P k g i f least most small e)
   frees_inode i f least most small (Frees.inode k g unreached high) e =
-      let (inodes, fields) = inode_word-one k g i f unreached.least least (omega (arith, high)) small e in subst (λ z. ¬ Reached P W z) inodes unreached.unreached
+      let (inodes, fields) = inode_word-one k g i f unreached.least least (in_inode W g high) small e in subst (λ z. ¬ Reached P W z) inodes unreached.unreached
+
+  -- ---- none of them
+
+  -- no word of the superblock becomes another
+  pub mends_head : {a v : ℕ} (x : ℕ) → x < 512 → Mends P W a v → a ≡ x → ⊥
+  mends_head x low (Mends.gives_up (GivesUp.number s d left)) e = head-ne_slot P s 0 x low (sym e)
+  mends_head x low (Mends.unpoints (Unpoints.pointer d held)) e = head-ne_slot P d 1 x low (sym e)
+  mends_head x low (Mends.clears (Clears.owner j unkept)) e = head-ne_descriptor P j 0 x low (sym e)
+  mends_head x low (Mends.clears (Clears.slot s f dead some small)) e = head-ne_slot P s f x low (sym e)
+  mends_head x low (Mends.clears (Clears.links i n reached count)) e = head-ne_inode i 1 x low (sym e)
+  mends_head x low (Mends.frees (Frees.descriptor j f unkept some small)) e = head-ne_descriptor P j f x low (sym e)
+  mends_head x low (Mends.frees (Frees.inode i f unreached small)) e = head-ne_inode i f x low (sym e)

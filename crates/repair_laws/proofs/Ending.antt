@@ -1,11 +1,11 @@
 -- What the last words are, in the words before: what is kept stays, what isn't is zero.
 use Rattle.std.proofs.Common.{◌≡◌, ◌≢◌, ◌↔◌, inl, inr, ℕ, ◌<◌, ◌≤◌, List, refl, sym, ap, subst, ◌∙◌, arith}
 use Rattle.std.proofs.lemmas.Bool.{cases_eq}
-use Rattle.layout.specs.Fields.{word, inode_kind, inode_links, inode_size, page_owner, page_kind, page_offset, slot_inode, slot_pointer}
+use Rattle.layout.specs.Fields.{word, descriptor_words, inode_kind, inode_links, inode_size, page_owner, page_kind, page_offset, slot_inode, slot_pointer}
 use Rattle.layout.specs.Geometry.{data_pages_of, page_of_slot, inode_word_of, descriptor_word_of, slot_word_of}
 use Rattle.layout.proofs.GeometryLaws.{page_of_slot_below}
 use Rattle.image_reading.specs.Reading.{slot_owner, IsHeld, IsLive, Reached, IsReachedSlot, IsNameOf, IsChildOf, IsLinkCount, pages_of_size}
-use Rattle.image_reading.specs.Repairs.{IsKept, IsKeptFilePage, IsKeptDirectoryPage, descriptor_words}
+use Rattle.image_reading.specs.Repairs.{IsKept, IsKeptFilePage, IsKeptDirectoryPage}
 use Rattle.image_reading.specs.Soundness.{IsCoherent}
 use Rattle.image_reading.proofs.Credits.{count_same}
 use Rattle.image_counts.proofs.Decided.{room_below}
@@ -51,7 +51,7 @@ module _ (P : ℕ) (W A B C K : List ℕ) (coherent : IsCoherent P W) (repair : 
   pub free_owner : (j : ℕ) → j < data_pages_of P → ¬ IsKept P W j → page_owner P K j ≡ 0
   free_owner j lt free = fourth_owner P W A B C K coherent repair j lt ∙ third_free P W A B C K coherent repair j (record { in_range = lt; free = free })
 
-  pub free_word : (j f : ℕ) → j < data_pages_of P → ¬ IsKept P W j → f < descriptor_words → word K (descriptor_word_of P j f) ≡ 0
+  pub free_word : (j f : ℕ) → j < data_pages_of P → ¬ IsKept P W j → f < descriptor_words W → word K (descriptor_word_of P j f) ≡ 0
   unfolding page_owner
   free_word j f lt free small = elim (cases_eq f 0) [
     | inl zero ↦ ap (λ g. word K (descriptor_word_of P j g)) zero ∙ free_owner j lt free

@@ -2,6 +2,7 @@
 use Rattle.std.proofs.Common.{◌≡◌, inl, inr, ℕ, ◌<◌, List, refl, sym, subst, arith}
 use Rattle.layout.specs.Fields.{word, inode_links, page_owner}
 use Rattle.layout.specs.Geometry.{data_pages_of, inode_word_of, descriptor_word_of}
+use Rattle.layout.proofs.Widths.{in_inode, in_descriptor}
 use Rattle.image_reading.specs.Reading.{Reached}
 use Rattle.image_reading.specs.Soundness.{Rule, IsCoherent, HasLinks}
 use Rattle.image_counts.proofs.Paths.{in_range}
@@ -34,8 +35,8 @@ module _ (P : ℕ) (W A B C K : List ℕ) (coherent : IsCoherent P W) (repair : 
       stays (Frees P W) C K repair.fourth (inode_word_of i f) (λ v frees. frees_inode P W i f least most small frees refl reached)
 
   free_word : {a v : ℕ} → Frees P W a v → IsFree P C a
-  free_word (Frees.descriptor j f unkept low small) = IsFree.descriptor j f unkept.in_range (omega (arith, small)) (third_free P W A B C K coherent repair j unkept)
-  free_word (Frees.inode i f unreached small) = IsFree.inode i f unreached.least unreached.most (omega (arith, small)) (λ reached. unreached.unreached (reached_before P W C means i reached))
+  free_word (Frees.descriptor j f unkept low small) = IsFree.descriptor j f unkept.in_range (in_descriptor W f small) (third_free P W A B C K coherent repair j unkept)
+  free_word (Frees.inode i f unreached small) = IsFree.inode i f unreached.least unreached.most (in_inode W f small) (λ reached. unreached.unreached (reached_before P W C means i reached))
 
   links : (i : ℕ) → Reached P C i → HasLinks P C i (inode_links K i)
   unfolding inode_links

@@ -3,6 +3,7 @@ use Rattle.std.proofs.Common.{◌≡◌, ◌≢◌, ◌↔◌, inl, inr, ℕ, �
 use Rattle.layout.specs.Fields.{word, inode_kind, page_owner, slot_name}
 use Rattle.layout.specs.Geometry.{page_of_slot, inode_word_of, slot_word_of}
 use Rattle.layout.specs.Name.{name_in_words}
+use Rattle.layout.proofs.Widths.{inode_field_read}
 use Rattle.image_reading.specs.Reading.{slot_owner, Reached, IsReachedSlot}
 use Rattle.image_reading.specs.Repairs.{IsKept}
 use Rattle.image_reading.specs.Soundness.{Rule, IsCoherent}
@@ -71,8 +72,8 @@ module _ (P : ℕ) (W A B C K : List ℕ) (coherent : IsCoherent P W) (repair : 
 
   kind_some : (i : ℕ) → Reached P W i → inode_kind W i ≢ 0
   kind_some i reached none = elim ((coherent Rule.kinds i).kind reached) [
-    | inl file ↦ (let one : inode_kind W i ≡ 1 = file in omega (arith, one, none))
-    | inr directory ↦ (let two : inode_kind W i ≡ 2 = directory in omega (arith, two, none))
+    | inl file ↦ omega (arith, file, none)
+    | inr directory ↦ omega (arith, directory, none)
   ]
 
   free_inodes : (i : ℕ) → IsFreeInode P K i ↔ IsUnreached P W i
@@ -83,7 +84,7 @@ module _ (P : ℕ) (W A B C K : List ℕ) (coherent : IsCoherent P W) (repair : 
       most = most;
       unreached = λ reached. kind_some i reached (sym (ending.same_kind P W A B C K coherent repair i reached) ∙ none);
     },
-    λ unreached. (unreached.least, unreached.most, repair.fourth.new (inode_word_of i 0) 0 (Frees.inode i 0 unreached (omega arith))),
+    λ unreached. (unreached.least, unreached.most, repair.fourth.new (inode_word_of i 0) 0 (Frees.inode i 0 unreached (inode_field_read W 0 (omega arith)))),
   )
 
   pub has_index : HasIndexOf P W K

@@ -3,6 +3,7 @@ use Rattle.std.proofs.Common.{◌≡◌, inl, inr, ℕ, List, refl, sym, subst, 
 use Rattle.std.proofs.lemmas.Bool.{cases_eq}
 use Rattle.layout.specs.Fields.{word, inode_links, slot_pointer}
 use Rattle.layout.specs.Geometry.{inode_word_of, descriptor_word_of, slot_word_of}
+use Rattle.layout.proofs.Widths.{descriptor_field_read}
 use Rattle.image_reading.specs.Repairs.{IsPointer, IsLitterSlot, IsLitterPage, IsLitterInode, IsLitterCount}
 use Rattle.image_reading.specs.Soundness.{IsCoherent}
 use Rattle.image_reading.specs.Tidy.{IsTidied}
@@ -43,7 +44,7 @@ module _ (P : ℕ) (W : List ℕ) (clean : IsTidied P W) where
   unfolding inode_links
   clears (Clears.owner j unkept) = elim (cases_eq (word W (descriptor_word_of P j 0)) 0) [
     | inl none ↦ none
-    | inr some ↦ absurd (none_counted (IsLitterPage P W) clean.repaired.of_pages j (record { in_range = unkept.in_range; free = unkept.free; nonzero = (0, omega arith, some) }))
+    | inr some ↦ absurd (none_counted (IsLitterPage P W) clean.repaired.of_pages j (record { in_range = unkept.in_range; free = unkept.free; nonzero = (0, descriptor_field_read W 0 (omega arith), some) }))
   ]
   clears (Clears.slot s f dead low small) = elim (cases_eq (word W (slot_word_of P s f)) 0) [
     | inl none ↦ none

@@ -3,6 +3,7 @@
 use Rattle.std.proofs.Common.{◌≡◌, inl, inr, ℕ, ◌<◌, List, refl, sym, ap, ◌∙◌, arith}
 use Rattle.layout.specs.Fields.{word, page_owner, page_kind, slot_inode, slot_pointer}
 use Rattle.layout.specs.Geometry.{inode_pages_of, descriptor_pages_of, inodes_of, data_pages_of, slots_of, page_of_slot, inode_word_of, descriptor_word_of, slot_word_of}
+use Rattle.layout.proofs.Widths.{inode_field_read, descriptor_field_read}
 use Rattle.image_reading.specs.Reading.{slot_owner, IsHeld, Reached}
 use Rattle.image_reading.specs.Soundness.{IsCoherent}
 use Rattle.image_laws.proofs.Paths.{reached_pos}
@@ -61,8 +62,8 @@ module _ (W K : List ℕ) (coherent : IsCoherent 16 W) (mended : IsMended 16 W K
   unowned : word W 1024 ≡ 0 → (word K 1025 ≡ 0) × (word K 1026 ≡ 0)
   unfolding page_owner descriptor_word_of data_pages_of inode_pages_of descriptor_pages_of
   unowned none = (
-    mended.new 1025 0 (Mends.frees (Frees.descriptor 0 1 unkept (omega arith) (omega arith))),
-    mended.new 1026 0 (Mends.frees (Frees.descriptor 0 2 unkept (omega arith) (omega arith))),
+    mended.new 1025 0 (Mends.frees (Frees.descriptor 0 1 unkept (omega arith) (descriptor_field_read W 1 (omega arith)))),
+    mended.new 1026 0 (Mends.frees (Frees.descriptor 0 2 unkept (omega arith) (descriptor_field_read W 2 (omega arith)))),
   )
     where
       unkept : IsUnkept 16 W 0
@@ -71,10 +72,10 @@ module _ (W K : List ℕ) (coherent : IsCoherent 16 W) (mended : IsMended 16 W K
         free = λ kept. elim kept [ inl page ↦ reached_pos 16 W (page_owner 16 W 0) page.owner none | inr room ↦ reached_pos 16 W (page_owner 16 W 0) room.reached none ];
       }
 
-  -- An inode that nothing names gives up its four words.
+  -- An inode that nothing names gives up its words.
   unnamed : ¬ Reached 16 W 2 → (word K 528 ≡ 0) × (word K 529 ≡ 0) × (word K 530 ≡ 0) × (word K 531 ≡ 0)
   unfolding inode_word_of inodes_of
   unnamed unreached = (free 0 (omega arith), free 1 (omega arith), free 2 (omega arith), free 3 (omega arith))
     where
       free : (f : ℕ) → f < 4 → word K (inode_word_of 2 f) ≡ 0
-      free f small = mended.new (inode_word_of 2 f) 0 (Mends.frees (Frees.inode 2 f (record { least = omega arith; most = omega arith; unreached = unreached }) small))
+      free f small = mended.new (inode_word_of 2 f) 0 (Mends.frees (Frees.inode 2 f (record { least = omega arith; most = omega arith; unreached = unreached }) (inode_field_read W f small)))

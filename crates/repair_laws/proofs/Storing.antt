@@ -2,9 +2,10 @@
 use Rattle.std.proofs.Common.{◌≡◌, ◌≢◌, ◌⊎◌, inl, inr, ℕ, ◌<◌, ◌≤◌, List, refl, sym, ap, subst, ◌∙◌, arith}
 use Rattle.std.proofs.lemmas.Bool.{cases_eq, cases_lt}
 use Rattle.layout.specs.Geometry.{inodes_of, data_pages_of, inode_word_of, descriptor_word_of, slot_word_of}
-use Rattle.layout.specs.Fields.{word, inode_links, page_owner, slot_inode, slot_pointer}
+use Rattle.layout.specs.Fields.{word, inode_words, descriptor_words, inode_links, page_owner, slot_inode, slot_pointer}
+use Rattle.layout.proofs.Widths.{in_inode, in_descriptor, inode_field_read, descriptor_field_read}
 use Rattle.image_reading.specs.Reading.{Reached, IsLinkCount}
-use Rattle.image_reading.specs.Repairs.{IsPointer, IsLitterSlot, IsLitterPage, IsLitterInode, IsLitterCount, inode_words, descriptor_words}
+use Rattle.image_reading.specs.Repairs.{IsPointer, IsLitterSlot, IsLitterPage, IsLitterInode, IsLitterCount}
 use Rattle.image_reading.specs.Soundness.{IsCoherent}
 use Rattle.image_reading.specs.Tidy.{IsTidied}
 use Rattle.image_reading.proofs.Counts.{count_none, none_counted}
@@ -45,10 +46,10 @@ still_law P W A B C K stored = record {
 -- ---- words that aren't zero
 
 -- a word from low to high isn't zero
-record IsSome (I : List ℕ) (address : ℕ → ℕ) (low high f : ℕ) : Type 0 where
-  above : low ≤ f
-  below : f < high
-  nonzero : word I (address f) ≢ 0
+pub record IsSome (I : List ℕ) (address : ℕ → ℕ) (low high f : ℕ) : Type 0 where
+  pub above : low ≤ f
+  pub below : f < high
+  pub nonzero : word I (address f) ≢ 0
 
 is_some_told : (I : List ℕ) (address : ℕ → ℕ) (low high f : ℕ) → IsDecided (IsSome I address low high f)
 is_some_told I address low high f = elim (cases_lt f low) [
@@ -62,7 +63,7 @@ is_some_told I address low high f = elim (cases_lt f low) [
   ]
 ]
 
-some_or_zero : (I : List ℕ) (address : ℕ → ℕ) (low high : ℕ) → ((f : ℕ) × IsSome I address low high f) ⊎ ((f : ℕ) → low ≤ f → f < high → word I (address f) ≡ 0)
+pub some_or_zero : (I : List ℕ) (address : ℕ → ℕ) (low high : ℕ) → ((f : ℕ) × IsSome I address low high f) ⊎ ((f : ℕ) → low ≤ f → f < high → word I (address f) ≡ 0)
 some_or_zero I address low high = elim (any_below (IsSome I address low high) high (is_some_told I address low high)) [
   | inl has ↦ inl has
   | inr none ↦ inr (λ f above below. elim (cases_eq (word I (address f)) 0) [
@@ -144,18 +145,18 @@ module _ (P : ℕ) (W : List ℕ) (coherent : IsCoherent P W) where
             ∙ pointing.second_inodes P W coherent A first B second i f least most small
 
         frees_known : {a v : ℕ} → Frees P W a v → StoresFreed P W a v ⊎ (word C a ≡ v)
-        frees_known (Frees.descriptor j f unkept low small) = elim (some_or_zero W (descriptor_word_of P j) 1 descriptor_words) [
+        frees_known (Frees.descriptor j f unkept low small) = elim (some_or_zero W (descriptor_word_of P j) 1 (descriptor_words W)) [
           | inl has ↦ inl (StoresFreed.descriptor j f (record { page = unkept; nonzero = (has.0, has.1.above, has.1.below, has.1.nonzero) }) low small)
-          | inr zero ↦ inr (descriptor_word j f unkept.in_range low (omega (arith, small)) ∙ zero f low small)
+          | inr zero ↦ inr (descriptor_word j f unkept.in_range low (in_descriptor W f small) ∙ zero f low small)
         ]
-        frees_known (Frees.inode i f unreached small) = elim (some_or_zero W (inode_word_of i) 0 inode_words) [
+        frees_known (Frees.inode i f unreached small) = elim (some_or_zero W (inode_word_of i) 0 (inode_words W)) [
           | inl has ↦ inl (StoresFreed.inode i f (record {
             least = unreached.least;
             most = unreached.most;
             unreached = unreached.unreached;
             nonzero = (has.0, has.1.below, has.1.nonzero);
           }) small)
-          | inr zero ↦ inr (inode_word i f unreached.least unreached.most unreached.unreached (omega (arith, small)) ∙ zero f (omega arith) small)
+          | inr zero ↦ inr (inode_word i f unreached.least unreached.most unreached.unreached (in_inode W f small) ∙ zero f (omega arith) small)
         ]
 
         fourth_step : (K : List ℕ) → IsAfter (StoresFreed P W) C K → IsAfter (Frees P W) C K
@@ -175,7 +176,7 @@ module _ (P : ℕ) (W : List ℕ) (coherent : IsCoherent P W) where
     no_pointer : (d : ℕ) → ¬ IsPointer P W d
     no_pointer d = none_counted (IsPointer P W) clean.repaired.of_pointers d
 
-    no_page : (j f : ℕ) → IsUnkept P W j → f < descriptor_words → ¬ (word W (descriptor_word_of P j f) ≢ 0)
+    no_page : (j f : ℕ) → IsUnkept P W j → f < descriptor_words W → ¬ (word W (descriptor_word_of P j f) ≢ 0)
     no_page j f unkept small some =
         none_counted (IsLitterPage P W) clean.repaired.of_pages j (record { in_range = unkept.in_range; free = unkept.free; nonzero = (f, small, some) })
 
@@ -188,7 +189,7 @@ module _ (P : ℕ) (W : List ℕ) (coherent : IsCoherent P W) where
 
     clears_none : {a v : ℕ} → StoresCleared P W a v → ⊥
     unfolding page_owner
-    clears_none (StoresCleared.owner j owner) = no_page j 0 owner.page (omega arith) owner.owned
+    clears_none (StoresCleared.owner j owner) = no_page j 0 owner.page (descriptor_field_read W 0 (omega arith)) owner.owned
     clears_none (StoresCleared.slot s f name low small) =
         let (g, two, below, some) = name.nonzero in
         none_counted (IsLitterSlot P W) clean.repaired.of_slots s (record { page = name.slot.page; dead = name.slot.dead; nonzero = (g, below, some) })
@@ -249,7 +250,7 @@ module _ (P : ℕ) (W : List ℕ) (coherent : IsCoherent P W) where
         (StoresCleared.links i n (record { reached = litter.reached; counted = count; other = λ same. litter.other (subst (IsLinkCount P W i) (sym same) count) }))
 
     no_litter_inode : (i : ℕ) → ¬ IsLitterInode P W i
-    no_litter_inode i litter = nothing.fourth (inode_word_of i 0) 0 (StoresFreed.inode i 0 litter (omega arith))
+    no_litter_inode i litter = nothing.fourth (inode_word_of i 0) 0 (StoresFreed.inode i 0 litter (inode_field_read W 0 (omega arith)))
 
     is_tidy : IsTidied P W
     is_tidy = record {

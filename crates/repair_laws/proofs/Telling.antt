@@ -2,10 +2,11 @@
 use Rattle.std.proofs.Common.{◌≡◌, inl, inr, ℕ, ◌+◌, ◌*◌, ◌<◌, ◌≤◌, List, length, refl, sym, subst, ◌∙◌, arith}
 use Rattle.std.proofs.lemmas.Bool.{cases_eq, cases_lt}
 use Rattle.layout.specs.Geometry.{IsVolumeSize, inodes_of, data_pages_of, slots_of, page_of_slot, inode_word_of, descriptor_word_of, slot_word_of}
-use Rattle.layout.specs.Fields.{inode_kind, page_owner}
+use Rattle.layout.specs.Fields.{inode_words, descriptor_words, inode_kind, page_owner}
 use Rattle.layout.proofs.GeometryLaws.{inode_word_within, descriptor_word_within, slot_word_within}
+use Rattle.layout.proofs.Widths.{in_inode, in_descriptor}
 use Rattle.image_reading.specs.Reading.{IsHeld, Reached, IsLinkCount}
-use Rattle.image_reading.specs.Repairs.{IsKeptDirectoryPage, WasLeft, inode_words, descriptor_words}
+use Rattle.image_reading.specs.Repairs.{IsKeptDirectoryPage, WasLeft}
 use Rattle.image_reading.specs.Soundness.{Rule, IsCoherent}
 use Rattle.image_counts.proofs.Decided.{IsDecided, any_below, held_or_not, live_or_not, room_or_not}
 use Rattle.image_counts.proofs.Links.{links_counted, only_links}
@@ -199,19 +200,19 @@ module _ (P : ℕ) (W : List ℕ) (coherent : IsCoherent P W) where
   -- ---- the fourth
 
   abbrev IsDescriptorField : ℕ → ℕ → Type 0
-  IsDescriptorField a j = IsUnkept P W j × ((f : ℕ) × IsField (descriptor_word_of P j) 1 descriptor_words a f)
+  IsDescriptorField a j = IsUnkept P W j × ((f : ℕ) × IsField (descriptor_word_of P j) 1 (descriptor_words W) a f)
 
   abbrev IsInodeField : ℕ → ℕ → Type 0
-  IsInodeField a i = IsUnreached P W i × ((f : ℕ) × IsField (inode_word_of i) 0 inode_words a f)
+  IsInodeField a i = IsUnreached P W i × ((f : ℕ) × IsField (inode_word_of i) 0 (inode_words W) a f)
 
   descriptor_told : (a : ℕ) → IsDecided ((j : ℕ) × IsDescriptorField a j)
-  descriptor_told a = elim (any_below (IsDescriptorField a) (data_pages_of P) (λ j. both_told _ _ (unkept_told j) (some_field (descriptor_word_of P j) 1 descriptor_words a))) [
+  descriptor_told a = elim (any_below (IsDescriptorField a) (data_pages_of P) (λ j. both_told _ _ (unkept_told j) (some_field (descriptor_word_of P j) 1 (descriptor_words W) a))) [
     | inl has ↦ inl has
     | inr none ↦ inr (λ has. none has.0 has.1.0.in_range has.1)
   ]
 
   inode_told : (a : ℕ) → IsDecided ((i : ℕ) × IsInodeField a i)
-  inode_told a = elim (any_below (IsInodeField a) (inodes_of P + 1) (λ i. both_told _ _ (unreached_told i) (some_field (inode_word_of i) 0 inode_words a))) [
+  inode_told a = elim (any_below (IsInodeField a) (inodes_of P + 1) (λ i. both_told _ _ (unreached_told i) (some_field (inode_word_of i) 0 (inode_words W) a))) [
     | inl has ↦ inl has
     | inr none ↦ inr (λ has. none has.0 (let most = has.1.0.most in omega (arith, most)) has.1)
   ]
@@ -234,8 +235,8 @@ module _ (P : ℕ) (W : List ℕ) (coherent : IsCoherent P W) where
   frees_zero (Frees.inode i f unreached small) = refl
 
   frees_within : {a v : ℕ} → Frees P W a v → a < 512 * P
-  frees_within (Frees.descriptor j f unkept low small) = descriptor_word_within P j f size unkept.in_range (omega (arith, small))
-  frees_within (Frees.inode i f unreached small) = inode_word_within P i f size unreached.least unreached.most (omega (arith, small))
+  frees_within (Frees.descriptor j f unkept low small) = descriptor_word_within P j f size unkept.in_range (in_descriptor W f small)
+  frees_within (Frees.inode i f unreached small) = inode_word_within P i f size unreached.least unreached.most (in_inode W f small)
 
   -- ---- so the chain can be made
 

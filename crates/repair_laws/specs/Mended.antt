@@ -1,9 +1,9 @@
 -- What recovery makes of the words of an image: P is its number of pages, W the words before it.
 use Rattle.std.specs.Prelude.{◌≡◌, ◌⊎◌, ℕ, ◌<◌, ◌≤◌, List, length}
 use Rattle.layout.specs.Geometry.{inodes_of, data_pages_of, page_of_slot, inode_word_of, descriptor_word_of, slot_word_of}
-use Rattle.layout.specs.Fields.{word}
+use Rattle.layout.specs.Fields.{word, inode_words, descriptor_words}
 use Rattle.image_reading.specs.Reading.{IsHeld, IsLive, Reached, IsLinkCount}
-use Rattle.image_reading.specs.Repairs.{IsKept, IsKeptDirectoryPage, WasLeft, inode_words, descriptor_words}
+use Rattle.image_reading.specs.Repairs.{IsKept, IsKeptDirectoryPage, WasLeft}
 
 -- a slot of a kept directory page that isn't live
 pub record IsDead (P : ℕ) (W : List ℕ) (s : ℕ) : Type 0 where
@@ -38,10 +38,10 @@ pub data Clears (P : ℕ) (W : List ℕ) : ℕ → ℕ → Type 0 where
   slot : (s f : ℕ) → IsDead P W s → 1 ≤ f → f < 16 → Clears P W (slot_word_of P s f) 0
   links : (i n : ℕ) → Reached P W i → IsLinkCount P W i n → Clears P W (inode_word_of i 1) n
 
--- 4: The other words of those pages' descriptors become zero, and the words of inodes that aren't reached.
+-- 4: The other words that are read of those pages' descriptors become zero, and those of inodes that aren't reached.
 pub data Frees (P : ℕ) (W : List ℕ) : ℕ → ℕ → Type 0 where
-  descriptor : (j f : ℕ) → IsUnkept P W j → 1 ≤ f → f < descriptor_words → Frees P W (descriptor_word_of P j f) 0
-  inode : (i f : ℕ) → IsUnreached P W i → f < inode_words → Frees P W (inode_word_of i f) 0
+  descriptor : (j f : ℕ) → IsUnkept P W j → 1 ≤ f → f < descriptor_words W → Frees P W (descriptor_word_of P j f) 0
+  inode : (i f : ℕ) → IsUnreached P W i → f < inode_words W → Frees P W (inode_word_of i f) 0
 
 -- any of these
 pub data Mends (P : ℕ) (W : List ℕ) (a v : ℕ) : Type 0 where

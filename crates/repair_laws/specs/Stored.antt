@@ -2,9 +2,9 @@
 -- named.
 use Rattle.std.specs.Prelude.{◌≢◌, ℕ, ◌<◌, ◌≤◌, List}
 use Rattle.layout.specs.Geometry.{inode_word_of, descriptor_word_of, slot_word_of}
-use Rattle.layout.specs.Fields.{word, inode_links, page_owner}
+use Rattle.layout.specs.Fields.{word, inode_words, descriptor_words, inode_links, page_owner}
 use Rattle.image_reading.specs.Reading.{Reached, IsLinkCount}
-use Rattle.image_reading.specs.Repairs.{IsPointer, IsLitterInode, inode_words, descriptor_words}
+use Rattle.image_reading.specs.Repairs.{IsPointer, IsLitterInode}
 use Rattle.repair_laws.specs.Mended.{IsDead, IsUnkept, GivesUp, IsAfter}
 
 -- a page that isn't kept has an owner
@@ -23,10 +23,10 @@ pub record HasOtherLinks (P : ℕ) (W : List ℕ) (i n : ℕ) : Type 0 where
   pub counted : IsLinkCount P W i n
   pub other : inode_links W i ≢ n
 
--- a page that isn't kept has a kind or an offset
+-- a page that isn't kept has a word other than 0 behind its owner
 pub record HasNeedlessKind (P : ℕ) (W : List ℕ) (j : ℕ) : Type 0 where
   pub page : IsUnkept P W j
-  pub nonzero : (f : ℕ) × (1 ≤ f) × (f < descriptor_words) × (word W (descriptor_word_of P j f) ≢ 0)
+  pub nonzero : (f : ℕ) × (1 ≤ f) × (f < descriptor_words W) × (word W (descriptor_word_of P j f) ≢ 0)
 
 -- ---- the stores of steps 2 to 4; step 1 stores what it changes
 
@@ -39,9 +39,9 @@ pub data StoresCleared (P : ℕ) (W : List ℕ) : ℕ → ℕ → Type 0 where
   links : (i n : ℕ) → HasOtherLinks P W i n → StoresCleared P W (inode_word_of i 1) n
 
 pub data StoresFreed (P : ℕ) (W : List ℕ) : ℕ → ℕ → Type 0 where
-  descriptor : (j f : ℕ) → HasNeedlessKind P W j → 1 ≤ f → f < descriptor_words
+  descriptor : (j f : ℕ) → HasNeedlessKind P W j → 1 ≤ f → f < descriptor_words W
       → StoresFreed P W (descriptor_word_of P j f) 0
-  inode : (i f : ℕ) → IsLitterInode P W i → f < inode_words → StoresFreed P W (inode_word_of i f) 0
+  inode : (i f : ℕ) → IsLitterInode P W i → f < inode_words W → StoresFreed P W (inode_word_of i f) 0
 
 -- The steps as they are stored. One that has no store leaves the list as it was.
 pub record StoresRepair (P : ℕ) (W A B C K : List ℕ) : Type 0 where

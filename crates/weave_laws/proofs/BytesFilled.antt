@@ -3,6 +3,7 @@ use Rattle.std.proofs.Common.{◌≡◌, ◌≢◌, inl, inr, ℕ, ◌/◌, ◌%
 use Rattle.std.proofs.lemmas.Bool.{cases_eq}
 use Rattle.layout.specs.Fields.{inode_size, page_owner, page_byte}
 use Rattle.layout.specs.Geometry.{page_word_of}
+use Rattle.layout.proofs.Widths.{descriptor_field_read}
 use Rattle.image_reading.specs.Reading.{HasBytes, Reached, IsPageOf}
 use Rattle.image_laws.specs.Frame.{SameBytes, SameMeaning, SameShape}
 use Rattle.image_laws.specs.Quiet.{IsMix, MixesBytes}
@@ -23,7 +24,7 @@ module _ (P : ℕ) (I J : List ℕ) (i offset : ℕ) (bytes pages : List ℕ) (m
   content : {a : ℕ} → IsFillWord P I i pages a → IsBytesWord P I a
   content (IsFillWord.old k j w page lt) = IsBytesWord.bytes j w page.in_range lt page.kind
   content (IsFillWord.new j w is lt) = IsBytesWord.free j w (may.unused j is).0 lt (may.unused j is).1.0
-  content (IsFillWord.descriptor j f is l m) = IsBytesWord.descriptor j f (may.unused j is).0 l m (may.unused j is).1.0
+  content (IsFillWord.descriptor j f is which) = IsBytesWord.descriptor j f (may.unused j is).0 (omega (arith, which)) (descriptor_field_read I f (omega (arith, which))) (may.unused j is).1.0
 
   pub stores : StoresContent P I J
   stores = record { size = fills.size; others = λ a none. fills.others a (λ is. none (content is)) }
@@ -34,7 +35,7 @@ module _ (P : ℕ) (I J : List ℕ) (i offset : ℕ) (bytes pages : List ℕ) (m
       let (same, x) = page_word-one P h v j w l lt e in ne (sym page.owner ∙ ap (page_owner P I) (sym same) ∙ own.owner)
   foreign k n j w lt r ne page (IsFillWord.new h v is l) e =
       let (same, x) = page_word-one P h v j w l lt e in reached_pos P I k r (sym page.owner ∙ ap (page_owner P I) (sym same) ∙ (may.unused h is).1.0)
-  foreign k n j w lt r ne page (IsFillWord.descriptor h f is l m) e = descriptor-ne_page P h f j w (may.unused h is).0 (omega (arith, m)) e
+  foreign k n j w lt r ne page (IsFillWord.descriptor h f is which) e = descriptor-ne_page P h f j w (may.unused h is).0 (omega (arith, which)) e
 
   other_bytes : (k : ℕ) → Reached P I k → HasBytes I k → k ≢ i → SameBytes P I J k
   unfolding page_byte

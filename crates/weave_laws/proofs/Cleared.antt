@@ -2,7 +2,8 @@
 use Rattle.std.proofs.Common.{◌≡◌, ◌≢◌, ◌↔◌, ◌⊎◌, inl, inr, ℕ, ◌+◌, ◌<◌, ◌≤◌, List, [], ◌∷◌, ◌++◌, Option, Some, None, refl, sym, ap, subst, ◌∙◌, arith}
 use Rattle.std.proofs.lemmas.Bool.{cases_eq}
 use Rattle.layout.specs.Geometry.{inodes_of, data_pages_of, page_of_slot, inode_word_of, slot_word_of}
-use Rattle.layout.specs.Fields.{word, inode_kind, inode_links, page_owner, page_kind, slot_inode, slot_pointer}
+use Rattle.layout.specs.Fields.{word, inode_words, inode_kind, inode_links, page_owner, page_kind, slot_inode, slot_pointer}
+use Rattle.layout.proofs.Widths.{in_inode, in_descriptor, inode_field_read, same_inode_words}
 use Rattle.image_reading.specs.Reading.{Reached, IsRoomOf, IsNameOf, IsChildOf, IsLinkCount}
 use Rattle.image_reading.specs.Repairs.{IsPointer, IsLitterSlot, IsLitterPage, IsLitterInode, IsLitterCount}
 use Rattle.image_counts.proofs.Distinct.{in_front, in_back}
@@ -30,10 +31,10 @@ module _ {P : ℕ} {I J : List ℕ} {s y : ℕ} (may : MayClearName P I s y) (cl
   reached x = ((λ (q, b). (q, (entries.same.names q x).0 b)), (λ (q, b). (q, (entries.same.names q x).1 b)))
 
   nodes : KeepsInodes I J (Reached P I) (λ x. x ≡ y)
-  nodes = by_inodes P I J (Reached P I) (λ x. x ≡ y) (in_range P I may.coherent) (λ x f r some most lt links. clear_inode P I J s y may clears x f some most (omega (arith, lt)) links)
+  nodes = by_inodes P I J (Reached P I) (λ x. x ≡ y) (in_range P I may.coherent) (λ x f r some most lt links. clear_inode P I J s y may clears x f some most (in_inode I f lt) links)
 
   words : KeepsDescriptors P I J (λ j. ⊥)
-  words j f lt l3 none = clear_descriptor P I J s y may clears j f lt (omega (arith, l3))
+  words j f lt read none = clear_descriptor P I J s y may clears j f lt (in_descriptor I f read)
 
   paged : KeepsPages P I J (λ j. ⊥)
   paged = by_words P I J (λ j. ⊥) words
@@ -97,7 +98,7 @@ module _ {P : ℕ} {I J : List ℕ} {s y : ℕ} (may : MayClearName P I s y) (cl
   -- ---- pages
 
   page_same : (j : ℕ) → IsLitterPage P I j ↔ IsLitterPage P J j
-  page_same j = same.page_same P I J (λ x. ⊥) words nodes.kind nodes.size (λ x r. (reached x).0 r) (λ x lt r. (reached (page_owner P I x)).1 r) (λ x k other. entries.rooms x k) j (λ none. none)
+  page_same j = same.page_same P I J (λ x. ⊥) words entries.version nodes.kind nodes.size (λ x r. (reached x).0 r) (λ x lt r. (reached (page_owner P I x)).1 r) (λ x k other. entries.rooms x k) j (λ none. none)
 
   pub pages_after : (rest : List ℕ) → IsListOf (IsLitterPage P I) rest → IsListOf (IsLitterPage P J) rest
   pages_after rest = listed_same (IsLitterPage P I) (IsLitterPage P J) rest page_same
@@ -116,14 +117,14 @@ module _ {P : ℕ} {I J : List ℕ} {s y : ℕ} (may : MayClearName P I s y) (cl
 
   inode_forth : (x : ℕ) → IsLitterInode P I x → inode_kind I x ≢ 0 → IsLitterInode P J x
   unfolding inode_kind
-  inode_forth x l kind = record { least = l.least; most = l.most; unreached = λ r. l.unreached ((reached x).1 r); nonzero = (0, omega arith, kind_kept x l kind) }
+  inode_forth x l kind = record { least = l.least; most = l.most; unreached = λ r. l.unreached ((reached x).1 r); nonzero = (0, inode_field_read J 0 (omega arith), kind_kept x l kind) }
 
-  nonzero_before : (x f : ℕ) → 1 ≤ x → x ≤ inodes_of P → f < 4 → word J (inode_word_of x f) ≢ 0 → word I (inode_word_of x f) ≢ 0
+  nonzero_before : (x f : ℕ) → 1 ≤ x → x ≤ inodes_of P → f < inode_words I → word J (inode_word_of x f) ≢ 0 → word I (inode_word_of x f) ≢ 0
   unfolding inode_links
   nonzero_before x f least most lt nonzero z = elim (cases_eq f 1) [
-    | inr other ↦ nonzero (clear_inode P I J s y may clears x f least most (omega (arith, lt)) (inl other) ∙ z)
+    | inr other ↦ nonzero (clear_inode P I J s y may clears x f least most (in_inode I f lt) (inl other) ∙ z)
     | inl one ↦ elim (cases_eq x y) [
-      | inr ne ↦ nonzero (clear_inode P I J s y may clears x f least most (omega (arith, lt)) (inr ne) ∙ z)
+      | inr ne ↦ nonzero (clear_inode P I J s y may clears x f least most (in_inode I f lt) (inr ne) ∙ z)
       | inl e ↦
           let none : word I (inode_word_of y 1) ≡ 0 = ap (λ k. word I (inode_word_of y k)) (sym one) ∙ ap (λ n. word I (inode_word_of n f)) (sym e) ∙ z in
           let links = clears.links in
@@ -134,7 +135,8 @@ module _ {P : ℕ} {I J : List ℕ} {s y : ℕ} (may : MayClearName P I s y) (cl
   inode_back : (x : ℕ) → IsLitterInode P J x → IsLitterInode P I x
   inode_back x l =
       let (f, lt, nonzero) = l.nonzero in
-      record { least = l.least; most = l.most; unreached = λ r. l.unreached ((reached x).0 r); nonzero = (f, lt, nonzero_before x f l.least l.most lt nonzero) }
+      let read = subst (λ n. f < n) (same_inode_words I J entries.version) lt in
+      record { least = l.least; most = l.most; unreached = λ r. l.unreached ((reached x).0 r); nonzero = (f, read, nonzero_before x f l.least l.most read nonzero) }
 
   pub inodes_after : (rest : List ℕ) → ((x : ℕ) → IsLitterInode P I x → inode_kind I x ≢ 0) → IsListOf (IsLitterInode P I) rest → IsListOf (IsLitterInode P J) rest
   inodes_after rest kinds = listed_same (IsLitterInode P I) (IsLitterInode P J) rest (λ x. ((λ l. inode_forth x l (kinds x l)), inode_back x))

@@ -2,7 +2,8 @@
 use Rattle.std.proofs.Common.{◌≡◌, ◌≢◌, ◌↔◌, ◌⊎◌, inl, inr, ℕ, ◌+◌, ◌<◌, ◌≤◌, List, ◌∷◌, refl, sym, ap, subst, ◌∙◌, arith}
 use Rattle.std.proofs.lemmas.Bool.{cases_eq}
 use Rattle.layout.specs.Geometry.{inodes_of, data_pages_of, page_of_slot, inode_word_of, descriptor_word_of, slot_word_of}
-use Rattle.layout.specs.Fields.{word, inode_kind, page_owner, page_kind, slot_inode, slot_name}
+use Rattle.layout.specs.Fields.{word, inode_words, inode_kind, page_owner, page_kind, slot_inode, slot_name}
+use Rattle.layout.proofs.Widths.{in_inode, in_descriptor}
 use Rattle.tree_model.specs.PathText.{Route}
 use Rattle.image_reading.specs.Counts.{Count, IsListOf}
 use Rattle.image_reading.specs.Litter.{IsZeroSlot}
@@ -37,7 +38,7 @@ module _ {P : ℕ} {I J : List ℕ} {p : Route} {d s i : ℕ} (can : CanAdd P I 
   -- ---- which words stay
 
   descriptors : KeepsDescriptors P I J (λ j. ⊥)
-  descriptors j f lt l3 none = takes.words (descriptor_word_of P j f) (descriptor-ne_slot P j f s 0 lt (omega (arith, l3)))
+  descriptors j f lt read none = takes.words (descriptor_word_of P j f) (descriptor-ne_slot P j f s 0 lt (in_descriptor I f read))
 
   pub paged : KeepsPages P I J (λ j. ⊥)
   paged = by_words P I J (λ j. ⊥) descriptors
@@ -45,8 +46,11 @@ module _ {P : ℕ} {I J : List ℕ} {p : Route} {d s i : ℕ} (can : CanAdd P I 
   slot_words_same : (t f : ℕ) → f < 16 → t ≢ s → word J (slot_word_of P t f) ≡ word I (slot_word_of P t f)
   slot_words_same t f lt ne = takes.words (slot_word_of P t f) (slot-ne_slot P t f s 0 lt (omega arith) ne)
 
-  inode_words_same : (x f : ℕ) → 1 ≤ x → x ≤ inodes_of P → f < 4 → word J (inode_word_of x f) ≡ word I (inode_word_of x f)
-  inode_words_same x f least most lt = takes.words (inode_word_of x f) (inode-ne_slot P x f s 0 least most (omega (arith, lt)))
+  inode_words_same : (x f : ℕ) → 1 ≤ x → x ≤ inodes_of P → f < inode_words I → word J (inode_word_of x f) ≡ word I (inode_word_of x f)
+  inode_words_same x f least most lt = takes.words (inode_word_of x f) (inode-ne_slot P x f s 0 least most (in_inode I f lt))
+
+  version : word J 1 ≡ word I 1
+  version = takes.only.head 1 (omega arith)
 
   -- ---- what is reached
 
@@ -124,7 +128,7 @@ module _ {P : ℕ} {I J : List ℕ} {p : Route} {d s i : ℕ} (can : CanAdd P I 
   ]
 
   page_same : (Page : ℕ → Type 0) → ((x j : ℕ) → ¬ Page j → IsRoomOf P I x j ↔ IsRoomOf P J x j) → (j : ℕ) → ¬ Page j → IsLitterPage P I j ↔ IsLitterPage P J j
-  page_same Page = same.page_same P I J Page (λ j f lt l3 other. descriptors j f lt l3 (λ none. none)) kind_same (λ x r. takes.only.node_size x (reached-le P I can.coherent x r)) reached_forth owner_back
+  page_same Page = same.page_same P I J Page (λ j f lt read other. descriptors j f lt read (λ none. none)) version kind_same (λ x r. takes.only.node_size x (reached-le P I can.coherent x r)) reached_forth owner_back
 
   pub mark_kept : (j : ℕ) → j < data_pages_of P → (page_owner P I j ≢ 0) ⊎ (page_kind P I j ≢ 0) → (page_owner P J j ≢ 0) ⊎ (page_kind P J j ≢ 0)
   mark_kept j lt mark = elim mark [
@@ -183,7 +187,7 @@ module _ {P : ℕ} {I J : List ℕ} {p : Route} {d s i : ℕ} (can : CanAdd P I 
   -- ---- inodes
 
   inode_same : (x : ℕ) → Reached P I x ↔ Reached P J x → IsLitterInode P I x ↔ IsLitterInode P J x
-  inode_same x reached = same.inode_same P I J x reached (λ f least most lt unreached. inode_words_same x f least most lt)
+  inode_same x reached = same.inode_same P I J x version reached (λ f least most lt unreached. inode_words_same x f least most lt)
 
   pub inodes_less : (rest : List ℕ) → IsListOf (IsLitterInode P I) (i ∷ rest) → IsListOf (IsLitterInode P J) rest
   inodes_less rest = listed_less (IsLitterInode P I) (IsLitterInode P J) i rest (λ l. l.unreached new_reached) (λ x ne. inode_same x (reached_same x ne))

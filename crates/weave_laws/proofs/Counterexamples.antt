@@ -4,12 +4,12 @@ use Rattle.std.proofs.Math.Nat.{le-max_left, le-max_right}
 use Rattle.std.proofs.lemmas.Bool.{cases_eq}
 use Rattle.std.proofs.lemmas.List.{get_or-set_other, get_or-replicate}
 use Rattle.layout.specs.Geometry.{inodes_of, data_pages_of, inode_pages_of, descriptor_pages_of, slots_of, page_of_slot, first_data_word_of, inode_word_of, descriptor_word_of, slot_word_of}
-use Rattle.layout.specs.Fields.{word, inode_kind, inode_links, page_owner, page_kind, slot_inode, slot_pointer, slot_name}
+use Rattle.layout.specs.Fields.{word, inode_words, descriptor_words, inode_kind, inode_links, page_owner, page_kind, slot_inode, slot_pointer, slot_name}
 use Rattle.layout.specs.Superblock.{magic}
-use Rattle.tree_model.specs.Tree.{File}
+use Rattle.layout.specs.declared.kinds.NodeKind.TheVariants.{File}
 use Rattle.image_reading.specs.Counts.{IsIn, Count}
 use Rattle.image_reading.specs.Reading.{slot_owner, IsHeld, IsLive, HasBytes, Reached, IsNameOf}
-use Rattle.image_reading.specs.Repairs.{inode_words, descriptor_words, IsPointer, IsLitterInode}
+use Rattle.image_reading.specs.Repairs.{IsPointer, IsLitterInode}
 use Rattle.image_reading.specs.Residue.{Residue, no_residue, IsTidyBeside}
 use Rattle.image_reading.proofs.Counts.{count_one}
 use Rattle.weave_laws.specs.Naming.{node_left}
@@ -39,11 +39,11 @@ module _ (P : ℕ) (I : List ℕ) (residue : Residue) where
   kindless_refused i none litter beside = beside.kinds i ((beside.of_inodes.each i).1 litter) none
 
   -- What a residue has isn't zero, so no free place is counted as held: no inode,
-  pub zero_inode_refused : (i : ℕ) → ((f : ℕ) → f < inode_words → word I (inode_word_of i f) ≡ 0) → IsIn i residue.inodes → ¬ IsTidyBeside P I residue
+  pub zero_inode_refused : (i : ℕ) → ((f : ℕ) → f < inode_words I → word I (inode_word_of i f) ≡ 0) → IsIn i residue.inodes → ¬ IsTidyBeside P I residue
   zero_inode_refused i zero listed beside = let (f, small, nonzero) = ((beside.of_inodes.each i).0 listed).nonzero in nonzero (zero f small)
 
   -- and no page.
-  pub zero_page_refused : (j : ℕ) → ((f : ℕ) → f < descriptor_words → word I (descriptor_word_of P j f) ≡ 0) → IsIn j residue.pages → ¬ IsTidyBeside P I residue
+  pub zero_page_refused : (j : ℕ) → ((f : ℕ) → f < descriptor_words I → word I (descriptor_word_of P j f) ≡ 0) → IsIn j residue.pages → ¬ IsTidyBeside P I residue
   zero_page_refused j zero listed beside = let (f, small, nonzero) = ((beside.of_pages.each j).0 listed).nonzero in nonzero (zero f small)
 
 -- ---- images of 16 pages
@@ -94,7 +94,7 @@ unpaged = stored ((544, 1) ∷ (545, 1) ∷ (547, 3) ∷ with_file 1)
 
 -- ---- 1: a pointer beside a create
 
-pub pointed_refused : ¬ IsTidyBeside 16 pointed (node_left (File []) 1 1 None 3)
+pub pointed_refused : ¬ IsTidyBeside 16 pointed (node_left File 1 1 None 3)
 unfolding pointed stored with_file word slot_owner page_owner page_kind slot_pointer page_of_slot slots_of data_pages_of inode_pages_of descriptor_pages_of descriptor_word_of slot_word_of first_data_word_of
 pointed_refused = pointer_refused 16 pointed _ 1 refl (record { held = record { in_range = omega arith; kind = refl; owned = λ e. omega (arith, e) }; nonzero = λ e. omega (arith, e) })
 
@@ -157,7 +157,7 @@ kindless_unreached (n ∷ p, (s, path, leads)) =
     ]
 
 kindless_litter : IsLitterInode 16 kindless 3
-unfolding kindless stored with_file word inode_word_of inodes_of
+unfolding kindless stored with_file word inode_words inode_word_of inodes_of
 kindless_litter = record { least = omega arith; most = omega arith; unreached = kindless_unreached; nonzero = (1, omega arith, λ e. omega (arith, e)) }
 
 -- what is left of the inode of an unlink whose slot is cleared
@@ -177,10 +177,10 @@ kindless_refused_beside_any residue = kindless_refused 16 kindless residue 3 ref
 below_three : (Q : ℕ → Type 0) → Q 0 → Q 1 → Q 2 → (f : ℕ) → f < 3 → Q f
 below_three Q zero one two = below_more Q 2 (below_more Q 1 (below_more Q 0 (below_none Q) zero) one) two
 
-pub unwritten_refused : ¬ IsTidyBeside 16 unwritten (node_left (File []) 1 1 None 3)
-unfolding unwritten stored with_file word inode_word_of
+pub unwritten_refused : ¬ IsTidyBeside 16 unwritten (node_left File 1 1 None 3)
+unfolding unwritten stored with_file word inode_words inode_word_of
 unwritten_refused = zero_inode_refused 16 unwritten _ 3 (let Q = λ (f : ℕ). word unwritten (inode_word_of 3 f) ≡ 0 in below_more Q 3 (below_three Q refl refl refl) refl) (inl refl)
 
-pub unpaged_refused : ¬ IsTidyBeside 16 unpaged (node_left (File []) 1 32 (Some 1) 3)
-unfolding unpaged stored with_file word descriptor_word_of inode_pages_of
+pub unpaged_refused : ¬ IsTidyBeside 16 unpaged (node_left File 1 32 (Some 1) 3)
+unfolding unpaged stored with_file word descriptor_words descriptor_word_of inode_pages_of
 unpaged_refused = zero_page_refused 16 unpaged _ 1 (below_three (λ f. word unpaged (descriptor_word_of 16 1 f) ≡ 0) refl refl refl) (inl refl)

@@ -2,15 +2,16 @@
 use Rattle.std.proofs.Common.{◌≡◌, ◌≢◌, ◌↔◌, ◌⊎◌, inl, inr, ℕ, ◌<◌, Bool, true, false, List, [], ◌++◌, refl, sym, ap, subst, ◌∙◌, arith}
 use Rattle.std.specs.Prelude.{Contains}
 use Rattle.std.proofs.lemmas.Bool.{cases_eq}
-use Rattle.layout.specs.Fields.{word, inode_kind, page_owner, page_kind}
+use Rattle.layout.specs.Fields.{word, descriptor_words, inode_kind, page_owner, page_kind}
 use Rattle.layout.specs.Geometry.{page_of_slot, descriptor_word_of}
+use Rattle.layout.proofs.Widths.{in_inode, in_descriptor, same_inode_words, same_descriptor_words}
 use Rattle.image_reading.specs.Counts.{IsIn, IsDistinct, IsListOf}
 use Rattle.image_reading.specs.Reading.{slot_owner, Reached}
 use Rattle.image_reading.specs.Repairs.{IsLitterSlot, IsLitterPage, IsLitterInode, IsLitterCount}
 use Rattle.image_counts.proofs.Distinct.{in_front, in_back}
 use Rattle.image_laws.specs.Drop.{ClearsRest}
 use Rattle.image_laws.specs.Stages.{MayFree}
-use Rattle.image_laws.proofs.Free.{same_stores}
+use Rattle.image_laws.proofs.Free.{version_stores, same_stores}
 use Rattle.image_laws.proofs.Stages.{rest_descriptor, rest_inode, rest_slot, rest_stores}
 use Rattle.image_reading.specs.Residue.{Residue, IsTidyBeside}
 use Rattle.weave_laws.specs.Joined.{joined}
@@ -31,22 +32,26 @@ apart false i rest distinct x among is e = clash is
 
 module _ (P : ℕ) (I J pages : List ℕ) (goes : Bool) (i : ℕ) (others : Residue) (may : MayFree P I (Contains pages) (goes ≡ true) i) (rest : ClearsRest P I J (Contains pages) (goes ≡ true) i)
     (tidy : IsTidyBeside P I (joined (cleared_left pages goes i) others)) where
+  version : word J 1 ≡ word I 1
+  version = version_stores P I J may.coherent (rest_stores P I J (Contains pages) (goes ≡ true) i may rest)
+
   loses : LosesPages P I J (Contains pages)
   unfolding page_owner slot_owner
   loses = record {
     meaning = same_stores P I J may.coherent (rest_stores P I J (Contains pages) (goes ≡ true) i may rest);
+    version = version;
     decided = may.decided;
     left = λ j is. (tidy.of_pages.each j).0 (in_front j pages others.pages (contained_in j pages is));
     pointers = λ t is held. absurd (held.owned (may.unowned (page_of_slot t) is));
     unowned = λ j is. rest_descriptor P I J (Contains pages) (goes ≡ true) i may rest j 0 (may.in_range j is) (omega arith) (inl refl) ∙ may.unowned j is;
-    descriptors = λ j f lt l3 other. rest_descriptor P I J (Contains pages) (goes ≡ true) i may rest j f lt (omega (arith, l3)) (inr other);
+    descriptors = λ j f lt read other. rest_descriptor P I J (Contains pages) (goes ≡ true) i may rest j f lt (in_descriptor I f read) (inr other);
     slots = rest_slot P I J (Contains pages) (goes ≡ true) i may rest;
-    inodes = λ x f r some most lt. rest_inode P I J (Contains pages) (goes ≡ true) i may rest x f some most (omega (arith, lt)) (λ is e. may.unreached is (subst (Reached P I) e r));
+    inodes = λ x f r some most lt. rest_inode P I J (Contains pages) (goes ≡ true) i may rest x f some most (in_inode I f lt) (λ is e. may.unreached is (subst (Reached P I) e r));
   }
 
   -- ---- pages
 
-  zero_word : (j f : ℕ) → Contains pages j → f < 3 → word J (descriptor_word_of P j f) ≡ 0
+  zero_word : (j f : ℕ) → Contains pages j → f < descriptor_words I → word J (descriptor_word_of P j f) ≡ 0
   unfolding page_owner
   zero_word j f is lt = elim (cases_eq f 0) [
     | inl e ↦ ap (λ k. word J (descriptor_word_of P j k)) e ∙ loses.unowned j is
@@ -54,7 +59,7 @@ module _ (P : ℕ) (I J pages : List ℕ) (goes : Bool) (i : ℕ) (others : Resi
   ]
 
   no_page : (j : ℕ) → Contains pages j → ¬ IsLitterPage P J j
-  no_page j is l = let (f, lt, nonzero) = l.nonzero in nonzero (zero_word j f is lt)
+  no_page j is l = let (f, lt, nonzero) = l.nonzero in nonzero (zero_word j f is (subst (λ n. f < n) (same_descriptor_words I J version) lt))
 
   pages_after : IsListOf (IsLitterPage P J) others.pages
   pages_after = listed_after (IsLitterPage P I) (IsLitterPage P J) pages [] others.pages tt (λ j none. absurd none) (λ j. (
@@ -72,11 +77,11 @@ module _ (P : ℕ) (I J pages : List ℕ) (goes : Bool) (i : ℕ) (others : Resi
   -- ---- inodes
 
   inode_beside : (x : ℕ) → (goes ≡ true → x ≢ i) → IsLitterInode P I x ↔ IsLitterInode P J x
-  inode_beside x other = same.inode_same P I J x (lost.reached loses x) (λ f least most lt unreached. rest_inode P I J (Contains pages) (goes ≡ true) i may rest x f least most (omega (arith, lt)) other)
+  inode_beside x other = same.inode_same P I J x version (lost.reached loses x) (λ f least most lt unreached. rest_inode P I J (Contains pages) (goes ≡ true) i may rest x f least most (in_inode I f lt) other)
 
   inodes_after : (gone : Bool) → (gone ≡ true → goes ≡ true) → (goes ≡ true → gone ≡ true) → IsListOf (IsLitterInode P I) (inodes_left gone i ++ others.inodes) → IsListOf (IsLitterInode P J) others.inodes
   inodes_after true to from = listed_less (IsLitterInode P I) (IsLitterInode P J) i others.inodes
-      (λ l. let (f, lt, nonzero) = l.nonzero in nonzero (rest.inode (to refl) f lt))
+      (λ l. let (f, lt, nonzero) = l.nonzero in nonzero (rest.inode (to refl) f (subst (λ n. f < n) (same_inode_words I J version) lt)))
       (λ x ne. inode_beside x (λ is. ne))
   inodes_after false to from = listed_same (IsLitterInode P I) (IsLitterInode P J) others.inodes (λ x. inode_beside x (λ is e. clash (from is)))
 

@@ -1,12 +1,14 @@
 -- Pages that are left to be repaired, and keep their kind, lose their owner: the same is left.
 use Rattle.std.proofs.Common.{◌≡◌, ◌≢◌, ◌↔◌, ◌⊎◌, inl, inr, ℕ, List, refl, sym, ◌∙◌, arith}
 use Rattle.std.specs.Prelude.{Contains}
-use Rattle.layout.specs.Fields.{inode_kind, page_owner, page_kind}
+use Rattle.layout.specs.Fields.{word, inode_kind, page_owner, page_kind}
 use Rattle.layout.specs.Geometry.{page_of_slot}
+use Rattle.layout.proofs.Widths.{in_inode, in_descriptor, descriptor_field_read}
 use Rattle.image_reading.specs.Counts.{IsIn}
 use Rattle.image_reading.specs.Repairs.{IsLitterSlot, IsLitterPage, IsLitterInode, IsLitterCount}
 use Rattle.image_laws.specs.Drop.{GivesPages}
 use Rattle.image_laws.specs.Frame.{SameMeaning}
+use Rattle.image_laws.proofs.Addresses.{head-ne_descriptor}
 use Rattle.image_laws.proofs.Given.{give_descriptor, give_inode, give_slot}
 use Rattle.image_reading.specs.Residue.{Residue, IsTidyBeside}
 use Rattle.weave_laws.specs.Removing.{GivenLaw, IsLeftPage}
@@ -21,16 +23,20 @@ module _ (P : ℕ) (I J pages : List ℕ) (residue : Residue) (meaning : SameMea
   litter : (j : ℕ) → Contains pages j → IsLitterPage P I j
   litter j is = (tidy.of_pages.each j).0 (are j is).left
 
+  version : word J 1 ≡ word I 1
+  version = gives.others 1 (λ j is. head-ne_descriptor P j 0 1 (omega arith))
+
   loses : LosesPages P I J (Contains pages)
   loses = record {
     meaning = meaning;
+    version = version;
     decided = contained_or_not pages;
     left = litter;
     pointers = λ t is held. (are (page_of_slot t) is).pointers t refl held;
     unowned = gives.owners;
-    descriptors = λ j f lt l3 other. give_descriptor P I J (Contains pages) gives j f (omega (arith, l3)) (inr other);
+    descriptors = λ j f lt read other. give_descriptor P I J (Contains pages) gives j f (in_descriptor I f read) (inr other);
     slots = give_slot P I J (Contains pages) gives (λ j is. (litter j is).in_range);
-    inodes = λ x f r some most lt. give_inode P I J (Contains pages) gives x f some most (omega (arith, lt));
+    inodes = λ x f r some most lt. give_inode P I J (Contains pages) gives x f some most (in_inode I f lt);
   }
 
   -- ---- pages
@@ -47,7 +53,7 @@ module _ (P : ℕ) (I J pages : List ℕ) (residue : Residue) (meaning : SameMea
   litter_after j is = record {
     in_range = (litter j is).in_range;
     free = λ kept. elim kept [ inl file ↦ lost.unreached loses j is file.owner | inr room ↦ lost.unreached loses j is room.reached ];
-    nonzero = (1, omega arith, kind_after j is);
+    nonzero = (1, descriptor_field_read J 1 (omega arith), kind_after j is);
   }
 
   page_same : (j : ℕ) → IsLitterPage P I j ↔ IsLitterPage P J j
@@ -65,7 +71,7 @@ module _ (P : ℕ) (I J pages : List ℕ) (residue : Residue) (meaning : SameMea
   -- ---- inodes
 
   inode_same : (x : ℕ) → IsLitterInode P I x ↔ IsLitterInode P J x
-  inode_same x = same.inode_same P I J x (lost.reached loses x) (λ f least most lt unreached. give_inode P I J (Contains pages) gives x f least most (omega (arith, lt)))
+  inode_same x = same.inode_same P I J x version (lost.reached loses x) (λ f least most lt unreached. give_inode P I J (Contains pages) gives x f least most (in_inode I f lt))
 
   node_kind_after : (x : ℕ) → IsIn x residue.inodes → inode_kind J x ≢ 0
   unfolding inode_kind

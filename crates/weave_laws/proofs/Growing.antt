@@ -7,6 +7,7 @@ use Rattle.layout.specs.Fields.{inode_size, page_byte}
 use Rattle.layout.specs.Geometry.{inode_word_of, page_word_of}
 use Rattle.image_reading.specs.Reading.{HasBytes, Reached, IsPageOf, pages_of_size}
 use Rattle.image_reading.specs.Soundness.{Rule, IsCoherent}
+use Rattle.image_reading.proofs.FilePages.{page_from_place}
 use Rattle.image_counts.specs.Entries.{IsPageIn}
 use Rattle.image_counts.proofs.Nodes.{one_page}
 use Rattle.image_counts.proofs.Paths.{in_range}
@@ -47,12 +48,12 @@ module _ (P : ℕ) (I own : List ℕ) (i z : ℕ) (coherent : IsCoherent P I) (r
       let page = of_file j (contains_at own k j at) in
       let none = no_size in
       let stands = order.offsets k j at in
-      record {
+      page_from_place (record {
         in_range = page.in_range;
         owner = page.owner;
         kind = (coherent Rule.page_kinds j).file page.in_range (subst (Reached P I) (sym page.owner) reached) (subst (HasBytes I) (sym page.owner) file);
         offset = omega (arith, none, stands);
-      }
+      })
 
 -- ---- they are filled
 

@@ -1,6 +1,6 @@
 -- Pages that nothing needs lose words of their descriptors: what else is to be repaired is so after it exactly where it was before.
 use Rattle.std.proofs.Common.{◌≡◌, ◌≢◌, ◌↔◌, ◌⊎◌, inl, inr, ℕ, ◌<◌, ◌≤◌, List, refl, sym, ap, subst, ◌∙◌, arith}
-use Rattle.layout.specs.Fields.{word, inode_kind, page_owner, page_kind, slot_inode, slot_pointer}
+use Rattle.layout.specs.Fields.{word, inode_words, inode_kind, page_owner, page_kind, slot_inode, slot_pointer}
 use Rattle.layout.specs.Geometry.{inodes_of, data_pages_of, page_of_slot, inode_word_of, slot_word_of}
 use Rattle.image_reading.specs.Reading.{slot_owner, IsHeld, IsLive, Reached, IsReachedSlot, IsRoomOf, IsNameOf, IsChildOf}
 use Rattle.image_reading.specs.Repairs.{IsPointer, IsLitterSlot, IsLitterPage, IsLitterCount}
@@ -16,13 +16,14 @@ use Rattle.weave_laws.proofs.Same as same
 -- These pages are to be repaired before, no slot of theirs points, and then they have no owner. Other descriptors stay, and slots, and inodes that are reached.
 pub record LosesPages (P : ℕ) (I J : List ℕ) (Page : ℕ → Type 0) : Type 0 where
   pub meaning : SameMeaning P I J
+  pub version : word J 1 ≡ word I 1
   pub decided : (j : ℕ) → Page j ⊎ (Page j → ⊥)
   pub left : (j : ℕ) → Page j → IsLitterPage P I j
   pub pointers : (t : ℕ) → Page (page_of_slot t) → IsHeld P I t → slot_pointer P I t ≡ 0
   pub unowned : (j : ℕ) → Page j → page_owner P J j ≡ 0
   pub descriptors : KeepsDescriptors P I J Page
   pub slots : (t f : ℕ) → word J (slot_word_of P t f) ≡ word I (slot_word_of P t f)
-  pub inodes : (x f : ℕ) → Reached P I x → 1 ≤ x → x ≤ inodes_of P → f < 4 → word J (inode_word_of x f) ≡ word I (inode_word_of x f)
+  pub inodes : (x f : ℕ) → Reached P I x → 1 ≤ x → x ≤ inodes_of P → f < inode_words I → word J (inode_word_of x f) ≡ word I (inode_word_of x f)
 
 -- a page with a reached slot
 room_of : (P : ℕ) (X : List ℕ) (x j t : ℕ) → IsReachedSlot P X t → page_of_slot t ≡ j → slot_owner P X t ≡ x → IsRoomOf P X x j
@@ -41,7 +42,7 @@ module _ {P : ℕ} {I J : List ℕ} {Page : ℕ → Type 0} (loses : LosesPages 
   range x r = in_range P J loses.meaning.coherent x ((reached x).0 r)
 
   nodes : KeepsInodes I J (Reached P I) (λ x. ⊥)
-  nodes = by_inodes P I J (Reached P I) (λ x. ⊥) range (λ x f r some most lt links. loses.inodes x f r some most (omega (arith, lt)))
+  nodes = by_inodes P I J (Reached P I) (λ x. ⊥) range (λ x f r some most lt links. loses.inodes x f r some most lt)
 
   paged : KeepsPages P I J Page
   paged = by_words P I J Page loses.descriptors
@@ -142,7 +143,7 @@ module _ {P : ℕ} {I J : List ℕ} {Page : ℕ → Type 0} (loses : LosesPages 
   ]
 
   pub page_same : (j : ℕ) → ¬ Page j → IsLitterPage P I j ↔ IsLitterPage P J j
-  page_same = same.page_same P I J Page loses.descriptors nodes.kind nodes.size (λ x r. (reached x).0 r) (λ j lt r. (reached (page_owner P I j)).1 r) (λ x j other. rooms x j)
+  page_same = same.page_same P I J Page loses.descriptors loses.version nodes.kind nodes.size (λ x r. (reached x).0 r) (λ j lt r. (reached (page_owner P I j)).1 r) (λ x j other. rooms x j)
 
   pub mark_kept : (j : ℕ) → ¬ Page j → j < data_pages_of P → (page_owner P I j ≢ 0) ⊎ (page_kind P I j ≢ 0) → (page_owner P J j ≢ 0) ⊎ (page_kind P J j ≢ 0)
   mark_kept j other lt mark = elim mark [

@@ -1,8 +1,11 @@
 -- A new node is written with its name: the slot, the inode and the link word of a directory's parent are to be repaired then.
-use Rattle.std.proofs.Common.{◌≡◌, ◌≢◌, inl, inr, ℕ, ◌≤◌, List, ◌∷◌, ◌++◌, slice_index, sym, subst, ◌∙◌, arith}
+use Rattle.std.proofs.Common.{◌≡◌, ◌≢◌, inl, inr, ℕ, ◌≤◌, List, ◌∷◌, ◌++◌, slice_index, refl, sym, subst, ◌∙◌, arith}
 use Rattle.layout.specs.Fields.{inode_kind, inode_links}
+use Rattle.layout.specs.Kinds.{node_code}
+use Rattle.layout.specs.declared.kinds.NodeKind.{NodeKind}
+use Rattle.layout.specs.declared.kinds.NodeKind.TheVariants.{File, Directory}
+use Rattle.layout.proofs.Widths.{inode_field_read}
 use Rattle.tree_model.specs.PathText.{Route}
-use Rattle.tree_model.specs.Tree.{Node, Directory, File}
 use Rattle.image_reading.specs.Counts.{IsIn, IsListOf}
 use Rattle.image_reading.specs.Reading.{Reached}
 use Rattle.image_reading.specs.Repairs.{IsLitterInode, IsLitterCount}
@@ -16,17 +19,17 @@ use Rattle.weave_laws.proofs.FreeBeside.{kindless_tidy}
 use Rattle.weave_laws.proofs.Listed.{listed_more}
 use Rattle.weave_laws.proofs.Written as after
 
-pub some_kind : (node : Node) (i : ℕ) → slice_index (node_words node i) 0 ≢ 0
-some_kind Directory i z = omega (arith, z)
-some_kind (File bytes) i z = omega (arith, z)
+pub some_code : (kind : NodeKind) → node_code kind ≢ 0
+some_code Directory z = omega (arith, z)
+some_code File z = omega (arith, z)
 
-module _ (P : ℕ) (I J : List ℕ) (p : Route) (node : Node) (d s i : ℕ) (name : List ℕ) (others : Residue) (ready : IsReady P I p d s i name) (none : inode_kind I i ≡ 0)
-    (makes : MakesNode P I J node d s i name) (tidy : IsTidyBeside P I others) where
+module _ (P : ℕ) (I J : List ℕ) (p : Route) (kind : NodeKind) (d s i : ℕ) (name : List ℕ) (others : Residue) (ready : IsReady P I p d s i name) (none : inode_kind I i ≡ 0)
+    (makes : MakesNode P I J kind d s i name) (tidy : IsTidyBeside P I others) where
   written : IsWritten P I J s i d name
   written = record {
-    named = making.named P I J p node d s i name ready makes;
+    named = making.named P I J p kind d s i name ready makes;
     linked = (p, ready.place.slot.path);
-    inodes = λ x f some most lt old links. making.inode_same P I J p node d s i name ready makes x f some most lt (elim old [
+    inodes = λ x f some most lt old links. making.inode_same P I J p kind d s i name ready makes x f some most lt (elim old [
       | inl r ↦ λ e. ready.inode.unreached (subst (Reached P I) e r)
       | inr ne ↦ ne
     ]) links;
@@ -36,7 +39,7 @@ module _ (P : ℕ) (I J : List ℕ) (p : Route) (node : Node) (d s i : ℕ) (nam
   least = let two = ready.inode.least in omega (arith, two)
 
   new_kind : inode_kind J i ≢ 0
-  new_kind z = some_kind node i (sym (making.made_kind P I J p node d s i name ready makes) ∙ z)
+  new_kind z = some_code kind (sym (making.made_kind P I J p kind d s i name ready makes) ∙ z)
 
   new_inode : IsLitterInode P J i
   unfolding inode_kind
@@ -44,7 +47,7 @@ module _ (P : ℕ) (I J : List ℕ) (p : Route) (node : Node) (d s i : ℕ) (nam
     least = least;
     most = ready.inode.most;
     unreached = λ r. ready.inode.unreached ((after.reached ready.place written i).1 r);
-    nonzero = (0, omega arith, new_kind);
+    nonzero = (0, inode_field_read J 0 (omega arith), new_kind);
   }
 
   no_inode : ¬ IsLitterInode P I i
@@ -54,9 +57,9 @@ module _ (P : ℕ) (I J : List ℕ) (p : Route) (node : Node) (d s i : ℕ) (nam
   inodes_after = listed_more (IsLitterInode P I) (IsLitterInode P J) i others.inodes no_inode new_inode
       (λ x ne. after.inode_same ready.place written x (inr ne)) tidy.of_inodes
 
-  counts_after : (kind : Node) → inode_links J d ≡ parent_links kind (inode_links I d) → IsCountedParent P I kind d → IsListOf (IsLitterCount P J) (counts_left kind d ++ others.counts)
+  counts_after : (kind : NodeKind) → inode_links J d ≡ parent_links kind (inode_links I d) → IsCountedParent P I kind d → IsListOf (IsLitterCount P J) (counts_left kind d ++ others.counts)
   counts_after Directory links counted = after.counts_more ready.place written links counted others.counts tidy.of_counts
-  counts_after (File bytes) links counted = after.counts_same ready.place written links others.counts tidy.of_counts
+  counts_after File links counted = after.counts_same ready.place written links others.counts tidy.of_counts
 
   kind_after : (x : ℕ) → IsIn x (i ∷ others.inodes) → inode_kind J x ≢ 0
   kind_after x among = elim among [
@@ -67,14 +70,14 @@ module _ (P : ℕ) (I J : List ℕ) (p : Route) (node : Node) (d s i : ℕ) (nam
   ]
 
 pub node_written_law : NodeWrittenLaw
-node_written_law P I J p node d s i name others ready blank none counted makes tidy =
-    let written = written P I J p node d s i name others ready none makes tidy in
+node_written_law P I J p kind d s i name others ready blank none counted makes tidy =
+    let written = written P I J p kind d s i name others ready none makes tidy in
     record {
       of_pointer = λ t. ((λ e. (after.pointer_same ready.place written t).0 ((tidy.of_pointer t).0 e)), (λ l. (tidy.of_pointer t).1 ((after.pointer_same ready.place written t).1 l)));
       of_slots = after.slots_after ready.place written blank others.slots tidy.of_slots;
       of_pages = after.pages_after ready.place written others.pages tidy.of_pages;
-      of_inodes = inodes_after P I J p node d s i name others ready none makes tidy;
-      of_counts = counts_after P I J p node d s i name others ready none makes tidy node makes.parent counted;
-      kinds = kind_after P I J p node d s i name others ready none makes tidy;
+      of_inodes = inodes_after P I J p kind d s i name others ready none makes tidy;
+      of_counts = counts_after P I J p kind d s i name others ready none makes tidy kind makes.parent counted;
+      kinds = kind_after P I J p kind d s i name others ready none makes tidy;
       marks = λ j among. after.mark_kept ready.place written j ((tidy.of_pages.each j).0 among).in_range (tidy.marks j among);
     }

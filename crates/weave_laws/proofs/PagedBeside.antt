@@ -2,7 +2,8 @@
 use Rattle.std.proofs.Common.{◌≡◌, ◌≢◌, ◌↔◌, ◌⊎◌, inl, inr, ℕ, ◌+◌, ◌<◌, ◌≤◌, List, ◌∷◌, sym, ap, subst, ◌∙◌, arith}
 use Rattle.std.proofs.lemmas.Bool.{cases_eq}
 use Rattle.layout.specs.Geometry.{inodes_of, data_pages_of, page_of_slot, inode_word_of, slot_word_of}
-use Rattle.layout.specs.Fields.{word, inode_kind, inode_links, page_owner, page_kind, slot_inode, slot_pointer}
+use Rattle.layout.specs.Fields.{word, inode_words, inode_kind, inode_links, page_owner, page_kind, slot_inode, slot_pointer}
+use Rattle.layout.proofs.Widths.{inode_field_read, descriptor_field_read}
 use Rattle.image_reading.specs.Counts.{IsIn, IsListOf}
 use Rattle.image_reading.specs.Reading.{slot_owner, IsHeld, Reached, IsRoomOf, IsLinkCount}
 use Rattle.image_reading.specs.Repairs.{IsKeptFilePage, IsPointer, IsLitterSlot, IsLitterPage, IsLitterInode, IsLitterCount}
@@ -27,7 +28,7 @@ pub record ChangesPage (P : ℕ) (A K : List ℕ) (j i y : ℕ) : Type 0 where
   pub entries : SameEntries P A K
   pub descriptors : KeepsDescriptors P A K (λ x. x ≡ j)
   pub slots : (t f : ℕ) → f < 16 → page_of_slot t ≢ j → word K (slot_word_of P t f) ≡ word A (slot_word_of P t f)
-  pub inodes : (x f : ℕ) → 1 ≤ x → x ≤ inodes_of P → f < 4 → Reached P A x ⊎ (x ≢ i) → (f ≢ 1) ⊎ (x ≢ y) → word K (inode_word_of x f) ≡ word A (inode_word_of x f)
+  pub inodes : (x f : ℕ) → 1 ≤ x → x ≤ inodes_of P → f < inode_words A → Reached P A x ⊎ (x ≢ i) → (f ≢ 1) ⊎ (x ≢ y) → word K (inode_word_of x f) ≡ word A (inode_word_of x f)
   pub linked : Reached P A y
   pub kind : page_kind P K j ≡ 2
   pub pointers : (t : ℕ) → page_of_slot t ≡ j → slot_pointer P K t ≡ 0
@@ -38,7 +39,7 @@ module _ {P : ℕ} {A K : List ℕ} {j i y : ℕ} (change : ChangesPage P A K j 
   reached x = ((λ (q, b). (q, (change.entries.same.names q x).0 b)), (λ (q, b). (q, (change.entries.same.names q x).1 b)))
 
   nodes : KeepsInodes A K (Reached P A) (λ x. x ≡ y)
-  nodes = by_inodes P A K (Reached P A) (λ x. x ≡ y) (in_range P A change.before) (λ x f r some most lt links. change.inodes x f some most (omega (arith, lt)) (inl r) links)
+  nodes = by_inodes P A K (Reached P A) (λ x. x ≡ y) (in_range P A change.before) (λ x f r some most lt links. change.inodes x f some most lt (inl r) links)
 
   paged : KeepsPages P A K (λ x. x ≡ j)
   paged = by_words P A K (λ x. x ≡ j) change.descriptors
@@ -97,7 +98,7 @@ module _ {P : ℕ} {A K : List ℕ} {j i y : ℕ} (change : ChangesPage P A K j 
   slots_after rest = listed_same (IsLitterSlot P A) (IsLitterSlot P K) rest slot_same
 
   page_same : (x : ℕ) → x ≢ j → IsLitterPage P A x ↔ IsLitterPage P K x
-  page_same = same.page_same P A K (λ x. x ≡ j) change.descriptors nodes.kind nodes.size (λ x r. (reached x).0 r) (λ x lt r. (reached (page_owner P A x)).1 r) (λ x k other. change.entries.rooms x k)
+  page_same = same.page_same P A K (λ x. x ≡ j) change.descriptors change.entries.version nodes.kind nodes.size (λ x r. (reached x).0 r) (λ x lt r. (reached (page_owner P A x)).1 r) (λ x k other. change.entries.rooms x k)
 
   some_kind : page_kind P K j ≢ 0
   some_kind z = let two = change.kind in omega (arith, two, z)
@@ -107,7 +108,7 @@ module _ {P : ℕ} {A K : List ℕ} {j i y : ℕ} (change : ChangesPage P A K j 
   new_page = record {
     in_range = change.free.0;
     free = λ is_kept. elim is_kept [ inl file ↦ change.no_file file | inr room ↦ no_room (page_owner P K j) room ];
-    nonzero = (1, omega arith, some_kind);
+    nonzero = (1, descriptor_field_read K 1 (omega arith), some_kind);
   }
 
   pub pages_more : ¬ IsLitterPage P A j → (rest : List ℕ) → IsListOf (IsLitterPage P A) rest → IsListOf (IsLitterPage P K) (j ∷ rest)
@@ -137,16 +138,16 @@ module _ {P : ℕ} {A K : List ℕ} {j i y : ℕ} (change : ChangesPage P A K j 
 
   -- ---- inodes and links
 
-  inode_word : (x f : ℕ) → 1 ≤ x → x ≤ inodes_of P → f < 4 → x ≢ i → ¬ Reached P A x → word K (inode_word_of x f) ≡ word A (inode_word_of x f)
+  inode_word : (x f : ℕ) → 1 ≤ x → x ≤ inodes_of P → f < inode_words A → x ≢ i → ¬ Reached P A x → word K (inode_word_of x f) ≡ word A (inode_word_of x f)
   inode_word x f least most lt other unreached = change.inodes x f least most lt (inr other) (inr (λ e. unreached (subst (Reached P A) (sym e) change.linked)))
 
   pub inode_same : (x : ℕ) → Reached P A x ⊎ (x ≢ i) → IsLitterInode P A x ↔ IsLitterInode P K x
-  inode_same x old = same.inode_same P A K x (reached x) (λ f least most lt unreached.
+  inode_same x old = same.inode_same P A K x change.entries.version (reached x) (λ f least most lt unreached.
       inode_word x f least most lt (elim old [ inl r ↦ absurd (unreached r) | inr ne ↦ ne ]) unreached)
 
   pub kind_kept : (x : ℕ) → x ≢ i → IsLitterInode P A x → inode_kind A x ≢ 0 → inode_kind K x ≢ 0
   unfolding inode_kind
-  kind_kept x ne l kind z = kind (sym (inode_word x 0 l.least l.most (omega arith) ne l.unreached) ∙ z)
+  kind_kept x ne l kind z = kind (sym (inode_word x 0 l.least l.most (inode_field_read A 0 (omega arith)) ne l.unreached) ∙ z)
 
   raised : Raises P A K y
   raised = record { kept = kept; nodes = nodes; reached = reached; linked = change.linked }

@@ -1,8 +1,9 @@
 -- A link is written in a new page: the page and the file's link word are to be repaired then.
 use Rattle.std.proofs.Common.{◌≡◌, ◌≢◌, ◌⊎◌, inl, inr, ℕ, ◌+◌, ◌<◌, ◌≤◌, List, sym, ap, subst, ◌∙◌, arith}
 use Rattle.std.proofs.lemmas.Bool.{cases_eq}
-use Rattle.layout.specs.Fields.{word, inode_links}
+use Rattle.layout.specs.Fields.{word, IsKindOrOffset, inode_words, descriptor_words, inode_links}
 use Rattle.layout.specs.Geometry.{inodes_of, data_pages_of, page_of_slot, inode_word_of, descriptor_word_of, slot_word_of, page_word_of}
+use Rattle.layout.proofs.Widths.{in_inode, in_descriptor}
 use Rattle.image_reading.specs.Reading.{Reached}
 use Rattle.image_reading.specs.Repairs.{IsLitterInode}
 use Rattle.image_reading.specs.Soundness.{Rule, IsCoherent, HasLinks}
@@ -29,32 +30,34 @@ module _ (P : ℕ) (I J : List ℕ) (j s i : ℕ) (name : List ℕ) (coherent : 
   range : (1 ≤ i) × (i ≤ inodes_of P)
   range = in_range P I coherent i file.reached
 
-  same_word : (a : ℕ) → ((w : ℕ) → w < 512 → a ≢ page_word_of P j w) → ((f : ℕ) → 1 ≤ f → f < 3 → a ≢ descriptor_word_of P j f)
+  same_word : (a : ℕ) → ((w : ℕ) → w < 512 → a ≢ page_word_of P j w) → ((f : ℕ) → IsKindOrOffset f → a ≢ descriptor_word_of P j f)
       → ((k : ℕ) → k < 14 → a ≢ slot_word_of P s (2 + k)) → a ≢ inode_word_of i 1 → word J a ≡ word I a
   same_word a page descriptor slot links = makes.others a (not_page_made P j a page descriptor) (not_linked P s i a slot links)
 
-  descriptor_same : (x f : ℕ) → x < data_pages_of P → f < 3 → (x ≢ j) ⊎ (f ≡ 0) → word J (descriptor_word_of P x f) ≡ word I (descriptor_word_of P x f)
-  descriptor_same x f lt l3 other = same_word (descriptor_word_of P x f)
-      (λ w l. descriptor-ne_page P x f j w lt (omega (arith, l3)))
-      (descriptor_apart P j x f l3 other)
-      (λ k l. descriptor-ne_slot P x f s (2 + k) lt (omega (arith, l3)))
+  descriptor_same : (x f : ℕ) → x < data_pages_of P → f < descriptor_words I → (x ≢ j) ⊎ (f ≡ 0) → word J (descriptor_word_of P x f) ≡ word I (descriptor_word_of P x f)
+  descriptor_same x f lt read other = same_word (descriptor_word_of P x f)
+      (λ w l. descriptor-ne_page P x f j w lt (in_descriptor I f read))
+      (descriptor_apart P j x f (in_descriptor I f read) other)
+      (λ k l. descriptor-ne_slot P x f s (2 + k) lt (in_descriptor I f read))
       (descriptor-ne_inode P x f i 1 range.0 range.1 (omega arith))
 
   slot_same : (t f : ℕ) → f < 16 → page_of_slot t ≢ j → word J (slot_word_of P t f) ≡ word I (slot_word_of P t f)
   slot_same t f lt beside = same_word (slot_word_of P t f)
       (λ w l e. page-ne_slot P j w t f l lt (λ z. beside (sym z)) (sym e))
-      (λ g low high e. descriptor-ne_slot P j g t f page.0 (omega arith) (sym e))
+      (λ g which e. descriptor-ne_slot P j g t f page.0 (omega (arith, which)) (sym e))
       (λ k l. slot-ne_slot P t f s (2 + k) lt (omega arith) (λ e. beside (ap page_of_slot e ∙ at)))
       (λ e. inode-ne_slot P i 1 t f range.0 range.1 (omega arith) (sym e))
 
-  inode_same : (x f : ℕ) → 1 ≤ x → x ≤ inodes_of P → f < 4 → (f ≢ 1) ⊎ (x ≢ i) → word J (inode_word_of x f) ≡ word I (inode_word_of x f)
-  inode_same x f some most lt links = same_word (inode_word_of x f)
-      (λ w l e. page-ne_inode P j w x f some most (omega (arith, lt)) (sym e))
-      (λ g low high e. descriptor-ne_inode P j g x f some most (omega (arith, lt)) (sym e))
-      (λ k l. inode-ne_slot P x f s (2 + k) some most (omega (arith, lt)))
+  inode_same : (x f : ℕ) → 1 ≤ x → x ≤ inodes_of P → f < inode_words I → (f ≢ 1) ⊎ (x ≢ i) → word J (inode_word_of x f) ≡ word I (inode_word_of x f)
+  inode_same x f some most lt links =
+      let own = in_inode I f lt in
+      same_word (inode_word_of x f)
+      (λ w l e. page-ne_inode P j w x f some most own (sym e))
+      (λ g which e. descriptor-ne_inode P j g x f some most own (sym e))
+      (λ k l. inode-ne_slot P x f s (2 + k) some most own)
       (elim links [
-        | inl field ↦ inode-ne_field x f i 1 (omega (arith, lt)) (omega arith) field
-        | inr ne ↦ inode-ne_inode x f i 1 some range.0 ne (omega (arith, lt)) (omega arith)
+        | inl field ↦ inode-ne_field x f i 1 own (omega arith) field
+        | inr ne ↦ inode-ne_inode x f i 1 some range.0 ne own (omega arith)
       ])
 
   free_linked : (a : ℕ) → (IsPageMadeWord P j a → ⊥) → IsLinkedWord P s i a → IsFree P I a

@@ -1,8 +1,9 @@
 -- A page in which nothing is named yet gets its owner: what is to be repaired is the same.
 use Rattle.std.proofs.Common.{◌≡◌, ◌≢◌, ◌⊎◌, inl, inr, ℕ, ◌<◌, ◌≤◌, List, sym, ap, ◌∙◌, arith}
-use Rattle.layout.specs.Fields.{word, inode_kind, inode_links, page_owner, page_kind, slot_pointer}
+use Rattle.layout.specs.Fields.{word, inode_words, inode_kind, inode_links, page_owner, page_kind, slot_pointer}
 use Rattle.layout.specs.Geometry.{inodes_of, inode_word_of, descriptor_word_of, slot_word_of}
-use Rattle.image_reading.specs.Reading.{IsDirectory, Reached}
+use Rattle.layout.proofs.Widths.{in_inode, in_descriptor, inode_field_read, descriptor_field_read}
+use Rattle.image_reading.specs.Reading.{IsDirectory, HasBytes, Reached}
 use Rattle.image_reading.specs.Repairs.{IsKeptFilePage, IsLitterPage, IsLitterInode}
 use Rattle.image_reading.specs.Soundness.{IsCoherent}
 use Rattle.image_counts.specs.Entries.{IsFreePage}
@@ -24,8 +25,8 @@ module _ (P : ℕ) (I : List ℕ) (d j : ℕ) (coherent : IsCoherent P I) (reach
   owner : page_owner P K j ≡ d
   owner = owned_owner P I j d coherent reached directory free.0 free.1 empty.kind empty.numbers empty.pointers
 
-  inode_same : (x f : ℕ) → 1 ≤ x → x ≤ inodes_of P → f < 4 → word K (inode_word_of x f) ≡ word I (inode_word_of x f)
-  inode_same x f some most lt = owned_inode P I j d coherent reached directory free.0 free.1 empty.kind empty.numbers empty.pointers x f some most (omega (arith, lt))
+  inode_same : (x f : ℕ) → 1 ≤ x → x ≤ inodes_of P → f < inode_words I → word K (inode_word_of x f) ≡ word I (inode_word_of x f)
+  inode_same x f some most lt = owned_inode P I j d coherent reached directory free.0 free.1 empty.kind empty.numbers empty.pointers x f some most (in_inode I f lt)
 
   slot_same : (t f : ℕ) → word K (slot_word_of P t f) ≡ word I (slot_word_of P t f)
   slot_same = owned_slot P I j d coherent reached directory free.0 free.1 empty.kind empty.numbers empty.pointers
@@ -46,17 +47,17 @@ module _ (P : ℕ) (I : List ℕ) (d j : ℕ) (coherent : IsCoherent P I) (reach
 
   d_kind : inode_kind K d ≡ inode_kind I d
   unfolding inode_kind
-  d_kind = inode_same d 0 d_range.0 d_range.1 (omega arith)
+  d_kind = inode_same d 0 d_range.0 d_range.1 (inode_field_read I 0 (omega arith))
 
   links_same : inode_links K d ≡ inode_links I d
   unfolding inode_links
-  links_same = inode_same d 1 d_range.0 d_range.1 (omega arith)
+  links_same = inode_same d 1 d_range.0 d_range.1 (inode_field_read I 1 (omega arith))
 
   -- a directory has no bytes
   no_file : ¬ IsKeptFilePage P K j
   no_file kept =
-      let one : inode_kind K d ≡ 1 = ap (inode_kind K) (sym owner) ∙ kept.file in
-      let two : inode_kind K d ≡ 2 = d_kind ∙ directory in
+      let one : HasBytes K d = ap (inode_kind K) (sym owner) ∙ kept.file in
+      let two : IsDirectory K d = d_kind ∙ directory in
       omega (arith, one, two)
 
   -- inode 0 stands for none
@@ -65,7 +66,7 @@ module _ (P : ℕ) (I : List ℕ) (d j : ℕ) (coherent : IsCoherent P I) (reach
     before = coherent;
     free = free;
     entries = entries_stores P I K coherent (owned_stores P I j d coherent reached directory free.0 free.1 empty.kind empty.numbers empty.pointers);
-    descriptors = λ x f lt l3 ne. descriptor_same x f (omega (arith, l3)) (inl ne);
+    descriptors = λ x f lt read ne. descriptor_same x f (in_descriptor I f read) (inl ne);
     slots = λ t f lt beside. slot_same t f;
     inodes = λ x f some most lt old links. inode_same x f some most lt;
     linked = reached;
@@ -80,7 +81,7 @@ module _ (P : ℕ) (I : List ℕ) (d j : ℕ) (coherent : IsCoherent P I) (reach
   left = record {
     in_range = free.0;
     free = λ is_kept. elim is_kept [ inl file ↦ reached_pos P I (page_owner P I j) file.owner free.1 | inr room ↦ reached_pos P I (page_owner P I j) room.reached free.1 ];
-    nonzero = (1, omega arith, λ none. (let two = empty.kind in omega (arith, two, none)));
+    nonzero = (1, descriptor_field_read I 1 (omega arith), λ none. (let two = empty.kind in omega (arith, two, none)));
   }
 
 pub page_owned_law : PageOwnedLaw

@@ -22,9 +22,9 @@ module _ (P : ℕ) (I J : List ℕ) (i : ℕ) (pages : List ℕ) (may : MayOwn P
   in_range : (j : ℕ) → Contains pages j → j < data_pages_of P
   in_range j is = (may.filled j is).free.0
 
-  pub descriptor_same : (j f : ℕ) → f < 3 → (f ≢ 0) ⊎ ¬ Contains pages j → word J (descriptor_word_of P j f) ≡ word I (descriptor_word_of P j f)
-  descriptor_same j f l3 why = takes.others (descriptor_word_of P j f) (λ h is e.
-      let (x, y) = descriptor_word-one P j f h 0 (omega (arith, l3)) (omega arith) e in
+  pub descriptor_same : (j f : ℕ) → f < 8 → (f ≢ 0) ⊎ ¬ Contains pages j → word J (descriptor_word_of P j f) ≡ word I (descriptor_word_of P j f)
+  descriptor_same j f l8 why = takes.others (descriptor_word_of P j f) (λ h is e.
+      let (x, y) = descriptor_word-one P j f h 0 l8 (omega arith) e in
       elim why [ inl field ↦ field y | inr none ↦ none (subst (Contains pages) (sym x) is) ])
 
   pub kind_same : (j : ℕ) → page_kind P J j ≡ page_kind P I j

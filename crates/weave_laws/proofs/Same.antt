@@ -1,7 +1,8 @@
 -- A place that a step leaves alone is to be repaired after it exactly where it was before. A are the words before the step, K those after it.
 use Rattle.std.proofs.Common.{◌≡◌, ◌↔◌, ◌⊎◌, inl, inr, ℕ, ◌<◌, ◌≤◌, List, sym, ap, subst, ◌∙◌, arith}
 use Rattle.layout.specs.Geometry.{inodes_of, data_pages_of, page_of_slot, inode_word_of, slot_word_of}
-use Rattle.layout.specs.Fields.{word, inode_kind, inode_links, inode_size, page_owner, page_offset, slot_pointer}
+use Rattle.layout.specs.Fields.{word, inode_words, inode_kind, inode_links, inode_size, page_owner, page_offset, slot_pointer}
+use Rattle.layout.proofs.Widths.{same_inode_words, same_descriptor_words}
 use Rattle.image_reading.specs.Reading.{HasBytes, IsDirectory, Reached, IsRoomOf, IsNameOf, IsChildOf, IsLinkCount, pages_of_size}
 use Rattle.image_reading.specs.Repairs.{IsPointer, IsLitterSlot, IsLitterPage, IsLitterInode, IsLitterCount}
 use Rattle.image_reading.proofs.Counts.{count_one}
@@ -44,7 +45,10 @@ module _ {P : ℕ} {A K : List ℕ} {Slot Page : ℕ → Type 0} (keeps : KeepsS
 
 -- ---- pages
 
-module _ (P : ℕ) (A K : List ℕ) (Page : ℕ → Type 0) (words : KeepsDescriptors P A K Page) (kinds : (x : ℕ) → Reached P A x → inode_kind K x ≡ inode_kind A x)
+pub descriptors_flipped : (P : ℕ) (A K : List ℕ) (Page : ℕ → Type 0) → KeepsDescriptors P A K Page → word K 1 ≡ word A 1 → KeepsDescriptors P K A Page
+descriptors_flipped P A K Page words version j f lt read other = sym (words j f lt (subst (λ n. f < n) (same_descriptor_words A K version) read) other)
+
+module _ (P : ℕ) (A K : List ℕ) (Page : ℕ → Type 0) (words : KeepsDescriptors P A K Page) (version : word K 1 ≡ word A 1) (kinds : (x : ℕ) → Reached P A x → inode_kind K x ≡ inode_kind A x)
     (sizes : (x : ℕ) → Reached P A x → inode_size K x ≡ inode_size A x) (forth : (x : ℕ) → Reached P A x → Reached P K x)
     (back : (j : ℕ) → j < data_pages_of P → Reached P K (page_owner P A j) → Reached P A (page_owner P A j))
     (rooms : (x j : ℕ) → ¬ Page j → IsRoomOf P A x j ↔ IsRoomOf P K x j) where
@@ -53,7 +57,8 @@ module _ (P : ℕ) (A K : List ℕ) (Page : ℕ → Type 0) (words : KeepsDescri
 
   page_forth : (j : ℕ) → ¬ Page j → IsLitterPage P A j → IsLitterPage P K j
   page_forth = litter_page P K A Page
-      (λ j f lt l3 other. sym (words j f lt l3 other))
+      (descriptors_flipped P A K Page words version)
+      (sym version)
       (λ x is was. sym (kinds x was))
       (λ j lt other r. subst (Reached P A) (sym (keeps.owner j lt other)) (back j lt (subst (Reached P K) (keeps.owner j lt other) r)))
       (λ j other kept.
@@ -66,6 +71,7 @@ module _ (P : ℕ) (A K : List ℕ) (Page : ℕ → Type 0) (words : KeepsDescri
   page_back : (j : ℕ) → ¬ Page j → IsLitterPage P K j → IsLitterPage P A j
   page_back = litter_page P A K Page
       words
+      version
       (λ x was is. kinds x was)
       (λ j lt other r. forth (page_owner P A j) r)
       (λ j other kept. subst (λ z. page_offset P A j < pages_of_size z) (sym (sizes (page_owner P A j) kept.owner)) kept.below)
@@ -76,16 +82,18 @@ module _ (P : ℕ) (A K : List ℕ) (Page : ℕ → Type 0) (words : KeepsDescri
 
 -- ---- inodes
 
-module _ (P : ℕ) (A K : List ℕ) (x : ℕ) (reached : Reached P A x ↔ Reached P K x) where
-  pub inode_same : ((f : ℕ) → 1 ≤ x → x ≤ inodes_of P → f < 4 → ¬ Reached P A x → word K (inode_word_of x f) ≡ word A (inode_word_of x f)) → IsLitterInode P A x ↔ IsLitterInode P K x
+module _ (P : ℕ) (A K : List ℕ) (x : ℕ) (version : word K 1 ≡ word A 1) (reached : Reached P A x ↔ Reached P K x) where
+  pub inode_same : ((f : ℕ) → 1 ≤ x → x ≤ inodes_of P → f < inode_words A → ¬ Reached P A x → word K (inode_word_of x f) ≡ word A (inode_word_of x f)) → IsLitterInode P A x ↔ IsLitterInode P K x
   inode_same words = (
     (λ l.
         let (f, lt, nonzero) = l.nonzero in
-        record { least = l.least; most = l.most; unreached = λ r. l.unreached (reached.1 r); nonzero = (f, lt, λ z. nonzero (sym (words f l.least l.most lt l.unreached) ∙ z)) }),
+        let read = subst (λ n. f < n) (same_inode_words K A (sym version)) lt in
+        record { least = l.least; most = l.most; unreached = λ r. l.unreached (reached.1 r); nonzero = (f, read, λ z. nonzero (sym (words f l.least l.most lt l.unreached) ∙ z)) }),
     (λ l.
         let (f, lt, nonzero) = l.nonzero in
+        let read = subst (λ n. f < n) (same_inode_words A K version) lt in
         let before : ¬ Reached P A x = λ r. l.unreached (reached.0 r) in
-        record { least = l.least; most = l.most; unreached = before; nonzero = (f, lt, λ z. nonzero (words f l.least l.most lt before ∙ z)) }),
+        record { least = l.least; most = l.most; unreached = before; nonzero = (f, read, λ z. nonzero (words f l.least l.most read before ∙ z)) }),
   )
 
 -- ---- links

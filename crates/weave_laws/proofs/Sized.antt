@@ -1,8 +1,9 @@
 -- A file's pages, bytes or size change, and no directory: what is to be repaired after it is what was before, but pages of the file.
 use Rattle.std.proofs.Common.{◌≡◌, ◌≢◌, ◌↔◌, ◌⊎◌, inl, inr, ℕ, ◌<◌, ◌≤◌, List, sym, ap, subst, ◌∙◌, arith}
 use Rattle.tree_model.specs.PathText.{Route}
-use Rattle.layout.specs.Fields.{word, inode_kind, inode_links, inode_size, page_owner, page_kind, page_offset, slot_inode, slot_pointer}
+use Rattle.layout.specs.Fields.{word, inode_words, inode_kind, inode_links, inode_size, page_owner, page_kind, page_offset, slot_inode, slot_pointer}
 use Rattle.layout.specs.Geometry.{inodes_of, data_pages_of, page_of_slot, inode_word_of, slot_word_of}
+use Rattle.layout.proofs.Widths.{inode_field_read}
 use Rattle.image_reading.specs.Counts.{IsIn, IsListOf}
 use Rattle.image_reading.specs.Reading.{slot_owner, IsHeld, IsLive, Names, Reached, IsReachedSlot, IsRoomOf, pages_of_size}
 use Rattle.image_reading.specs.Repairs.{IsKeptFilePage, IsPointer, IsLitterSlot, IsLitterPage, IsLitterInode, IsLitterCount}
@@ -23,11 +24,12 @@ pub record ChangesFile (P : ℕ) (A K : List ℕ) (i : ℕ) (Page : ℕ → Type
   pub after : IsCoherent P K
   pub file : Reached P A i
   pub names : (p : Route) (x : ℕ) → Names P A p x ↔ Names P K p x
+  pub version : word K 1 ≡ word A 1
   pub descriptors : KeepsDescriptors P A K Page
   pub unheld : (t : ℕ) → Page (page_of_slot t) → ¬ IsHeld P A t
   pub unheld_after : (t : ℕ) → Page (page_of_slot t) → ¬ IsHeld P K t
   pub slots : (t f : ℕ) → IsHeld P A t → f < 16 → word K (slot_word_of P t f) ≡ word A (slot_word_of P t f)
-  pub inodes : (x f : ℕ) → 1 ≤ x → x ≤ inodes_of P → f < 4 → (f ≢ 2) ⊎ (x ≢ i) → word K (inode_word_of x f) ≡ word A (inode_word_of x f)
+  pub inodes : (x f : ℕ) → 1 ≤ x → x ≤ inodes_of P → f < inode_words A → (f ≢ 2) ⊎ (x ≢ i) → word K (inode_word_of x f) ≡ word A (inode_word_of x f)
 
 module _ {P : ℕ} {A K : List ℕ} {i : ℕ} {Page : ℕ → Type 0} (change : ChangesFile P A K i Page) where
   pub reached : (x : ℕ) → Reached P A x ↔ Reached P K x
@@ -38,18 +40,18 @@ module _ {P : ℕ} {A K : List ℕ} {i : ℕ} {Page : ℕ → Type 0} (change : 
 
   pub kind_same : (x : ℕ) → 1 ≤ x → x ≤ inodes_of P → inode_kind K x ≡ inode_kind A x
   unfolding inode_kind
-  kind_same x some most = change.inodes x 0 some most (omega arith) (inl (λ e. omega (arith, e)))
+  kind_same x some most = change.inodes x 0 some most (inode_field_read A 0 (omega arith)) (inl (λ e. omega (arith, e)))
 
   pub kind_reached : (x : ℕ) → Reached P A x → inode_kind K x ≡ inode_kind A x
   kind_reached x r = let (some, most) = in_range P A change.before x r in kind_same x some most
 
   links_reached : (x : ℕ) → Reached P A x → inode_links K x ≡ inode_links A x
   unfolding inode_links
-  links_reached x r = let (some, most) = in_range P A change.before x r in change.inodes x 1 some most (omega arith) (inl (λ e. omega (arith, e)))
+  links_reached x r = let (some, most) = in_range P A change.before x r in change.inodes x 1 some most (inode_field_read A 1 (omega arith)) (inl (λ e. omega (arith, e)))
 
   pub size_beside : (x : ℕ) → Reached P A x → x ≢ i → inode_size K x ≡ inode_size A x
   unfolding inode_size
-  size_beside x r ne = let (some, most) = in_range P A change.before x r in change.inodes x 2 some most (omega arith) (inr ne)
+  size_beside x r ne = let (some, most) = in_range P A change.before x r in change.inodes x 2 some most (inode_field_read A 2 (omega arith)) (inr ne)
 
   -- ---- slots
 
@@ -140,9 +142,13 @@ module _ {P : ℕ} {A K : List ℕ} {i : ℕ} {Page : ℕ → Type 0} (change : 
   abbrev pub Below : List ℕ → List ℕ → ℕ → Type 0
   Below X Y j = IsKeptFilePage P X j → page_offset P X j < pages_of_size (inode_size Y (page_owner P X j))
 
+  descriptors_wider : (Beside : ℕ → Type 0) → ((j : ℕ) → Page j → Beside j) → KeepsDescriptors P A K Beside
+  descriptors_wider Beside wider j f lt read other = change.descriptors j f lt read (λ is. other (wider j is))
+
   pub page_back : (Beside : ℕ → Type 0) → ((j : ℕ) → Page j → Beside j) → ((j : ℕ) → ¬ Beside j → Below A K j) → (j : ℕ) → ¬ Beside j → IsLitterPage P K j → IsLitterPage P A j
   page_back Beside wider below = pages.litter_page P A K Beside
-      (λ j f lt l3 other. change.descriptors j f lt l3 (λ is. other (wider j is)))
+      (descriptors_wider Beside wider)
+      change.version
       (λ x was is. kind_reached x was)
       (λ j lt other r. (reached (page_owner P A j)).0 r)
       below
@@ -150,7 +156,8 @@ module _ {P : ℕ} {A K : List ℕ} {i : ℕ} {Page : ℕ → Type 0} (change : 
 
   pub page_forth : (Beside : ℕ → Type 0) → ((j : ℕ) → Page j → Beside j) → ((j : ℕ) → ¬ Beside j → Below K A j) → (j : ℕ) → ¬ Beside j → IsLitterPage P A j → IsLitterPage P K j
   page_forth Beside wider below = pages.litter_page P K A Beside
-      (λ j f lt l3 other. sym (change.descriptors j f lt l3 (λ is. other (wider j is))))
+      (same.descriptors_flipped P A K Beside (descriptors_wider Beside wider) change.version)
+      (sym change.version)
       (λ x was is. sym (kind_reached x is))
       (λ j lt other r. (reached (page_owner P K j)).1 r)
       below
@@ -158,7 +165,7 @@ module _ {P : ℕ} {A K : List ℕ} {i : ℕ} {Page : ℕ → Type 0} (change : 
 
   -- where the size of the file stays too
   pub page_same : ((x : ℕ) → Reached P A x → inode_size K x ≡ inode_size A x) → (j : ℕ) → ¬ Page j → IsLitterPage P A j ↔ IsLitterPage P K j
-  page_same sizes = same.page_same P A K Page change.descriptors kind_reached sizes (λ x r. (reached x).0 r) (λ j lt r. (reached (page_owner P A j)).1 r) (λ x j other. rooms x j)
+  page_same sizes = same.page_same P A K Page change.descriptors change.version kind_reached sizes (λ x r. (reached x).0 r) (λ j lt r. (reached (page_owner P A j)).1 r) (λ x j other. rooms x j)
 
   pub mark_kept : (j : ℕ) → ¬ Page j → j < data_pages_of P → (page_owner P A j ≢ 0) ⊎ (page_kind P A j ≢ 0) → (page_owner P K j ≢ 0) ⊎ (page_kind P K j ≢ 0)
   mark_kept j other lt mark = elim mark [
@@ -169,7 +176,7 @@ module _ {P : ℕ} {A K : List ℕ} {i : ℕ} {Page : ℕ → Type 0} (change : 
   -- ---- inodes and links
 
   inode_same : (x : ℕ) → IsLitterInode P A x ↔ IsLitterInode P K x
-  inode_same x = same.inode_same P A K x (reached x) (λ f least most lt unreached. change.inodes x f least most lt (inr (λ e. unreached (subst (Reached P A) (sym e) change.file))))
+  inode_same x = same.inode_same P A K x change.version (reached x) (λ f least most lt unreached. change.inodes x f least most lt (inr (λ e. unreached (subst (Reached P A) (sym e) change.file))))
 
   count_same : (x : ℕ) → IsLitterCount P A x ↔ IsLitterCount P K x
   count_same x = same.count_kept_at P A K x (λ t. slots.names kept x t (λ none. none)) (λ t. slots.children kept x t (λ none. none)) (reached x) (kind_reached x) (links_reached x)

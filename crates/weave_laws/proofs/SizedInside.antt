@@ -1,6 +1,7 @@
 -- Bytes of a file below its size are written: nothing is left that wasn't, and nothing goes.
 use Rattle.std.proofs.Common.{◌↔◌, ℕ, List, arith}
 use Rattle.layout.specs.Geometry.{descriptor_word_of}
+use Rattle.layout.proofs.Widths.{in_inode, in_descriptor}
 use Rattle.image_reading.specs.Repairs.{IsLitterPage}
 use Rattle.image_reading.specs.Residue.{Residue, IsTidyBeside}
 use Rattle.image_laws.specs.Frame.{SameShape}
@@ -28,11 +29,12 @@ module _ (P : ℕ) (I J : List ℕ) (i offset : ℕ) (bytes : List ℕ) (may : M
     after = shape.coherent;
     file = may.reached;
     names = shape.names;
-    descriptors = λ j f lt l3 none. writes.others (descriptor_word_of P j f) (λ k h w page l e. descriptor-ne_page P j f h w lt (omega (arith, l3)) e);
+    version = quiet.head_same P I J stores 1 (omega arith);
+    descriptors = λ j f lt read none. writes.others (descriptor_word_of P j f) (λ k h w page l e. descriptor-ne_page P j f h w lt (in_descriptor I f read) e);
     unheld = λ t none held. none;
     unheld_after = λ t none held. none;
     slots = λ t f held lt. quiet.slot_same P I J stores t f lt held;
-    inodes = λ x f some most lt why. quiet.inode_same P I J stores x f some most (omega (arith, lt));
+    inodes = λ x f some most lt why. quiet.inode_same P I J stores x f some most (in_inode I f lt);
   }
 
   page_same : (j : ℕ) → IsLitterPage P I j ↔ IsLitterPage P J j

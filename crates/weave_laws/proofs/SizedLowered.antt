@@ -2,8 +2,9 @@
 use Rattle.std.proofs.Common.{◌≡◌, ◌≢◌, ◌⊎◌, inl, inr, ℕ, ◌<◌, ◌≤◌, List, [], ◌++◌, sym, ap, subst, ◌∙◌, arith}
 use Rattle.std.proofs.lemmas.Bool.{cases_eq, cases_lt}
 use Rattle.layout.specs.Fields.{inode_kind, inode_size, page_owner, page_kind, page_offset}
+use Rattle.layout.proofs.Widths.{descriptor_field_read}
 use Rattle.image_reading.specs.Counts.{IsIn, IsDistinct, IsListOf}
-use Rattle.image_reading.specs.Reading.{Reached, IsRoomOf, pages_of_size}
+use Rattle.image_reading.specs.Reading.{HasBytes, Reached, IsRoomOf, pages_of_size}
 use Rattle.image_reading.specs.Repairs.{IsKeptFilePage, IsLitterPage}
 use Rattle.image_reading.specs.Residue.{Residue, IsTidyBeside}
 use Rattle.image_counts.proofs.Distinct.{in_either}
@@ -82,7 +83,7 @@ module _ (P : ℕ) (I : List ℕ) (i z : ℕ) (pages : List ℕ) (others : Resid
   not_room : (j : ℕ) → IsIn j pages → ¬ IsRoomOf P K (page_owner P K j) j
   not_room j among room =
       let two = room.directory in
-      let one : inode_kind K (page_owner P K j) ≡ 1 = ap (inode_kind K) (owner_after j among) ∙ after.kind_reached change i may.reached ∙ may.file in
+      let one : HasBytes K (page_owner P K j) = ap (inode_kind K) (owner_after j among) ∙ after.kind_reached change i may.reached ∙ may.file in
       omega (arith, one, two)
 
   left_then : (j : ℕ) → IsIn j pages → IsLitterPage P K j
@@ -90,7 +91,7 @@ module _ (P : ℕ) (I : List ℕ) (i z : ℕ) (pages : List ℕ) (others : Resid
   left_then j among = record {
     in_range = (kept_before j among).in_range;
     free = λ kept. elim kept [ inl file ↦ not_file j among file | inr room ↦ not_room j among room ];
-    nonzero = (0, omega arith, owned_after j among);
+    nonzero = (0, descriptor_field_read K 0 (omega arith), owned_after j among);
   }
 
   pages_after : IsListOf (IsLitterPage P K) (pages ++ others.pages)

@@ -3,12 +3,13 @@ use Rattle.std.proofs.Common.{◌≡◌, ◌≢◌, ◌↔◌, ◌⊎◌, inl, i
 use Rattle.std.specs.Prelude.{Contains}
 use Rattle.layout.specs.Fields.{inode_kind, inode_size, page_owner, page_kind}
 use Rattle.layout.specs.Geometry.{page_of_slot, inode_word_of, slot_word_of}
+use Rattle.layout.proofs.Widths.{in_inode, in_descriptor, descriptor_field_read}
 use Rattle.image_reading.specs.Counts.{IsIn}
-use Rattle.image_reading.specs.Reading.{IsRoomOf, pages_of_size}
+use Rattle.image_reading.specs.Reading.{HasBytes, IsRoomOf, pages_of_size}
 use Rattle.image_reading.specs.Repairs.{IsKeptFilePage, IsLitterPage}
 use Rattle.image_reading.specs.Residue.{Residue, IsTidyBeside}
 use Rattle.image_laws.specs.Frame.{SameShape}
-use Rattle.image_laws.proofs.Addresses.{descriptor-ne_inode, descriptor-ne_slot}
+use Rattle.image_laws.proofs.Addresses.{head-ne_descriptor, descriptor-ne_inode, descriptor-ne_slot}
 use Rattle.image_laws.proofs.Paths.{reached_pos}
 use Rattle.content_laws.specs.Growth.{TakesPages}
 use Rattle.weave_laws.specs.Bytes.{MayOwn}
@@ -32,11 +33,12 @@ module _ (P : ℕ) (I J : List ℕ) (i : ℕ) (pages : List ℕ) (residue : Resi
     after = shape.coherent;
     file = may.reached;
     names = shape.names;
-    descriptors = λ j f lt l3 none. taken.descriptor_same P I J i pages may takes j f l3 (inr none);
+    version = takes.others 1 (λ j is. head-ne_descriptor P j 0 1 (omega arith));
+    descriptors = λ j f lt read none. taken.descriptor_same P I J i pages may takes j f (in_descriptor I f read) (inr none);
     unheld = λ t is held. (let one = (may.filled (page_of_slot t) is).kind in let two = held.kind in omega (arith, one, two));
     unheld_after = λ t is held. (let one = kind_after (page_of_slot t) is in let two = held.kind in omega (arith, one, two));
     slots = λ t f held lt. takes.others (slot_word_of P t f) (λ j is e. descriptor-ne_slot P j 0 t f (may.filled j is).free.0 (omega arith) (sym e));
-    inodes = λ x f some most lt why. takes.others (inode_word_of x f) (λ j is e. descriptor-ne_inode P j 0 x f some most (omega (arith, lt)) (sym e));
+    inodes = λ x f some most lt why. takes.others (inode_word_of x f) (λ j is e. descriptor-ne_inode P j 0 x f some most (in_inode I f lt) (sym e));
   }
 
   -- ---- pages
@@ -53,7 +55,7 @@ module _ (P : ℕ) (I J : List ℕ) (i : ℕ) (pages : List ℕ) (residue : Resi
   not_room : (j : ℕ) → Contains pages j → ¬ IsRoomOf P J (page_owner P J j) j
   not_room j is room =
       let two = room.directory in
-      let one : inode_kind J (page_owner P J j) ≡ 1 = ap (inode_kind J) (takes.owners j is) ∙ (shape.inodes i may.reached).kind ∙ may.file in
+      let one : HasBytes J (page_owner P J j) = ap (inode_kind J) (takes.owners j is) ∙ (shape.inodes i may.reached).kind ∙ may.file in
       omega (arith, one, two)
 
   some_kind : (j : ℕ) → Contains pages j → page_kind P J j ≢ 0
@@ -64,7 +66,7 @@ module _ (P : ℕ) (I J : List ℕ) (i : ℕ) (pages : List ℕ) (residue : Resi
   litter_after j is = record {
     in_range = (may.filled j is).free.0;
     free = λ kept. elim kept [ inl file ↦ not_file j is file | inr room ↦ not_room j is room ];
-    nonzero = (1, omega arith, some_kind j is);
+    nonzero = (1, descriptor_field_read J 1 (omega arith), some_kind j is);
   }
 
   litter_before : (j : ℕ) → Contains pages j → IsLitterPage P I j
@@ -75,7 +77,7 @@ module _ (P : ℕ) (I J : List ℕ) (i : ℕ) (pages : List ℕ) (residue : Resi
       record {
         in_range = page.free.0;
         free = λ kept. elim kept [ inl file ↦ reached_pos P I (page_owner P I j) file.owner page.free.1 | inr room ↦ reached_pos P I (page_owner P I j) room.reached page.free.1 ];
-        nonzero = (1, omega arith, λ z. omega (arith, one, z));
+        nonzero = (1, descriptor_field_read I 1 (omega arith), λ z. omega (arith, one, z));
       }
 
   page_same : (j : ℕ) → IsLitterPage P I j ↔ IsLitterPage P J j

@@ -5,11 +5,12 @@ use Rattle.layout.specs.Fields.{word, inode_kind, inode_size, slot_inode, slot_p
 use Rattle.layout.specs.Geometry.{inodes_of, inode_word_of, descriptor_word_of, slot_word_of}
 use Rattle.layout.specs.Name.{name_in_words}
 use Rattle.layout.proofs.GeometryLaws.{inode_word_within}
+use Rattle.layout.proofs.Widths.{in_inode}
 use Rattle.tree_model.specs.PathText.{Route}
 use Rattle.image_reading.specs.Reading.{slot_owner, IsLive, Names, Reached}
 use Rattle.image_reading.specs.Soundness.{Rule, IsCoherent}
 use Rattle.image_counts.proofs.Paths.{in_range}
-use Rattle.image_laws.proofs.Addresses.{descriptor-ne_inode, inode-ne_inode, inode-ne_field, inode-ne_slot}
+use Rattle.image_laws.proofs.Addresses.{head-ne_inode, descriptor-ne_inode, inode-ne_inode, inode-ne_field, inode-ne_slot}
 use Rattle.image_laws.proofs.KeptPages.{KeepsPages, held_owner_same, held_forth}
 use Rattle.image_laws.proofs.Resize.{OnlySize, only_size}
 use Rattle.content_laws.specs.Growth.{sized}
@@ -97,12 +98,13 @@ module _ (P : ℕ) (I : List ℕ) (i z : ℕ) (coherent : IsCoherent P I) (reach
     after = after;
     file = reached;
     names = λ q x. (names_forth same_paths q x, names_forth (flipped same_paths) q x);
-    descriptors = λ j f lt l3 none. other (descriptor_word_of P j f) (descriptor-ne_inode P j f i 2 i_pos i_most (omega arith));
+    version = other 1 (head-ne_inode i 2 1 (omega arith));
+    descriptors = λ j f lt read none. other (descriptor_word_of P j f) (descriptor-ne_inode P j f i 2 i_pos i_most (omega arith));
     unheld = λ t none. absurd none;
     unheld_after = λ t none. absurd none;
     slots = λ t f held lt. other (slot_word_of P t f) (λ e. inode-ne_slot P i 2 t f i_pos i_most (omega arith) (sym e));
     inodes = λ x f some most lt why. other (inode_word_of x f) (elim why [
-      | inl ne ↦ inode-ne_field x f i 2 (omega (arith, lt)) (omega arith) ne
-      | inr ne ↦ inode-ne_inode x f i 2 some i_pos ne (omega (arith, lt)) (omega arith)
+      | inl ne ↦ inode-ne_field x f i 2 (in_inode I f lt) (omega arith) ne
+      | inr ne ↦ inode-ne_inode x f i 2 some i_pos ne (in_inode I f lt) (omega arith)
     ]);
   }

@@ -3,6 +3,7 @@ use Rattle.std.proofs.Common.{◌≡◌, ◌≢◌, ◌↔◌, ◌⊎◌, inl, i
 use Rattle.std.proofs.lemmas.Bool.{cases_eq}
 use Rattle.layout.specs.Geometry.{inodes_of}
 use Rattle.layout.specs.Fields.{inode_kind, inode_links, slot_inode}
+use Rattle.layout.proofs.Widths.{inode_field_read}
 use Rattle.tree_model.specs.PathText.{Route}
 use Rattle.image_reading.specs.Counts.{IsIn, IsListOf}
 use Rattle.image_reading.specs.Reading.{IsDirectory, IsFile, slot_owner, Reached, IsNameOf, IsChildOf}
@@ -20,7 +21,7 @@ use Rattle.weave_laws.specs.Removing.{inodes_left, falling_left}
 use Rattle.weave_laws.specs.Unnaming.{IsFallen}
 use Rattle.weave_laws.proofs.Listed.{listed_same, listed_more}
 use Rattle.weave_laws.proofs.Same as same
-use Rattle.weave_laws.proofs.UnnamedSlots.{only, coherent, inode_words_same, kept}
+use Rattle.weave_laws.proofs.UnnamedSlots.{only, version, coherent, inode_words_same, kept}
 
 module _ {P : ℕ} {I : List ℕ} {p : Route} {s : ℕ} (can : CanRemove P I p s) where
   i_reached : Reached P I (slot_inode P I s)
@@ -39,7 +40,7 @@ module _ {P : ℕ} {I : List ℕ} {p : Route} {s : ℕ} (can : CanRemove P I p s
   -- ---- inodes
 
   inode_same : (x : ℕ) → Reached P I x ↔ Reached P (dropped P I s) x → IsLitterInode P I x ↔ IsLitterInode P (dropped P I s) x
-  inode_same x reached = same.inode_same P I (dropped P I s) x reached (λ f least most lt unreached. inode_words_same can x f least most lt)
+  inode_same x reached = same.inode_same P I (dropped P I s) x (version can) reached (λ f least most lt unreached. inode_words_same can x f least most lt)
 
   node_kind : IsFile I (slot_inode P I s) ⊎ IsDirectory I (slot_inode P I s) → inode_kind (dropped P I s) (slot_inode P I s) ≢ 0
   node_kind kind z =
@@ -50,7 +51,7 @@ module _ {P : ℕ} {I : List ℕ} {p : Route} {s : ℕ} (can : CanRemove P I p s
   unfolding inode_kind
   inode_left kind none =
       let (least, most) = in_range P I can.coherent (slot_inode P I s) i_reached in
-      record { least = least; most = most; unreached = none; nonzero = (0, omega arith, node_kind kind) }
+      record { least = least; most = most; unreached = none; nonzero = (0, inode_field_read (dropped P I s) 0 (omega arith), node_kind kind) }
 
   pub inodes_after : (goes : Bool) → ((goes ≡ true) ↔ ¬ Reached P (dropped P I s) (slot_inode P I s)) → IsFile I (slot_inode P I s) ⊎ IsDirectory I (slot_inode P I s) → (rest : List ℕ)
       → IsListOf (IsLitterInode P I) rest → IsListOf (IsLitterInode P (dropped P I s)) (inodes_left goes (slot_inode P I s) ++ rest)

@@ -5,6 +5,7 @@ use Rattle.std.proofs.lemmas.Bool.{cases_eq}
 use Rattle.layout.specs.Geometry.{data_pages_of, page_of_slot}
 use Rattle.layout.specs.Fields.{inode_kind, page_owner, page_kind, page_offset, slot_inode}
 use Rattle.layout.proofs.GeometryLaws.{page_of_slot_below}
+use Rattle.layout.proofs.Widths.{descriptor_field_read}
 use Rattle.tree_model.specs.PathText.{Route}
 use Rattle.image_reading.specs.Counts.{IsIn, IsDistinct, IsListOf}
 use Rattle.image_reading.specs.Reading.{slot_owner, Reached, IsRoomOf, pages_of_size}
@@ -20,7 +21,8 @@ use Rattle.image_laws.proofs.RemoveFacts as facts
 use Rattle.weave_laws.specs.Entering.{IsNamelessPage}
 use Rattle.weave_laws.specs.Naming.{pages_left}
 use Rattle.weave_laws.specs.Unnaming.{GoesWith}
-use Rattle.weave_laws.proofs.UnnamedSlots.{listed_added, only, coherent, descriptors, room_before, owner_after}
+use Rattle.weave_laws.proofs.Same.{descriptors_flipped}
+use Rattle.weave_laws.proofs.UnnamedSlots.{listed_added, only, version, coherent, descriptors, room_before, owner_after}
 
 distinct_left : (given_back : Option ℕ) → IsDistinct (pages_left given_back)
 distinct_left None = tt
@@ -84,7 +86,7 @@ module _ {P : ℕ} {I : List ℕ} {p : Route} {s : ℕ} {given_back : Option ℕ
 
   page_left : (j : ℕ) → IsIn j (pages ++ pages_left given_back) → IsLitterPage P (dropped P I s) j
   unfolding page_owner
-  page_left j among = let (lt, owned) = now_owned j among in record { in_range = lt; free = unkept j among; nonzero = (0, omega arith, owned) }
+  page_left j among = let (lt, owned) = now_owned j among in record { in_range = lt; free = unkept j among; nonzero = (0, descriptor_field_read (dropped P I s) 0 (omega arith), owned) }
 
   distinct : IsDistinct (pages ++ pages_left given_back)
   unfolding slot_owner
@@ -98,7 +100,8 @@ module _ {P : ℕ} {I : List ℕ} {p : Route} {s : ℕ} {given_back : Option ℕ
 
   forth : (j : ℕ) → ¬ IsIn j (pages ++ pages_left given_back) → IsLitterPage P I j → IsLitterPage P (dropped P I s) j
   forth = litter_page P (dropped P I s) I (λ j. IsIn j (pages ++ pages_left given_back))
-      (λ j f lt l3 other. sym (descriptors can (λ k. IsIn k (pages ++ pages_left given_back)) j f lt l3 other))
+      (descriptors_flipped P I (dropped P I s) (λ j. IsIn j (pages ++ pages_left given_back)) (descriptors can (λ j. IsIn j (pages ++ pages_left given_back))) (version can))
+      (sym (version can))
       (λ x is was. sym (facts.kind_same P I p s can x was))
       (λ j lt other r. facts.reached_back P I p s can (page_owner P (dropped P I s) j) r)
       (λ j other kept.
@@ -126,7 +129,8 @@ module _ {P : ℕ} {I : List ℕ} {p : Route} {s : ℕ} {given_back : Option ℕ
 
   back : (j : ℕ) → ¬ IsIn j (pages ++ pages_left given_back) → IsLitterPage P (dropped P I s) j → IsLitterPage P I j
   back = litter_page P I (dropped P I s) (λ j. IsIn j (pages ++ pages_left given_back))
-      (descriptors can (λ k. IsIn k (pages ++ pages_left given_back)))
+      (descriptors can (λ j. IsIn j (pages ++ pages_left given_back)))
+      (version can)
       (λ x was is. facts.kind_same P I p s can x was)
       owner_stays
       (λ j other kept. subst (λ z. page_offset P I j < pages_of_size z) (sym ((only can).node_size (page_owner P I j) (reached-le P I can.coherent (page_owner P I j) kept.owner))) kept.below)

@@ -2,8 +2,9 @@
 use Rattle.std.proofs.Common.{◌≡◌, ◌≢◌, ◌↔◌, inl, inr, ℕ, ◌<◌, ◌≤◌, List, [], ◌++◌, Some, None, Option, sym, ap, subst, arith}
 use Rattle.std.proofs.lemmas.Bool.{cases_eq}
 use Rattle.layout.specs.Geometry.{inodes_of, page_of_slot, inode_word_of, descriptor_word_of, slot_word_of}
-use Rattle.layout.specs.Fields.{word, page_owner}
+use Rattle.layout.specs.Fields.{word, inode_words, page_owner}
 use Rattle.layout.specs.Name.{IsNameWords}
+use Rattle.layout.proofs.Widths.{in_inode, in_descriptor}
 use Rattle.tree_model.specs.PathText.{Route}
 use Rattle.image_reading.specs.Counts.{IsIn, IsDistinct, IsListOf}
 use Rattle.image_reading.specs.Reading.{slot_owner, IsRoomOf}
@@ -41,11 +42,14 @@ module _ {P : ℕ} {I : List ℕ} {p : Route} {s : ℕ} (can : CanRemove P I p s
   pub only : OnlySlot P I (dropped P I s) s
   only = (removes P I p s can).only
 
+  pub version : word (dropped P I s) 1 ≡ word I 1
+  version = only.head 1 (omega arith)
+
   pub coherent : IsCoherent P (dropped P I s)
   coherent = (remove_law P I p s can).coherent
 
   pub descriptors : (Page : ℕ → Type 0) → KeepsDescriptors P I (dropped P I s) Page
-  descriptors Page j f lt l3 none = other_word I (slot_word_of P s 0) 0 (descriptor_word_of P j f) (descriptor-ne_slot P j f s 0 lt (omega (arith, l3)))
+  descriptors Page j f lt read none = other_word I (slot_word_of P s 0) 0 (descriptor_word_of P j f) (descriptor-ne_slot P j f s 0 lt (in_descriptor I f read))
 
   paged : KeepsPages P I (dropped P I s) (λ j. ⊥)
   paged = by_words P I (dropped P I s) (λ j. ⊥) (descriptors (λ j. ⊥))
@@ -53,8 +57,8 @@ module _ {P : ℕ} {I : List ℕ} {p : Route} {s : ℕ} (can : CanRemove P I p s
   slot_words_same : (t f : ℕ) → f < 16 → t ≢ s → word (dropped P I s) (slot_word_of P t f) ≡ word I (slot_word_of P t f)
   slot_words_same t f lt ne = other_word I (slot_word_of P s 0) 0 (slot_word_of P t f) (slot-ne_slot P t f s 0 lt (omega arith) ne)
 
-  pub inode_words_same : (x f : ℕ) → 1 ≤ x → x ≤ inodes_of P → f < 4 → word (dropped P I s) (inode_word_of x f) ≡ word I (inode_word_of x f)
-  inode_words_same x f least most lt = other_word I (slot_word_of P s 0) 0 (inode_word_of x f) (inode-ne_slot P x f s 0 least most (omega (arith, lt)))
+  pub inode_words_same : (x f : ℕ) → 1 ≤ x → x ≤ inodes_of P → f < inode_words I → word (dropped P I s) (inode_word_of x f) ≡ word I (inode_word_of x f)
+  inode_words_same x f least most lt = other_word I (slot_word_of P s 0) 0 (inode_word_of x f) (inode-ne_slot P x f s 0 least most (in_inode I f lt))
 
   pub kept : KeepsSlots P I (dropped P I s) (λ t. t ≡ s)
   kept = record {

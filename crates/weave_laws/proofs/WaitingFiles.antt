@@ -12,6 +12,7 @@ use Rattle.image_reading.specs.Reading.{IsFile, Reached, IsPageOf, pages_of_size
 use Rattle.image_reading.specs.Repairs.{IsKept, IsLitterPage}
 use Rattle.image_reading.specs.Residue.{Residue, no_residue}
 use Rattle.image_reading.specs.Soundness.{Rule}
+use Rattle.image_reading.proofs.FilePages.{page_from_place}
 use Rattle.image_counts.specs.Entries.{IsPageIn}
 use Rattle.image_counts.specs.Laws.{ReadsBeside}
 use Rattle.image_counts.proofs.Beside.{has_pages_beside}
@@ -153,7 +154,7 @@ module _ (P : ℕ) (I : List ℕ) (state : State) (i : ℕ) (pages : List ℕ) (
       full : (k : ℕ) → pages_of_size (inode_size I i) ≤ k → k < pages_of_size z → (j : ℕ) × IsPageOf P I i k j
       full k least lt =
           let (j, given, at) = page_at P I pages (inode_size I i) z order k least lt in
-          (j, record { in_range = (litter j given).in_range; owner = owners j given; kind = kind_is j given (owners j given); offset = at })
+          (j, page_from_place (record { in_range = (litter j given).in_range; owner = owners j given; kind = kind_is j given (owners j given); offset = at }))
 
       mine_at : (k j : ℕ) → pages_of_size (inode_size I i) ≤ k → IsPageOf P I i k j → Contains pages j
       mine_at k j least page = let at = page.offset in mine j (record { in_range = page.in_range; owner = page.owner }) (omega (arith, least, at))
@@ -213,7 +214,7 @@ waiting_trimming_law P I state i pages others waits is owners = (may_trim P I st
 module _ (P : ℕ) (I : List ℕ) (residue : Residue) (state : State) (holds : ReadsBeside P I residue state) (i z : ℕ) (pages : List ℕ) (is : is_file state.tree i ≡ true)
     (order : AreInOrder P I pages z (inode_size I i)) (of_file : (j : ℕ) → Contains pages j → IsPageIn P I i j) where
   page_of : (j : ℕ) → IsPageIn P I i j → IsPageOf P I i (page_offset P I j) j
-  page_of j page = record { in_range = page.in_range; owner = page.owner; kind = page_kind_is P I residue state holds i is j page.in_range page.owner; offset = refl }
+  page_of j page = page_from_place (record { in_range = page.in_range; owner = page.owner; kind = page_kind_is P I residue state holds i is j page.in_range page.owner; offset = refl })
 
   -- below its end a file has one page at each offset
   pub listed : (j : ℕ) → IsPageIn P I i j → pages_of_size z ≤ page_offset P I j → page_offset P I j < pages_of_size (inode_size I i) → Contains pages j

@@ -1,12 +1,16 @@
 -- A written name may get its number.
-use Rattle.std.proofs.Common.{◌≡◌, ◌≢◌, ◌⊎◌, inl, inr, ℕ, ◌<◌, ◌≤◌, false, List, [], ◌∷◌, ◌++◌, reverse, slice_index, Option, Some, None, refl, sym, ap, subst, ◌∙◌, arith}
+use Rattle.std.proofs.Common.{◌≡◌, ◌≢◌, ◌⊎◌, inl, inr, ℕ, ◌<◌, ◌≤◌, false, List, [], ◌∷◌, ◌++◌, reverse, Option, Some, None, refl, sym, ap, subst, ◌∙◌, arith}
 use Rattle.std.proofs.lemmas.Bool.{cases_eq}
 use Rattle.std.proofs.lemmas.List.{reverse-append, reverse-reverse}
 use Rattle.layout.specs.Fields.{inode_kind, inode_links, inode_size, inode_own, page_owner, slot_inode, slot_name}
 use Rattle.layout.specs.Geometry.{data_pages_of, page_of_slot, inodes_of}
+use Rattle.layout.specs.Kinds.{node_code}
+use Rattle.layout.specs.declared.kinds.NodeKind.{NodeKind}
+use Rattle.layout.specs.declared.kinds.NodeKind.TheVariants.{File, Directory}
+use Rattle.layout.proofs.Widths.{inode_field_read}
 use Rattle.tree_model.specs.PathText.{Route}
 use Rattle.tree_model.specs.Run.{State}
-use Rattle.tree_model.specs.Tree.{Node, Directory, File, is_root, parent, last_name, id_at}
+use Rattle.tree_model.specs.Tree.{is_root, parent, last_name, id_at}
 use Rattle.image_reading.specs.Counts.{IsIn, AtMost}
 use Rattle.image_reading.specs.Reading.{HasBytes, IsDirectory, IsFile, slot_owner, Names, Reached, IsReachedSlot, IsRoomOf, IsNameOf, IsChildOf, ReadsAs}
 use Rattle.image_reading.specs.Repairs.{IsLitterInode}
@@ -19,16 +23,17 @@ use Rattle.image_counts.proofs.Links.{not_both_kinds}
 use Rattle.image_counts.proofs.Nodes.{has_sizes}
 use Rattle.image_counts.proofs.Paths.{root_reached, in_range, inode_reached}
 use Rattle.image_counts.proofs.Slots.{has_absences}
+use Rattle.image_laws.proofs.Making.{node_says, kind_told}
 use Rattle.image_laws.specs.Add.{IsNewNode, IsOldFile, IsFreeSlot, CanAdd}
-use Rattle.image_laws.specs.Create.{node_words}
 use Rattle.image_reading.proofs.Counts.{at_most_none}
 use Rattle.image_laws.proofs.MoveTree.{reverse_below}
-use Rattle.weave_laws.specs.Entering.{HasPlace, IsNamelessPage}
+use Rattle.weave_laws.specs.Entering.{HasSlotPlace, IsNamelessPage}
 use Rattle.weave_laws.specs.Joined.{joined}
 use Rattle.weave_laws.specs.Naming.{slots_left, pages_left, counts_left, IsWrittenParent, node_left, link_left}
 use Rattle.weave_laws.specs.Removing.{IsPageOfName}
 use Rattle.weave_laws.specs.Waiting.{WaitsBeside, HasNoPageOf, IsPlaceOf, IsWaitingName, TakesPageIfFull, MayCommit, HasNodeWords, MayCommitNode, HasRaisedLinks, WaitingWordsLaw, WaitingNodeLaw, WaitingFileLaw}
 use Rattle.weave_laws.proofs.Entered.{new_node_law}
+use Rattle.weave_laws.proofs.NodeWritten.{some_code}
 use Rattle.weave_laws.proofs.WaitingPlaces.{waiting_link_law, no_pointer, more_names, more_children, count_reached, unreached_page}
 
 pub root_or_not : (path : Route) → (path ≡ []) ⊎ (is_root path ≡ false)
@@ -121,7 +126,7 @@ module _ (P : ℕ) (I : List ℕ) (own others : Residue) (state : State) (path :
   nameless None at slots pages = room_here (slots s (inl refl))
   nameless (Some page) at slots pages = (at, no_room page (pages page (inl refl)))
 
-  pub place_of : (new_page : Option ℕ) → IsNamelessPage P I d s new_page → TakesPageIfFull state d new_page → HasPlace P I state d s
+  pub place_of : (new_page : Option ℕ) → IsNamelessPage P I d s new_page → TakesPageIfFull state d new_page → HasSlotPlace P I state d s
   place_of None here full = inl here
   place_of (Some page) none full = inr full
 
@@ -130,54 +135,34 @@ module _ (P : ℕ) (I : List ℕ) (own others : Residue) (state : State) (path :
   new_page_owner None at j none = absurd none
   new_page_owner (Some page) at j among = elim among [ inl is ↦ ap (page_owner P I) (is ∙ sym at) ∙ name.owner | inr none ↦ absurd none ]
 
--- ---- the words of an empty node
+-- ---- the words of a new node
 
-module _ (I : List ℕ) (node : Node) (i : ℕ) (has : HasNodeWords I node i) where
-  kind_is : inode_kind I i ≡ slice_index (node_words node i) 0
+module _ (I : List ℕ) (kind : NodeKind) (i : ℕ) (has : HasNodeWords I kind i) where
+  kind_is : inode_kind I i ≡ node_code kind
   unfolding inode_kind
-  kind_is = has.words 0 (omega arith)
+  kind_is = has 0 (inode_field_read I 0 (omega arith)) ∙ (node_says kind i).0
 
-  links_are : inode_links I i ≡ slice_index (node_words node i) 1
+  links_are : inode_links I i ≡ node_code kind
   unfolding inode_links
-  links_are = has.words 1 (omega arith)
+  links_are = has 1 (inode_field_read I 1 (omega arith)) ∙ (node_says kind i).1
 
-  size_is : inode_size I i ≡ slice_index (node_words node i) 2
+  size_is : inode_size I i ≡ 0
   unfolding inode_size
-  size_is = has.words 2 (omega arith)
+  size_is = has 2 (inode_field_read I 2 (omega arith)) ∙ (node_says kind i).2
 
-  own_is : inode_own I i ≡ slice_index (node_words node i) 3
+  own_is : inode_own I i ≡ i
   unfolding inode_own
-  own_is = has.words 3 (omega arith)
-
-kind_of : (node : Node) (i : ℕ) → (slice_index (node_words node i) 0 ≡ 1) ⊎ (slice_index (node_words node i) 0 ≡ 2)
-kind_of Directory i = inr refl
-kind_of (File bytes) i = inl refl
-
-one_link : (node : Node) (i : ℕ) → 1 ≤ slice_index (node_words node i) 1
-one_link Directory i = omega arith
-one_link (File bytes) i = omega arith
-
-two_links : (node : Node) (i : ℕ) → slice_index (node_words node i) 0 ≡ 2 → 2 ≤ slice_index (node_words node i) 1
-two_links Directory i is = omega arith
-two_links (File bytes) i is = omega (arith, is)
-
-no_size : (node : Node) (i : ℕ) → slice_index (node_words node i) 2 ≡ 0
-no_size Directory i = refl
-no_size (File bytes) i = refl
-
-own_number : (node : Node) (i : ℕ) → slice_index (node_words node i) 3 ≡ i
-own_number Directory i = refl
-own_number (File bytes) i = refl
+  own_is = has 3 (inode_field_read I 3 (omega arith)) ∙ (node_says kind i).3
 
 -- ---- a new node
 
-parent_left : (node : Node) (d i : ℕ) (rest : List ℕ) → slice_index (node_words node i) 0 ≡ 2 → IsIn d (counts_left node d ++ rest)
-parent_left Directory d i rest is = inl refl
-parent_left (File bytes) d i rest is = absurd (omega (arith, is))
+parent_left : (kind : NodeKind) (d : ℕ) (rest : List ℕ) → node_code kind ≡ node_code Directory → IsIn d (counts_left kind d ++ rest)
+parent_left Directory d rest is = inl refl
+parent_left File d rest is = absurd (omega (arith, is))
 
-module _ (P : ℕ) (I : List ℕ) (state : State) (path : Route) (node : Node) (d s : ℕ) (new_page : Option ℕ) (i : ℕ) (others : Residue)
-    (waits : WaitsBeside P I (node_left node d s new_page i) others state) (name : IsWaitingName P I state.tree path d s) (at : IsPageOfName s new_page)
-    (full : TakesPageIfFull state d new_page) (has : HasNodeWords I node i) (apart : HasNoPageOf P I others i) where
+module _ (P : ℕ) (I : List ℕ) (state : State) (path : Route) (kind : NodeKind) (d s : ℕ) (new_page : Option ℕ) (i : ℕ) (others : Residue)
+    (waits : WaitsBeside P I (node_left kind d s new_page i) others state) (name : IsWaitingName P I state.tree path d s) (at : IsPageOfName s new_page)
+    (full : TakesPageIfFull state d new_page) (has : HasNodeWords I kind i) (apart : HasNoPageOf P I others i) where
   litter : IsLitterInode P I i
   litter = (waits.holds.beside.of_inodes.each i).0 (inl refl)
 
@@ -189,54 +174,54 @@ module _ (P : ℕ) (I : List ℕ) (state : State) (path : Route) (node : Node) (
 
   no_page : (j : ℕ) → j < data_pages_of P → page_owner P I j ≢ i
   no_page j within owner =
-      elim (in_either j (pages_left new_page) others.pages (unreached_page P I (joined (node_left node d s new_page i) others) state i j waits.holds litter.unreached (omega (arith, least)) within owner)) [
+      elim (in_either j (pages_left new_page) others.pages (unreached_page P I (joined (node_left kind d s new_page i) others) state i j waits.holds litter.unreached (omega (arith, least)) within owner)) [
         | inl mine ↦ litter.unreached
-            (subst (Reached P I) (sym (new_page_owner P I (node_left node d s new_page i) others state path d s waits name new_page at j mine) ∙ owner)
-            (reverse (parent path), names_d P I (node_left node d s new_page i) others state path d s waits name))
+            (subst (Reached P I) (sym (new_page_owner P I (node_left kind d s new_page i) others state path d s waits name new_page at j mine) ∙ owner)
+            (reverse (parent path), names_d P I (node_left kind d s new_page i) others state path d s waits name))
         | inr theirs ↦ apart j theirs owner
       ]
 
-  new_node : IsNewNode P I i
-  new_node = record {
+  is_new_node : IsNewNode P I i
+  is_new_node = record {
     unreached = litter.unreached;
     no_pages = no_page;
-    kind = elim (kind_of node i) [ inl one ↦ inl (kind_is I node i has ∙ one) | inr two ↦ inr (kind_is I node i has ∙ two) ];
-    own = own_is I node i has ∙ own_number node i;
-    empty = λ file. size_is I node i has ∙ no_size node i;
-    no_children = λ two. (let links = links_are I node i has in let enough = two_links node i (sym (kind_is I node i has) ∙ two) in omega (arith, links, enough));
+    kind = kind_told I i kind (kind_is I kind i has);
+    own = own_is I kind i has;
+    empty = λ file. size_is I kind i has;
+    no_children = λ two. (let links = links_are I kind i has in let is = kind_is I kind i has in omega (arith, links, is, two));
   }
 
   few_names : AtMost 1 (IsNameOf P I i) (inode_links I i)
   few_names = at_most_none 1 (inode_links I i) (IsNameOf P I i) (λ t n. litter.unreached (subst (Reached P I) n.inode (inode_reached P I waits.holds.coherent t n.slot)))
-      (let links = links_are I node i has in let one = one_link node i in omega (arith, links, one))
+      (let links = links_are I kind i has in let some = some_code kind in omega (arith, links, some))
 
   on_page : IsNamelessPage P I d s new_page
-  on_page = nameless P I (node_left node d s new_page i) others state path d s waits name new_page at (λ t. in_front t (slots_left s new_page) others.slots)
+  on_page = nameless P I (node_left kind d s new_page i) others state path d s waits name new_page at (λ t. in_front t (slots_left s new_page) others.slots)
       (λ j. in_front j (pages_left new_page) others.pages)
 
-  pub may_commit_node : MayCommitNode P I state path node d s new_page i
+  pub may_commit_node : MayCommitNode P I state path kind d s new_page i
   may_commit_node = record {
     named = record {
-      can = can_add P I (node_left node d s new_page i) others state path d s waits name i least litter.most (inl new_node) (λ file. few_names)
-          (λ two. more_children P I (joined (node_left node d s new_page i) others) state waits.holds d (parent_left node d i others.counts (sym (kind_is I node i has) ∙ two))
-          (is_directory_d P I (node_left node d s new_page i) others state path d s waits name));
+      can = can_add P I (node_left kind d s new_page i) others state path d s waits name i least litter.most (inl is_new_node) (λ file. few_names)
+          (λ two. more_children P I (joined (node_left kind d s new_page i) others) state waits.holds d (parent_left kind d others.counts (sym (kind_is I kind i has) ∙ two))
+          (is_directory_d P I (node_left kind d s new_page i) others state path d s waits name));
       place = on_page;
-      has_place = place_of P I (node_left node d s new_page i) others state path d s waits name new_page on_page full;
-      path_is = path_is P I (node_left node d s new_page i) others state path d s waits name;
+      has_place = place_of P I (node_left kind d s new_page i) others state path d s waits name new_page on_page full;
+      path_is = path_is P I (node_left kind d s new_page i) others state path d s waits name;
     };
-    new = new_node;
-    is_node = new_node_law P I node i new_node (kind_is I node i has) has.empty;
+    new = is_new_node;
+    is_node = new_node_law P I kind i is_new_node (kind_is I kind i has);
   }
 
 pub waiting_node_law : WaitingNodeLaw
-waiting_node_law P I state path node d s new_page i others waits name at full has apart = may_commit_node P I state path node d s new_page i others waits name at full has apart
+waiting_node_law P I state path kind d s new_page i others waits name at full has apart = may_commit_node P I state path kind d s new_page i others waits name at full has apart
 
 pub waiting_words_law : WaitingWordsLaw
-waiting_words_law P I state node d s new_page i others waits has raised = record { words = λ f lt. has.words f (omega (arith, lt)); parent = parent_has (joined (node_left node d s new_page i) others) node others.counts waits.holds refl raised }
+waiting_words_law P I state kind d s new_page i others waits has raised = record { words = λ f lt. has f (inode_field_read I f (omega (arith, lt))); parent = parent_has (joined (node_left kind d s new_page i) others) kind others.counts waits.holds refl raised }
   where
-    parent_has : (residue : Residue) (kind : Node) (rest : List ℕ) → ReadsBeside P I residue state → residue.counts ≡ counts_left kind d ++ rest → HasRaisedLinks I state.tree kind d → IsWrittenParent P I kind d
+    parent_has : (residue : Residue) (kind : NodeKind) (rest : List ℕ) → ReadsBeside P I residue state → residue.counts ≡ counts_left kind d ++ rest → HasRaisedLinks I state.tree kind d → IsWrittenParent P I kind d
     parent_has residue Directory rest holds is links = waiting_link_law P I residue state d holds (subst (IsIn d) (sym is) (inl refl)) links
-    parent_has residue (File bytes) rest holds is links = tt
+    parent_has residue File rest holds is links = tt
 
 -- ---- a link
 

@@ -1,13 +1,13 @@
 -- A name may be written: its slot and its inode are as they were when the call began, and a new page may get its owner.
 use Rattle.std.proofs.Common.{◌≡◌, inl, inr, ℕ, ◌≤◌, List, reverse, refl, sym, subst, arith}
 use Rattle.std.proofs.lemmas.Bool.{cases_eq}
-use Rattle.layout.specs.Fields.{inode_kind, page_owner, slot_inode}
+use Rattle.layout.specs.Fields.{page_owner, slot_inode}
 use Rattle.layout.specs.Geometry.{page_of_slot}
 use Rattle.layout.proofs.GeometryLaws.{page_of_slot_below}
 use Rattle.tree_model.specs.PathText.{Route}
 use Rattle.tree_model.specs.Run.{State}
 use Rattle.tree_model.specs.Tree.{parent}
-use Rattle.image_reading.specs.Reading.{IsDirectory, slot_owner, Reached, IsRoomOf}
+use Rattle.image_reading.specs.Reading.{IsDirectory, HasBytes, slot_owner, Reached, IsRoomOf}
 use Rattle.image_reading.specs.Residue.{Residue, no_residue}
 use Rattle.image_reading.specs.Soundness.{Rule}
 use Rattle.image_counts.proofs.Beside.{has_pages_beside}
@@ -43,7 +43,7 @@ module _ (P : ℕ) (I : List ℕ) (state : State) (path : Route) (d s : ℕ) (na
   unfolding slot_owner
   room apart = elim (((has_pages_beside P I (joined no_residue others) state waits.holds).used (page_of_slot s) (page_of_slot_below P s vacant.held.in_range)).1 (λ unused. vacant.held.owned unused.0)) [
     | inl kept ↦ elim kept [
-      | inl page ↦ absurd (not_both_kinds I d (subst (λ x. inode_kind I x ≡ 1) vacant.owner page.file) directory)
+      | inl page ↦ absurd (not_both_kinds I d (subst (HasBytes I) vacant.owner page.file) directory)
       | inr here ↦ subst (λ x. IsRoomOf P I x (page_of_slot s)) vacant.owner here
     ]
     | inr left ↦ absurd (apart (page_of_slot s) left vacant.owner)

@@ -1,8 +1,9 @@
 -- A name is written with what goes with it: its slot is to be repaired then, and each other slot and each page where it was before.
 use Rattle.std.proofs.Common.{◌≡◌, ◌≢◌, ◌↔◌, ◌⊎◌, inl, inr, ℕ, ◌+◌, ◌<◌, ◌≤◌, List, ◌∷◌, sym, subst, ◌∙◌, arith}
 use Rattle.layout.specs.Geometry.{inodes_of, data_pages_of, page_of_slot, inode_word_of}
-use Rattle.layout.specs.Fields.{word, inode_kind, inode_links, page_owner, page_kind, slot_pointer}
+use Rattle.layout.specs.Fields.{word, inode_words, inode_kind, inode_links, page_owner, page_kind, slot_pointer}
 use Rattle.layout.specs.Name.{IsNameWords}
+use Rattle.layout.proofs.Widths.{in_inode, in_descriptor, inode_field_read}
 use Rattle.tree_model.specs.PathText.{Route}
 use Rattle.image_reading.specs.Reading.{Reached, IsRoomOf, IsLinkCount}
 use Rattle.image_reading.specs.Repairs.{IsPointer, IsLitterSlot, IsLitterPage, IsLitterInode, IsLitterCount}
@@ -31,10 +32,10 @@ module _ {P : ℕ} {I J : List ℕ} {p : Route} {d s i y : ℕ} {name : List ℕ
   reached x = ((λ (q, b). (q, (entries.same.names q x).0 b)), (λ (q, b). (q, (entries.same.names q x).1 b)))
 
   pub nodes : KeepsInodes I J (Reached P I) (λ x. x ≡ y)
-  nodes = by_inodes P I J (Reached P I) (λ x. x ≡ y) (in_range P I place.coherent) (λ x f r some most lt links. written.inodes x f some most (omega (arith, lt)) (inl r) links)
+  nodes = by_inodes P I J (Reached P I) (λ x. x ≡ y) (in_range P I place.coherent) (λ x f r some most lt links. written.inodes x f some most (in_inode I f lt) (inl r) links)
 
   words : KeepsDescriptors P I J (λ j. ⊥)
-  words j f lt l3 none = written.named.descriptors j f lt (omega (arith, l3))
+  words j f lt read none = written.named.descriptors j f lt (in_descriptor I f read)
 
   pub paged : KeepsPages P I J (λ j. ⊥)
   paged = by_words P I J (λ j. ⊥) words
@@ -75,7 +76,7 @@ module _ {P : ℕ} {I J : List ℕ} {p : Route} {d s i y : ℕ} {name : List ℕ
       (λ t ne. same.slot_same kept paged t (λ none. none) (λ none. none) (λ x. entries.rooms x (page_of_slot t)) (λ f lt. written.named.slots t f lt (inr ne)))
 
   page_same : (j : ℕ) → IsLitterPage P I j ↔ IsLitterPage P J j
-  page_same j = same.page_same P I J (λ x. ⊥) words nodes.kind nodes.size (λ x r. (reached x).0 r) (λ x lt r. (reached (page_owner P I x)).1 r) (λ x k other. entries.rooms x k) j (λ none. none)
+  page_same j = same.page_same P I J (λ x. ⊥) words entries.version nodes.kind nodes.size (λ x r. (reached x).0 r) (λ x lt r. (reached (page_owner P I x)).1 r) (λ x k other. entries.rooms x k) j (λ none. none)
 
   pub pages_after : (rest : List ℕ) → IsListOf (IsLitterPage P I) rest → IsListOf (IsLitterPage P J) rest
   pages_after rest = listed_same (IsLitterPage P I) (IsLitterPage P J) rest page_same
@@ -88,16 +89,16 @@ module _ {P : ℕ} {I J : List ℕ} {p : Route} {d s i y : ℕ} {name : List ℕ
 
   -- ---- inodes and links
 
-  inode_word : (x f : ℕ) → 1 ≤ x → x ≤ inodes_of P → f < 4 → x ≢ i → ¬ Reached P I x → word J (inode_word_of x f) ≡ word I (inode_word_of x f)
-  inode_word x f least most lt other unreached = written.inodes x f least most (omega (arith, lt)) (inr other) (inr (λ e. unreached (subst (Reached P I) (sym e) written.linked)))
+  inode_word : (x f : ℕ) → 1 ≤ x → x ≤ inodes_of P → f < inode_words I → x ≢ i → ¬ Reached P I x → word J (inode_word_of x f) ≡ word I (inode_word_of x f)
+  inode_word x f least most lt other unreached = written.inodes x f least most (in_inode I f lt) (inr other) (inr (λ e. unreached (subst (Reached P I) (sym e) written.linked)))
 
   pub inode_same : (x : ℕ) → Reached P I x ⊎ (x ≢ i) → IsLitterInode P I x ↔ IsLitterInode P J x
-  inode_same x old = same.inode_same P I J x (reached x) (λ f least most lt unreached.
+  inode_same x old = same.inode_same P I J x entries.version (reached x) (λ f least most lt unreached.
       inode_word x f least most lt (elim old [ inl r ↦ absurd (unreached r) | inr ne ↦ ne ]) unreached)
 
   pub kind_kept : (x : ℕ) → x ≢ i → IsLitterInode P I x → inode_kind I x ≢ 0 → inode_kind J x ≢ 0
   unfolding inode_kind
-  kind_kept x ne l kind z = kind (sym (inode_word x 0 l.least l.most (omega arith) ne l.unreached) ∙ z)
+  kind_kept x ne l kind z = kind (sym (inode_word x 0 l.least l.most (inode_field_read I 0 (omega arith)) ne l.unreached) ∙ z)
 
   raised : Raises P I J y
   raised = record { kept = kept; nodes = nodes; reached = reached; linked = written.linked }

@@ -2,8 +2,8 @@
 -- are told by its slots, its pages and its inodes. P is the number of pages, I the words before a step, J those after it.
 use Rattle.std.specs.Prelude.{◌≡◌, ◌⊎◌, ℕ, ◌<◌, Bool, true, List, [], ◌∷◌, ◌++◌, length, Contains}
 use Rattle.layout.specs.Geometry.{data_pages_of, page_of_slot, inode_word_of, descriptor_word_of, slot_word_of, page_word_of}
-use Rattle.layout.specs.Fields.{word, inode_kind, inode_links, inode_size, inode_own, page_owner, page_kind, page_offset, page_byte, slot_inode, slot_pointer, slot_words, slot_name}
-use Rattle.tree_model.specs.Tree.{Node}
+use Rattle.layout.specs.Fields.{word, inode_words, descriptor_words, inode_kind, inode_links, inode_size, inode_own, page_owner, page_kind, page_offset, page_byte, slot_inode, slot_pointer, slot_words, slot_name}
+use Rattle.layout.specs.declared.kinds.NodeKind.{NodeKind}
 use Rattle.image_reading.specs.Counts.{IsIn}
 use Rattle.image_reading.specs.Litter.{IsInode}
 use Rattle.image_reading.specs.Reading.{IsPageOf}
@@ -18,17 +18,17 @@ use Rattle.weave_laws.specs.Removing.{inodes_left}
 
 -- ---- words of a call
 
--- Word a is of one of these slots, pages or inodes. (A page has its descriptor too, of which three words are used; an inode uses four.)
-pub data IsWordOf (P : ℕ) (slots pages inodes : List ℕ) : ℕ → Type 0 where
-  slot : (s f : ℕ) → IsIn s slots → f < 16 → IsWordOf P slots pages inodes (slot_word_of P s f)
-  page : (j w : ℕ) → IsIn j pages → w < 512 → IsWordOf P slots pages inodes (page_word_of P j w)
-  descriptor : (j f : ℕ) → IsIn j pages → f < 3 → IsWordOf P slots pages inodes (descriptor_word_of P j f)
-  inode : (i f : ℕ) → IsIn i inodes → f < 4 → IsWordOf P slots pages inodes (inode_word_of i f)
+-- Word a is of one of these slots, pages or inodes. (A page has its descriptor too. Of that, and of an inode, it is one that is read in I.)
+pub data IsWordOf (P : ℕ) (I slots pages inodes : List ℕ) : ℕ → Type 0 where
+  slot : (s f : ℕ) → IsIn s slots → f < 16 → IsWordOf P I slots pages inodes (slot_word_of P s f)
+  page : (j w : ℕ) → IsIn j pages → w < 512 → IsWordOf P I slots pages inodes (page_word_of P j w)
+  descriptor : (j f : ℕ) → IsIn j pages → f < descriptor_words I → IsWordOf P I slots pages inodes (descriptor_word_of P j f)
+  inode : (i f : ℕ) → IsIn i inodes → f < inode_words I → IsWordOf P I slots pages inodes (inode_word_of i f)
 
 -- From I to J no word changes but such ones.
 pub record StoresIn (P : ℕ) (I J slots pages inodes : List ℕ) : Type 0 where
   pub size : length J ≡ length I
-  pub others : (a : ℕ) → ¬ IsWordOf P slots pages inodes a → word J a ≡ word I a
+  pub others : (a : ℕ) → ¬ IsWordOf P I slots pages inodes a → word J a ≡ word I a
 
 -- Each of these is among more of them; a slot may be there with its page.
 pub record AreAmong (slots pages inodes more_slots more_pages more_inodes : List ℕ) : Type 0 where
@@ -76,7 +76,7 @@ pub record KeepsInode (I J : List ℕ) (i : ℕ) : Type 0 where
 
 -- From I to J what these words say stays.
 pub record Keeps (P : ℕ) (I J slots pages inodes : List ℕ) : Type 0 where
-  pub words : (a : ℕ) → IsWordOf P slots pages inodes a → word J a ≡ word I a
+  pub words : (a : ℕ) → IsWordOf P I slots pages inodes a → word J a ≡ word I a
   pub of_slots : (s : ℕ) → IsIn s slots ⊎ IsIn (page_of_slot s) pages → KeepsSlot P I J s
   pub of_pages : (j : ℕ) → IsIn j pages → KeepsPage P I J j
   pub of_inodes : (i : ℕ) → IsIn i inodes → KeepsInode I J i
@@ -89,14 +89,14 @@ DisjointLaw = (P : ℕ) (I J slots pages inodes other_slots other_pages other_in
 -- ---- the steps
 
 abbrev pub NodeWordsLaw : Type 0
-NodeWordsLaw = (P : ℕ) (I J : List ℕ) (node : Node) (d s i : ℕ) (name : List ℕ) → MakesNode P I J node d s i name → StoresIn P I J (s ∷ []) [] (i ∷ counts_left node d)
+NodeWordsLaw = (P : ℕ) (I J : List ℕ) (kind : NodeKind) (d s i : ℕ) (name : List ℕ) → MakesNode P I J kind d s i name → StoresIn P I J (s ∷ []) [] (i ∷ counts_left kind d)
 
 abbrev pub LinkWordsLaw : Type 0
 LinkWordsLaw = (P : ℕ) (I J : List ℕ) (s i : ℕ) (name : List ℕ) → MakesLink P I J s i name → StoresIn P I J (s ∷ []) [] (i ∷ [])
 
 abbrev pub PagedNodeWordsLaw : Type 0
-PagedNodeWordsLaw = (P : ℕ) (I J : List ℕ) (node : Node) (d j s i : ℕ) (name : List ℕ) → page_of_slot s ≡ j → MakesPagedNode P I J node d j s i name
-    → StoresIn P I J [] (j ∷ []) (i ∷ counts_left node d)
+PagedNodeWordsLaw = (P : ℕ) (I J : List ℕ) (kind : NodeKind) (d j s i : ℕ) (name : List ℕ) → page_of_slot s ≡ j → MakesPagedNode P I J kind d j s i name
+    → StoresIn P I J [] (j ∷ []) (i ∷ counts_left kind d)
 
 abbrev pub PagedLinkWordsLaw : Type 0
 PagedLinkWordsLaw = (P : ℕ) (I J : List ℕ) (j s i : ℕ) (name : List ℕ) → page_of_slot s ≡ j → MakesPagedLink P I J j s i name → StoresIn P I J [] (j ∷ []) (i ∷ [])

@@ -1,17 +1,19 @@
 -- A name comes or goes by the one word that commits it, whatever other calls have left: the words after it read as the state that the
 -- command leaves. P is the number of pages, I the words before.
-use Rattle.std.specs.Prelude.{◌≡◌, ◌↔◌, ◌⊎◌, ℕ, Bool, true, List, ◌∷◌, reverse, set, Option, Some, None, slice_index}
+use Rattle.std.specs.Prelude.{◌≡◌, ◌↔◌, ◌⊎◌, ℕ, Bool, true, List, ◌∷◌, reverse, set, Option, Some, None}
 use Rattle.layout.specs.Fields.{inode_kind, slot_name}
 use Rattle.layout.specs.Geometry.{page_of_slot}
+use Rattle.layout.specs.Kinds.{node_code}
+use Rattle.layout.specs.declared.kinds.NodeKind.{NodeKind}
 use Rattle.tree_model.specs.PathText.{Route}
-use Rattle.tree_model.specs.Tree.{Node, Room, id_at}
-use Rattle.tree_model.specs.Step.{is_full, room_after}
+use Rattle.tree_model.specs.Tree.{Room, id_at}
+use Rattle.tree_model.specs.Step.{making, is_full, new_node, room_after}
 use Rattle.tree_model.specs.Run.{State}
 use Rattle.tree_model.specs.declared.command.Command.TheVariants.{Link}
 use Rattle.image_reading.specs.Reading.{slot_owner, IsNode, IsRoomOf, HasRoom, ReadsAs}
 use Rattle.image_laws.specs.Add.{IsNewNode, IsOldFile, CanAdd, with_page, with_node}
-use Rattle.image_laws.specs.Create.{IsEmptyNode, node_words, committed}
-use Rattle.image_laws.specs.CreateStep.{making, IsStepped}
+use Rattle.image_laws.specs.Create.{committed}
+use Rattle.image_laws.specs.CreateStep.{IsStepped}
 use Rattle.image_laws.specs.Drop.{dropped}
 use Rattle.image_laws.specs.DropStep.{Removal, removing}
 use Rattle.image_laws.specs.Quiet.{IsMix}
@@ -20,22 +22,22 @@ use Rattle.image_laws.specs.Remove.{CanRemove}
 -- ---- a name comes
 
 -- Directory d has a name in the slot's page, or it is full, and takes that page.
-abbrev pub HasPlace : ℕ → List ℕ → State → ℕ → ℕ → Type 0
-HasPlace P I old d s = IsRoomOf P I d (page_of_slot s) ⊎ (is_full old.tree old.room d ≡ true)
+abbrev pub HasSlotPlace : ℕ → List ℕ → State → ℕ → ℕ → Type 0
+HasSlotPlace P I old d s = IsRoomOf P I d (page_of_slot s) ⊎ (is_full old.tree old.room d ≡ true)
 
 -- with a new node,
 abbrev pub NodeEnteredLaw : Type 0
-NodeEnteredLaw = (P : ℕ) (I : List ℕ) (old : State) (p path : Route) (node : Node) (d s i : ℕ) → CanAdd P I p d s i → IsNewNode P I i → IsNode P I i node → IsEmptyNode node
-    → HasPlace P I old d s → reverse path ≡ slot_name P I s ∷ p → ReadsAs P I old → IsStepped P (committed P I s i) old (making node path) i
+NodeEnteredLaw = (P : ℕ) (I : List ℕ) (old : State) (p path : Route) (kind : NodeKind) (d s i : ℕ) → CanAdd P I p d s i → IsNewNode P I i → IsNode P I i (new_node kind)
+    → HasSlotPlace P I old d s → reverse path ≡ slot_name P I s ∷ p → ReadsAs P I old → IsStepped P (committed P I s i) old (making kind path) i
 
 -- which its kind tells,
 abbrev pub NewNodeLaw : Type 0
-NewNodeLaw = (P : ℕ) (I : List ℕ) (node : Node) (i : ℕ) → IsNewNode P I i → inode_kind I i ≡ slice_index (node_words node i) 0 → IsEmptyNode node → IsNode P I i node
+NewNodeLaw = (P : ℕ) (I : List ℕ) (kind : NodeKind) (i : ℕ) → IsNewNode P I i → inode_kind I i ≡ node_code kind → IsNode P I i (new_node kind)
 
 -- or with a file that has a name already (no node is new: id n is not read)
 abbrev pub LinkEnteredLaw : Type 0
 LinkEnteredLaw = (P : ℕ) (I : List ℕ) (old : State) (p from path : Route) (d s i n : ℕ) → CanAdd P I p d s i → IsOldFile P I i → id_at old.tree from ≡ Some i
-    → HasPlace P I old d s → reverse path ≡ slot_name P I s ∷ p → ReadsAs P I old → IsStepped P (committed P I s i) old (Link from path) n
+    → HasSlotPlace P I old d s → reverse path ≡ slot_name P I s ∷ p → ReadsAs P I old → IsStepped P (committed P I s i) old (Link from path) n
 
 -- the page of slot s, where directory d has no name in it
 abbrev pub IsNamelessPage : ℕ → List ℕ → ℕ → ℕ → Option ℕ → Type 0
@@ -49,8 +51,8 @@ with_taken room d (Some page) = with_page room d
 
 -- Which room it is: d has a page more exactly where it takes one.
 abbrev pub NodeRoomLaw : Type 0
-NodeRoomLaw = (P : ℕ) (I : List ℕ) (p : Route) (node : Node) (d s : ℕ) (new_page : Option ℕ) (i : ℕ) (room : Room) → CanAdd P I p d s i → IsNode P I i node
-    → IsNamelessPage P I d s new_page → HasRoom P I room → HasRoom P (committed P I s i) (with_node (with_taken room d new_page) i node)
+NodeRoomLaw = (P : ℕ) (I : List ℕ) (p : Route) (kind : NodeKind) (d s : ℕ) (new_page : Option ℕ) (i : ℕ) (room : Room) → CanAdd P I p d s i → inode_kind I i ≡ node_code kind
+    → IsNamelessPage P I d s new_page → HasRoom P I room → HasRoom P (committed P I s i) (with_node (with_taken room d new_page) i kind)
 
 abbrev pub LinkedRoomLaw : Type 0
 LinkedRoomLaw = (P : ℕ) (I : List ℕ) (p : Route) (d s : ℕ) (new_page : Option ℕ) (i : ℕ) (room : Room) → CanAdd P I p d s i → IsOldFile P I i

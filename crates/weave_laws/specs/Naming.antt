@@ -3,8 +3,9 @@
 use Rattle.std.specs.Prelude.{◌≡◌, ◌≢◌, ℕ, ◌+◌, ◌<◌, List, [], ◌∷◌, Option, Some, None, slice_index}
 use Rattle.layout.specs.Fields.{word, inode_kind, inode_links}
 use Rattle.layout.specs.Geometry.{page_of_slot, inode_word_of}
+use Rattle.layout.specs.declared.kinds.NodeKind.{NodeKind}
+use Rattle.layout.specs.declared.kinds.NodeKind.TheVariants.{File, Directory}
 use Rattle.tree_model.specs.PathText.{Route}
-use Rattle.tree_model.specs.Tree.{Node, Directory, File}
 use Rattle.image_reading.specs.Litter.{IsZeroSlot}
 use Rattle.image_reading.specs.Reading.{IsLinkCount, IsRoomOf}
 use Rattle.image_laws.specs.Add.{IsOldFile, CanAdd}
@@ -26,13 +27,13 @@ pages_left None = []
 pages_left (Some page) = page ∷ []
 
 -- the links of the directory that a directory is made in
-abbrev pub counts_left : Node → ℕ → List ℕ
+abbrev pub counts_left : NodeKind → ℕ → List ℕ
 counts_left Directory d = d ∷ []
-counts_left (File bytes) d = []
+counts_left File d = []
 
 -- with a new node the inode
-abbrev pub node_left : Node → ℕ → ℕ → Option ℕ → ℕ → Residue
-node_left node d s new_page i = record { pointer = None; slots = slots_left s new_page; pages = pages_left new_page; inodes = i ∷ []; counts = counts_left node d }
+abbrev pub node_left : NodeKind → ℕ → ℕ → Option ℕ → ℕ → Residue
+node_left kind d s new_page i = record { pointer = None; slots = slots_left s new_page; pages = pages_left new_page; inodes = i ∷ []; counts = counts_left kind d }
 
 -- with a link the links of the file
 abbrev pub link_left : ℕ → Option ℕ → ℕ → Residue
@@ -41,9 +42,9 @@ link_left s new_page i = record { pointer = None; slots = slots_left s new_page;
 -- ---- the name is written
 
 -- The directory that a directory is made in has as many links as are counted.
-abbrev pub IsCountedParent : ℕ → List ℕ → Node → ℕ → Type 0
+abbrev pub IsCountedParent : ℕ → List ℕ → NodeKind → ℕ → Type 0
 IsCountedParent P I Directory d = IsLinkCount P I d (inode_links I d)
-IsCountedParent P I (File bytes) d = Unit {0}
+IsCountedParent P I File d = Unit {0}
 
 -- The slot is zero, in a page of d that has a live one.
 pub record IsBlankSlot (P : ℕ) (I : List ℕ) (d s : ℕ) : Type 0 where
@@ -51,9 +52,9 @@ pub record IsBlankSlot (P : ℕ) (I : List ℕ) (d s : ℕ) : Type 0 where
   pub zero : IsZeroSlot P I s
 
 abbrev pub NodeWrittenLaw : Type 0
-NodeWrittenLaw = (P : ℕ) (I J : List ℕ) (p : Route) (node : Node) (d s i : ℕ) (name : List ℕ) (others : Residue) → IsReady P I p d s i name → IsBlankSlot P I d s → inode_kind I i ≡ 0
-    → IsCountedParent P I node d → MakesNode P I J node d s i name → IsTidyBeside P I others
-    → IsTidyBeside P J (joined (node_left node d s None i) others)
+NodeWrittenLaw = (P : ℕ) (I J : List ℕ) (p : Route) (kind : NodeKind) (d s i : ℕ) (name : List ℕ) (others : Residue) → IsReady P I p d s i name → IsBlankSlot P I d s → inode_kind I i ≡ 0
+    → IsCountedParent P I kind d → MakesNode P I J kind d s i name → IsTidyBeside P I others
+    → IsTidyBeside P J (joined (node_left kind d s None i) others)
 
 abbrev pub LinkWrittenLaw : Type 0
 LinkWrittenLaw = (P : ℕ) (I J : List ℕ) (p : Route) (d s i : ℕ) (name : List ℕ) (others : Residue) → IsReadySlot P I p d s name → IsBlankSlot P I d s → IsOldFile P I i
@@ -67,14 +68,14 @@ abbrev pub HasSpareLink : ℕ → List ℕ → ℕ → Type 0
 HasSpareLink P I x = (n : ℕ) × IsLinkCount P I x n × (inode_links I x ≡ n + 1)
 
 -- and so has the directory that a directory is made in
-abbrev pub IsWrittenParent : ℕ → List ℕ → Node → ℕ → Type 0
+abbrev pub IsWrittenParent : ℕ → List ℕ → NodeKind → ℕ → Type 0
 IsWrittenParent P I Directory d = HasSpareLink P I d
-IsWrittenParent P I (File bytes) d = Unit {0}
+IsWrittenParent P I File d = Unit {0}
 
--- The new inode has the node's kind and links.
-pub record IsWrittenNode (P : ℕ) (I : List ℕ) (node : Node) (d i : ℕ) : Type 0 where
-  pub words : (f : ℕ) → f < 2 → word I (inode_word_of i f) ≡ slice_index (node_words node i) f
-  pub parent : IsWrittenParent P I node d
+-- The new inode has the kind and the links of a new node.
+pub record IsWrittenNode (P : ℕ) (I : List ℕ) (kind : NodeKind) (d i : ℕ) : Type 0 where
+  pub words : (f : ℕ) → f < 2 → word I (inode_word_of i f) ≡ slice_index (node_words kind i) f
+  pub parent : IsWrittenParent P I kind d
 
 -- the slot stands in the new page, whose other slots are zero
 abbrev pub IsWrittenPlace : ℕ → List ℕ → ℕ → Option ℕ → Type 0
@@ -83,8 +84,8 @@ IsWrittenPlace P I s (Some page) = (page_of_slot s ≡ page) × ((t : ℕ) → p
 
 -- then nothing of it is left to be repaired
 abbrev pub NodeCommittedLaw : Type 0
-NodeCommittedLaw = (P : ℕ) (I : List ℕ) (p : Route) (node : Node) (d s : ℕ) (new_page : Option ℕ) (i : ℕ) (others : Residue) → CanAdd P I p d s i → IsWrittenNode P I node d i
-    → IsWrittenPlace P I s new_page → IsTidyBeside P I (joined (node_left node d s new_page i) others) → IsTidyBeside P (committed P I s i) others
+NodeCommittedLaw = (P : ℕ) (I : List ℕ) (p : Route) (kind : NodeKind) (d s : ℕ) (new_page : Option ℕ) (i : ℕ) (others : Residue) → CanAdd P I p d s i → IsWrittenNode P I kind d i
+    → IsWrittenPlace P I s new_page → IsTidyBeside P I (joined (node_left kind d s new_page i) others) → IsTidyBeside P (committed P I s i) others
 
 abbrev pub LinkCommittedLaw : Type 0
 LinkCommittedLaw = (P : ℕ) (I : List ℕ) (p : Route) (d s : ℕ) (new_page : Option ℕ) (i : ℕ) (others : Residue) → CanAdd P I p d s i → HasSpareLink P I i

@@ -4,7 +4,7 @@
 use Rattle.std.specs.Prelude.{◌≡◌, ℕ, List, Some}
 use Rattle.layout.specs.Fields.{inode_links}
 use Rattle.layout.specs.Geometry.{page_of_slot}
-use Rattle.tree_model.specs.Tree.{Node}
+use Rattle.layout.specs.declared.kinds.NodeKind.{NodeKind}
 use Rattle.image_reading.specs.Litter.{IsInode}
 use Rattle.image_reading.specs.Reading.{IsDirectory, Reached, IsLinkCount}
 use Rattle.image_reading.specs.Residue.{Residue, IsTidyBeside}
@@ -23,8 +23,8 @@ use Rattle.weave_laws.specs.Naming.{IsCountedParent, node_left, link_left}
 
 -- a new node, of an inode that isn't reached, and its name in a page that has no owner
 abbrev pub PagedNodeQuietLaw : Type 0
-PagedNodeQuietLaw = (P : ℕ) (I J M : List ℕ) (node : Node) (d j s i : ℕ) (name : List ℕ) → IsCoherent P I → Reached P I d → IsFreePage P I j → page_of_slot s ≡ j
-    → IsInode P i → ¬ Reached P I i → MakesPagedNode P I J node d j s i name → IsMix I J M → SameMeaning P I M
+PagedNodeQuietLaw = (P : ℕ) (I J M : List ℕ) (kind : NodeKind) (d j s i : ℕ) (name : List ℕ) → IsCoherent P I → Reached P I d → IsFreePage P I j → page_of_slot s ≡ j
+    → IsInode P i → ¬ Reached P I i → MakesPagedNode P I J kind d j s i name → IsMix I J M → SameMeaning P I M
 
 -- or one more link of a file
 abbrev pub PagedLinkQuietLaw : Type 0
@@ -40,9 +40,9 @@ OwningQuietLaw = (P : ℕ) (I M : List ℕ) (d j : ℕ) → IsCoherent P I → R
 
 -- The page has neither an owner nor a kind before, and the inode no kind.
 abbrev pub PagedNodeWrittenLaw : Type 0
-PagedNodeWrittenLaw = (P : ℕ) (I J : List ℕ) (node : Node) (d j s i : ℕ) (name : List ℕ) (others : Residue) → IsCoherent P I → Reached P I d → IsUnusedDataPage P I j → page_of_slot s ≡ j
-    → IsFreeInode P I i → IsCountedParent P I node d → MakesPagedNode P I J node d j s i name → IsTidyBeside P I others
-    → IsTidyBeside P J (joined (node_left node d s (Some j) i) others)
+PagedNodeWrittenLaw = (P : ℕ) (I J : List ℕ) (kind : NodeKind) (d j s i : ℕ) (name : List ℕ) (others : Residue) → IsCoherent P I → Reached P I d → IsUnusedDataPage P I j → page_of_slot s ≡ j
+    → IsFreeInode P I i → IsCountedParent P I kind d → MakesPagedNode P I J kind d j s i name → IsTidyBeside P I others
+    → IsTidyBeside P J (joined (node_left kind d s (Some j) i) others)
 
 abbrev pub PagedLinkWrittenLaw : Type 0
 PagedLinkWrittenLaw = (P : ℕ) (I J : List ℕ) (j s i : ℕ) (name : List ℕ) (others : Residue) → IsCoherent P I → IsUnusedDataPage P I j → page_of_slot s ≡ j → IsOldFile P I i

@@ -1,12 +1,14 @@
 -- What a call that waits between two fences has, and that its next step may be made. It has its own words, facts of the tree that its command still
 -- needs, and what it has left, beside what the others have left. P is the number of pages, I the words before the step.
 use Rattle.std.specs.Prelude.{◌≡◌, ◌≢◌, ◌↔◌, ◌⊎◌, ℕ, ◌+◌, ◌^◌, ◌<◌, ◌≤◌, Bool, true, false, List, [], ◌∷◌, length, reverse, Option, Some, None, slice_get, slice_index, Contains}
-use Rattle.layout.specs.Fields.{word, inode_links, inode_size, page_owner, page_kind, page_offset, slot_inode, slot_pointer, slot_name, slot_words}
+use Rattle.layout.specs.Fields.{word, inode_words, inode_links, inode_size, page_owner, page_kind, page_offset, slot_inode, slot_pointer, slot_name, slot_words}
 use Rattle.layout.specs.Geometry.{page_of_slot, inode_word_of}
 use Rattle.layout.specs.Name.{IsNameWords, name_in_words}
+use Rattle.layout.specs.declared.kinds.NodeKind.{NodeKind}
+use Rattle.layout.specs.declared.kinds.NodeKind.TheVariants.{File, Directory}
 use Rattle.tree_model.specs.PathText.{Route}
-use Rattle.tree_model.specs.Tree.{Node, Directory, File, Tree, parent, last_name, id_at, is_directory, is_file, name_count, path_count, link_count}
-use Rattle.tree_model.specs.Step.{is_full}
+use Rattle.tree_model.specs.Tree.{Tree, parent, last_name, id_at, is_directory, is_file, name_count, path_count, link_count}
+use Rattle.tree_model.specs.Step.{is_full, new_node}
 use Rattle.tree_model.specs.Run.{State}
 use Rattle.image_reading.specs.Counts.{IsIn, IsDistinct}
 use Rattle.image_reading.specs.Litter.{IsInode, IsZeroSlot}
@@ -16,12 +18,12 @@ use Rattle.image_counts.specs.Entries as entries
 use Rattle.image_counts.specs.Entries.{IsPageIn, IsUnusedDataPage}
 use Rattle.image_counts.specs.Laws.{IsApart, ReadsBeside}
 use Rattle.image_laws.specs.Add.{IsNewNode, IsOldFile, CanAdd}
-use Rattle.image_laws.specs.Create.{IsEmptyNode, node_words}
+use Rattle.image_laws.specs.Create.{node_words}
 use Rattle.image_laws.specs.Remove.{CanRemove}
 use Rattle.image_laws.specs.Stages.{IsFreeInode, IsReadySlot, IsEmptyPage, MayClearName, MayGive, MayFree}
 use Rattle.content_laws.specs.Cut.{MayTrim}
 use Rattle.weave_laws.specs.Bytes.{MayWrite, MayFill, MayOwn, MayRaise, MayLower}
-use Rattle.weave_laws.specs.Entering.{HasPlace, IsNamelessPage}
+use Rattle.weave_laws.specs.Entering.{HasSlotPlace, IsNamelessPage}
 use Rattle.weave_laws.specs.Joined.{joined}
 use Rattle.weave_laws.specs.Naming.{IsBlankSlot, HasSpareLink, IsWrittenNode, node_left, link_left}
 use Rattle.weave_laws.specs.Removing.{unnamed_left, cleared_left, IsPageOfName, IsFallingLink, IsLeftPage}
@@ -116,34 +118,33 @@ TakesPageIfFull state d (Some page) = is_full state.tree state.room d ≡ true
 pub record MayCommit (P : ℕ) (I : List ℕ) (state : State) (path : Route) (d s : ℕ) (new_page : Option ℕ) (i : ℕ) : Type 0 where
   pub can : CanAdd P I (reverse (parent path)) d s i
   pub place : IsNamelessPage P I d s new_page
-  pub has_place : HasPlace P I state d s
+  pub has_place : HasSlotPlace P I state d s
   pub path_is : reverse path ≡ slot_name P I s ∷ reverse (parent path)
 
--- Inode i has the words of the empty node.
-pub record HasNodeWords (I : List ℕ) (node : Node) (i : ℕ) : Type 0 where
-  pub empty : IsEmptyNode node
-  pub words : (f : ℕ) → f < 4 → word I (inode_word_of i f) ≡ slice_index (node_words node i) f
+-- inode i has the words of a new node
+abbrev pub HasNodeWords : List ℕ → NodeKind → ℕ → Type 0
+HasNodeWords I kind i = (f : ℕ) → f < inode_words I → word I (inode_word_of i f) ≡ slice_index (node_words kind i) f
 
-pub record MayCommitNode (P : ℕ) (I : List ℕ) (state : State) (path : Route) (node : Node) (d s : ℕ) (new_page : Option ℕ) (i : ℕ) : Type 0 where
+pub record MayCommitNode (P : ℕ) (I : List ℕ) (state : State) (path : Route) (kind : NodeKind) (d s : ℕ) (new_page : Option ℕ) (i : ℕ) : Type 0 where
   pub named : MayCommit P I state path d s new_page i
   pub new : IsNewNode P I i
-  pub is_node : IsNode P I i node
+  pub is_node : IsNode P I i (new_node kind)
 
 -- the directory that a directory is made in has one link more than the tree counts
-abbrev pub HasRaisedLinks : List ℕ → Tree → Node → ℕ → Type 0
+abbrev pub HasRaisedLinks : List ℕ → Tree → NodeKind → ℕ → Type 0
 HasRaisedLinks I T Directory d = inode_links I d ≡ link_count T d + 1
-HasRaisedLinks I T (File bytes) d = Unit {0}
+HasRaisedLinks I T File d = Unit {0}
 
 -- The node is written, with the links of its directory,
 abbrev pub WaitingWordsLaw : Type 0
-WaitingWordsLaw = (P : ℕ) (I : List ℕ) (state : State) (node : Node) (d s : ℕ) (new_page : Option ℕ) (i : ℕ) (others : Residue) → WaitsBeside P I (node_left node d s new_page i) others state
-    → HasNodeWords I node i → HasRaisedLinks I state.tree node d → IsWrittenNode P I node d i
+WaitingWordsLaw = (P : ℕ) (I : List ℕ) (state : State) (kind : NodeKind) (d s : ℕ) (new_page : Option ℕ) (i : ℕ) (others : Residue) → WaitsBeside P I (node_left kind d s new_page i) others state
+    → HasNodeWords I kind i → HasRaisedLinks I state.tree kind d → IsWrittenNode P I kind d i
 
 -- and its name may get the number,
 abbrev pub WaitingNodeLaw : Type 0
-WaitingNodeLaw = (P : ℕ) (I : List ℕ) (state : State) (path : Route) (node : Node) (d s : ℕ) (new_page : Option ℕ) (i : ℕ) (others : Residue)
-    → WaitsBeside P I (node_left node d s new_page i) others state → IsWaitingName P I state.tree path d s → IsPageOfName s new_page → TakesPageIfFull state d new_page → HasNodeWords I node i
-    → HasNoPageOf P I others i → MayCommitNode P I state path node d s new_page i
+WaitingNodeLaw = (P : ℕ) (I : List ℕ) (state : State) (path : Route) (kind : NodeKind) (d s : ℕ) (new_page : Option ℕ) (i : ℕ) (others : Residue)
+    → WaitsBeside P I (node_left kind d s new_page i) others state → IsWaitingName P I state.tree path d s → IsPageOfName s new_page → TakesPageIfFull state d new_page → HasNodeWords I kind i
+    → HasNoPageOf P I others i → MayCommitNode P I state path kind d s new_page i
 
 -- or that of a file with a link more
 abbrev pub WaitingFileLaw : Type 0
