@@ -4,7 +4,7 @@ use Rattle.layout.specs.Geometry.{inodes_of, data_pages_of, page_of_slot}
 use Rattle.layout.specs.Name.{IsNameWords, name_in_words}
 use Rattle.layout.specs.Fields.{inode_kind, inode_size, page_owner, page_kind, page_offset, slot_name, slot_words}
 use Rattle.image_reading.specs.Counts.{IsIn}
-use Rattle.image_reading.specs.Reading.{slot_owner, Reached, IsReachedSlot}
+use Rattle.image_reading.specs.Reading.{IsDirectory, HasBytes, slot_owner, Reached, IsReachedSlot}
 use Rattle.image_reading.specs.Repairs.{IsKept}
 use Rattle.image_reading.specs.Scanned.{AreNames}
 use Rattle.image_reading.specs.Soundness.{Rule, IsCoherent}
@@ -34,13 +34,13 @@ module _ (P : ℕ) (W : List ℕ) (coherent : IsCoherent P W) where
   owner_in_table : (j : ℕ) → IsKept P W j → (1 ≤ page_owner P W j) × (page_owner P W j ≤ inodes_of P)
   owner_in_table j kept = in_range P W coherent (page_owner P W j) (owner_reached j kept)
 
-  file_owner : (j : ℕ) → j < data_pages_of P → IsKept P W j → page_kind P W j ≡ 1 → inode_kind W (page_owner P W j) ≡ 1
+  file_owner : (j : ℕ) → j < data_pages_of P → IsKept P W j → page_kind P W j ≡ 1 → HasBytes W (page_owner P W j)
   file_owner j within kept kind = elim ((coherent Rule.kinds (page_owner P W j)).kind (owner_reached j kept)) [
     | inl file ↦ file
-    | inr directory ↦ let two = (coherent Rule.page_kinds j).directory within (owner_reached j kept) directory in absurd (omega (arith, kind, two))
+    | inr directory ↦ let slots = (coherent Rule.page_kinds j).directory within (owner_reached j kept) directory in absurd (omega (arith, kind, slots))
   ]
 
-  directory_owner : (j : ℕ) → j < data_pages_of P → IsKept P W j → page_kind P W j ≢ 1 → inode_kind W (page_owner P W j) ≡ 2
+  directory_owner : (j : ℕ) → j < data_pages_of P → IsKept P W j → page_kind P W j ≢ 1 → IsDirectory W (page_owner P W j)
   directory_owner j within kept kind = elim ((coherent Rule.kinds (page_owner P W j)).kind (owner_reached j kept)) [
     | inl file ↦ absurd (kind ((coherent Rule.page_kinds j).file within (owner_reached j kept) file))
     | inr directory ↦ directory
@@ -116,8 +116,8 @@ module _ (P : ℕ) (W : List ℕ) (coherent : IsCoherent P W) where
     same_owner : (j : ℕ) → IsKept P W j → page_owner P K j ≡ page_owner P W j
     same_owner j kept = ((index_of.pages (page_owner P W j) j (owner_in_table j kept).0).1 (kept, refl)).owner
 
-    owner_kind : (j kind : ℕ) → IsKept P W j → inode_kind W (page_owner P W j) ≡ kind → inode_kind K (page_owner P K j) ≡ kind
-    owner_kind j kind kept is = ap (inode_kind K) (same_owner j kept) ∙ same_kind (page_owner P W j) (owner_reached j kept) ∙ is
+    owner_kind : (j : ℕ) → IsKept P W j → inode_kind K (page_owner P K j) ≡ inode_kind W (page_owner P W j)
+    owner_kind j kept = ap (inode_kind K) (same_owner j kept) ∙ same_kind (page_owner P W j) (owner_reached j kept)
 
     owned : (j : ℕ) → IsKept P W j → page_owner P K j ≢ 0
     owned j kept zero = let least = (owner_in_table j kept).0 in let same = same_owner j kept in omega (arith, least, same, zero)
@@ -135,7 +135,7 @@ module _ (P : ℕ) (W : List ℕ) (coherent : IsCoherent P W) where
           let (least, most) = owner_in_table p kept in
           let same = same_owner p kept in
           let in_range : (1 ≤ page_owner P K p) × (page_owner P K p ≤ inodes_of P) = (omega (arith, least, same), omega (arith, most, same)) in
-          let file = owner_kind p 1 kept (file_owner p within kept kind) in
+          let file = owner_kind p kept ∙ file_owner p within kept kind in
           let below = offset_below P K tidy (page_owner P K p) in_range.0 in_range.1 file p (record { in_range = within; owner = refl }) in
           let long = (holds.each (page_owner P K p) in_range.0 in_range.1).places file in
           let there = ap (λ k. length (node_of index k).pages) owner_after in
@@ -145,7 +145,7 @@ module _ (P : ℕ) (W : List ℕ) (coherent : IsCoherent P W) where
       pub page_set : (offset : ℕ) (old new : List NodeView) → page_kind P W p ≡ 1 → offset ≡ page_offset P W p → IsSameElsewhere d old new
           → (node_of new d).pages ≡ set (node_of old d).pages offset p → (node_of new d).entries ≡ (node_of old d).entries → Holds P K p [] 0 old → Holds P K (p + 1) [] 0 new
       page_set offset old new kind offset_is elsewhere pages entries =
-          file_page_set P K p old new tidy within (owned p kept) (owner_kind p 1 kept (file_owner p within kept kind))
+          file_page_set P K p old new tidy within (owned p kept) (owner_kind p kept ∙ file_owner p within kept kind)
           (subst (λ (k : ℕ). IsSameElsewhere k old new) owner_after elsewhere)
           (subst (λ (k : ℕ). (node_of new k).pages ≡ set (node_of old k).pages (page_offset P K p) p) owner_after
           (pages ∙ ap (λ (o : ℕ). set (node_of old d).pages o p) (offset_is ∙ sym (index_of.offsets p kept))))
@@ -154,7 +154,7 @@ module _ (P : ℕ) (W : List ℕ) (coherent : IsCoherent P W) where
       pub page_added : (old new : List NodeView) → page_kind P W p ≢ 1 → IsSameElsewhere d old new
           → (node_of new d).pages ≡ (node_of old d).pages ++ p ∷ [] → (node_of new d).entries ≡ (node_of old d).entries → Holds P K p [] 0 old → Holds P K (p + 1) [] 0 new
       page_added old new kind elsewhere pages entries =
-          page_pushed P K p old new tidy within (owned p kept) (owner_kind p 2 kept (directory_owner p within kept kind))
+          page_pushed P K p old new tidy within (owned p kept) (owner_kind p kept ∙ directory_owner p within kept kind)
           (subst (λ (k : ℕ). IsSameElsewhere k old new) owner_after elsewhere)
           (subst (λ (k : ℕ). (node_of new k).pages ≡ (node_of old k).pages ++ p ∷ []) owner_after pages)
           (subst (λ (k : ℕ). (node_of new k).entries ≡ (node_of old k).entries) owner_after entries)

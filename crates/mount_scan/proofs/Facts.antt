@@ -3,9 +3,10 @@ use Rattle.std.proofs.Common.{◌≡◌, ◌≢◌, inl, inr, ℕ, ◌*◌, ◌<
 use Rattle.layout.specs.Geometry.{inodes_of, data_pages_of, page_of_slot}
 use Rattle.layout.specs.Fields.{inode_kind, inode_size, page_owner, page_offset}
 use Rattle.tree_model.specs.Run.{State}
-use Rattle.image_reading.specs.Reading.{IsFile, IsDirectory, slot_owner, Reached, IsPageOf, pages_of_size, ReadsAs}
+use Rattle.image_reading.specs.Reading.{IsDirectory, HasBytes, slot_owner, Reached, IsPageOf, pages_of_size, ReadsAs}
 use Rattle.image_reading.specs.Soundness.{Rule, IsCoherent}
 use Rattle.image_reading.specs.Tidy.{Tidy}
+use Rattle.image_reading.proofs.FilePages.{page_from_place}
 use Rattle.image_reading.proofs.Tidied.{tidied}
 use Rattle.image_counts.specs.Entries.{IsEntryOf, IsPageIn}
 use Rattle.image_counts.proofs.Paths.{in_range, same_slot}
@@ -36,7 +37,7 @@ module _ (P : ℕ) (I : List ℕ) (tidy : Tidy P I) where
   kind_reached : (i : ℕ) → 1 ≤ i → i ≤ inodes_of P → inode_kind I i ≢ 0 → Reached P I i
   kind_reached i least most kind = ((has_used_inodes P I state.tree (tidied tidy) reads.tree).used i least most).1 kind
 
-  file_reached : (i : ℕ) → 1 ≤ i → i ≤ inodes_of P → inode_kind I i ≡ 1 → Reached P I i
+  file_reached : (i : ℕ) → 1 ≤ i → i ≤ inodes_of P → HasBytes I i → Reached P I i
   file_reached i least most file = kind_reached i least most (λ zero. omega (arith, file, zero))
 
   -- ---- pages
@@ -46,22 +47,22 @@ module _ (P : ℕ) (I : List ℕ) (tidy : Tidy P I) where
 
   -- ---- pages of files
 
-  module _ (i : ℕ) (least : 1 ≤ i) (most : i ≤ inodes_of P) (file : inode_kind I i ≡ 1) where
+  module _ (i : ℕ) (least : 1 ≤ i) (most : i ≤ inodes_of P) (file : HasBytes I i) where
     pub offset_below : (j : ℕ) → IsPageIn P I i j → page_offset P I j < pages_of_size (inode_size I i)
     offset_below j page = elim (owned_kept P I state (tidied tidy) reads j page.in_range (λ zero. let is = page.owner in omega (arith, least, zero, is))) [
       | inl kept ↦ subst (λ z. page_offset P I j < pages_of_size (inode_size I z)) page.owner kept.below
       | inr room ↦
-          let two : inode_kind I i ≡ 2 = subst (λ z. inode_kind I z ≡ 2) page.owner room.directory in
-          absurd (omega (arith, file, two))
+          let directory = subst (IsDirectory I) page.owner room.directory in
+          absurd (omega (arith, file, directory))
     ]
 
     page_of : (j : ℕ) → IsPageIn P I i j → IsPageOf P I i (page_offset P I j) j
-    page_of j page = record {
+    page_of j page = page_from_place (record {
       in_range = page.in_range;
       owner = page.owner;
-      kind = (coherent Rule.page_kinds j).file page.in_range (subst (Reached P I) (sym page.owner) (file_reached i least most file)) (subst (IsFile I) (sym page.owner) file);
+      kind = (coherent Rule.page_kinds j).file page.in_range (subst (Reached P I) (sym page.owner) (file_reached i least most file)) (subst (HasBytes I) (sym page.owner) file);
       offset = refl;
-    }
+    })
 
     pub page_at : (k : ℕ) → k < pages_of_size (inode_size I i) → (j : ℕ) × IsPageIn P I i j × (page_offset P I j ≡ k)
     page_at k below =
@@ -78,7 +79,7 @@ module _ (P : ℕ) (I : List ℕ) (tidy : Tidy P I) where
   pub one_entry : (d s t : ℕ) (bytes : List ℕ) → IsEntryOf P I d bytes s → IsEntryOf P I d bytes t → s ≡ t
   one_entry d s t bytes a b = same_slot P I coherent s t a.slot b.slot (a.owner ∙ sym b.owner) (a.name ∙ sym b.name)
 
-pub entry_directory : (P : ℕ) (I : List ℕ) (d s : ℕ) (bytes : List ℕ) → IsEntryOf P I d bytes s → inode_kind I d ≡ 2
+pub entry_directory : (P : ℕ) (I : List ℕ) (d s : ℕ) (bytes : List ℕ) → IsEntryOf P I d bytes s → IsDirectory I d
 entry_directory P I d s bytes entry = subst (IsDirectory I) entry.owner entry.slot.directory
 
 pub entry_page : (P : ℕ) (I : List ℕ) (d s : ℕ) (bytes : List ℕ) → IsEntryOf P I d bytes s → page_owner P I (page_of_slot s) ≡ d

@@ -7,7 +7,7 @@ use Rattle.std.proofs.lemmas.Option.{slice_get_within}
 use Rattle.layout.specs.Geometry.{inodes_of, data_pages_of}
 use Rattle.layout.specs.Fields.{inode_kind, page_owner, page_offset, slot_name}
 use Rattle.image_reading.specs.Counts.{IsIn, IsDistinct}
-use Rattle.image_reading.specs.Reading.{slot_owner}
+use Rattle.image_reading.specs.Reading.{IsDirectory, HasBytes, slot_owner}
 use Rattle.image_reading.proofs.ReachedTable.{place_of, distinct_at}
 use Rattle.image_reading.specs.Tidy.{Tidy}
 use Rattle.image_counts.specs.Entries.{IsEntryOf, IsPageIn}
@@ -70,7 +70,7 @@ module _ (P : ℕ) (I : List ℕ) where
 
   -- ---- one page more
 
-  with_page : (i p : ℕ) (names : List ℕ) (put : ℕ) (old new : NodeView) → inode_kind I i ≢ 1 → IsPageIn P I i p → new.pages ≡ old.pages ++ p ∷ [] → new.entries ≡ old.entries
+  with_page : (i p : ℕ) (names : List ℕ) (put : ℕ) (old new : NodeView) → ¬ HasBytes I i → IsPageIn P I i p → new.pages ≡ old.pages ++ p ∷ [] → new.entries ≡ old.entries
       → HoldsOf P I p names put i old → HoldsOf P I (p + 1) names put i new
   with_page i p names put old new other page pages entries holds = record {
     entries = λ slot bytes. subst (λ (es : List Entry). Contains es (record { name = bytes; slot = slot }) ↔ (IsEntryOf P I i bytes slot × IsAmong names put slot)) (sym entries) (holds.entries slot bytes);
@@ -92,7 +92,7 @@ module _ (P : ℕ) (I : List ℕ) where
         | inr ge ↦ let same : p ≡ x = omega (arith, below, ge) in subst (λ (y : ℕ). Contains (old.pages ++ p ∷ []) y) same (push_there old.pages p)
       ]
 
-  with_file_page : (i p : ℕ) (names : List ℕ) (put : ℕ) (old new : NodeView) → Tidy P I → 1 ≤ i → i ≤ inodes_of P → inode_kind I i ≡ 1 → IsPageIn P I i p
+  with_file_page : (i p : ℕ) (names : List ℕ) (put : ℕ) (old new : NodeView) → Tidy P I → 1 ≤ i → i ≤ inodes_of P → HasBytes I i → IsPageIn P I i p
       → new.pages ≡ set old.pages (page_offset P I p) p → new.entries ≡ old.entries
       → HoldsOf P I p names put i old → HoldsOf P I (p + 1) names put i new
   with_file_page i p names put old new tidy least most file page pages entries holds = record {
@@ -243,7 +243,7 @@ module _ (P : ℕ) (I : List ℕ) where
     each = λ i least most. not_mine p i (node_of index i) (λ same. omega (arith, least, free, same)) (holds.each i least most);
   }
 
-  pub file_page_set : (p : ℕ) (old new : List NodeView) → Tidy P I → p < data_pages_of P → page_owner P I p ≢ 0 → inode_kind I (page_owner P I p) ≡ 1 → IsSameElsewhere (page_owner P I p) old new
+  pub file_page_set : (p : ℕ) (old new : List NodeView) → Tidy P I → p < data_pages_of P → page_owner P I p ≢ 0 → HasBytes I (page_owner P I p) → IsSameElsewhere (page_owner P I p) old new
       → (node_of new (page_owner P I p)).pages ≡ set (node_of old (page_owner P I p)).pages (page_offset P I p) p
       → (node_of new (page_owner P I p)).entries ≡ (node_of old (page_owner P I p)).entries
       → Holds P I p [] 0 old → Holds P I (p + 1) [] 0 new
@@ -255,7 +255,7 @@ module _ (P : ℕ) (I : List ℕ) where
       range : (1 ≤ page_owner P I p) × (page_owner P I p ≤ inodes_of P)
       range = in_table P I tidy (page_owner P I p) (owner_reached P I tidy p within owned)
 
-  pub page_pushed : (p : ℕ) (old new : List NodeView) → Tidy P I → p < data_pages_of P → page_owner P I p ≢ 0 → inode_kind I (page_owner P I p) ≡ 2 → IsSameElsewhere (page_owner P I p) old new
+  pub page_pushed : (p : ℕ) (old new : List NodeView) → Tidy P I → p < data_pages_of P → page_owner P I p ≢ 0 → IsDirectory I (page_owner P I p) → IsSameElsewhere (page_owner P I p) old new
       → (node_of new (page_owner P I p)).pages ≡ (node_of old (page_owner P I p)).pages ++ p ∷ []
       → (node_of new (page_owner P I p)).entries ≡ (node_of old (page_owner P I p)).entries
       → Holds P I p [] 0 old → Holds P I (p + 1) [] 0 new
@@ -273,7 +273,7 @@ module _ (P : ℕ) (I : List ℕ) where
     abbrev pages_at : ℕ → List ℕ
     pages_at i = (node_of index i).pages
 
-    module _ (i : ℕ) (least : 1 ≤ i) (most : i ≤ inodes_of P) (file : inode_kind I i ≡ 1) where
+    module _ (i : ℕ) (least : 1 ≤ i) (most : i ≤ inodes_of P) (file : HasBytes I i) where
       placed : (k x : ℕ) → slice_get (pages_at i) k ≡ Some x → IsPageIn P I i x × (page_offset P I x ≡ k)
       placed k x is =
           let within = slice_get_within (pages_at i) k x is in
@@ -293,7 +293,7 @@ module _ (P : ℕ) (I : List ℕ) where
       file_once : IsDistinct (pages_at i)
       file_once = distinct_by_places (pages_at i) (λ k l x a b. sym (placed k x a).1 ∙ (placed l x b).1)
 
-    other_pages : (i : ℕ) → 1 ≤ i → i ≤ inodes_of P → inode_kind I i ≢ 1 → (x : ℕ) → Contains (pages_at i) x ↔ IsPageIn P I i x
+    other_pages : (i : ℕ) → 1 ≤ i → i ≤ inodes_of P → ¬ HasBytes I i → (x : ℕ) → Contains (pages_at i) x ↔ IsPageIn P I i x
     other_pages i least most other x = (
       (λ there. (((holds.each i least most).of_others other x).0 there).0),
       (λ page. ((holds.each i least most).of_others other x).1 (page, page.in_range)),

@@ -1,10 +1,10 @@
 -- Places for the pages of files.
-use Rattle.std.proofs.Common.{◌≡◌, ◌≢◌, inl, inr, ℕ, ◌+◌, List, [], ◌∷◌, length, refl, sym, ap, subst, ◌∙◌, arith}
+use Rattle.std.proofs.Common.{◌≡◌, inl, inr, ℕ, ◌+◌, List, [], ◌∷◌, length, refl, sym, ap, subst, ◌∙◌, arith}
 use Rattle.std.proofs.lemmas.Bool.{cases_eq}
 use Rattle.std.specs.Int.{div_ceil}
 use Rattle.layout.specs.Geometry.{inodes_of}
-use Rattle.layout.specs.Fields.{inode_kind, inode_size}
-use Rattle.image_reading.specs.Reading.{pages_of_size}
+use Rattle.layout.specs.Fields.{inode_size}
+use Rattle.image_reading.specs.Reading.{HasBytes, pages_of_size}
 use Rattle.volatile_index.specs.Index.{NodeView, node_of, inodes_of_index, IsSameElsewhere}
 use Rattle.mount_scan.specs.Building.{HasPlacesOf, HasPlaces}
 
@@ -21,7 +21,7 @@ module _ (P : ℕ) (I : List ℕ) where
     pages = λ i low. pages i;
   }
 
-  pub places_added : (n count : ℕ) (old new : List NodeView) → (inode_kind I (n + 1) ≡ 1 → count ≡ pages_of_size (inode_size I (n + 1))) → (inode_kind I (n + 1) ≢ 1 → count ≡ 0) → IsSameElsewhere (n + 1) old new
+  pub places_added : (n count : ℕ) (old new : List NodeView) → (HasBytes I (n + 1) → count ≡ pages_of_size (inode_size I (n + 1))) → (¬ HasBytes I (n + 1) → count ≡ 0) → IsSameElsewhere (n + 1) old new
       → length (node_of new (n + 1)).pages ≡ length (node_of old (n + 1)).pages + count → (node_of new (n + 1)).entries ≡ (node_of old (n + 1)).entries
       → HasPlaces P I n old → HasPlaces P I (n + 1) new
   places_added n count old new file other elsewhere long entries has = record {

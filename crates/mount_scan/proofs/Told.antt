@@ -1,14 +1,15 @@
 -- What is counted in the words is what is counted in the tree that they read as.
-use Rattle.std.proofs.Common.{◌≡◌, ◌≢◌, ◌⊎◌, inl, inr, ℕ, zero, suc, ◌+◌, ◌*◌, ◌^◌, ◌<◌, ◌≤◌, Bool, true, List, length, filter, count_by, Option, Some, None, is_some, nat_cmp, refl, sym, ap, subst, ◌∙◌, arith}
+use Rattle.std.proofs.Common.{◌≡◌, inl, inr, ℕ, ◌+◌, ◌*◌, ◌^◌, ◌<◌, ◌≤◌, Bool, true, List, length, filter, count_by, Option, Some, None, is_some, nat_cmp, refl, sym, ap, subst, ◌∙◌, arith}
 use Rattle.std.specs.Cmp.{nat_cmp_total}
 use Rattle.std.specs.FinMap.{nat_cmp-IsAntisymmetric}
 use Rattle.std.proofs.lemmas.List.Sums.{length-filter}
 use Rattle.layout.specs.declared.geometry.Geometry.{Geometry}
 use Rattle.layout.proofs.GeometryLaws.{data_pages_below, inodes_below}
-use Rattle.layout.specs.Geometry.{inodes_of, data_pages_of, slots_of, page_of_slot, descriptor_word_of}
-use Rattle.layout.specs.Fields.{word, page_owner, page_kind, page_offset}
+use Rattle.layout.specs.Geometry.{most_data_pages, inodes_of, data_pages_of, slots_of, page_of_slot, descriptor_word_of}
+use Rattle.layout.specs.Fields.{descriptor_words}
 use Rattle.tree_model.specs.Tree.{Tree, Node, node_at, is_directory, is_file, is_directory_node, is_file_node}
 use Rattle.image_reading.specs.Counts.{Count}
+use Rattle.image_reading.specs.Litter.{IsZeroDescriptor}
 use Rattle.image_reading.specs.Reading.{IsLive, Reached, IsReachedSlot, slot_owner, Reads}
 use Rattle.image_reading.specs.Repairs.{RepairCounts, HasRepairs, IsKept, IsKeptDirectoryPage, IsLitterSlot, IsLitterPage, IsLitterInode, IsLitterCount, IsPointer}
 use Rattle.image_reading.specs.Soundness.{IsCoherent}
@@ -19,6 +20,7 @@ use Rattle.image_counts.proofs.Nodes.{has_sizes}
 use Rattle.image_counts.proofs.Paths.{in_range}
 use Rattle.image_laws.proofs.Trees.{tree_law}
 use Rattle.repair_laws.proofs.Kept.{kept_held}
+use Rattle.repair_laws.proofs.Storing.{some_or_zero}
 use Rattle.script.specs.declared.check.CheckCounts.{CheckCounts}
 use Rattle.volume.specs.Totals.{below_root}
 use Rattle.volume.proofs.Summed.{count_names}
@@ -157,32 +159,20 @@ module _ (P : ℕ) (I : List ℕ) (coherent : IsCoherent P I) (inodes : InodeCou
 -- ---- a descriptor's words
 
 module _ (P : ℕ) (I : List ℕ) (j : ℕ) where
-  word_of : (page_owner P I j ≢ 0) ⊎ ((page_kind P I j ≢ 0) ⊎ (page_offset P I j ≢ 0)) → (f : ℕ) × (f < 3) × (word I (descriptor_word_of P j f) ≢ 0)
-  unfolding page_owner page_kind page_offset
-  word_of (inl owner) = (0, omega arith, owner)
-  word_of (inr (inl kind)) = (1, omega arith, kind)
-  word_of (inr (inr offset)) = (2, omega arith, offset)
-
-  pub litter_page : j < data_pages_of P → ¬ IsKept P I j → (page_owner P I j ≢ 0) ⊎ ((page_kind P I j ≢ 0) ⊎ (page_offset P I j ≢ 0)) → IsLitterPage P I j
-  litter_page within free some = record { in_range = within; free = free; nonzero = word_of some }
-
-  offset_left : (f : ℕ) → f < 3 → word I (descriptor_word_of P j f) ≢ 0 → page_owner P I j ≡ 0 → page_kind P I j ≡ 0 → page_offset P I j ≢ 0
-  unfolding page_owner page_kind page_offset
-  offset_left zero lt other owner kind = absurd (other owner)
-  offset_left (suc zero) lt other owner kind = absurd (other kind)
-  offset_left (suc (suc zero)) lt other owner kind = other
-  offset_left (suc (suc (suc f))) lt other owner kind = absurd (omega arith)
-
-  pub litter_offset : IsLitterPage P I j → page_owner P I j ≡ 0 → page_kind P I j ≡ 0 → page_offset P I j ≢ 0
-  litter_offset litter = let (f, lt, other) = litter.nonzero in offset_left f lt other
+  -- where not all are zero, one isn't
+  pub litter_page : j < data_pages_of P → ¬ IsKept P I j → ¬ IsZeroDescriptor P I j → IsLitterPage P I j
+  litter_page within free other = elim (some_or_zero I (descriptor_word_of P j) 0 (descriptor_words I)) [
+    | inl some ↦ record { in_range = within; free = free; nonzero = (some.0, some.1.below, some.1.nonzero) }
+    | inr zeros ↦ absurd (other zeros)
+  ]
 
 -- ---- loops end before a count is too great
 
 pub inode_limit : (g : Geometry) (n : ℕ) → n < g.inodes → n + 1 ≤ 2 ^ 22
 inode_limit g n lt = let few = inodes_below g.pages g.volume_size in let most = g.volume_size.1 in omega (arith, lt, few, most, g.inodes_exact)
 
-pub page_limit : (g : Geometry) (j : ℕ) → j < g.data_pages → j ≤ 2 ^ 16
-page_limit g j lt = let few = data_pages_below g.pages g.volume_size in let most = g.volume_size.1 in omega (arith, lt, few, most, g.data_pages_exact)
+pub page_limit : (g : Geometry) (j : ℕ) → j < g.data_pages → j ≤ most_data_pages
+page_limit g j lt = let few = data_pages_below g.pages g.volume_size in omega (arith, lt, few, g.volume_size, g.data_pages_exact)
 
 pub slot_limit : (g : Geometry) (j place : ℕ) → j < data_pages_of g.pages → place < 32 → 32 * j + place ≤ 2 ^ 22
 slot_limit g j place lt inside = let few = data_pages_below g.pages g.volume_size in let most = g.volume_size.1 in omega (arith, lt, inside, few, most)

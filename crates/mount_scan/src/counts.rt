@@ -9,8 +9,8 @@ ghost use Rattle.image_reading.specs.Repairs.{IsKeptDirectoryPage, IsLitterPage,
 ghost use Rattle.image_reading.specs.Scanned.{IsScanned};
 ghost use Rattle.mount_scan.specs.Counting.{AreCountsOf, CountsInodes, CountsPages, CountsSlots};
 
-use image_reading::Scanned;
-use layout::{DIRECTORY, FILE, PAGE_SLOTS, SLOT_WORDS};
+use image_reading::{Scanned, is_zero_descriptor_from};
+use layout::{DESCRIPTOR_OWNER, DIRECTORY, FILE, PAGE_SLOTS, SLOT_WORDS};
 use recovery::{has_other_links, is_kept_directory_page, is_litter_inode};
 use script::CheckCounts;
 
@@ -125,9 +125,7 @@ fn is_litter_page(scanned: &Scanned<'_>, page: u64) -> bool
     if scanned.is_kept(page) {
         return false;
     }
-    let image = &scanned.image;
-    let fields = image.geometry.descriptor_at(image.words, page);
-    fields.owner != 0 || fields.kind != 0 || fields.offset != 0
+    !is_zero_descriptor_from(&scanned.image, DESCRIPTOR_OWNER, page)
 }
 
 // Counts over the slots of the page, besides those of the pages before it, if it is a kept directory page.

@@ -1,10 +1,10 @@
 // The index of a volume, made from its words. What it holds is said of the words that recovery makes of them.
-ghost use Rattle.std.specs.Prelude.{◌≡◌, ◌≢◌, ℕ, ◌+◌, ◌<◌, ◌≤◌, [], length, IfOk, OnOk};
+ghost use Rattle.std.specs.Prelude.{◌≡◌, ℕ, ◌+◌, ◌<◌, ◌≤◌, [], length, IfOk, OnOk};
 ghost use Rattle.layout.specs.Geometry.{inodes_of, data_pages_of};
-ghost use Rattle.layout.specs.Fields.{inode_kind, inode_size};
+ghost use Rattle.layout.specs.Fields.{inode_size};
 ghost use Rattle.image_reading.specs.Images.{In};
 ghost use Rattle.image_reading.specs.Litter.{IsInode};
-ghost use Rattle.image_reading.specs.Reading.{pages_of_size};
+ghost use Rattle.image_reading.specs.Reading.{HasBytes, pages_of_size};
 ghost use Rattle.image_reading.specs.Scanned.{AreNames, IsScanned};
 ghost use Rattle.volatile_index.specs.Index.{inodes_of_index, entries_of, pages_of, IsSameElsewhere};
 ghost use Rattle.volume.specs.Stands.{KnowsNodes};
@@ -44,8 +44,8 @@ fn index_with_places(alloc: Global, scanned: &Scanned<'_>) -> Result<Index, NoMe
 fn file_pages(scanned: &Scanned<'_>, inode: u64) -> u64
     requires scanned { IsScanned scanned.now }
     requires inode { IsInode scanned.now.image.geometry.pages inode }
-    ensures file { OfMended scanned.now (λ P K. inode_kind K inode ≡ 1 → result ≡ pages_of_size (inode_size K inode)) }
-    ensures other { OfMended scanned.now (λ P K. inode_kind K inode ≢ 1 → result ≡ 0) }
+    ensures file { OfMended scanned.now (λ P K. HasBytes K inode → result ≡ pages_of_size (inode_size K inode)) }
+    ensures other { OfMended scanned.now (λ P K. ¬ HasBytes K inode → result ≡ 0) }
 {
     if !scanned.is_reached(inode) {
         return 0;
@@ -99,7 +99,7 @@ fn add_page(index: &mut Index, scanned: &Scanned<'_>, page: u64) -> Result<(), N
         .geometry
         .descriptor_at(scanned.image.words, page);
     if fields.kind == BYTES {
-        index.set_page(fields.owner, fields.offset, page);
+        index.swap_page(fields.owner, fields.offset, page);
         return Ok(());
     }
     index.reserve_pages(fields.owner, 1)?;

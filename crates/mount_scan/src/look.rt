@@ -31,7 +31,7 @@ pub(crate) fn look_at(alloc: Global, words: &[u64]) -> Result<Found, MountError>
     }
     let scanned = scan.scanned(words);
     let repairs = if has_mark(words) {
-        Repairs::none(alloc, &geometry)
+        Repairs::none(alloc, &geometry, words)
     } else {
         Repairs::of(alloc, &scanned)?
     };

@@ -26,8 +26,8 @@ part_above P Pointer s = slot_above P s 1
 part_above P Owner j = descriptor_above P j 0
 part_above P Name s = slot_above P s 1
 part_above P Links i = inode_word_above i 1
-part_above P Descriptor j = descriptor_above P j 1
-part_above P Inode i = inode_word_above i 0
+part_above P (Descriptor words) j = descriptor_above P j 1
+part_above P (Inode words) i = inode_word_above i 0
 
 above : (P : ℕ) (part : Part) (number value a v : ℕ) → IsInPart P part number value a v → 512 ≤ a
 above P part number value a v is = let first = part_above P part number in let low = is.low in omega (arith, first, low)
@@ -42,8 +42,8 @@ cleared_above r a v (inl (inr is)) = above r.geometry.pages Name (slice_index r.
 cleared_above r a v (inr is) = above r.geometry.pages Links (slice_index r.links.items is.place) (slice_index r.counts.items is.place) a v is.is
 
 freed_above : (r : Repairs) (a v : ℕ) → IsFreedBy r a v → 512 ≤ a
-freed_above r a v (inl is) = above r.geometry.pages Descriptor (slice_index r.descriptors.items is.place) 0 a v is.is
-freed_above r a v (inr is) = above r.geometry.pages Inode (slice_index r.inodes.items is.place) 0 a v is.is
+freed_above r a v (inl is) = above r.geometry.pages (Descriptor r.descriptor_width) (slice_index r.descriptors.items is.place) 0 a v is.is
+freed_above r a v (inr is) = above r.geometry.pages (Inode r.inode_width) (slice_index r.inodes.items is.place) 0 a v is.is
 
 keeps : (becomes : ℕ → ℕ → Type 0) → ((a v : ℕ) → becomes a v → 512 ≤ a) → (I J : List ℕ) → IsAfter becomes I J → KeepsWords IsSuperblockWord I J
 unfolding word

@@ -1,38 +1,35 @@
 -- What tells that an object of an image needs a repair.
-use Rattle.std.proofs.Common.{◌≡◌, ◌≢◌, ◌⊎◌, inl, inr, ℕ, zero, suc, ◌+◌, ◌*◌, ◌<◌, ◌≤◌, List, length, slice_index, ap, subst, ◌∙◌, sym, arith}
+use Rattle.std.proofs.Common.{◌≡◌, ◌≢◌, inl, inr, ℕ, ◌+◌, ◌*◌, ◌<◌, ◌≤◌, List, length, slice_index, ap, subst, ◌∙◌, sym, arith}
 use Rattle.layout.proofs.GeometryLaws.{data_pages_below, inodes_below, slots_in_pages}
 use Rattle.layout.specs.Geometry.{IsVolumeSize, data_pages_of, page_of_slot, inode_word_of, descriptor_word_of}
-use Rattle.layout.specs.Fields.{word, inode_kind, inode_links, inode_size, inode_own, page_kind, page_offset}
+use Rattle.layout.specs.Fields.{word, inode_words, descriptor_words, page_kind}
+use Rattle.image_reading.specs.Litter.{IsZeroInode, IsZeroDescriptorFrom}
 use Rattle.image_reading.specs.Reading.{Reached, IsLinkCount}
 use Rattle.image_reading.specs.Repairs.{IsKept, IsKeptDirectoryPage, IsLitterCount, IsLitterInode}
 use Rattle.image_reading.specs.Soundness.{Rule, IsCoherent}
 use Rattle.image_counts.proofs.Paths.{in_range}
 use Rattle.repair_laws.proofs.Kept.{kept_held}
+use Rattle.repair_laws.proofs.Storing.{some_or_zero}
 use Rattle.repair_laws.proofs.Telling.{one_count}
-use Rattle.repair_laws.specs.Mended.{IsUnkept}
 use Rattle.repair_laws.specs.Stored.{HasNeedlessOwner, HasNeedlessKind, HasDeadName}
 use Rattle.recovery.specs.Parts.{IsInode}
 use Rattle.recovery.specs.Plans.{IsListOf}
 
+-- ---- where not all words are zero, one isn't
+
+pub some_of_page : (P : ℕ) (W : List ℕ) (j : ℕ) → ¬ IsZeroDescriptorFrom P W 1 j → (f : ℕ) × (1 ≤ f) × (f < descriptor_words W) × (word W (descriptor_word_of P j f) ≢ 0)
+some_of_page P W j other = elim (some_or_zero W (descriptor_word_of P j) 1 (descriptor_words W)) [
+  | inl has ↦ (has.0, has.1.above, has.1.below, has.1.nonzero)
+  | inr none ↦ absurd (other none)
+]
+
+pub some_of_inode : (W : List ℕ) (i : ℕ) → ¬ IsZeroInode W i → (f : ℕ) × (f < inode_words W) × (word W (inode_word_of i f) ≢ 0)
+some_of_inode W i other = elim (some_or_zero W (inode_word_of i) 0 (inode_words W)) [
+  | inl has ↦ (has.0, has.1.below, has.1.nonzero)
+  | inr none ↦ absurd (other (λ f small. none f (omega arith) small))
+]
+
 module _ (P : ℕ) (W : List ℕ) where
-  -- ---- a page's kind and offset
-
-  module _ (j : ℕ) where
-    pub needs_kind : IsUnkept P W j → (page_kind P W j ≢ 0) ⊎ (page_offset P W j ≢ 0) → HasNeedlessKind P W j
-    unfolding page_kind page_offset
-    needs_kind page (inl kind) = record { page = page; nonzero = (1, omega arith, omega arith, kind) }
-    needs_kind page (inr offset) = record { page = page; nonzero = (2, omega arith, omega arith, offset) }
-
-    kind_or_offset : (f : ℕ) → 1 ≤ f → f < 3 → word W (descriptor_word_of P j f) ≢ 0 → (page_kind P W j ≢ 0) ⊎ (page_offset P W j ≢ 0)
-    unfolding page_kind page_offset
-    kind_or_offset zero low high other = absurd (omega arith)
-    kind_or_offset (suc zero) low high other = inl other
-    kind_or_offset (suc (suc zero)) low high other = inr other
-    kind_or_offset (suc (suc (suc f))) low high other = absurd (omega arith)
-
-    pub has_kind : HasNeedlessKind P W j → (page_kind P W j ≢ 0) ⊎ (page_offset P W j ≢ 0)
-    has_kind needs = let (f, low, high, other) = needs.nonzero in kind_or_offset f low high other
-
   -- ---- a directory's page has kind 2, and no other kept one has
 
   module _ (j : ℕ) where
@@ -53,30 +50,6 @@ module _ (P : ℕ) (W : List ℕ) where
 
     pub same_count : (IsLinkCount P W i m → ⊥) → m ≢ n
     same_count other same = other (subst (IsLinkCount P W i) (sym same) count)
-
-  -- ---- an inode's words
-
-  module _ (i : ℕ) where
-    word_of : (inode_kind W i ≢ 0) ⊎ ((inode_links W i ≢ 0) ⊎ ((inode_size W i ≢ 0) ⊎ (inode_own W i ≢ 0))) → (f : ℕ) × (f < 4) × (word W (inode_word_of i f) ≢ 0)
-    unfolding inode_kind inode_links inode_size inode_own
-    word_of (inl kind) = (0, omega arith, kind)
-    word_of (inr (inl links)) = (1, omega arith, links)
-    word_of (inr (inr (inl size))) = (2, omega arith, size)
-    word_of (inr (inr (inr own))) = (3, omega arith, own)
-
-    pub litter_of : IsInode P i → ¬ Reached P W i → (inode_kind W i ≢ 0) ⊎ ((inode_links W i ≢ 0) ⊎ ((inode_size W i ≢ 0) ⊎ (inode_own W i ≢ 0))) → IsLitterInode P W i
-    litter_of inode unreached some = record { least = inode.0; most = inode.1; unreached = unreached; nonzero = word_of some }
-
-    own_left : (f : ℕ) → f < 4 → word W (inode_word_of i f) ≢ 0 → inode_kind W i ≡ 0 → inode_links W i ≡ 0 → inode_size W i ≡ 0 → inode_own W i ≢ 0
-    unfolding inode_kind inode_links inode_size inode_own
-    own_left zero lt other kind links size = absurd (other kind)
-    own_left (suc zero) lt other kind links size = absurd (other links)
-    own_left (suc (suc zero)) lt other kind links size = absurd (other size)
-    own_left (suc (suc (suc zero))) lt other kind links size = other
-    own_left (suc (suc (suc (suc f)))) lt other kind links size = absurd (omega arith)
-
-    pub litter_own : IsLitterInode P W i → inode_kind W i ≡ 0 → inode_links W i ≡ 0 → inode_size W i ≡ 0 → inode_own W i ≢ 0
-    litter_own litter = let (f, lt, other) = litter.nonzero in own_left f lt other
 
   -- ---- where there are such objects
 

@@ -27,6 +27,6 @@ module _ (r : Repairs) (W : List ℕ) (coherent : IsCoherent r.geometry.pages W)
     owners = record { rising = plan.owners.rising; each = λ k lt. (plan.owners.each k lt).page.in_range };
     slots = record { rising = plan.slots.rising; each = λ k lt. (kept_held r.geometry.pages W coherent (slice_index r.slots.items k) (plan.slots.each k lt).slot.page).in_range };
     links = record { rising = plan.links.rising; each = λ k lt. in_range r.geometry.pages W coherent (slice_index r.links.items k) (plan.links.each k lt).reached };
-    descriptors = record { rising = plan.descriptors.rising; each = λ k lt. (plan.descriptors.each k lt).page.in_range };
-    inodes = record { rising = plan.inodes.rising; each = λ k lt. ((plan.inodes.each k lt).least, (plan.inodes.each k lt).most) };
+    descriptors = record { rising = plan.descriptors.rising; each = λ k lt. (r.descriptor_bounds, (plan.descriptors.each k lt).page.in_range) };
+    inodes = record { rising = plan.inodes.rising; each = λ k lt. (r.inode_bounds, ((plan.inodes.each k lt).least, (plan.inodes.each k lt).most)) };
   }

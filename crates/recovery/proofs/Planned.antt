@@ -2,8 +2,9 @@
 use Rattle.std.proofs.Common.{◌≡◌, ◌⊎◌, inl, inr, ℕ, ◌-◌, ◌<◌, ◌≤◌, List, length, slice_index, refl, sym, ◌∙◌, subst, arith}
 use Rattle.std.specs.Prelude.{Option, Some, None}
 use Rattle.std.proofs.lemmas.Bool.{cases_eq}
-use Rattle.layout.specs.Fields.{word, page_owner, inode_links, slot_pointer}
+use Rattle.layout.specs.Fields.{word, inode_words, descriptor_words, page_owner, inode_links, slot_pointer}
 use Rattle.layout.specs.Geometry.{inodes_of, data_pages_of, inode_word_of, descriptor_word_of, slot_word_of}
+use Rattle.layout.proofs.Widths.{in_inode, in_descriptor}
 use Rattle.image_reading.specs.Reading.{Reached, IsLinkCount}
 use Rattle.image_reading.specs.Soundness.{IsCoherent}
 use Rattle.image_counts.proofs.Paths.{in_range}
@@ -198,13 +199,16 @@ module _ (r : Repairs) (W : List ℕ) (coherent : IsCoherent r.geometry.pages W)
           stays (Clears P W) B C third (inode_word_of i f) (λ v is. unreached_inode i f unreached small is refl)
           ∙ same_inode i f unreached.least unreached.most small
 
-      descriptor_field : (j a : ℕ) → descriptor_word_of P j 1 ≤ a → a ≤ descriptor_word_of P j 2 → (f : ℕ) × (1 ≤ f) × (f < 3) × (a ≡ descriptor_word_of P j f)
+      descriptor_field : (j a : ℕ) → descriptor_word_of P j 1 ≤ a → a ≤ descriptor_word_of P j (r.descriptor_width - 1)
+          → (f : ℕ) × (1 ≤ f) × (f < descriptor_words W) × (a ≡ descriptor_word_of P j f)
       unfolding descriptor_word_of
-      descriptor_field j a low high = let f = a - descriptor_word_of P j 0 in (f, omega (arith, low), omega (arith, high), omega (arith, low))
+      descriptor_field j a low high =
+          let f = a - descriptor_word_of P j 0 in
+          (f, omega (arith, low), omega (arith, high, r.descriptor_bounds.0, plan.descriptor_width), omega (arith, low))
 
-      inode_field : (i a : ℕ) → inode_word_of i 0 ≤ a → a ≤ inode_word_of i 3 → (f : ℕ) × (f < 4) × (a ≡ inode_word_of i f)
+      inode_field : (i a : ℕ) → inode_word_of i 0 ≤ a → a ≤ inode_word_of i (r.inode_width - 1) → (f : ℕ) × (f < inode_words W) × (a ≡ inode_word_of i f)
       unfolding inode_word_of
-      inode_field i a low high = let f = a - inode_word_of i 0 in (f, omega (arith, high), omega (arith, low))
+      inode_field i a low high = let f = a - inode_word_of i 0 in (f, omega (arith, high, r.inode_bounds.0, plan.inode_width), omega (arith, low))
 
       fourth_to : (a v : ℕ) → IsFreedBy r a v → Frees P W a v
       fourth_to a v (inl is) =
@@ -220,21 +224,25 @@ module _ (r : Repairs) (W : List ℕ) (coherent : IsCoherent r.geometry.pages W)
           let (f, small, at) = inode_field i a part.low part.high in
           subst (λ z. Frees P W a z) (sym part.is) (subst (λ z. Frees P W z 0) (sym at) (Frees.inode i f (record { least = has.least; most = has.most; unreached = has.unreached }) small))
 
-      pick_descriptor : (j f : ℕ) → 1 ≤ f → f < 3 → (place : ℕ) × (place < length r.descriptors.items) × (slice_index r.descriptors.items place ≡ j) → IsCleared P Descriptor r.descriptors.items (descriptor_word_of P j f) 0
+      pick_descriptor : (j f : ℕ) → 1 ≤ f → f < descriptor_words W → (place : ℕ) × (place < length r.descriptors.items) × (slice_index r.descriptors.items place ≡ j)
+          → IsCleared P (Descriptor r.descriptor_width) r.descriptors.items (descriptor_word_of P j f) 0
       unfolding descriptor_word_of
-      pick_descriptor j f low small (place, before, at) = record { place = place; before = before; is = record { low = omega (arith, at, low); high = omega (arith, at, small); is = refl } }
+      pick_descriptor j f low small (place, before, at) =
+          record { place = place; before = before; is = record { low = omega (arith, at, low); high = omega (arith, at, small, plan.descriptor_width); is = refl } }
 
-      pick_inode : (i f : ℕ) → f < 4 → (place : ℕ) × (place < length r.inodes.items) × (slice_index r.inodes.items place ≡ i) → IsCleared P Inode r.inodes.items (inode_word_of i f) 0
+      pick_inode : (i f : ℕ) → f < inode_words W → (place : ℕ) × (place < length r.inodes.items) × (slice_index r.inodes.items place ≡ i)
+          → IsCleared P (Inode r.inode_width) r.inodes.items (inode_word_of i f) 0
       unfolding inode_word_of
-      pick_inode i f small (place, before, at) = record { place = place; before = before; is = record { low = omega (arith, at); high = omega (arith, at, small); is = refl } }
+      pick_inode i f small (place, before, at) =
+          record { place = place; before = before; is = record { low = omega (arith, at); high = omega (arith, at, small, plan.inode_width); is = refl } }
 
       fourth_from : (a v : ℕ) → Frees P W a v → IsFreedBy r a v ⊎ (word C a ≡ v)
       fourth_from a v (Frees.descriptor j f unkept low small) = elim (cases_eq (word W (descriptor_word_of P j f)) 0) [
-        | inl zero ↦ inr (last_descriptor j f unkept.in_range low (omega (arith, small)) ∙ zero)
+        | inl zero ↦ inr (last_descriptor j f unkept.in_range low (in_descriptor W f small) ∙ zero)
         | inr some ↦ inl (inl (pick_descriptor j f low small (plan.descriptors.all j (record { page = unkept; nonzero = (f, low, small, some) }))))
       ]
       fourth_from a v (Frees.inode i f unreached small) = elim (cases_eq (word W (inode_word_of i f)) 0) [
-        | inl zero ↦ inr (last_inode i f unreached (omega (arith, small)) ∙ zero)
+        | inl zero ↦ inr (last_inode i f unreached (in_inode W f small) ∙ zero)
         | inr some ↦ inl (inr (pick_inode i f small (plan.inodes.all i (record { least = unreached.least; most = unreached.most; unreached = unreached.unreached; nonzero = (f, small, some) }))))
       ]
 

@@ -1,5 +1,6 @@
 -- The words of a part stand in order, in lines of their own, and no other object has them.
-use Rattle.std.proofs.Common.{◌≡◌, ◌⊎◌, inl, inr, ℕ, ◌+◌, ◌*◌, ◌<◌, ◌≤◌, List, length, slice_index, arith, subst}
+use Rattle.std.proofs.Common.{◌≡◌, ◌⊎◌, inl, inr, ℕ, ◌+◌, ◌-◌, ◌*◌, ◌<◌, ◌≤◌, List, length, slice_index, arith, subst}
+use Rattle.std.proofs.Math.Nat.{mul-le-mul_left}
 use Rattle.std.proofs.lemmas.Bool.{cases_eq}
 use Rattle.layout.specs.Geometry.{data_pages_of, slots_of, inode_word_of, descriptor_word_of, slot_word_of, first_data_word_of, inode_pages_of}
 use Rattle.layout.proofs.GeometryLaws.{in_range}
@@ -10,25 +11,25 @@ use Rattle.recovery.specs.declared.part.Part.TheVariants.{Number, Pointer, Owner
 use Rattle.recovery.specs.Parts.{IsNumber, AreNumbers, IsRising, first_of, last_of, events_of_part}
 use Rattle.recovery.specs.Changes.{IsInPart, IsAmong, IsCleared, IsLinked, span_events}
 
-pub in_order : (P : ℕ) (part : Part) (number : ℕ) → first_of P part number ≤ last_of P part number
+pub in_order : (P : ℕ) (part : Part) (number : ℕ) → IsNumber P part number → first_of P part number ≤ last_of P part number
 unfolding slot_word_of descriptor_word_of inode_word_of
-in_order P Number s = omega arith
-in_order P Pointer s = omega arith
-in_order P Owner j = omega arith
-in_order P Name s = omega arith
-in_order P Links i = omega arith
-in_order P Descriptor j = omega arith
-in_order P Inode i = omega arith
+in_order P Number s there = omega arith
+in_order P Pointer s there = omega arith
+in_order P Owner j there = omega arith
+in_order P Name s there = omega arith
+in_order P Links i there = omega arith
+in_order P (Descriptor words) j there = omega (arith, there.0.0)
+in_order P (Inode words) i there = omega arith
 
-pub events_exact : (P : ℕ) (part : Part) (number : ℕ) → span_events (first_of P part number) (last_of P part number) ≡ events_of_part part
+pub events_exact : (P : ℕ) (part : Part) (number : ℕ) → IsNumber P part number → span_events (first_of P part number) (last_of P part number) ≡ events_of_part part
 unfolding slot_word_of first_data_word_of descriptor_word_of inode_word_of
-events_exact P Number s = omega arith
-events_exact P Pointer s = omega arith
-events_exact P Owner j = omega arith
-events_exact P Name s = omega arith
-events_exact P Links i = omega arith
-events_exact P Descriptor j = omega arith
-events_exact P Inode i = omega arith
+events_exact P Number s there = omega arith
+events_exact P Pointer s there = omega arith
+events_exact P Owner j there = omega arith
+events_exact P Name s there = omega arith
+events_exact P Links i there = omega arith
+events_exact P (Descriptor words) j there = omega (arith, there.0.0, there.0.1)
+events_exact P (Inode words) i there = omega (arith, there.0.0, there.0.1)
 
 -- a word of two objects' parts is one object's
 pub one_object : (P : ℕ) (part : Part) (m n x y a v w : ℕ) → IsNumber P part m → IsNumber P part n → IsInPart P part m x a v → IsInPart P part n y a w → m ≡ n
@@ -38,26 +39,14 @@ one_object P Pointer m n x y a v w om on one two = omega (arith, one.low, one.hi
 one_object P Owner m n x y a v w om on one two = omega (arith, one.low, one.high, two.low, two.high)
 one_object P Name m n x y a v w om on one two = omega (arith, one.low, one.high, two.low, two.high)
 one_object P Links m n x y a v w om on one two = omega (arith, om.0, on.0, one.low, one.high, two.low, two.high)
-one_object P Descriptor m n x y a v w om on one two = omega (arith, one.low, one.high, two.low, two.high)
-one_object P Inode m n x y a v w om on one two = omega (arith, om.0, on.0, one.low, one.high, two.low, two.high)
+one_object P (Descriptor words) m n x y a v w om on one two = omega (arith, om.0.0, om.0.1, one.low, one.high, two.low, two.high)
+one_object P (Inode words) m n x y a v w om on one two = omega (arith, om.0.0, om.0.1, om.1.0, on.1.0, one.low, one.high, two.low, two.high)
 
 pub events_more : (part : Part) (k : ℕ) → events_of_part part * k + events_of_part part ≡ events_of_part part * (k + 1)
-events_more Number k = omega arith
-events_more Pointer k = omega arith
-events_more Owner k = omega arith
-events_more Name k = omega arith
-events_more Links k = omega arith
-events_more Descriptor k = omega arith
-events_more Inode k = omega arith
+events_more part k = omega arith
 
 pub room_for : (part : Part) (k n old now : ℕ) → k < n → events_of_part part * n ≤ old → old ≤ now + events_of_part part * k → events_of_part part ≤ now
-room_for Number k n old now lt room had = omega arith
-room_for Pointer k n old now lt room had = omega arith
-room_for Owner k n old now lt room had = omega arith
-room_for Name k n old now lt room had = omega arith
-room_for Links k n old now lt room had = omega arith
-room_for Descriptor k n old now lt room had = omega arith
-room_for Inode k n old now lt room had = omega arith
+room_for part k n old now lt room had = omega (arith, mul-le-mul_left (events_of_part part) lt)
 
 pub events_none : (part : Part) → 0 ≤ events_of_part part * 0
 events_none part = omega arith
@@ -97,8 +86,8 @@ owner_place P j x a v within is =
     let (low, high) = (in_range P).descriptors j 0 (within, omega arith) in
     let l = is.low in let h = is.high in (omega (arith, l, low), omega (arith, h, high))
 
-pub descriptor_place : (P j x a v : ℕ) → j < data_pages_of P → IsInPart P Descriptor j x a v → 512 * (1 + inode_pages_of P) ≤ a
-descriptor_place P j x a v within is =
+pub descriptor_place : (P words j x a v : ℕ) → j < data_pages_of P → IsInPart P (Descriptor words) j x a v → 512 * (1 + inode_pages_of P) ≤ a
+descriptor_place P words j x a v within is =
     let (low, high) = (in_range P).descriptors j 1 (within, omega arith) in
     let l = is.low in omega (arith, l, low)
 
@@ -112,9 +101,9 @@ links_place P i x a v within is =
     let (low, high) = (in_range P).inodes i 1 (within.0, within.1, omega arith) in
     let h = is.high in omega (arith, h, high)
 
-pub inode_place : (P i x a v : ℕ) → IsNumber P Inode i → IsInPart P Inode i x a v → a < 512 * (1 + inode_pages_of P)
-inode_place P i x a v within is =
-    let (low, high) = (in_range P).inodes i 3 (within.0, within.1, omega arith) in
+pub inode_place : (P words i x a v : ℕ) → IsNumber P (Inode words) i → IsInPart P (Inode words) i x a v → a < 512 * (1 + inode_pages_of P)
+inode_place P words i x a v within is =
+    let (low, high) = (in_range P).inodes i (words - 1) (within.1.0, within.1.1, omega (arith, within.0.0, within.0.1)) in
     let h = is.high in omega (arith, h, high)
 
 pub data_behind : (P : ℕ) → 512 * (1 + inode_pages_of P) ≤ first_data_word_of P
@@ -139,8 +128,8 @@ module _ (r : Repairs) (has : HasObjects r) where
       let behind = data_behind r.geometry.pages in
       omega (arith, low, below, behind)
 
-  pub descriptors_inodes : (a v w : ℕ) → IsCleared r.geometry.pages Descriptor r.descriptors.items a v → IsCleared r.geometry.pages Inode r.inodes.items a w → ⊥
+  pub descriptors_inodes : (a v w : ℕ) → IsCleared r.geometry.pages (Descriptor r.descriptor_width) r.descriptors.items a v → IsCleared r.geometry.pages (Inode r.inode_width) r.inodes.items a w → ⊥
   descriptors_inodes a v w one two =
-      let low = descriptor_place r.geometry.pages _ _ a v (has.descriptors.each one.place one.before) one.is in
-      let below = inode_place r.geometry.pages _ _ a w (has.inodes.each two.place two.before) two.is in
+      let low = descriptor_place r.geometry.pages _ _ _ a v (has.descriptors.each one.place one.before).1 one.is in
+      let below = inode_place r.geometry.pages _ _ _ a w (has.inodes.each two.place two.before) two.is in
       omega (arith, low, below)

@@ -1,6 +1,7 @@
 -- Changes, and the fence after them where there are any, are a step.
 use Rattle.std.proofs.Common.{◌≡◌, ◌≢◌, inl, inr, ℕ, zero, suc, ◌+◌, ◌*◌, ◌≤◌, nat_lt, Bool, true, false, List, [], ◌∷◌, refl, sym, ◌∙◌, subst, arith}
 use Rattle.std.specs.Prelude.{Result, Ok, Option, Some, None, length, slice_index, if◌then◌else◌}
+use Rattle.std.proofs.Math.Nat.{mul-le-mul_left}
 use Rattle.std.proofs.lemmas.Bool.{lt-ltb}
 use Rattle.pm_trait.specs.DeviceView.{DeviceView, Fences, IsSettledView}
 use Rattle.pm_trait.specs.Unfolds.{Step, Fenced, Takes, InTurn, Unfolds, fences_in}
@@ -9,6 +10,7 @@ use Rattle.repair_laws.specs.Mended.{IsAfter}
 use Rattle.recovery.specs.declared.part.Part.{Part}
 use Rattle.recovery.specs.declared.part.Part.TheVariants.{Owner, Name, Links, Descriptor, Inode}
 use Rattle.recovery.specs.declared.repairs.Repairs.{Repairs}
+use Rattle.recovery.specs.Parts.{events_of_part}
 use Rattle.recovery.specs.Changes.{Changes, IsInPart, IsOne, IsCleared, IsLinked, changing, one_changes, fences_for}
 use Rattle.recovery.specs.Repairs.{HasObjects, IsClearedBy, IsFreedBy, clear_changes, free_changes}
 use Rattle.recovery.proofs.Changing.{changes_after, changes_then}
@@ -62,6 +64,10 @@ one_some P part slot number {result} {a} {c} is made = subst (λ (o : Option ℕ
 
 -- ---- several lists
 
+-- these numbers' objects are cleared
+abbrev Clears : Repairs → Part → List ℕ → DeviceView → DeviceView → Type 0
+Clears r part numbers a b = Changes (IsCleared r.geometry.pages part numbers) a b (events_of_part part * length numbers)
+
 module _ (r : Repairs) where
   pub no_clears : clear_changes r ≡ 0 → (a v : ℕ) → IsClearedBy r a v → ⊥
   no_clears is a v (inl (inl has)) = cleared_none r.geometry.pages Owner r.owners.items (λ _. 0) (omega (arith, is)) a v has
@@ -69,20 +75,25 @@ module _ (r : Repairs) where
   no_clears is a v (inr has) = cleared_none r.geometry.pages Links r.links.items (λ k. slice_index r.counts.items k) (omega (arith, is)) a v has
 
   pub no_frees : free_changes r ≡ 0 → (a v : ℕ) → IsFreedBy r a v → ⊥
-  no_frees is a v (inl has) = cleared_none r.geometry.pages Descriptor r.descriptors.items (λ _. 0) (omega (arith, is)) a v has
-  no_frees is a v (inr has) = cleared_none r.geometry.pages Inode r.inodes.items (λ _. 0) (omega (arith, is)) a v has
+  no_frees is a v (inl has) =
+      cleared_none r.geometry.pages (Descriptor r.descriptor_width) r.descriptors.items (λ _. 0)
+      (let most = mul-le-mul_left (length r.descriptors.items) r.descriptor_bounds.0 in omega (arith, is, most)) a v has
+  no_frees is a v (inr has) =
+      cleared_none r.geometry.pages (Inode r.inode_width) r.inodes.items (λ _. 0)
+      (let most = mul-le-mul_left (length r.inodes.items) r.inode_bounds.0 in omega (arith, is, most)) a v has
 
-  pub all_cleared : {a b c d : DeviceView} → HasObjects r → Changes (IsCleared r.geometry.pages Owner r.owners.items) a b (2 * length r.owners.items) → Changes (IsCleared r.geometry.pages Name r.slots.items) b c (17 * length r.slots.items)
-      → Changes (IsLinked r.geometry.pages r.links.items r.counts.items) c d (2 * length r.links.items) → Changes (IsClearedBy r) a d (clear_changes r)
+  pub all_cleared : {a b c d : DeviceView} → HasObjects r → Clears r Owner r.owners.items a b → Clears r Name r.slots.items b c
+      → Changes (IsLinked r.geometry.pages r.links.items r.counts.items) c d (events_of_part Links * length r.links.items) → Changes (IsClearedBy r) a d (clear_changes r)
   all_cleared has one two three = changes_then (changes_then one two (owners_slots r has)) three (cleared_links r has)
 
-  pub all_freed : {a b c : DeviceView} → HasObjects r → Changes (IsCleared r.geometry.pages Descriptor r.descriptors.items) a b (3 * length r.descriptors.items) → Changes (IsCleared r.geometry.pages Inode r.inodes.items) b c (5 * length r.inodes.items) → Changes (IsFreedBy r) a c (free_changes r)
+  pub all_freed : {a b c : DeviceView} → HasObjects r → Clears r (Descriptor r.descriptor_width) r.descriptors.items a b → Clears r (Inode r.inode_width) r.inodes.items b c → Changes (IsFreedBy r) a c (free_changes r)
   all_freed has one two = changes_then one two (descriptors_inodes r has)
 
 -- by another name of the list
-pub cleared_as : {P : ℕ} (n : ℕ) {part : Part} {a b : DeviceView} {numbers items : List ℕ} → numbers ≡ items → Changes (IsCleared P part numbers) a b (n * length numbers) → Changes (IsCleared P part items) a b (n * length items)
-cleared_as {P} n {part} {a} {b} is one = subst (λ (l : List ℕ). Changes (IsCleared P part l) a b (n * length l)) is one
+pub cleared_as : (r : Repairs) {part : Part} {a b : DeviceView} {numbers items : List ℕ} → numbers ≡ items → Clears r part numbers a b → Clears r part items a b
+cleared_as r {part} {a} {b} is one = subst (λ (l : List ℕ). Clears r part l a b) is one
 
-pub linked_as : {P : ℕ} {a b : DeviceView} {inodes links counts items : List ℕ} → inodes ≡ links → counts ≡ items → Changes (IsLinked P inodes counts) a b (2 * length inodes) → Changes (IsLinked P links items) a b (2 * length links)
+pub linked_as : {P : ℕ} {a b : DeviceView} {inodes links counts items : List ℕ} → inodes ≡ links → counts ≡ items → Changes (IsLinked P inodes counts) a b (events_of_part Links * length inodes) → Changes (IsLinked P links items) a b (events_of_part Links * length links)
 linked_as {P} {a} {b} {inodes} {links} {counts} {items} is are one =
-    subst (λ (l : List ℕ). Changes (IsLinked P links l) a b (2 * length links)) are (subst (λ (l : List ℕ). Changes (IsLinked P l counts) a b (2 * length l)) is one)
+    subst (λ (l : List ℕ). Changes (IsLinked P links l) a b (events_of_part Links * length links)) are
+    (subst (λ (l : List ℕ). Changes (IsLinked P l counts) a b (events_of_part Links * length l)) is one)

@@ -1,6 +1,6 @@
 -- The parts of objects that a repair stores: which words they are, and what storing them takes.
-use Rattle.std.specs.Prelude.{ℕ, ◌<◌, ◌≤◌, List, length, slice_index}
-use Rattle.layout.specs.Geometry.{inodes_of, data_pages_of, slots_of, inode_word_of, descriptor_word_of, slot_word_of}
+use Rattle.std.specs.Prelude.{ℕ, ◌+◌, ◌-◌, ◌<◌, ◌≤◌, List, length, slice_index}
+use Rattle.layout.specs.Geometry.{pieces, inodes_of, data_pages_of, slots_of, inode_word_of, descriptor_word_of, slot_word_of}
 use Rattle.recovery.specs.declared.part.Part.{Part}
 use Rattle.recovery.specs.declared.part.Part.TheVariants.{Number, Pointer, Owner, Name, Links, Descriptor, Inode}
 
@@ -14,8 +14,8 @@ IsNumber P Pointer s = s < slots_of P
 IsNumber P Owner j = j < data_pages_of P
 IsNumber P Name s = s < slots_of P
 IsNumber P Links i = IsInode P i
-IsNumber P Descriptor j = j < data_pages_of P
-IsNumber P Inode i = IsInode P i
+IsNumber P (Descriptor words) j = ((3 ≤ words) × (words ≤ 8)) × (j < data_pages_of P)
+IsNumber P (Inode words) i = ((4 ≤ words) × (words ≤ 16)) × IsInode P i
 
 -- the address of the part's first word in the object of this number
 abbrev pub first_of : ℕ → Part → ℕ → ℕ
@@ -24,8 +24,8 @@ first_of P Pointer s = slot_word_of P s 1
 first_of P Owner j = descriptor_word_of P j 0
 first_of P Name s = slot_word_of P s 1
 first_of P Links i = inode_word_of i 1
-first_of P Descriptor j = descriptor_word_of P j 1
-first_of P Inode i = inode_word_of i 0
+first_of P (Descriptor words) j = descriptor_word_of P j 1
+first_of P (Inode words) i = inode_word_of i 0
 
 -- and of its last
 abbrev pub last_of : ℕ → Part → ℕ → ℕ
@@ -34,8 +34,8 @@ last_of P Pointer s = slot_word_of P s 1
 last_of P Owner j = descriptor_word_of P j 0
 last_of P Name s = slot_word_of P s 15
 last_of P Links i = inode_word_of i 1
-last_of P Descriptor j = descriptor_word_of P j 2
-last_of P Inode i = inode_word_of i 3
+last_of P (Descriptor words) j = descriptor_word_of P j (words - 1)
+last_of P (Inode words) i = inode_word_of i (words - 1)
 
 -- its stores, and a flush of each of its lines
 abbrev pub events_of_part : Part → ℕ
@@ -44,8 +44,8 @@ events_of_part Pointer = 2
 events_of_part Owner = 2
 events_of_part Name = 17
 events_of_part Links = 2
-events_of_part Descriptor = 3
-events_of_part Inode = 5
+events_of_part (Descriptor words) = words
+events_of_part (Inode words) = words + pieces words 8
 
 -- each number once, in rising order
 abbrev pub IsRising : List ℕ → Type 0

@@ -1,5 +1,6 @@
 -- The repairs that an image needs: in each step the objects whose words aren't yet what recovery makes of them.
 use Rattle.std.specs.Prelude.{◌≡◌, ◌↔◌, ℕ, ◌<◌, List, length, slice_index, Some}
+use Rattle.layout.specs.Fields.{inode_words, descriptor_words}
 use Rattle.image_reading.specs.Reading.{IsLinkCount}
 use Rattle.image_reading.specs.Repairs.{IsPointer, IsLitterCount, IsLitterInode, IsLeft}
 use Rattle.repair_laws.specs.Stored.{HasNeedlessOwner, HasDeadName, HasNeedlessKind}
@@ -21,4 +22,6 @@ pub record IsPlanOf (W : List ℕ) (r : Repairs) : Type 0 where
   pub links : IsListOf (IsLitterCount r.geometry.pages W) r.links.items
   pub counts : (place : ℕ) → place < length r.links.items → IsLinkCount r.geometry.pages W (slice_index r.links.items place) (slice_index r.counts.items place)
   pub descriptors : IsListOf (HasNeedlessKind r.geometry.pages W) r.descriptors.items
+  pub descriptor_width : r.descriptor_width ≡ descriptor_words W
   pub inodes : IsListOf (IsLitterInode r.geometry.pages W) r.inodes.items
+  pub inode_width : r.inode_width ≡ inode_words W

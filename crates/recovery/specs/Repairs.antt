@@ -21,8 +21,8 @@ pub record HasObjects (repairs : Repairs) : Type 0 where
   pub owners : AreObjects repairs.geometry.pages Owner repairs.owners.items
   pub slots : AreObjects repairs.geometry.pages Name repairs.slots.items
   pub links : AreObjects repairs.geometry.pages Links repairs.links.items
-  pub descriptors : AreObjects repairs.geometry.pages Descriptor repairs.descriptors.items
-  pub inodes : AreObjects repairs.geometry.pages Inode repairs.inodes.items
+  pub descriptors : AreObjects repairs.geometry.pages (Descriptor repairs.descriptor_width) repairs.descriptors.items
+  pub inodes : AreObjects repairs.geometry.pages (Inode repairs.inode_width) repairs.inodes.items
 
 -- what the third step stores
 abbrev pub IsClearedBy : Repairs → ℕ → ℕ → Type 0
@@ -32,14 +32,18 @@ IsClearedBy r a v =
 
 -- and the fourth
 abbrev pub IsFreedBy : Repairs → ℕ → ℕ → Type 0
-IsFreedBy r a v = IsCleared r.geometry.pages Descriptor r.descriptors.items a v ⊎ IsCleared r.geometry.pages Inode r.inodes.items a v
+IsFreedBy r a v =
+    IsCleared r.geometry.pages (Descriptor r.descriptor_width) r.descriptors.items a v
+    ⊎ IsCleared r.geometry.pages (Inode r.inode_width) r.inodes.items a v
 
 -- their stores and flushes
 abbrev pub clear_changes : Repairs → ℕ
-clear_changes r = 2 * length r.owners.items + 17 * length r.slots.items + 2 * length r.links.items
+clear_changes r =
+    events_of_part Owner * length r.owners.items + events_of_part Name * length r.slots.items + events_of_part Links * length r.links.items
 
 abbrev pub free_changes : Repairs → ℕ
-free_changes r = 3 * length r.descriptors.items + 5 * length r.inodes.items
+free_changes r =
+    events_of_part (Descriptor r.descriptor_width) * length r.descriptors.items + events_of_part (Inode r.inode_width) * length r.inodes.items
 
 -- ---- the steps
 
@@ -55,7 +59,7 @@ unpointing r = changing (IsOne r.geometry.pages Pointer r.pointer) (one_changes 
 abbrev pub clearing : Repairs → Step
 clearing r = changing (IsClearedBy r) (clear_changes r)
 
--- kinds and offsets of pages, and words of inodes
+-- words of descriptors behind the owner, and words of inodes
 abbrev pub freeing : Repairs → Step
 freeing r = changing (IsFreedBy r) (free_changes r)
 

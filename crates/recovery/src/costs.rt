@@ -3,7 +3,7 @@ ghost use Rattle.std.specs.Prelude.{◌≡◌, ◌^◌, ◌≤◌};
 ghost use Rattle.recovery.specs.Repairs.{clear_changes, free_changes, events_of_repairs};
 ghost use Rattle.recovery.specs.Changes.{events_for, one_changes};
 
-use crate::Repairs;
+use crate::{Part, Repairs};
 
 // A step with stores has one fence.
 fn with_fence(changes: u64) -> u64
@@ -29,8 +29,9 @@ impl Repairs {
         ensures value { result ≡ clear_changes self.now }
         ensures small { result ≤ 2 ^ 32 }
     {
-        let _size = self.geometry.pages;
-        2 * self.owners.len() as u64 + 17 * self.slots.len() as u64 + 2 * self.links.len() as u64
+        Part::Owner.events() * self.owners.len() as u64
+            + Part::Name.events() * self.slots.len() as u64
+            + Part::Links.events() * self.links.len() as u64
     }
 
     /// The fourth step's.
@@ -38,8 +39,8 @@ impl Repairs {
         ensures value { result ≡ free_changes self.now }
         ensures small { result ≤ 2 ^ 32 }
     {
-        let _size = self.geometry.pages;
-        3 * self.descriptors.len() as u64 + 5 * self.inodes.len() as u64
+        Part::Descriptor(self.descriptor_width).events() * self.descriptors.len() as u64
+            + Part::Inode(self.inode_width).events() * self.inodes.len() as u64
     }
 
     /// How many stores, flushes and fences a repair makes.

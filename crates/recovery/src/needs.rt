@@ -8,8 +8,8 @@ ghost use Rattle.image_reading.specs.Scanned.{IsScanned};
 ghost use Rattle.repair_laws.specs.Stored.{HasNeedlessOwner, HasNeedlessKind, HasDeadName};
 ghost use Rattle.recovery.specs.Parts.{IsInode};
 
-use image_reading::Scanned;
-use layout::{SLOT_NAME, SLOT_WORDS, SLOTS};
+use image_reading::{Scanned, is_zero_descriptor_from, is_zero_inode};
+use layout::{DESCRIPTOR_KIND, SLOT_NAME, SLOT_WORDS, SLOTS};
 
 /// Whether the page has an owner and isn't kept.
 pub fn has_needless_owner(scanned: &Scanned<'_>, page: u64) -> bool
@@ -24,15 +24,13 @@ pub fn has_needless_owner(scanned: &Scanned<'_>, page: u64) -> bool
     image.geometry.descriptor_at(image.words, page).owner != 0
 }
 
-/// Whether the page has a kind or an offset and isn't kept.
+/// Whether the page has a word other than 0 behind its owner and isn't kept.
 pub fn has_needless_kind(scanned: &Scanned<'_>, page: u64) -> bool
     requires scanned { IsScanned scanned.now }
     requires in_range { page < data_pages_of scanned.now.image.geometry.pages }
     ensures { IsTrue result ↔ In scanned.now.image HasNeedlessKind page }
 {
-    let image = &scanned.image;
-    let descriptor = image.geometry.descriptor_at(image.words, page);
-    if descriptor.kind == 0 && descriptor.offset == 0 {
+    if is_zero_descriptor_from(&scanned.image, DESCRIPTOR_KIND, page) {
         return false;
     }
     !scanned.is_kept(page)
@@ -101,7 +99,5 @@ pub fn is_litter_inode(scanned: &Scanned<'_>, inode: u64) -> bool
     if scanned.is_reached(inode) {
         return false;
     }
-    let image = &scanned.image;
-    let fields = image.geometry.inode_at(image.words, inode);
-    fields.kind != 0 || fields.links != 0 || fields.size != 0 || fields.own != 0
+    !is_zero_inode(&scanned.image, inode)
 }

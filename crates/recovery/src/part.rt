@@ -1,10 +1,10 @@
 // The words of an inode, a page's descriptor or a slot that one step of a repair stores.
 ghost use Rattle.std.specs.Prelude.{◌≡◌, ◌*◌, ◌<◌, ◌≤◌};
-ghost use Rattle.recovery.specs.Parts.{IsNumber, first_of, last_of};
+ghost use Rattle.recovery.specs.Parts.{IsNumber, first_of, last_of, events_of_part};
 
 use layout::{
-    DESCRIPTOR_KIND, DESCRIPTOR_OFFSET, DESCRIPTOR_OWNER, Geometry, INODE_KIND, INODE_LINKS,
-    INODE_OWN, SLOT_INODE, SLOT_POINTER, SLOT_WORDS,
+    DESCRIPTOR_KIND, DESCRIPTOR_OWNER, Geometry, INODE_KIND, INODE_LINKS, LINE_WORDS, SLOT_INODE,
+    SLOT_POINTER, SLOT_WORDS,
 };
 
 /// Words of an object that are stored together.
@@ -20,10 +20,10 @@ pub enum Part {
     Name,
     /// An inode's links.
     Links,
-    /// A page's kind and offset.
-    Descriptor,
-    /// The words of an inode that are zero where it is free.
-    Inode,
+    /// Of so many first words of a page's descriptor those behind its owner.
+    Descriptor(u64),
+    /// So many first words of an inode.
+    Inode(u64),
 }
 
 impl Part {
@@ -38,8 +38,8 @@ impl Part {
             Part::Owner => geometry.descriptor_word(number, DESCRIPTOR_OWNER),
             Part::Name => geometry.slot_word(number, SLOT_POINTER),
             Part::Links => geometry.inode_word(number, INODE_LINKS),
-            Part::Descriptor => geometry.descriptor_word(number, DESCRIPTOR_KIND),
-            Part::Inode => geometry.inode_word(number, INODE_KIND),
+            Part::Descriptor(_words) => geometry.descriptor_word(number, DESCRIPTOR_KIND),
+            Part::Inode(_words) => geometry.inode_word(number, INODE_KIND),
         }
     }
 
@@ -55,8 +55,21 @@ impl Part {
             Part::Owner => geometry.descriptor_word(number, DESCRIPTOR_OWNER),
             Part::Name => geometry.slot_word(number, SLOT_WORDS - 1),
             Part::Links => geometry.inode_word(number, INODE_LINKS),
-            Part::Descriptor => geometry.descriptor_word(number, DESCRIPTOR_OFFSET),
-            Part::Inode => geometry.inode_word(number, INODE_OWN),
+            Part::Descriptor(words) => geometry.descriptor_word(number, words - 1),
+            Part::Inode(words) => geometry.inode_word(number, words - 1),
+        }
+    }
+
+    /// How many stores it takes, with a flush of each of its lines.
+    pub(crate) fn events(self) -> u64
+        requires { events_of_part self ≤ 18 }
+        ensures { result ≡ events_of_part self }
+    {
+        match self {
+            Part::Number | Part::Pointer | Part::Owner | Part::Links => 2,
+            Part::Name => 17,
+            Part::Descriptor(words) => words,
+            Part::Inode(words) => words + words.div_ceil(LINE_WORDS),
         }
     }
 }

@@ -18,14 +18,14 @@ use crate::needs::{
     is_litter_inode,
 };
 use image_reading::{Scan, Scanned, first_fault};
-use layout::{Geometry, PAGE_SLOTS};
+use layout::{Geometry, PAGE_SLOTS, descriptor_words, inode_words};
 use pm_trait::{NoMemory, Pm};
 use std::alloc::Global;
 
 impl Repairs {
     /// The repairs of an image in which nothing is to be repaired: none. It takes no memory.
-    pub fn none(alloc: Global, geometry: &Geometry) -> Repairs
-        ensures planned { (W : List ℕ) → IsTidied geometry.now.pages W → IsPlanOf W result }
+    pub fn none(alloc: Global, geometry: &Geometry, words: &[u64]) -> Repairs
+        ensures planned { IsTidied geometry.now.pages words.now → IsPlanOf words.now result }
         ensures made_for { result.geometry ≡ geometry.now }
         ensures nothing { events_of_repairs result ≡ 0 }
     {
@@ -38,7 +38,9 @@ impl Repairs {
             links: Vec::new(alloc),
             counts: Vec::new(alloc),
             descriptors: Vec::new(alloc),
+            descriptor_width: descriptor_words(words),
             inodes: Vec::new(alloc),
+            inode_width: inode_words(words),
         }
     }
 
@@ -63,7 +65,9 @@ impl Repairs {
             links,
             counts,
             descriptors,
+            descriptor_width: descriptor_words(scanned.image.words),
             inodes,
+            inode_width: inode_words(scanned.image.words),
         })
     }
 }
@@ -99,7 +103,7 @@ fn needless_owners(alloc: Global, scanned: &Scanned<'_>) -> Result<Vec<u64>, NoM
     Ok(pages)
 }
 
-// The pages that have a kind or an offset and aren't kept.
+// The pages that have a word other than 0 behind their owner and aren't kept.
 fn needless_kinds(alloc: Global, scanned: &Scanned<'_>) -> Result<Vec<u64>, NoMemory>
     requires { IsScanned scanned.now }
     ensures { IfOk result (λ pages. IsListOf (In scanned.now.image HasNeedlessKind) pages.items) }

@@ -20,14 +20,20 @@ pub struct Repairs {
     pub links: Vec<u64>,
     /// that stand here in the same places.
     pub counts: Vec<u64>,
-    /// Fourth: these pages lose kind and offset,
+    /// Fourth: these pages lose the words behind their owner,
     pub descriptors: Vec<u64>,
-    /// and these inodes become free.
+    /// of so many that are read,
+    pub descriptor_width: u64,
+    /// and these inodes become free,
     pub inodes: Vec<u64>,
+    /// in so many words.
+    pub inode_width: u64,
     pub ghost few_owners: { vec_len owners ≤ geometry.pages },
     pub ghost few_slots: { vec_len slots ≤ 32 * geometry.pages },
     pub ghost few_links: { vec_len links ≤ geometry.pages },
     pub ghost counted: { vec_len counts ≡ vec_len links },
     pub ghost few_descriptors: { vec_len descriptors ≤ geometry.pages },
     pub ghost few_inodes: { vec_len inodes ≤ geometry.pages },
+    pub ghost descriptor_bounds: { (3 ≤ descriptor_width) × (descriptor_width ≤ 8) },
+    pub ghost inode_bounds: { (4 ≤ inode_width) × (inode_width ≤ 16) },
 }

@@ -68,9 +68,9 @@ pub fn set_links<P: Pm>(pm: &mut P, geometry: &Geometry, inodes: &[u64], counts:
     requires rising { IsRising inodes.now }
     requires each { AreNumbers geometry.now.pages Links inodes.now }
     requires counted { length counts.now ≡ length inodes.now }
-    requires room { 2 * length inodes.now ≤ (P.view pm.old).spare }
+    requires room { events_of_part Links * length inodes.now ≤ (P.view pm.old).spare }
     ensures { Changes (IsLinked geometry.now.pages inodes.now counts.now) (P.view pm.old) (P.view pm.new)
-        (2 * length inodes.now) }
+        (events_of_part Links * length inodes.now) }
 {
     for (place, inode) in inodes.iter().enumerate() {
         set_part(pm, geometry, Part::Links, *inode, counts[place]);

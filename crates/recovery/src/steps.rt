@@ -65,9 +65,14 @@ pub fn free_objects<P: Pm>(pm: &mut P, repairs: &Repairs) -> Result<(), PmFault>
     clear_all(
         pm,
         geometry,
-        Part::Descriptor,
+        Part::Descriptor(repairs.descriptor_width),
         repairs.descriptors.as_slice(),
     );
-    clear_all(pm, geometry, Part::Inode, repairs.inodes.as_slice());
+    clear_all(
+        pm,
+        geometry,
+        Part::Inode(repairs.inode_width),
+        repairs.inodes.as_slice(),
+    );
     end_interval(pm)
 }

@@ -9,20 +9,20 @@ returns-then-not-is_kept c = λ K mended.
     let image = c.args.scanned.now.image in
     page_free image.geometry.pages image.words.now c.requires.scanned.coherent K mended c.args.page c.args.index.now c.requires.in_range (iff_false c.is_kept.ensures c.if-not-is_kept.true) (c.requires.holds K mended)
 
-pub set_page-requires-clause-from_one : goal.set_page-requires-clause-from_one
-set_page-requires-clause-from_one c =
+pub swap_page-requires-clause-from_one : goal.swap_page-requires-clause-from_one
+swap_page-requires-clause-from_one c =
     let image = c.args.scanned.now.image in
     let size = each_inode image.geometry.pages image.words.now c.requires.scanned.coherent c.args.page [] 0 c.args.index.now c.requires.holds in
     (owner_in_index image.geometry.pages image.words.now c.requires.scanned.coherent c.args.page c.descriptor_at-fields.result.owner c.args.index.now (c.is_kept.ensures.0 c.if-not-is_kept.false) c.descriptor_at-fields.ensures.owner size).0
 
-pub set_page-requires-clause-in_range : goal.set_page-requires-clause-in_range
-set_page-requires-clause-in_range c =
+pub swap_page-requires-clause-in_range : goal.swap_page-requires-clause-in_range
+swap_page-requires-clause-in_range c =
     let image = c.args.scanned.now.image in
     let size = each_inode image.geometry.pages image.words.now c.requires.scanned.coherent c.args.page [] 0 c.args.index.now c.requires.holds in
     (owner_in_index image.geometry.pages image.words.now c.requires.scanned.coherent c.args.page c.descriptor_at-fields.result.owner c.args.index.now (c.is_kept.ensures.0 c.if-not-is_kept.false) c.descriptor_at-fields.ensures.owner size).1
 
-pub set_page-requires-clause-place : goal.set_page-requires-clause-place
-set_page-requires-clause-place c =
+pub swap_page-requires-clause-place : goal.swap_page-requires-clause-place
+swap_page-requires-clause-place c =
     let image = c.args.scanned.now.image in
     let fields = c.descriptor_at-fields in
     let (K, mended) = some_mended image.geometry.pages image.words.now c.requires.scanned.coherent in
@@ -33,9 +33,9 @@ pub returns-then-fields-eq-BYTES : goal.returns-then-fields-eq-BYTES
 returns-then-fields-eq-BYTES c = λ K mended.
     let image = c.args.scanned.now.image in
     let fields = c.descriptor_at-fields in
-    let set = c.set_page.ensures in
+    let set = c.swap_page.ensures in
     page_set image.geometry.pages image.words.now c.requires.scanned.coherent K mended c.args.page fields.result.owner c.requires.in_range (c.is_kept.ensures.0 c.if-not-is_kept.false) fields.ensures.owner
-    fields.result.offset c.args.index.now c.set_page.new.self (sym fields.ensures.kind ∙ c.if-fields-eq-BYTES.true) fields.ensures.offset set.elsewhere set.node.pages set.node.entries (c.requires.holds K mended)
+    fields.result.offset c.args.index.now c.swap_page.new.self (sym fields.ensures.kind ∙ c.if-fields-eq-BYTES.true) fields.ensures.offset set.elsewhere set.node.pages set.node.entries (c.requires.holds K mended)
 
 pub reserve_pages-requires-clause-from_one : goal.reserve_pages-requires-clause-from_one
 reserve_pages-requires-clause-from_one c =

@@ -55,7 +55,7 @@ returns c =
       planned = elim c.if-has_mark.branch [
         | then-has_mark w ↦
             let tidied : IsTidied (pages_in_image W) W = record { coherent = sound.coherent; repaired = sound.mark (sym c.has_mark.ensures ∙ w.if-has_mark.true) } in
-            subst (IsPlanOf W) (sym w.repairs-is) (w.none-repairs.ensures.planned W (subst (λ (n : ℕ). IsTidied n W) head tidied))
+            subst (IsPlanOf W) (sym w.repairs-is) (w.none-repairs.ensures.planned (subst (λ (n : ℕ). IsTidied n W) head tidied))
         | else-has_mark+in_ok-repairs w ↦
             subst (IsPlanOf W) (sym w.repairs-is) (subst (λ (words : List ℕ). IsPlanOf words w.in_ok-repairs.repairs) scanned.ensures.words w.in_ok-repairs.ensures.planned)
       ];

@@ -1,5 +1,6 @@
 use Rattle.std.proofs.Common.{◌+◌, ◌*◌, length, arith, ◌∙◌}
 use Rattle.recovery.specs.Parts.{events_of_part}
+use Rattle.recovery.specs.Changes.{IsAmong}
 use Rattle.pm_trait.proofs.DeviceLaws.{interval_length}
 use Rattle.recovery.proofs.Changing.{changes_none, changes_as, changes_then}
 use Rattle.recovery.proofs.Spans.{among_none, among_more, among_fewer, among_apart, events_more, events_none, room_for}
@@ -22,6 +23,6 @@ loop-number-preserved g c =
     let P = c.args.geometry.now.pages in
     let numbers = c.args.numbers.now in
     let k = c.loop-number.number-index in
-    changes_as (events_of_part c.args.part * (k + 1)) (let more = events_more c.args.part k in omega (arith, more))
+    changes_as {N = IsAmong P c.args.part numbers (λ _. 0) (k + 1)} (events_of_part c.args.part * (k + 1)) (let more = events_more c.args.part k in omega (arith, more))
     (among_more P c.args.part numbers (λ _. 0) k) (among_fewer P c.args.part numbers (λ _. 0) k)
     (changes_then c.loop-number.invariant c.set_part.ensures (among_apart P c.args.part numbers (λ _. 0) c.requires.rising c.requires.each k c.loop-number-test.true))

@@ -20,5 +20,5 @@ returns g c =
     let some : clear_changes c.args.repairs.now ≢ 0 = λ none. c.if-clear_changes-eq0.false (c.clear_changes.ensures.value ∙ none) in
     record {
       takes = step_ends (clear_changes c.args.repairs.now) c.end_interval.result some c.requires.begins.settled
-          (all_cleared c.args.repairs.now c.requires.ready (cleared_as 2 c.as_slice.ensures.value c.clear_all.ensures) (cleared_as 17 c.as_slice-2.ensures.value c.clear_all-2.ensures) (linked_as c.as_slice-3.ensures.value c.as_slice-4.ensures.value c.set_links.ensures)) c.end_interval.ensures.device;
+          (all_cleared c.args.repairs.now c.requires.ready (cleared_as c.args.repairs.now c.as_slice.ensures.value c.clear_all.ensures) (cleared_as c.args.repairs.now c.as_slice-2.ensures.value c.clear_all-2.ensures) (linked_as c.as_slice-3.ensures.value c.as_slice-4.ensures.value c.set_links.ensures)) c.end_interval.ensures.device;
     }

@@ -17,5 +17,5 @@ returns g c =
     let some : free_changes c.args.repairs.now ≢ 0 = λ none. c.if-free_changes-eq0.false (c.free_changes.ensures.value ∙ none) in
     record {
       takes = step_ends (free_changes c.args.repairs.now) c.end_interval.result some c.requires.begins.settled
-          (all_freed c.args.repairs.now c.requires.ready (cleared_as 3 c.as_slice.ensures.value c.clear_all.ensures) (cleared_as 5 c.as_slice-2.ensures.value c.clear_all-2.ensures)) c.end_interval.ensures.device;
+          (all_freed c.args.repairs.now c.requires.ready (cleared_as c.args.repairs.now c.as_slice.ensures.value c.clear_all.ensures) (cleared_as c.args.repairs.now c.as_slice-2.ensures.value c.clear_all-2.ensures)) c.end_interval.ensures.device;
     }

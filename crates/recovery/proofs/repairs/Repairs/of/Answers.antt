@@ -1,4 +1,5 @@
-use Rattle.std.proofs.Common.{arith}
+use Rattle.std.proofs.Common.{◌≤◌, sym, subst, arith}
+use Rattle.layout.proofs.Widths.{inode_words_bounds, descriptor_words_bounds}
 use Rattle.recovery.proofs.Listing.{list_short}
 use Rattle.recovery.proofs.Needing.{all_reached, owner_below, kind_below, dead_below, links_below, litter_below}
 use Rattle.recovery.proofs.repairs.Repairs.of.Goals as goal
@@ -30,3 +31,9 @@ pub invariant_of-result-clause-few_inodes : goal.invariant_of-result-clause-few_
 invariant_of-result-clause-few_inodes c =
     let few = list_short _ _ _ (litter_below _ _ c.args.scanned.now.image.geometry.volume_size) c.in_ok-inodes.ensures in
     omega (arith, few, c.in_ok-inodes.inodes.ok.0)
+
+pub invariant_of-result-clause-descriptor_bounds : goal.invariant_of-result-clause-descriptor_bounds
+invariant_of-result-clause-descriptor_bounds c = subst (λ n. (3 ≤ n) × (n ≤ 8)) (sym c.descriptor_words.ensures) (descriptor_words_bounds _)
+
+pub invariant_of-result-clause-inode_bounds : goal.invariant_of-result-clause-inode_bounds
+invariant_of-result-clause-inode_bounds c = subst (λ n. (4 ≤ n) × (n ≤ 16)) (sym c.inode_words.ensures) (inode_words_bounds _)
