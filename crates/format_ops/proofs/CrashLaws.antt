@@ -122,7 +122,7 @@ module _ (pages : ℕ) {old : List ℕ} (some : 0 < length old) where
       rest : (a : ℕ) → 5 < a → a < first_data_word_of pages → a ≢ inode_word_of 1 0 → a ≢ inode_word_of 1 1 → a ≢ inode_word_of 1 3 → slice_index whole a ≡ 0
       rest a low inside kind links own = others a (λ here. omega (arith, here, low)) ∙ (values a (λ here. omega (arith, here, low)) inside).rest low kind links own
 
-      field : (f : ℕ) → f < 4 → IsTableValue pages (inode_word_of 1 f) (slice_index tables (inode_word_of 1 f))
+      field : (f : ℕ) → f < length root_words → IsTableValue pages (inode_word_of 1 f) (slice_index tables (inode_word_of 1 f))
       field f low = written.each (inode_word_of 1 f) (omega arith) (omega (arith, low, head_inside))
 
       root_value : (f g : ℕ) → f ≡ g → (inode_word_of 1 g ≡ inode_word_of 1 g → slice_index tables (inode_word_of 1 g) ≡ slice_index root_words g) → slice_index whole (inode_word_of 1 f) ≡ slice_index root_words f

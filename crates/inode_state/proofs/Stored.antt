@@ -10,7 +10,7 @@ use Rattle.pm_trait.specs.DeviceView.{DeviceView, Performs}
 use Rattle.pm_trait.proofs.DeviceViewLaws.{performs_then}
 use Rattle.layout.specs.declared.fields.InodeFields.{InodeFields}
 use Rattle.layout.specs.Geometry.{inode_word_of}
-use Rattle.layout.specs.Fields.{word, inode_kind, inode_links, inode_size, inode_own}
+use Rattle.layout.specs.Fields.{word, inode_fields, inode_kind, inode_links, inode_size, inode_own}
 use Rattle.fence_token.specs.Objects.{Stands, StandsClean}
 use Rattle.inode_state.specs.Inode.{IsInodeWord, fields_at, inode_stores}
 use Rattle.inode_state.proofs.InodeLaws.{same_fields}
@@ -41,15 +41,15 @@ pub same_length : (a b : List ℕ) (w v : ℕ) → b ≡ slice_set a w v → len
 same_length a b w v is = ap length is ∙ length-set a w v
 
 -- an address of the inode is one of the device
-pub word_inside : (n f w : ℕ) (a : List ℕ) → w ≡ inode_word_of n f → f < 4 → ((word : ℕ) → IsInodeWord n word → word < length a) → w < length a
+pub word_inside : (n f w : ℕ) (a : List ℕ) → w ≡ inode_word_of n f → f < inode_fields → ((word : ℕ) → IsInodeWord n word → word < length a) → w < length a
 word_inside n f w a at small inside = inside w (record { field = f; is_field = small; at = at })
 
--- four stores are an interval over the inode's words
-pub four_stores : {a b c d e : List ℕ} {ta tb tc td te : Option Trail} (n w0 w1 w2 w3 v0 v1 v2 v3 : ℕ) → w0 ≡ inode_word_of n 0 → w1 ≡ inode_word_of n 1 → w2 ≡ inode_word_of n 2 → w3 ≡ inode_word_of n 3
+-- a store of each field is an interval over the inode's words
+pub fields_stored : {a b c d e : List ℕ} {ta tb tc td te : Option Trail} (n w0 w1 w2 w3 v0 v1 v2 v3 : ℕ) → w0 ≡ inode_word_of n 0 → w1 ≡ inode_word_of n 1 → w2 ≡ inode_word_of n 2 → w3 ≡ inode_word_of n 3
     → b ≡ slice_set a w0 v0 → tb ≡ with_event ta (Store w0 v0) → c ≡ slice_set b w1 v1 → tc ≡ with_event tb (Store w1 v1)
     → d ≡ slice_set c w2 v2 → td ≡ with_event tc (Store w2 v2) → e ≡ slice_set d w3 v3 → te ≡ with_event td (Store w3 v3)
     → IsInterval (IsInodeWord n) a ta e te
-four_stores n w0 w1 w2 w3 v0 v1 v2 v3 at0 at1 at2 at3 b tb c tc d td e te =
+fields_stored n w0 w1 w2 w3 v0 v1 v2 v3 at0 at1 at2 at3 b tb c tc d td e te =
     let other : (f g v w : ℕ) → v ≡ inode_word_of n f → w ≡ inode_word_of n g → f ≢ g → v ≢ w = λ f g v w at_f at_g apart same. differs n f g w at_g apart (sym at_f ∙ same) in
     let one = interval_store w0 v0 b tb in
     let two = then_store w1 v1 one (other 1 0 w1 w0 at1 at0 (λ same. omega (arith, same))) c tc in
@@ -67,19 +67,19 @@ four_stores n w0 w1 w2 w3 v0 v1 v2 v3 at0 at1 at2 at3 b tb c tc d td e te =
     ]) four
 
 -- and the device has carried them out
-pub four_performed : {a b c d e : DeviceView} {w0 w1 w2 w3 : ℕ} (n : ℕ) (fields : InodeFields) → w0 ≡ inode_word_of n 0 → w1 ≡ inode_word_of n 1 → w2 ≡ inode_word_of n 2 → w3 ≡ inode_word_of n 3
+pub fields_performed : {a b c d e : DeviceView} {w0 w1 w2 w3 : ℕ} (n : ℕ) (fields : InodeFields) → w0 ≡ inode_word_of n 0 → w1 ≡ inode_word_of n 1 → w2 ≡ inode_word_of n 2 → w3 ≡ inode_word_of n 3
     → Performs a b (Store w0 fields.kind ∷ []) → Performs b c (Store w1 fields.links ∷ []) → Performs c d (Store w2 fields.size ∷ []) → Performs d e (Store w3 fields.own ∷ [])
     → Performs a e (inode_stores n fields)
-four_performed {a} {e = e} {w0} {w1} {w2} {w3} n fields at0 at1 at2 at3 kind links size own =
+fields_performed {a} {e = e} {w0} {w1} {w2} {w3} n fields at0 at1 at2 at3 kind links size own =
     let stored : (Store w0 fields.kind ∷ Store w1 fields.links ∷ Store w2 fields.size ∷ Store w3 fields.own ∷ []) ≡ inode_stores n fields = cc in
     subst (λ (events : List Event). Performs a e events) stored (performs_then (performs_then (performs_then kind links) size) own)
 
 -- and the words then say what was stored
-pub four_fields : (n : ℕ) (fields : InodeFields) (a b c d e : List ℕ) (w0 w1 w2 w3 : ℕ) → w0 ≡ inode_word_of n 0 → w1 ≡ inode_word_of n 1 → w2 ≡ inode_word_of n 2 → w3 ≡ inode_word_of n 3
+pub fields_stand : (n : ℕ) (fields : InodeFields) (a b c d e : List ℕ) (w0 w1 w2 w3 : ℕ) → w0 ≡ inode_word_of n 0 → w1 ≡ inode_word_of n 1 → w2 ≡ inode_word_of n 2 → w3 ≡ inode_word_of n 3
     → b ≡ slice_set a w0 fields.kind → c ≡ slice_set b w1 fields.links → d ≡ slice_set c w2 fields.size → e ≡ slice_set d w3 fields.own
     → ((word : ℕ) → IsInodeWord n word → word < length a) → Stands (IsInodeWord n) (λ words. fields_at words n ≡ fields) e
 unfolding inode_kind inode_links inode_size inode_own word
-four_fields n fields a b c d e w0 w1 w2 w3 at0 at1 at2 at3 isb isc isd ise inside =
+fields_stand n fields a b c d e w0 w1 w2 w3 at0 at1 at2 at3 isb isc isd ise inside =
     let longb = same_length a b w0 fields.kind isb in
     let longc = same_length b c w1 fields.links isc in
     let longd = same_length c d w2 fields.size isd in

@@ -9,7 +9,7 @@ use Rattle.pm_trait.proofs.DeviceLaws.{interval_keeps, interval_length, clean_st
 use Rattle.layout.specs.declared.fields.DescriptorFields.{DescriptorFields}
 use Rattle.layout.specs.Geometry.{data_pages_of, descriptor_word_of, page_word_of}
 use Rattle.layout.proofs.GeometryLaws.{same_descriptor_word, same_page_word, descriptor_word_not_page_word}
-use Rattle.layout.specs.Fields.{word, page_owner, page_kind, page_offset}
+use Rattle.layout.specs.Fields.{word, descriptor_fields, page_owner, page_kind, page_offset}
 use Rattle.page_state.specs.declared.page.Touched.{Touched}
 use Rattle.page_state.specs.declared.page.Touched.TheVariants.{Descriptors, Whole, Words}
 use Rattle.page_state.specs.declared.span.FileSpan.{FileSpan}
@@ -116,7 +116,7 @@ pub dirty_owners : {device : DeviceView} (view : PageView) (owner : ℕ) → vie
 dirty_owners view owner is dirty = record { each = λ index inside. ap (λ (said : DescriptorFields). said.owner) (dirty.stands.reads.each index inside) ∙ is }
 
 -- a word of the descriptors is none that has new bytes
-no_new_field : (span : FileSpan) (volume_pages page field word : ℕ) (pages : List ℕ) → page < data_pages_of volume_pages → field < 3 → word ≡ descriptor_word_of volume_pages page field → ¬ IsNewWordOf span volume_pages pages word
+no_new_field : (span : FileSpan) (volume_pages page field word : ℕ) (pages : List ℕ) → page < data_pages_of volume_pages → field < descriptor_fields → word ≡ descriptor_word_of volume_pages page field → ¬ IsNewWordOf span volume_pages pages word
 no_new_field span volume_pages page field word pages in_range few at new =
     descriptor_word_not_page_word volume_pages page (slice_index pages new.index) field new.is.index in_range (omega (arith, few)) (sym at ∙ new.is.is.at)
 
@@ -157,7 +157,7 @@ all_flushed {a} {b} (Words span) volume_pages pages fields ticket valid dirty fl
 -- ---- new bytes
 
 -- stores of new bytes leave the descriptors
-new_keeps_field : {a b : List ℕ} {ta tb : Option Trail} (span : FileSpan) (volume_pages page field : ℕ) (pages : List ℕ) → page < data_pages_of volume_pages → field < 3 → IsInterval (IsNewWordOf span volume_pages pages) a ta b tb
+new_keeps_field : {a b : List ℕ} {ta tb : Option Trail} (span : FileSpan) (volume_pages page field : ℕ) (pages : List ℕ) → page < data_pages_of volume_pages → field < descriptor_fields → IsInterval (IsNewWordOf span volume_pages pages) a ta b tb
     → slice_index b (descriptor_word_of volume_pages page field) ≡ slice_index a (descriptor_word_of volume_pages page field)
 new_keeps_field span volume_pages page field pages in_range few run =
     interval_keeps (descriptor_word_of volume_pages page field) run (no_new_field span volume_pages page field (descriptor_word_of volume_pages page field) pages in_range few refl)

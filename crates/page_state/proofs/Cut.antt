@@ -3,12 +3,12 @@ use Rattle.std.proofs.Common.{◌≡◌, ◌⊎◌, inl, inr, ℕ, ◌<◌, ◌�
 use Rattle.layout.specs.declared.fields.DescriptorFields.{DescriptorFields}
 use Rattle.layout.specs.declared.fields.InodeFields.{InodeFields}
 use Rattle.layout.specs.Geometry.{IsVolumeSize, inodes_of, inode_pages_of, descriptor_word_of, inode_word_of}
-use Rattle.layout.specs.Fields.{word, page_owner, inode_kind}
+use Rattle.layout.specs.Fields.{word, inode_fields, page_owner, inode_kind}
 use Rattle.inode_state.specs.Inode.{IsInodeWord, fields_at}
 use Rattle.page_state.specs.Page.{OfSome, IsOwnerWord, SayFields}
 
 -- a descriptor begins where an inode does, or at none of its words
-first_field : (volume_pages page number field : ℕ) → field < 4 → inode_word_of number field ≡ descriptor_word_of volume_pages page 0 → field ≡ 0
+first_field : (volume_pages page number field : ℕ) → field < inode_fields → inode_word_of number field ≡ descriptor_word_of volume_pages page 0 → field ≡ 0
 unfolding inode_word_of descriptor_word_of
 first_field volume_pages page number field few same = omega (arith, few, same)
 

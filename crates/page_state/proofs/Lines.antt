@@ -1,18 +1,19 @@
 -- The lines of a page's words.
 use Rattle.std.proofs.Common.{◌≡◌, ℕ, ◌+◌, ◌-◌, ◌*◌, ◌/◌, ◌≤◌, arith}
 use Rattle.layout.specs.Geometry.{first_data_word_of, page_word_of, descriptor_word_of}
+use Rattle.layout.specs.Fields.{descriptor_fields}
 use Rattle.page_state.specs.Page.{IsContentWord, IsDescriptorWord}
 
 -- a descriptor's words stand in one line
-pub descriptor_line : (volume_pages page first last : ℕ) → first ≡ descriptor_word_of volume_pages page 0 → last ≡ descriptor_word_of volume_pages page 2 → last / 8 - first / 8 + 1 ≡ 1
+pub descriptor_line : (volume_pages page first last : ℕ) → first ≡ descriptor_word_of volume_pages page 0 → last ≡ descriptor_word_of volume_pages page (descriptor_fields - 1) → last / 8 - first / 8 + 1 ≡ 1
 unfolding descriptor_word_of
 descriptor_line volume_pages page first last at_first at_last = omega (arith, at_first, at_last)
 
-pub descriptor_order : (volume_pages page first last : ℕ) → first ≡ descriptor_word_of volume_pages page 0 → last ≡ descriptor_word_of volume_pages page 2 → first ≤ last
+pub descriptor_order : (volume_pages page first last : ℕ) → first ≡ descriptor_word_of volume_pages page 0 → last ≡ descriptor_word_of volume_pages page (descriptor_fields - 1) → first ≤ last
 unfolding descriptor_word_of
 descriptor_order volume_pages page first last at_first at_last = omega (arith, at_first, at_last)
 
-pub descriptor_between : (volume_pages page first last word : ℕ) → first ≡ descriptor_word_of volume_pages page 0 → last ≡ descriptor_word_of volume_pages page 2 → IsDescriptorWord volume_pages page word → (first ≤ word) × (word ≤ last)
+pub descriptor_between : (volume_pages page first last word : ℕ) → first ≡ descriptor_word_of volume_pages page 0 → last ≡ descriptor_word_of volume_pages page (descriptor_fields - 1) → IsDescriptorWord volume_pages page word → (first ≤ word) × (word ≤ last)
 unfolding descriptor_word_of
 descriptor_between volume_pages page first last word at_first at_last is =
     let few = is.is_field in

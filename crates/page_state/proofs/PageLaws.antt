@@ -8,14 +8,14 @@ use Rattle.pm_trait.proofs.DeviceLaws.{clean_stays}
 use Rattle.layout.specs.declared.fields.DescriptorFields.{DescriptorFields}
 use Rattle.layout.specs.Geometry.{IsVolumeSize, data_pages_of, descriptor_word_of, inodes_of, inode_word_of, slot_word_of, page_of_slot}
 use Rattle.layout.proofs.GeometryLaws.{same_descriptor_word, same_page_word, descriptor_word_within, page_word_within, descriptor_word_not_page_word, slot_word_in_page, descriptor_word_not_slot_word, inode_word_not_descriptor_word, inode_word_not_page_word}
-use Rattle.layout.specs.Fields.{word, page_owner, page_kind, page_offset}
+use Rattle.layout.specs.Fields.{word, descriptor_fields, page_owner, page_kind, page_offset}
 use Rattle.fence_token.specs.Objects.{IsLocal, StoreNoneOf}
 use Rattle.fence_token.proofs.ObjectLaws.{stands_stays, goes_on_as, clean_as_events}
 use Rattle.page_state.specs.States.{IsFree}
 use Rattle.page_state.specs.Page.{PageView, EachPage, AreDataPages, IsDescriptorWord, IsOwnWord, descriptor_of, fields_of_page, SayFields, IsWordOf, ReadAs, PageIsDirty}
 
 -- the word of a field is the descriptor's
-pub descriptor_word_is : (volume_pages page field : ℕ) → field < 3 → IsDescriptorWord volume_pages page (descriptor_word_of volume_pages page field)
+pub descriptor_word_is : (volume_pages page field : ℕ) → field < descriptor_fields → IsDescriptorWord volume_pages page (descriptor_word_of volume_pages page field)
 descriptor_word_is volume_pages page field is_field = record { field = field; is_field = is_field; at = refl }
 
 -- a page's words are the volume's
@@ -48,13 +48,13 @@ own_words_apart volume_pages one two word first second differ (inr field) (inr o
 pub same_descriptor_fields : (one two : DescriptorFields) → one.owner ≡ two.owner → one.kind ≡ two.kind → one.offset ≡ two.offset → one ≡ two
 same_descriptor_fields one two owner kind offset = rw (owner, kind, offset) refl
 
--- two lists of words with the same three words say the same of the page
+-- two lists of words with the same descriptor say the same of the page
 pub same_descriptor_of : (volume_pages page : ℕ) (old new : List ℕ) → ((word : ℕ) → IsDescriptorWord volume_pages page word → slice_index new word ≡ slice_index old word) → descriptor_of volume_pages new page ≡ descriptor_of volume_pages old page
 unfolding page_owner page_kind page_offset word
 same_descriptor_of volume_pages page old new same =
     same_descriptor_fields (descriptor_of volume_pages new page) (descriptor_of volume_pages old page) (at 0 (omega arith)) (at 1 (omega arith)) (at 2 (omega arith))
   where
-    at : (field : ℕ) → field < 3 → slice_index new (descriptor_word_of volume_pages page field) ≡ slice_index old (descriptor_word_of volume_pages page field)
+    at : (field : ℕ) → field < descriptor_fields → slice_index new (descriptor_word_of volume_pages page field) ≡ slice_index old (descriptor_word_of volume_pages page field)
     at field is_field = same (descriptor_word_of volume_pages page field) (descriptor_word_is volume_pages page field is_field)
 
 -- ---- what the descriptors of a list of pages say

@@ -1,5 +1,5 @@
 -- Pages that lose their owner, and then their kind and offset.
-use Rattle.std.proofs.Common.{◌≡◌, ◌≢◌, inl, inr, ⊎_elim, ℕ, ◌<◌, List, [], ◌∷◌, length, slice_index, slice_set, refl, sym, ◌∙◌, ap, arith}
+use Rattle.std.proofs.Common.{◌≡◌, ◌≢◌, inl, inr, ⊎_elim, ℕ, ◌<◌, ◌≤◌, List, [], ◌∷◌, length, slice_index, slice_set, refl, sym, ◌∙◌, ap, arith}
 use Rattle.std.specs.Prelude.{Option}
 use Rattle.pm_trait.specs.declared.event.Event.TheVariants.{Store}
 use Rattle.pm_trait.specs.Trail.{Trail}
@@ -9,7 +9,8 @@ use Rattle.pm_trait.proofs.DeviceLaws.{interval_keeps, interval_length, clean_st
 use Rattle.layout.specs.declared.fields.DescriptorFields.{DescriptorFields}
 use Rattle.layout.specs.Geometry.{descriptor_word_of}
 use Rattle.layout.proofs.GeometryLaws.{same_descriptor_word}
-use Rattle.layout.specs.Fields.{word, page_owner, page_kind, page_offset}
+use Rattle.layout.specs.Fields.{word, descriptor_words, IsKindOrOffset, page_owner, page_kind, page_offset}
+use Rattle.layout.proofs.Widths.{descriptor_field_read, descriptor_words_written, kind_or_offset}
 use Rattle.fence_token.specs.Stored.{StoresExactly}
 use Rattle.fence_token.proofs.StoredLaws.{exactly_store, exactly_then, exactly_as}
 use Rattle.page_state.specs.declared.page.Touched.{Touched}
@@ -34,6 +35,33 @@ fields_differ volume_pages page other one two few small differ same = differ (sa
 pub released_is_own : (volume_pages page word : ℕ) → IsReleasedWord volume_pages page word → IsOwnWord volume_pages page word
 released_is_own volume_pages page word (inl at) = inr (record { field = 1; is_field = omega arith; at = at })
 released_is_own volume_pages page word (inr at) = inr (record { field = 2; is_field = omega arith; at = at })
+
+-- ---- by the fields that are read in a volume of these words
+
+module _ (I : List ℕ) (volume_pages page : ℕ) where
+  -- a field behind the owner is the kind or the offset
+  rest_field : (field : ℕ) → 1 ≤ field → field < descriptor_words I → IsKindOrOffset field
+  rest_field field some few = kind_or_offset field some (omega (arith, few, descriptor_words_written I))
+
+  pub released_field : (field : ℕ) → 1 ≤ field → field < descriptor_words I → IsReleasedWord volume_pages page (descriptor_word_of volume_pages page field)
+  released_field field some few = elim (rest_field field some few) [
+    | inl kind ↦ inl (ap (descriptor_word_of volume_pages page) kind)
+    | inr offset ↦ inr (ap (descriptor_word_of volume_pages page) offset)
+  ]
+
+  pub zero_field : (words : List ℕ) (field : ℕ) → IsWithoutKind volume_pages words page → 1 ≤ field → field < descriptor_words I → word words (descriptor_word_of volume_pages page field) ≡ 0
+  unfolding page_kind page_offset
+  zero_field words field without some few = elim (rest_field field some few) [
+    | inl kind ↦ ap (λ (f : ℕ). word words (descriptor_word_of volume_pages page f)) kind ∙ without.kind
+    | inr offset ↦ ap (λ (f : ℕ). word words (descriptor_word_of volume_pages page f)) offset ∙ without.offset
+  ]
+
+  -- and they are all that is released
+  pub not_released : (a : ℕ) → ((field : ℕ) → 1 ≤ field → field < descriptor_words I → a ≢ descriptor_word_of volume_pages page field) → ¬ IsReleasedWord volume_pages page a
+  not_released a out (inl kind) = out 1 (omega arith) (descriptor_field_read I 1 (omega arith)) kind
+  not_released a out (inr offset) = out 2 (omega arith) (descriptor_field_read I 2 (omega arith)) offset
+
+-- ---- the stores of a release
 
 -- the stores of its kind and its offset
 pub release_told : {a b c : DeviceView} (volume_pages page w1 w2 : ℕ) → w1 ≡ descriptor_word_of volume_pages page 1 → w2 ≡ descriptor_word_of volume_pages page 2

@@ -10,6 +10,7 @@ use Rattle.pm_trait.specs.declared.event.Event.TheVariants.{Store, Flush}
 use Rattle.pm_trait.specs.DeviceView.{DeviceView, Performs}
 use Rattle.pm_trait.proofs.DeviceLaws.{flushed_stays}
 use Rattle.layout.specs.Geometry.{data_pages_of, descriptor_word_of, page_word_of}
+use Rattle.layout.specs.Fields.{descriptor_fields}
 use Rattle.layout.proofs.GeometryLaws.{same_descriptor_word, descriptor_word_not_page_word}
 use Rattle.fence_token.specs.Ticket.{flushes_of}
 use Rattle.fence_token.specs.Flushes.{Flushes, FlushesLines}
@@ -86,7 +87,7 @@ claim_told volume_pages page owner w at stored =
 
 -- ---- one page's lines
 
-pub descriptor_flushed : {a b : DeviceView} (volume_pages page first last : ℕ) → first ≡ descriptor_word_of volume_pages page 0 → last ≡ descriptor_word_of volume_pages page 2
+pub descriptor_flushed : {a b : DeviceView} (volume_pages page first last : ℕ) → first ≡ descriptor_word_of volume_pages page 0 → last ≡ descriptor_word_of volume_pages page (descriptor_fields - 1)
     → FlushesLines a b (first / 8) (last / 8 - first / 8 + 1) → Flushes a b (Flush (descriptor_word_of volume_pages page 0 / 8) ∷ []) 1
 descriptor_flushed volume_pages page first last at_first at_last lines =
     let one = descriptor_line volume_pages page first last at_first at_last in

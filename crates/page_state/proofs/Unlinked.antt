@@ -3,13 +3,13 @@ use Rattle.std.proofs.Common.{◌≡◌, inl, inr, ℕ, ◌<◌, List, slice_ind
 use Rattle.layout.specs.declared.fields.DescriptorFields.{DescriptorFields}
 use Rattle.layout.specs.declared.fields.InodeFields.{InodeFields}
 use Rattle.layout.specs.Geometry.{descriptor_word_of, inode_word_of}
-use Rattle.layout.specs.Fields.{word, page_kind, inode_links}
+use Rattle.layout.specs.Fields.{word, inode_fields, page_kind, inode_links}
 use Rattle.inode_state.specs.Inode.{IsInodeWord, fields_at}
 use Rattle.page_state.specs.States.{IsLive}
 use Rattle.page_state.specs.Page.{OfSome, IsOwnerWord, fields_of_page, SayFields, HaveMeaning}
 
 -- a descriptor begins where an inode does, or at none of its words
-same_start : (volume_pages page number field : ℕ) → field < 4 → inode_word_of number field ≡ descriptor_word_of volume_pages page 0 → descriptor_word_of volume_pages page 1 ≡ inode_word_of number 1
+same_start : (volume_pages page number field : ℕ) → field < inode_fields → inode_word_of number field ≡ descriptor_word_of volume_pages page 0 → descriptor_word_of volume_pages page 1 ≡ inode_word_of number 1
 unfolding inode_word_of descriptor_word_of
 same_start volume_pages page number field few same = omega (arith, few, same)
 

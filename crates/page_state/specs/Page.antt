@@ -4,7 +4,7 @@ use Rattle.pm_trait.specs.Device.{IsClean}
 use Rattle.pm_trait.specs.DeviceView.{DeviceView}
 use Rattle.layout.specs.declared.fields.DescriptorFields.{DescriptorFields}
 use Rattle.layout.specs.Geometry.{descriptor_word_of, page_word_of, page_of_slot, slot_word_of}
-use Rattle.layout.specs.Fields.{page_owner, page_kind, page_offset, slot_inode}
+use Rattle.layout.specs.Fields.{descriptor_fields, page_owner, page_kind, page_offset, slot_inode}
 use Rattle.layout.specs.Name.{words_of_name}
 use Rattle.fence_token.specs.Objects.{Stands, StandsClean, StandsInFlight}
 use Rattle.page_state.specs.declared.page.Touched.{Touched}
@@ -60,10 +60,10 @@ pub record IsContentWord (volume_pages page word : ℕ) : Type 0 where
   pub in_page : place < 512
   pub at : word ≡ page_word_of volume_pages page place
 
--- one of the three that its descriptor has: owner, kind and offset
+-- one of its descriptor's fields: owner, kind and offset
 pub record IsDescriptorWord (volume_pages page word : ℕ) : Type 0 where
   pub field : ℕ
-  pub is_field : field < 3
+  pub is_field : field < descriptor_fields
   pub at : word ≡ descriptor_word_of volume_pages page field
 
 abbrev pub IsOwnWord : ℕ → ℕ → ℕ → Type 0

@@ -13,7 +13,7 @@ use crate::page::Touched;
 use crate::span::FileSpan;
 use fence_token::{FlushTicket, flush_span};
 use layout::{
-    DESCRIPTOR_OFFSET, DESCRIPTOR_OWNER, Geometry, LINE_BYTES, LINE_WORDS, PAGE_BYTES, PAGE_LINES,
+    DESCRIPTOR_FIELDS, DESCRIPTOR_OWNER, Geometry, LINE_BYTES, LINE_WORDS, PAGE_BYTES, PAGE_LINES,
     PAGE_WORDS,
 };
 use pm_trait::Pm;
@@ -27,7 +27,7 @@ fn flush_descriptor<P: Pm>(pm: &mut P, geometry: &Geometry, page: u64) -> FlushT
         (Flush (descriptor_word_of geometry.now.pages page 0 / 8) ∷ []) 1 result }
 {
     let first = geometry.descriptor_word(page, DESCRIPTOR_OWNER);
-    let last = geometry.descriptor_word(page, DESCRIPTOR_OFFSET);
+    let last = geometry.descriptor_word(page, DESCRIPTOR_FIELDS - 1);
     flush_span(pm, first, last)
 }
 

@@ -1,6 +1,6 @@
 use Rattle.std.proofs.Common.{arith}
 use Rattle.fence_token.proofs.StoredLaws.{exactly_performed}
-use Rattle.inode_state.proofs.Stored.{word_inside, same_length, four_stores, four_fields, four_performed}
+use Rattle.inode_state.proofs.Stored.{word_inside, same_length, fields_stored, fields_stand, fields_performed}
 use Rattle.inode_state.proofs.inode.store_fields.Goals as goal
 
 pub store-requires-clause-in_range : goal.store-requires-clause-in_range
@@ -23,13 +23,13 @@ store-requires-4-clause-in_range g c =
 
 pub returns-clause-stands : goal.returns-clause-stands
 returns-clause-stands g c =
-    four_fields c.args.number c.args.fields.now _ _ _ _ _ _ _ _ _ c.inode_word.ensures.value c.inode_word-2.ensures.value c.inode_word-3.ensures.value c.inode_word-4.ensures.value
+    fields_stand c.args.number c.args.fields.now _ _ _ _ _ _ _ _ _ c.inode_word.ensures.value c.inode_word-2.ensures.value c.inode_word-3.ensures.value c.inode_word-4.ensures.value
     c.store.ensures.words c.store-2.ensures.words c.store-3.ensures.words c.store-4.ensures.words c.requires.inside
 
 pub returns-clause-device : goal.returns-clause-device
 returns-clause-device g c =
     exactly_performed 4 (omega arith)
-    (four_stores c.args.number _ _ _ _ _ _ _ _ c.inode_word.ensures.value c.inode_word-2.ensures.value c.inode_word-3.ensures.value c.inode_word-4.ensures.value
+    (fields_stored c.args.number _ _ _ _ _ _ _ _ c.inode_word.ensures.value c.inode_word-2.ensures.value c.inode_word-3.ensures.value c.inode_word-4.ensures.value
     c.store.ensures.words c.store.ensures.trail c.store-2.ensures.words c.store-2.ensures.trail c.store-3.ensures.words c.store-3.ensures.trail c.store-4.ensures.words c.store-4.ensures.trail)
-    (four_performed c.args.number c.args.fields.now c.inode_word.ensures.value c.inode_word-2.ensures.value c.inode_word-3.ensures.value c.inode_word-4.ensures.value
+    (fields_performed c.args.number c.args.fields.now c.inode_word.ensures.value c.inode_word-2.ensures.value c.inode_word-3.ensures.value c.inode_word-4.ensures.value
     c.store.ensures c.store-2.ensures c.store-3.ensures c.store-4.ensures)

@@ -1,8 +1,9 @@
-use Rattle.std.proofs.Common.{◌≡◌, ℕ, ◌≤◌, sym, ◌∙◌, ap, subst, arith}
+use Rattle.std.proofs.Common.{◌≡◌, ℕ, ◌-◌, ◌≤◌, sym, ◌∙◌, ap, subst, arith}
 use Rattle.std.specs.Prelude.{Option, Some}
 use Rattle.pm_trait.specs.Trail.{Trail}
 use Rattle.pm_trait.specs.Device.{IsFlushed}
 use Rattle.layout.specs.Geometry.{inode_word_of}
+use Rattle.layout.specs.Fields.{inode_fields}
 use Rattle.fence_token.specs.Objects.{StandsInFlight}
 use Rattle.fence_token.proofs.ObjectLaws.{stands_same, stands_in_flight_now}
 use Rattle.inode_state.specs.Inode.{InodeView, IsInodeWord, fields_at}
@@ -17,7 +18,7 @@ flush_span-ticket-requires-clause-order g c = in_order c.self.inside.number _ _ 
 pub flush_span-ticket-requires-clause-in_range : goal.flush_span-ticket-requires-clause-in_range
 flush_span-ticket-requires-clause-in_range g c =
     let number = ap (λ (inode : InodeView). inode.number) c.self.view_is in
-    word_inside c.args.self.number 3 c.inode_word-last.result (g.P.Pm.view c.args.pm.now).words (c.inode_word-last.ensures.value ∙ ap (λ (n : ℕ). inode_word_of n 3) number) (omega arith) c.requires.stands.inside
+    word_inside c.args.self.number (inode_fields - 1) c.inode_word-last.result (g.P.Pm.view c.args.pm.now).words (c.inode_word-last.ensures.value ∙ ap (λ (n : ℕ). inode_word_of n (inode_fields - 1)) number) (omega arith) c.requires.stands.inside
 
 pub flush_span-ticket-requires-clause-room : goal.flush_span-ticket-requires-clause-room
 flush_span-ticket-requires-clause-room g c =
@@ -31,7 +32,7 @@ returns-clause-device g c =
     (c.inode_word-first.ensures.value ∙ ap (λ (n : ℕ). inode_word_of n 0) number)
 
 -- a word from the first to the last is flushed
-word_flushed : {trail : Option Trail} (n m first last word : ℕ) → n ≡ m → first ≡ inode_word_of n 0 → last ≡ inode_word_of n 3 → ((other : ℕ) → first ≤ other → other ≤ last → IsFlushed trail other) → IsInodeWord m word → IsFlushed trail word
+word_flushed : {trail : Option Trail} (n m first last word : ℕ) → n ≡ m → first ≡ inode_word_of n 0 → last ≡ inode_word_of n (inode_fields - 1) → ((other : ℕ) → first ≤ other → other ≤ last → IsFlushed trail other) → IsInodeWord m word → IsFlushed trail word
 word_flushed n m first last word number at_first at_last flushed is =
     let between = inode_line n word (subst (λ (k : ℕ). IsInodeWord k word) (sym number) is) in
     flushed word (omega (arith, between.0, at_first)) (omega (arith, between.1, at_last))
