@@ -8,7 +8,7 @@ use Rattle.layout.proofs.GeometryLaws.{page_of_slot_below}
 use Rattle.layout.specs.Fields.{inode_size}
 use Rattle.tree_model.specs.PathText.{Route}
 use Rattle.tree_model.specs.Table.{get}
-use Rattle.tree_model.specs.Tree.{Tree, Node, Directory, File, IsTree, IsRoom, root_id, parent, is_number, id_at, node_at, is_directory, is_directory_node, is_file_node, bytes_of, bytes_of_node, name_count, pages_in, file_pages}
+use Rattle.tree_model.specs.Tree.{Tree, IsTree, IsRoom, root_id, parent, is_number, id_at, node_at, is_directory, is_directory_node, bytes_of, bytes_of_node, name_count, pages_in, file_pages}
 use Rattle.tree_model.specs.Capacity.{Supply, untaken}
 use Rattle.tree_model.specs.Accepted.{HasHolder, MayMove}
 use Rattle.tree_model.specs.Step.{outcome_of, refusal_of, refusal_with, least_free_id, tree_after, room_after, id_of, is_full, is_same_node, gaining, losing, page_for_name, need, without_path, without_unnamed, with_moved}
@@ -17,6 +17,7 @@ use Rattle.tree_model.specs.Fences.{one_where, gave, gone, pages_before, is_gone
 use Rattle.tree_model.specs.declared.command.Command.{Command}
 use Rattle.tree_model.specs.declared.command.Command.TheVariants.{Unlink, Rmdir, Rename}
 use Rattle.tree_model.proofs.AcceptedLaws.{Accepted-from_row}
+use Rattle.tree_model.proofs.NodeLaws.{file_is, no_bytes}
 use Rattle.tree_model.proofs.RoomChanges.{gave-chosen}
 use Rattle.tree_model.proofs.RoomLaws.{IsPageCount-from_room}
 use Rattle.tree_model.proofs.TreeLess.{HasNoNames, HasNoNames-file, HasNoNames-empty, HasNoNames-absent}
@@ -69,16 +70,6 @@ by_going false pages before gone stays = stays refl
 
 pub same_some : (x y : ℕ) → ◌≡◌ {A = Option ℕ} (Some x) (Some y) → x ≡ y
 same_some x y e = cc
-
-a_directory : (o : Option Node) → is_directory_node o ≡ true → bytes_of_node o ≡ []
-a_directory None is = refl
-a_directory (Some Directory) is = refl
-a_directory (Some (File bytes)) is = cc
-
-a_file : (o : Option Node) → is_file_node o ≡ true → (bytes : List ℕ) × (o ≡ Some (File bytes))
-a_file None is = cc
-a_file (Some Directory) is = cc
-a_file (Some (File bytes)) is = (bytes, refl)
 
 no_pages : (names : ℕ) (o : Option ℕ) → ((k : ℕ) → o ≡ Some k → k ≤ names) → names ≡ 0 → unwrap_or o 0 ≡ 0
 no_pages names None most none = refl
@@ -166,7 +157,7 @@ module _ (supply : Supply) (I : List ℕ) (residue : Residue) (state : State) (b
     pages_of_file : IsFile I loss.inode → loss.goes ≡ true → loss.pages ≡ pages_before state path
     unfolding pages_of_size
     pages_of_file file goes =
-        let (bytes, is) = a_file (node_at state.tree loss.inode) (((size_law supply.pages I state beside.coherent beside.reads).files loss.inode).1 (reached, file)) in
+        let (bytes, is) = file_is (node_at state.tree loss.inode) (((size_law supply.pages I state beside.coherent beside.reads).files loss.inode).1 (reached, file)) in
         let long = (size_law supply.pages I state beside.coherent beside.reads).sizes loss.inode bytes is in
         count_one (IsPageIn supply.pages I loss.inode) loss.pages (pages_of_size (inode_size I loss.inode)) (is_loss.pages goes) (file_pages_beside_law supply.pages I residue state beside loss.inode reached file apart)
         ∙ ap (λ n. pieces n 4096) (sym long) ∙ ap (λ o. file_pages (bytes_of_node o)) (sym is) ∙ sym before_is
@@ -177,7 +168,7 @@ module _ (supply : Supply) (I : List ℕ) (residue : Residue) (state : State) (b
         let none = no_pages (name_count state.tree loss.inode) (get state.room loss.inode)
         (λ k stands. (IsPageCount-from_room state.tree state.room (state_law supply.pages I state beside.coherent beside.reads).room loss.inode k stands).most) (empty directory) in
         count_one (IsPageIn supply.pages I loss.inode) loss.pages (pages_in state.room loss.inode) (is_loss.pages goes) (room_beside_law supply.pages I residue state beside loss.inode reached is apart).pages
-        ∙ none ∙ ap file_pages (sym (a_directory (node_at state.tree loss.inode) directory)) ∙ sym before_is
+        ∙ none ∙ ap file_pages (sym (no_bytes (node_at state.tree loss.inode) directory)) ∙ sym before_is
 
     pages_are : loss.goes ≡ true → loss.pages ≡ pages_before state path
     pages_are goes = elim ((beside.coherent Rule.kinds loss.inode).kind reached) [ inl file ↦ pages_of_file file goes | inr is ↦ pages_of_directory is goes ]

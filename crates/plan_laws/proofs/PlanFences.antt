@@ -4,7 +4,7 @@ use Rattle.std.specs.List.{Contains}
 use Rattle.std.proofs.lemmas.Bool.Decides.{nat_tests}
 use Rattle.layout.specs.Geometry.{pieces}
 use Rattle.tree_model.specs.PathText.{Route}
-use Rattle.tree_model.specs.Tree.{Tree, parent, id_at, node_at, bytes_of, bytes_of_node, page_bytes, file_pages}
+use Rattle.tree_model.specs.Tree.{Tree, parent, id_at, node_at, bytes_of, page_bytes, file_pages}
 use Rattle.tree_model.specs.Capacity.{Supply, untaken}
 use Rattle.tree_model.specs.Accepted.{HasHolder}
 use Rattle.tree_model.specs.Step.{answer_of, outcome_of, refusal_with, least_free_id, id_of, is_same_node, page_for_name, need}
@@ -13,6 +13,7 @@ use Rattle.tree_model.specs.Fences.{fences_of, fences_of_accepted, one_where, ga
 use Rattle.tree_model.specs.declared.command.Command.{Command}
 use Rattle.tree_model.specs.declared.command.Command.TheVariants.{Create, Mkdir, Link, Unlink, Rmdir, Rename, Write, Truncate, Read, Stat as Tell, List as Show, Df}
 use Rattle.tree_model.proofs.AcceptedLaws.{Accepted-from_row}
+use Rattle.tree_model.proofs.NodeLaws.{no_bytes}
 use Rattle.naming_laws.specs.Naming.{paths_of}
 use Rattle.naming_laws.proofs.Named.{at_second, at_third}
 use Rattle.image_reading.specs.Residue.{Residue, no_residue}
@@ -134,7 +135,7 @@ module _ (supply : Supply) (I : List ℕ) (residue : Residue) (state : State) (b
         ap (λ n. 2 + n) (loss_steps state (Rmdir path) path later removal.loss.pages removal.loss.goes removal.given_back lost)
         ∙ rmdir_sum (gave state (Rmdir path) later) (gone state path later) (nat_lt 0 (pages_before state path))
         (ap (λ o. is_gone o later) found.source.named ∙ ap (λ (T : Tree). is_none (node_at T found.source.id)) left.tree ∙ ap is_none (found.goes n))
-        (ap (λ id. nat_lt 0 (file_pages (bytes_of state.tree id))) found.source.is ∙ ap (λ o. nat_lt 0 (file_pages (bytes_of_node o))) found.source.directory)
+        (ap (λ id. nat_lt 0 (file_pages (bytes_of state.tree id))) found.source.is ∙ ap (λ bytes. nat_lt 0 (file_pages bytes)) (no_bytes (node_at state.tree found.source.id) found.source.directory))
 
   -- ---- a name moves
 

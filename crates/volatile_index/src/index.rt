@@ -163,14 +163,14 @@ impl Index {
     }
 
     /// Puts a page in the place of the one that stands there among an inode's pages, counted from 0.
-    pub fn set_page(&mut self, inode: u64, place: u64, page: u64)
+    pub fn swap_page(&mut self, inode: u64, place: u64, page: u64)
         requires from_one { 1 ≤ inode }
         requires in_range { inode ≤ inodes_of_index self.old }
         requires place { place < length (pages_of self.old inode) }
         ensures { ChangesNode inode self.old self.new (λ old new.
             IsWithPages (slice_set old.pages place page) old new) }
     {
-        self.nodes[place_of(inode)].set_page(place, page);
+        self.nodes[place_of(inode)].swap_page(place, page);
     }
 
     /// Drops the last `n` of an inode's pages.

@@ -146,7 +146,7 @@ impl Node {
     }
 
     /// Puts a page in the place of the one that stands there.
-    pub fn set_page(&mut self, place: u64, page: u64)
+    pub fn swap_page(&mut self, place: u64, page: u64)
         requires place { place < length self.old.pages }
         ensures { IsWithPages (slice_set self.old.pages place page) self.old self.new }
     {

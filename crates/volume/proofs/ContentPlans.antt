@@ -2,13 +2,15 @@
 use Rattle.std.proofs.Common.{◌≡◌, ℕ, ◌+◌, ◌<◌, ◌≤◌, ◌^◌, Bool, true, false, nat_lt, List, [], ◌∷◌, length, Option, Some, None, refl, sym, ap, subst, ◌∙◌, arith}
 use Rattle.std.proofs.lemmas.Bool.Decides.{nat_tests}
 use Rattle.pm_trait.specs.DeviceView.{DeviceView}
+use Rattle.layout.specs.Geometry.{most_data_pages}
 use Rattle.layout.proofs.GeometryLaws.{data_pages_below}
 use Rattle.tree_model.specs.PathText.{Route}
-use Rattle.tree_model.specs.Tree.{Node, Directory, File, node_at, is_directory, bytes_of, bytes_of_node}
+use Rattle.tree_model.specs.Tree.{node_at, is_directory, bytes_of}
 use Rattle.tree_model.specs.Walk.{walk}
 use Rattle.tree_model.specs.Capacity.{free_pages, file_limit}
 use Rattle.tree_model.specs.Step.{first, at, fault_of, id_of, need, lacks_pages, refusal_with}
 use Rattle.tree_model.specs.Run.{State}
+use Rattle.tree_model.proofs.NodeLaws.{bytes_bounded}
 use Rattle.tree_model.specs.Places.{needs_places}
 use Rattle.tree_model.specs.declared.command.Command.{Command}
 use Rattle.tree_model.specs.declared.command.Command.TheVariants.{Create, Mkdir, Link, Unlink, Rmdir, Rename, Write, Truncate, Read, Stat as Tell, List as Show, Df}
@@ -127,16 +129,11 @@ passes_limits None None false false e = (refl, refl)
 not_less : (a b : ℕ) → nat_lt a b ≡ false → b ≤ a
 not_less a b is = grind (arith, nat_tests)
 
-bytes_within : (o : Option Node) → ((bytes : List ℕ) → o ≡ Some (File bytes) → length bytes ≤ file_limit) → length (bytes_of_node o) ≤ file_limit
-bytes_within None within = omega arith
-bytes_within (Some Directory) within = omega arith
-bytes_within (Some (File bytes)) within = within bytes refl
-
 module _ (volume : VolumeView) (device : DeviceView) (state : State) (residue : Residue) (stands : StandsBeside volume device state residue) where
   -- a file's size
   pub size_within : (inode size : ℕ) → size ≡ length (bytes_of state.tree inode) → size ≤ file_limit
   size_within inode size is =
-      let most = bytes_within (node_at state.tree inode) ((state_law volume.size device.words state stands.sound.coherent stands.reads).fits.sizes inode) in
+      let most = bytes_bounded (node_at state.tree inode) file_limit ((state_law volume.size device.words state stands.sound.coherent stands.reads).fits.sizes inode) in
       omega (arith, is, most)
 
   -- how many data pages there are
@@ -148,7 +145,7 @@ module _ (volume : VolumeView) (device : DeviceView) (state : State) (residue : 
       omega (arith, all, below, size)
 
   -- the new pages of an accepted command
-  pages_within : (n needed : ℕ) → n ≡ needed → nat_lt (free_pages (supply_beside volume.size residue) state.tree state.room) needed ≡ false → n < 2 ^ 16
+  pages_within : (n needed : ℕ) → n ≡ needed → nat_lt (free_pages (supply_beside volume.size residue) state.tree state.room) needed ≡ false → n ≤ most_data_pages
   pages_within n needed is enough =
       let most = not_less (free_pages (supply_beside volume.size residue) state.tree state.room) needed enough in
       let size = (stands.sound.coherent Rule.head 0).size refl in

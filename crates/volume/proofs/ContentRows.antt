@@ -1,12 +1,12 @@
 -- The rows of commands that read and write files, by what the volume knows.
-use Rattle.std.proofs.Common.{◌≡◌, inl, inr, ℕ, ◌+◌, ◌-◌, ◌<◌, ◌≤◌, Bool, true, false, cond, ◌==◌, nat_lt, nat_eq, List, [], ◌∷◌, length, Option, Some, None, is_some, unwrap_or, Ok, Err, refl, sym, ap, subst, ◌∙◌, arith, eqb-true}
+use Rattle.std.proofs.Common.{◌≡◌, inl, inr, ℕ, ◌+◌, ◌-◌, ◌<◌, ◌≤◌, Bool, true, false, cond, ◌==◌, nat_lt, nat_eq, List, [], ◌∷◌, length, Option, Some, None, unwrap_or, Ok, Err, refl, sym, ap, subst, ◌∙◌, arith, eqb-true}
 use Rattle.std.proofs.lemmas.Bool.{false_from_ne_true}
 use Rattle.std.proofs.lemmas.Bool.Decides.{nat_tests}
 use Rattle.pm_trait.specs.DeviceView.{DeviceView}
 use Rattle.layout.specs.Geometry.{pieces}
 use Rattle.layout.specs.Fields.{inode_size}
 use Rattle.tree_model.specs.PathText.{Route}
-use Rattle.tree_model.specs.Tree.{Node, Directory, File, root_id, id_at, node_at, is_directory, is_directory_node, bytes_of, bytes_of_node, page_bytes}
+use Rattle.tree_model.specs.Tree.{root_id, id_at, is_directory, bytes_of, page_bytes}
 use Rattle.tree_model.specs.Walk.{walk}
 use Rattle.tree_model.proofs.WalkLaws.{id_at-from_walk}
 use Rattle.tree_model.specs.Capacity.{Supply, free_pages, file_limit}
@@ -18,7 +18,6 @@ use Rattle.tree_model.specs.declared.reply.Refusal.TheVariants.{IsDir, TooBig, N
 use Rattle.image_reading.specs.Residue.{Residue}
 use Rattle.image_counts.specs.Entries.{IsUnusedDataPage}
 use Rattle.image_counts.specs.Laws.{supply_beside}
-use Rattle.image_counts.proofs.Nodes.{size_law}
 use Rattle.allocators.specs.Numbers.{IsFree, free_in}
 use Rattle.volume.specs.Volume.{VolumeView}
 use Rattle.volume.specs.Beside.{StandsBeside}
@@ -35,6 +34,7 @@ use Rattle.volume.proofs.Frees.{free_pages_beside}
 use Rattle.volume.proofs.RemovalRows.{fails_first, passes_first}
 use Rattle.volume.proofs.LowestPages.{lowest_alike}
 use Rattle.volume.proofs.ContentPlans.{size_within}
+use Rattle.volume.proofs.Statuses.{file_long}
 
 -- ---- tests
 
@@ -49,12 +49,6 @@ same_test a b same = grind (arith, nat_tests)
 
 pub differ_test : (a b : ℕ) → ¬ (a ≡ b) → a == b ≡ false
 differ_test a b differ = false_from_ne_true (a == b) (λ is. differ (eqb-true a b is))
-
--- a node that is there and no directory is a file
-file_long : (o : Option Node) (n : ℕ) → is_some o ≡ true → is_directory_node o ≡ false → ((bytes : List ℕ) → o ≡ Some (File bytes) → length bytes ≡ n) → length (bytes_of_node o) ≡ n
-file_long None n there is sizes = cc
-file_long (Some Directory) n there is sizes = cc
-file_long (Some (File bytes)) n there is sizes = sizes bytes refl
 
 -- ---- how the rows begin and end
 
@@ -102,7 +96,7 @@ module _ (volume : VolumeView) (device : DeviceView) (state : State) (residue : 
         record {
           row = λ i. begun (fault_of (walked i)) (kind i);
           inode_is = named;
-          size_is = size_is ∙ sym (file_long (node_at state.tree inode) (inode_size device.words inode) there is ((size_law volume.size device.words state stands.sound.coherent stands.reads).sizes inode));
+          size_is = size_is ∙ sym (file_long volume device state residue stands inode there is);
         }
 
   -- a file has a size that it may have

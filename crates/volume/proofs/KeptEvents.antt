@@ -2,6 +2,7 @@
 use Rattle.std.proofs.Common.{◌≡◌, refl, ℕ, ◌+◌, ◌-◌, ◌*◌, ◌/◌, ◌^◌, ◌<◌, ◌≤◌, Bool, true, false, cond, ◌||◌, nat_lt, nat_le, min, length, Option, Some, None, is_some, arith}
 use Rattle.std.proofs.lemmas.Bool.{ltb-false}
 use Rattle.pm_trait.specs.DeviceView.{DeviceView}
+use Rattle.layout.specs.Geometry.{most_data_pages}
 use Rattle.layout.specs.declared.kinds.NodeKind.{NodeKind}
 use Rattle.layout.specs.declared.kinds.NodeKind.TheVariants.{File, Directory}
 use Rattle.tree_model.specs.Capacity.{file_limit}
@@ -59,13 +60,13 @@ span-le first end =
     let lines = at_most (nat_lt first end) ((end + 63) / 64 - first / 64) 0 ((end + 63) / 64) (omega arith) (omega arith) in
     omega (arith, words, lines)
 
-growth-le : (old_size offset pages : ℕ) → old_size ≤ file_limit → pages < 2 ^ 16 → growth_events old_size offset pages < 2 ^ 41
+growth-le : (old_size offset pages : ℕ) → old_size ≤ file_limit → pages ≤ most_data_pages → growth_events old_size offset pages < 2 ^ 41
 growth-le old_size offset pages size few =
     let span = span-le (min offset old_size) ((old_size + 4095) / 4096 * 4096) in
     let owners = at_most (nat_lt 0 pages) (pages * 2 + 1) 0 (2 * pages + 1) (omega arith) (omega arith) in
     omega (arith, span, owners, size, few)
 
-replaced_few : (moving : Moving) → pages_of_loss moving.replaced < 2 ^ 16 → pages_replaced moving ≤ 2 ^ 16
+replaced_few : (moving : Moving) → pages_of_loss moving.replaced ≤ most_data_pages → pages_replaced moving ≤ most_data_pages + 1
 replaced_few moving few = let given = one-le moving.given_back in omega (arith, few, given)
 
 pointing-le : (moving : Moving) → pointing_events moving ≤ 20

@@ -1,5 +1,5 @@
 -- The names of a directory, in the tree and in the index, beside calls that run.
-use Rattle.std.proofs.Common.{◌≡◌, inl, inr, ℕ, zero, suc, ◌≤◌, Bool, true, false, cond, T, List, [], ◌∷◌, ◌++◌, length, map, filter, Option, Some, None, refl, sym, ap, subst, ◌∙◌, Ordering, Less, Equal, Greater, eq-eqb, eqb-true}
+use Rattle.std.proofs.Common.{◌≡◌, inl, inr, ℕ, zero, suc, ◌≤◌, Bool, true, false, cond, T, List, [], ◌∷◌, ◌++◌, length, map, filter, Option, Some, None, is_some, refl, sym, ap, subst, ◌∙◌, Ordering, Less, Equal, Greater, eq-eqb, eqb-true}
 use Rattle.std.specs.Prelude.{slice_get}
 use Rattle.std.proofs.lemmas.List.{length-map}
 use Rattle.std.specs.Ordering.{ordering_then}
@@ -10,8 +10,9 @@ use Rattle.pm_trait.specs.DeviceView.{DeviceView}
 use Rattle.layout.specs.Geometry.{inodes_of}
 use Rattle.layout.specs.Fields.{slot_inode}
 use Rattle.tree_model.specs.PathText.{Route}
-use Rattle.tree_model.specs.Tree.{Tree, IsTree, route_cmp, is_root, parent, last_name, id_at, is_directory, is_in, is_number, entries_in}
+use Rattle.tree_model.specs.Tree.{Tree, IsTree, route_cmp, is_root, parent, last_name, id_at, node_at, is_directory, is_in, is_number, entries_in}
 use Rattle.tree_model.proofs.EntryLaws as laws
+use Rattle.tree_model.proofs.NodeLaws.{directory_is}
 use Rattle.tree_model.proofs.TreeLaws.{parent-below, not_root-below, is_in-at}
 use Rattle.tree_model.specs.Step.{names_in}
 use Rattle.tree_model.specs.Run.{State}
@@ -148,11 +149,7 @@ below_root T d [] e = cc
 below_root T d (name ∷ names) e = refl
 
 directory_path : (T : Tree) → IsTree T → (d : ℕ) → is_directory T d ≡ true → (path : Route) × (id_at T path ≡ Some d)
-directory_path T tree d directory = tree.named d (there (Rattle.tree_model.specs.Tree.node_at T d) directory)
-  where
-    there : (o : Option Rattle.tree_model.specs.Tree.Node) → Rattle.tree_model.specs.Tree.is_directory_node o ≡ true → Rattle.std.proofs.Common.is_some o ≡ true
-    there None e = cc
-    there (Some node) e = refl
+directory_path T tree d directory = tree.named d (ap is_some (directory_is (node_at T d) directory))
 
 module _ (volume : VolumeView) (device : DeviceView) (state : State) (residue : Residue) (stands : StandsBeside volume device state residue)
     (d : ℕ) (directory : is_directory state.tree d ≡ true) (sorted : IsSorted (entries_of volume.index d)) where

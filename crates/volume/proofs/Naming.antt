@@ -6,13 +6,13 @@ use Rattle.layout.specs.declared.kinds.NodeKind.TheVariants.{File, Directory}
 use Rattle.tree_model.specs.PathText.{Route}
 use Rattle.tree_model.specs.Tree.{Tree, IsTree, parent, id_at}
 use Rattle.tree_model.specs.Run.{State}
+use Rattle.tree_model.specs.Step.{making}
 use Rattle.tree_model.specs.declared.command.Command.TheVariants.{Create, Mkdir, Link}
 use Rattle.image_reading.specs.Residue.{Residue}
 use Rattle.naming_laws.specs.Naming.{names_inode}
 use Rattle.naming_laws.proofs.Named.{names_at}
 use Rattle.volume.specs.Volume.{VolumeView}
 use Rattle.volume.specs.Beside.{MayPrepare, IsUntouched}
-use Rattle.volume.specs.Prepared.{making}
 use Rattle.volume.proofs.WalkedBeside.{stands_tree}
 
 pub parent_named : (T : Tree) → IsTree T → (kind : NodeKind) (path : Route) (d : ℕ) → id_at T (parent path) ≡ Some d → names_inode T (making kind path) d ≡ true

@@ -1,7 +1,7 @@
 -- The pages that the index holds of an inode, counted.
-use Rattle.std.proofs.Common.{◌≡◌, inl, inr, ℕ, zero, suc, ◌+◌, ◌<◌, ◌≤◌, ◌^◌, true, false, List, [], ◌∷◌, length, Contains, refl, sym, arith}
+use Rattle.std.proofs.Common.{◌≡◌, inl, inr, ℕ, zero, suc, ◌+◌, ◌<◌, ◌≤◌, true, false, List, [], ◌∷◌, length, Contains, refl, sym, arith}
 use Rattle.pm_trait.specs.DeviceView.{DeviceView}
-use Rattle.layout.specs.Geometry.{inodes_of, data_pages_of}
+use Rattle.layout.specs.Geometry.{inodes_of, data_pages_of, most_data_pages}
 use Rattle.layout.proofs.GeometryLaws.{data_pages_below}
 use Rattle.tree_model.specs.Run.{State}
 use Rattle.tree_model.specs.declared.command.Command.{Command}
@@ -59,11 +59,11 @@ pages_counted volume device i (state, stands) least most = pages_counted_beside 
 few : (P : ℕ) (I : List ℕ) (i pages : ℕ) → Count (IsPageIn P I i) pages → pages ≤ data_pages_of P
 few P I i pages count = count_fewer (IsPageIn P I i) (λ page. (0 ≤ page) × (page < 0 + data_pages_of P)) pages (data_pages_of P) (λ page inside. (omega arith, omega (arith, inside.in_range))) count (count_run 0 (data_pages_of P))
 
-pub few_lost : (volume : VolumeView) (device : DeviceView) (state : State) (residue : Residue) (command : Command) (loss : Loss) → StandsBeside volume device state residue → IsLossOf volume.size device.words state command loss → loss.pages < 2 ^ 16
+pub few_lost : (volume : VolumeView) (device : DeviceView) (state : State) (residue : Residue) (command : Command) (loss : Loss) → StandsBeside volume device state residue → IsLossOf volume.size device.words state command loss → loss.pages ≤ most_data_pages
 few_lost volume device state residue command loss stands is =
     let size = (stands.sound.coherent Rule.head 0).size refl in
     let below = data_pages_below volume.size size in
-    elim loss.goes as (λ goes. loss.goes ≡ goes → loss.pages < 2 ^ 16) [
+    elim loss.goes as (λ goes. loss.goes ≡ goes → loss.pages ≤ most_data_pages) [
       | true ↦ λ goes. let most = few volume.size device.words loss.inode loss.pages (is.pages goes) in omega (arith, most, below, size)
       | false ↦ λ stays. let none = is.no_pages stays in omega (arith, none)
     ] refl

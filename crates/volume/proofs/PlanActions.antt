@@ -1,14 +1,16 @@
 -- Which command a plan is of, by its action, and what is known of it then.
-use Rattle.std.proofs.Common.{◌≡◌, ◌⊎◌, inl, inr, ℕ, ◌^◌, ◌<◌, ◌≤◌, Bool, true, false, List, Option, None, Some, is_some, refl, sym, ap, subst, ◌∙◌, arith}
+use Rattle.std.proofs.Common.{◌≡◌, ◌⊎◌, inl, inr, ℕ, ◌≤◌, Bool, true, false, List, Option, None, Some, is_some, refl, sym, ap, subst, ◌∙◌, arith}
 use Rattle.std.specs.Prelude.{not}
 use Rattle.pm_trait.specs.DeviceView.{DeviceView}
 use Rattle.layout.specs.declared.kinds.NodeKind.{NodeKind}
 use Rattle.layout.specs.declared.kinds.NodeKind.TheVariants.{File, Directory}
+use Rattle.layout.specs.Geometry.{most_data_pages}
 use Rattle.tree_model.specs.PathText.{Route}
 use Rattle.tree_model.specs.Tree.{parent, id_at}
 use Rattle.tree_model.specs.Capacity.{Supply}
 use Rattle.tree_model.specs.Run.{State}
 use Rattle.tree_model.specs.Places.{needs_places}
+use Rattle.tree_model.specs.Step.{making}
 use Rattle.tree_model.specs.declared.command.Command.{Command}
 use Rattle.tree_model.specs.declared.command.Command.TheVariants.{Create, Mkdir, Link, Unlink, Rmdir, Rename, Write, Truncate, Read, Stat as Tell, List as Show, Df}
 use Rattle.tree_model.specs.declared.reply.Refusal.TheVariants.{NoMemory}
@@ -20,7 +22,7 @@ use Rattle.volume.specs.Beside.{StandsBeside}
 use Rattle.volume.specs.declared.plan.Action.TheVariants.{Make, Name, Remove, Move, Write as WriteBytes, WriteNothing, Resize, KeepSize, KeepNames, Read as ReadBytes, Status, Names, Space}
 use Rattle.volume.specs.Planned.{IsLinkFor, IsRemovalFor, IsTargetOf, IsMovingFor, IsWritingFor, IsResizingFor, IsPlanOf, IsPlannedWith}
 use Rattle.volume.specs.Costs.{pages_of_loss}
-use Rattle.volume.specs.Prepared.{making, TakesPlace, IsNamedIn, IsBounded, IsShort, LacksRoom}
+use Rattle.volume.specs.Prepared.{TakesPlace, IsNamedIn, IsBounded, IsShort, LacksRoom}
 use Rattle.volume.specs.declared.plan.NewEntry.{NewEntry}
 use Rattle.volume.specs.declared.plan.NewName.{NewName}
 use Rattle.volume.specs.declared.plan.Loss.{Loss}
@@ -184,7 +186,7 @@ target_directory P I state from to moving None (absent, new) = new.directory_is
 target_directory P I state from to moving (Some loss) (named, is_loss, no_page) = named.directory_is
 
 few_replaced : (volume : VolumeView) (device : DeviceView) (state : State) (residue : Residue) → StandsBeside volume device state residue → (from to : Route) (moving : Moving) (replaced : Option Loss) → IsTargetOf volume.size device.words state from to moving replaced
-    → pages_of_loss replaced < 2 ^ 16
+    → pages_of_loss replaced ≤ most_data_pages
 few_replaced volume device state residue stands from to moving None target = omega arith
 few_replaced volume device state residue stands from to moving (Some loss) (named, is_loss, no_page) = few_lost volume device state residue (Rename from to) loss stands is_loss
 

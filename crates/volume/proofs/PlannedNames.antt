@@ -7,7 +7,7 @@ use Rattle.tree_model.specs.PathText.{Route}
 use Rattle.tree_model.specs.Tree.{IsTree, is_root, parent, id_at}
 use Rattle.tree_model.specs.Capacity.{untaken}
 use Rattle.tree_model.specs.Accepted.{MayName, MayMake}
-use Rattle.tree_model.specs.Step.{refusal_of}
+use Rattle.tree_model.specs.Step.{making, refusal_of}
 use Rattle.tree_model.specs.Run.{State}
 use Rattle.tree_model.specs.declared.command.Command.{Command}
 use Rattle.tree_model.specs.declared.command.Command.TheVariants.{Create, Mkdir, Link}
@@ -18,7 +18,6 @@ use Rattle.volume.specs.Volume.{VolumeView}
 use Rattle.volume.specs.Stands.{StandsFor}
 use Rattle.volume.specs.Planned.{IsPlace, IsNewNameAt, IsEntryFor, IsPlanOf}
 use Rattle.volume.specs.Carried.{IsPlanFor}
-use Rattle.volume.specs.Prepared.{making}
 use Rattle.volume.specs.Entered.{pages_of_option, MayTakePages, MayPutName}
 use Rattle.volume.specs.declared.plan.NewEntry.{NewEntry}
 use Rattle.volume.specs.declared.plan.NewName.{NewName}

@@ -4,12 +4,13 @@ use Rattle.std.proofs.lemmas.Bool.{false_from_ne_true}
 use Rattle.tree_model.specs.PathText.{Route}
 use Rattle.tree_model.specs.Run.{State, is_changing}
 use Rattle.tree_model.specs.Fences.{most_fences}
+use Rattle.tree_model.specs.Step.{making}
 use Rattle.tree_model.specs.declared.command.Command.{Command}
 use Rattle.tree_model.specs.declared.command.Command.TheVariants.{Create, Mkdir, Link, Unlink, Rmdir, Rename, Write, Truncate, Read, Stat as Tell, List as Show, Df}
 use Rattle.volume.specs.declared.plan.Action.TheVariants.{Make, Name, Remove, Move, Write as WriteBytes, WriteNothing, Resize, KeepSize, KeepNames, Read as ReadBytes, Status, Names, Space}
 use Rattle.volume.specs.Planned.{IsMovingFor, IsWritingFor, IsResizingFor, IsNothingOr, IsPlanOf}
 use Rattle.volume.specs.Costs.{events_of, pages_removed, pages_replaced, goes_of, fences_for_claim, fences_for_page, fences_for_loss, fences_for_growth, fences_of_plan}
-use Rattle.volume.specs.Prepared.{making, is_change, IsChange}
+use Rattle.volume.specs.Prepared.{is_change, IsChange}
 use Rattle.layout.specs.declared.kinds.NodeKind.{NodeKind}
 use Rattle.volume.specs.declared.plan.NewEntry.{NewEntry}
 use Rattle.volume.specs.declared.plan.Action.{Action}

@@ -1,9 +1,10 @@
 -- The rows of commands that read.
-use Rattle.std.proofs.Common.{◌≡◌, ℕ, true, false, [], ◌∷◌, Option, Some, None, is_some, unwrap_or, Ok, Err, refl, sym, ap, ◌∙◌}
+use Rattle.std.proofs.Common.{◌≡◌, ℕ, true, false, [], ◌∷◌, Some, unwrap_or, Ok, Err, sym, ap, ◌∙◌}
 use Rattle.pm_trait.specs.DeviceView.{DeviceView}
 use Rattle.tree_model.specs.PathText.{Route}
-use Rattle.tree_model.specs.Tree.{Node, Directory, File, root_id, id_at, node_at, is_directory, is_file, is_directory_node, is_file_node}
+use Rattle.tree_model.specs.Tree.{root_id, id_at, node_at, is_directory, is_file}
 use Rattle.tree_model.specs.Walk.{walk}
+use Rattle.tree_model.proofs.NodeLaws.{a_file, no_file}
 use Rattle.tree_model.proofs.WalkLaws.{id_at-from_walk}
 use Rattle.tree_model.specs.Capacity.{Supply}
 use Rattle.tree_model.specs.Step.{first, at, fault_of, id_of, refusal_with}
@@ -18,16 +19,6 @@ use Rattle.volume.specs.Beside.{StandsBeside}
 use Rattle.volume.specs.Planned.{IsPlannedWith}
 use Rattle.volume.specs.declared.plan.Action.TheVariants.{Status, Names}
 use Rattle.volume.proofs.WalkedBeside.{stands_tree}
-
-pub no_file : (o : Option Node) → is_directory_node o ≡ true → is_file_node o ≡ false
-no_file None e = refl
-no_file (Some Directory) e = refl
-no_file (Some (File bytes)) e = cc
-
-pub a_file : (o : Option Node) → is_some o ≡ true → is_directory_node o ≡ false → is_file_node o ≡ true
-a_file None there e = cc
-a_file (Some Directory) there e = cc
-a_file (Some (File bytes)) there e = refl
 
 pub told_fails : (supply : Supply) (state : State) (path : Route) (fault : Refusal) → walk state.tree path ≡ Err fault → refusal_with supply state.tree state.room (Tell path) ≡ Some fault
 told_fails supply state path fault e = ap (λ w. first (fault_of w ∷ [])) e

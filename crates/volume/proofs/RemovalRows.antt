@@ -14,6 +14,7 @@ use Rattle.tree_model.specs.Run.{State}
 use Rattle.tree_model.specs.declared.command.Command.TheVariants.{Unlink, Rmdir}
 use Rattle.tree_model.specs.declared.reply.Refusal.{Refusal}
 use Rattle.tree_model.specs.declared.reply.Refusal.TheVariants.{NotFound, NotDir, Root, IsDir, NotEmpty}
+use Rattle.tree_model.proofs.NodeLaws.{a_file, no_file}
 use Rattle.tree_model.proofs.AcceptedLaws.{Accepted-from_row}
 use Rattle.image_reading.specs.Counts.{Count}
 use Rattle.image_reading.specs.Residue.{Residue}
@@ -30,7 +31,6 @@ use Rattle.volume.specs.Planned.{IsNameAt, IsAlone, IsGivenBack, IsPlannedWith}
 use Rattle.volume.specs.declared.plan.Removal.{Removal}
 use Rattle.volume.proofs.Ways.{walk_last, parent_walked, walk_fails}
 use Rattle.volume.proofs.WalkedBeside.{stands_tree, reached_at, entry_there, step_there, step_absent}
-use Rattle.volume.proofs.Readings.{a_file, no_file}
 use Rattle.volume.proofs.Frees.{reads_beside}
 use Rattle.volume.proofs.Holders.{held, named_there}
 

@@ -18,6 +18,7 @@ use Rattle.tree_model.specs.declared.command.Command.TheVariants.{Rename, Rmdir}
 use Rattle.tree_model.specs.declared.reply.Refusal.{Refusal}
 use Rattle.tree_model.specs.declared.reply.Refusal.TheVariants.{NotDir, Root, IsDir, NotEmpty, IntoItself, NoPages}
 use Rattle.tree_model.proofs.AcceptedLaws.{Accepted-from_row}
+use Rattle.tree_model.proofs.NodeLaws.{a_file, no_file}
 use Rattle.tree_model.proofs.PathCounts.{gone-where_unnamed, path_count-without_path}
 use Rattle.image_reading.specs.Counts.{Count}
 use Rattle.image_reading.specs.Residue.{Residue, no_residue}
@@ -40,7 +41,6 @@ use Rattle.volume.specs.declared.plan.Action.TheVariants.{Move, KeepNames}
 use Rattle.volume.proofs.Beside.{untouched_nothing}
 use Rattle.volume.proofs.Frees.{reads_beside}
 use Rattle.volume.proofs.WalkedBeside.{stands_tree, reached_at}
-use Rattle.volume.proofs.Readings.{a_file, no_file}
 use Rattle.volume.proofs.Statuses.{same_state_beside}
 use Rattle.volume.proofs.Holders.{held, named_there, named_absent, lacks_page, has_page}
 use Rattle.volume.proofs.RemovalRows.{is_some_test, is_none_test, otherwise, name_found, name_is, rmdir_row}

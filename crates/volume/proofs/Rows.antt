@@ -6,7 +6,7 @@ use Rattle.tree_model.specs.PathText.{Route}
 use Rattle.tree_model.specs.Tree.{is_root, parent}
 use Rattle.tree_model.specs.Walk.{root_place, walk_to_parent}
 use Rattle.tree_model.specs.Capacity.{Supply, free_inodes, free_pages}
-use Rattle.tree_model.specs.Step.{first, at, fault_of, id_of, is_there, page_for_name, lacks_inodes, refusal_with}
+use Rattle.tree_model.specs.Step.{making, first, at, fault_of, id_of, is_there, page_for_name, lacks_inodes, refusal_with}
 use Rattle.tree_model.specs.Run.{State}
 use Rattle.tree_model.specs.declared.reply.Refusal.{Refusal}
 use Rattle.tree_model.specs.declared.reply.Refusal.TheVariants.{Root, Exists, NoInodes, NoPages}
@@ -20,7 +20,6 @@ use Rattle.volatile_index.specs.Index.{entries_of}
 use Rattle.volume.specs.Volume.{VolumeView}
 use Rattle.volume.specs.Beside.{StandsBeside, IsUntouched, MayPrepare}
 use Rattle.volume.specs.Planned.{IsVacantSlot, IsPlace, IsEntryFor, IsPlannedWith}
-use Rattle.volume.specs.Prepared.{making}
 use Rattle.layout.specs.declared.kinds.NodeKind.{NodeKind}
 use Rattle.layout.specs.declared.kinds.NodeKind.TheVariants.{File, Directory}
 use Rattle.volume.specs.declared.plan.NewEntry.{NewEntry}

@@ -1,11 +1,12 @@
 -- What the words and the index say of a node, beside calls that run.
-use Rattle.std.proofs.Common.{◌≡◌, ◌≢◌, inl, inr, ℕ, ◌≤◌, true, false, cond, List, [], ◌∷◌, length, Contains, Option, Some, None, is_some, refl, sym, ap, subst, ◌∙◌, Less}
+use Rattle.std.proofs.Common.{◌≡◌, inl, inr, ℕ, ◌≤◌, Bool, true, false, cond, List, [], ◌∷◌, length, Contains, is_some, refl, sym, ap, subst, ◌∙◌, Less}
 use Rattle.pm_trait.specs.DeviceView.{DeviceView}
 use Rattle.layout.specs.Geometry.{inodes_of}
-use Rattle.layout.specs.Fields.{inode_kind, inode_links, inode_size, slot_name}
-use Rattle.tree_model.specs.Tree.{Node, File, Directory, node_at, is_directory_node, bytes_of, bytes_of_node, name_count}
+use Rattle.layout.specs.Fields.{inode_links, inode_size, slot_name}
+use Rattle.tree_model.specs.Tree.{node_at, is_directory, bytes_of, bytes_of_node, name_count}
 use Rattle.tree_model.specs.Run.{State}
 use Rattle.tree_model.specs.Step.{status_of}
+use Rattle.tree_model.proofs.NodeLaws.{file_is, a_file}
 use Rattle.image_reading.specs.Counts.{Count}
 use Rattle.image_reading.specs.Reading.{Reached}
 use Rattle.image_reading.specs.Residue.{Residue, no_residue}
@@ -16,6 +17,7 @@ use Rattle.image_counts.proofs.Counting.{Among, AreApart, IsMatching, IsMatched,
 use Rattle.image_counts.specs.Laws.{IsApart}
 use Rattle.image_counts.proofs.Links.{link_word_beside_law}
 use Rattle.image_counts.proofs.Nodes.{size_law}
+use Rattle.image_counts.proofs.Nodes as nodes
 use Rattle.image_counts.proofs.Slots.{name_count_law}
 use Rattle.volatile_index.specs.Entries.{IsSorted}
 use Rattle.volatile_index.proofs.EntryLaws.{differs, sorted_tail, contains_here, contains_more, contains_none, contains_cases, less_than_contained}
@@ -89,40 +91,22 @@ module _ (volume : VolumeView) (device : DeviceView) (state : State) (residue : 
 
   -- ---- nodes
 
-  node_is : (o : Option Node) → is_some o ≡ true → (node : Node) × (o ≡ Some node)
-  node_is None e = cc
-  node_is (Some node) e = (node, refl)
-
   pub node_reached_beside : (inode : ℕ) → is_some (node_at state.tree inode) ≡ true → Reached volume.size device.words inode
-  node_reached_beside inode there = let (node, is) = node_is (node_at state.tree inode) there in ((stands.reads.tree.nodes inode node).0 is).0
+  node_reached_beside inode there = nodes.node_reached volume.size device.words state.tree stands.sound.coherent stands.reads.tree inode there
 
-  pub directory_status : (inode links names : ℕ) → is_some (node_at state.tree inode) ≡ true → IsApart volume.size device.words residue inode → inode_kind device.words inode ≡ 2
-      → links ≡ inode_links device.words inode → names ≡ length (entries_of volume.index inode) → IsSorted (entries_of volume.index inode)
-      → record { dir = true; inode = inode; links = links; amount = names } ≡ status_of state.tree inode
-  directory_status inode links names there apart kind links_is names_is sorted =
-      let reached = node_reached_beside inode there in
-      let directory = ((size_law volume.size device.words state stands.sound.coherent stands.reads).directories inode).1 (reached, kind) in
-      let within = in_table volume device inode (state, residue, stands) reached in
-      let linked = links_is ∙ sym (link_word_beside_law volume.size device.words residue state (record { coherent = stands.sound.coherent; beside = stands.beside; reads = stands.reads }) inode reached apart) in
-      let named = names_is ∙ names_counted inode within.0 within.1 sorted ∙ ap (λ b. cond b (name_count state.tree inode) (length (bytes_of state.tree inode))) (sym directory) in
-      λ i. record { dir = sym directory i; inode = inode; links = linked i; amount = named i }
+  -- a node that is there and no directory is a file of the inode's size
+  pub file_long : (inode : ℕ) → is_some (node_at state.tree inode) ≡ true → is_directory state.tree inode ≡ false → length (bytes_of state.tree inode) ≡ inode_size device.words inode
+  file_long inode there other =
+      let (bytes, is) = file_is (node_at state.tree inode) (a_file (node_at state.tree inode) there other) in
+      ap (λ o. length (bytes_of_node o)) is ∙ (size_law volume.size device.words state stands.sound.coherent stands.reads).sizes inode bytes is
 
-  -- where the node isn't a directory it is a file of the inode's size
-  file_size : (o : Option Node) → is_some o ≡ true → is_directory_node o ≢ true → (size : ℕ) → ((bytes : List ℕ) → o ≡ Some (File bytes) → length bytes ≡ size) → (is_directory_node o ≡ false) × (length (bytes_of_node o) ≡ size)
-  file_size None there other size sizes = cc
-  file_size (Some Directory) there other size sizes = absurd (other refl)
-  file_size (Some (File bytes)) there other size sizes = (refl, sizes bytes refl)
-
-  pub file_status : (inode links size : ℕ) → is_some (node_at state.tree inode) ≡ true → IsApart volume.size device.words residue inode → inode_kind device.words inode ≢ 2
-      → links ≡ inode_links device.words inode → size ≡ inode_size device.words inode
-      → record { dir = false; inode = inode; links = links; amount = size } ≡ status_of state.tree inode
-  file_status inode links size there apart kind links_is size_is =
-      let reached = node_reached_beside inode there in
-      let sizes = size_law volume.size device.words state stands.sound.coherent stands.reads in
-      let (other, long) = file_size (node_at state.tree inode) there (λ is. kind ((sizes.directories inode).0 is).1) (inode_size device.words inode) (sizes.sizes inode) in
-      let linked = links_is ∙ sym (link_word_beside_law volume.size device.words residue state (record { coherent = stands.sound.coherent; beside = stands.beside; reads = stands.reads }) inode reached apart) in
-      let told = size_is ∙ sym long ∙ ap (λ b. cond b (name_count state.tree inode) (length (bytes_of state.tree inode))) (sym other) in
-      λ i. record { dir = sym other i; inode = inode; links = linked i; amount = told i }
+  pub status : (inode links amount : ℕ) (dir : Bool) → is_some (node_at state.tree inode) ≡ true → IsApart volume.size device.words residue inode → dir ≡ is_directory state.tree inode
+      → links ≡ inode_links device.words inode → amount ≡ cond dir (name_count state.tree inode) (length (bytes_of state.tree inode))
+      → record { dir = dir; inode = inode; links = links; amount = amount } ≡ status_of state.tree inode
+  status inode links amount dir there apart dir_is links_is amount_is =
+      let linked = links_is ∙ sym (link_word_beside_law volume.size device.words residue state (record { coherent = stands.sound.coherent; beside = stands.beside; reads = stands.reads }) inode (node_reached_beside inode there) apart) in
+      let told = amount_is ∙ ap (λ b. cond b (name_count state.tree inode) (length (bytes_of state.tree inode))) dir_is in
+      λ i. record { dir = dir_is i; inode = inode; links = linked i; amount = told i }
 
   pub node_within_beside : (inode : ℕ) → is_some (node_at state.tree inode) ≡ true → (1 ≤ inode) × (inode ≤ inodes_of volume.size)
   node_within_beside inode there = in_table volume device inode (state, residue, stands) (node_reached_beside inode there)

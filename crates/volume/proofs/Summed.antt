@@ -1,5 +1,5 @@
 -- What is counted and summed inode by inode is what the whole tree has.
-use Rattle.std.proofs.Common.{◌≡◌, ◌≢◌, ◌⊎◌, inl, inr, ℕ, zero, suc, ◌+◌, ◌*◌, ◌^◌, ◌<◌, ◌≤◌, true, false, not, cond, T, List, [], ◌∷◌, length, filter, reverse, sum_by, Option, Some, None, is_some, nat_cmp, refl, sym, ap, subst, ◌∙◌, add-one, arith}
+use Rattle.std.proofs.Common.{◌≡◌, ◌≢◌, ◌⊎◌, inl, inr, ℕ, zero, suc, ◌+◌, ◌*◌, ◌^◌, ◌<◌, ◌≤◌, true, false, not, cond, T, List, [], ◌∷◌, length, filter, reverse, sum_by, Some, is_some, nat_cmp, refl, sym, ap, subst, ◌∙◌, add-one, arith}
 use Rattle.std.specs.Cmp.{nat_cmp_total}
 use Rattle.std.specs.FinMap.Entries.{find, below_all, is_sorted}
 use Rattle.std.proofs.lemmas.Bool.{cases_eq}
@@ -7,16 +7,17 @@ use Rattle.std.proofs.lemmas.List.{reverse-reverse}
 use Rattle.std.proofs.lemmas.List.Sums.{length-filter, sum_by-cons}
 use Rattle.pm_trait.specs.DeviceView.{DeviceView}
 use Rattle.layout.specs.Geometry.{IsVolumeSize, inodes_of, slots_of}
-use Rattle.layout.specs.Fields.{inode_kind, inode_size}
+use Rattle.layout.specs.Fields.{inode_size}
 use Rattle.layout.proofs.GeometryLaws.{data_pages_below, inodes_below, slots_in_pages}
 use Rattle.tree_model.specs.PathText.{Route}
-use Rattle.tree_model.specs.Tree.{Tree, Node, Directory, File, node_at, is_root, bytes_of, bytes_of_node}
+use Rattle.tree_model.specs.Tree.{Tree, Node, File, node_at, is_root, bytes_of, bytes_of_node}
 use Rattle.tree_model.specs.Capacity.{Fits, file_limit}
 use Rattle.tree_model.specs.Run.{State}
+use Rattle.tree_model.proofs.NodeLaws.{bytes_bounded}
 use Rattle.tree_model.proofs.EntryLaws.{front, back, find-first, find-below}
 use Rattle.tree_model.proofs.TreeLaws.{other_id}
 use Rattle.image_reading.specs.Counts.{Count}
-use Rattle.image_reading.specs.Reading.{slot_owner, IsReachedSlot, Reads}
+use Rattle.image_reading.specs.Reading.{IsFile, slot_owner, IsReachedSlot, Reads}
 use Rattle.image_reading.specs.Residue.{no_residue}
 use Rattle.image_reading.specs.Soundness.{IsCoherent}
 use Rattle.image_reading.proofs.Counts.{count_none, count_one}
@@ -151,10 +152,6 @@ size_at T i = length (bytes_of T i)
 abbrev size_found : List (ℕ × Node) → ℕ → ℕ
 size_found es i = length (bytes_of_node (find nat_cmp i es))
 
-size_of_node : (x : Node) → length (bytes_of_node (Some x)) ≡ node_size x
-size_of_node Directory = refl
-size_of_node (File bytes) = refl
-
 -- the sizes of entries are those that are found at the numbers of their inodes
 sum_of_entries : (n : ℕ) (es : List (ℕ × Node)) → T (is_sorted nat_cmp es) → ((e : ℕ × Node) → Among e es → (1 ≤ e.0) × (e.0 ≤ n))
     → sum_to (size_found es) n ≡ sum_by (λ e. node_size e.1) es
@@ -162,17 +159,12 @@ sum_of_entries n [] sorted within = sum_to-zeros n
 sum_of_entries n (e ∷ es) sorted within =
     let range = within e (inl refl) in
     let rest = sum_of_entries n es (back (below_all nat_cmp e.0 es) (is_sorted nat_cmp es) sorted) (λ f among. within f (inr among)) in
-    let here : size_found (e ∷ es) e.0 ≡ node_size e.1 = ap (λ o. length (bytes_of_node o)) (find-first nat_cmp nat_cmp_total e es) ∙ size_of_node e.1 in
+    let here : size_found (e ∷ es) e.0 ≡ node_size e.1 = ap (λ o. length (bytes_of_node o)) (find-first nat_cmp nat_cmp_total e es) in
     let none : size_found es e.0 ≡ 0 = ap (λ o. length (bytes_of_node o)) (find-below nat_cmp e.0 es (front (below_all nat_cmp e.0 es) (is_sorted nat_cmp es) sorted)) in
     let others : (i : ℕ) → i ≢ e.0 → size_found (e ∷ es) i ≡ size_found es i = λ i other. ap (λ b. length (bytes_of_node (cond b (Some e.1) (find nat_cmp i es)))) (other_id i e.0 other) in
     let one = sum_to-one (size_found (e ∷ es)) (size_found es) e.0 (node_size e.1) n range.0 range.1 (omega (arith, here, none)) others in
     let all = sum_by-cons (λ (f : ℕ × Node). node_size f.1) e es in
     omega (arith, rest, one, all)
-
-small_size : (o : Option Node) → ((bytes : List ℕ) → o ≡ Some (File bytes) → length bytes ≤ file_limit) → length (bytes_of_node o) ≤ file_limit
-small_size None small = omega arith
-small_size (Some Directory) small = omega arith
-small_size (Some (File bytes)) small = small bytes refl
 
 module _ (volume : VolumeView) (device : DeviceView) (state : State) (stands : StandsFor volume device state) where
   coherent : IsCoherent volume.size device.words
@@ -182,26 +174,23 @@ module _ (volume : VolumeView) (device : DeviceView) (state : State) (stands : S
   fits = (state_law volume.size device.words state coherent stands.reads).fits
 
   pub bytes_few : (n : ℕ) → sum_to (size_at state.tree) n ≤ n * 2 ^ 40
-  bytes_few n = sum_to-le (size_at state.tree) (2 ^ 40) n (λ i. small_size (node_at state.tree i) (fits.sizes i))
+  bytes_few n = sum_to-le (size_at state.tree) (2 ^ 40) n (λ i. bytes_bounded (node_at state.tree i) file_limit (fits.sizes i))
 
   pub bytes_all : sum_to (size_at state.tree) (inodes_of volume.size) ≡ bytes_in_files state.tree
   bytes_all = sum_of_entries (inodes_of volume.size) state.tree.nodes.entries state.tree.nodes.sorted
       (λ e among. fits.ids e.0 (ap is_some (find_among nat_cmp nat_cmp_total state.tree.nodes.entries e state.tree.nodes.sorted among)))
 
   -- the size word of a file
-  pub file_size : (i : ℕ) → 1 ≤ i → i ≤ inodes_of volume.size → inode_kind device.words i ≡ 1 → size_at state.tree i ≡ inode_size device.words i
+  pub file_size : (i : ℕ) → 1 ≤ i → i ≤ inodes_of volume.size → IsFile device.words i → size_at state.tree i ≡ inode_size device.words i
   file_size i least most file =
       let reached = ((free_inode_law volume.size device.words state (tidied stands.tidy) stands.reads).used i least most).1 (λ free. omega (arith, file, free)) in
       let (bytes, is) = file_node volume.size device.words state.tree coherent stands.reads.tree i reached file in
       ap (λ o. length (bytes_of_node o)) is ∙ (has_sizes volume.size device.words state.tree coherent stands.reads.tree).sizes i bytes is
 
-  pub no_file_size : (i : ℕ) → inode_kind device.words i ≢ 1 → 0 ≡ size_at state.tree i
-  no_file_size i other = of (node_at state.tree i) refl
-    where
-      of : (o : Option Node) → node_at state.tree i ≡ o → 0 ≡ length (bytes_of_node o)
-      of None is = refl
-      of (Some Directory) is = refl
-      of (Some (File bytes)) is = absurd (other ((stands.reads.tree.nodes i (File bytes)).0 is).1.0)
+  pub no_file_size : (i : ℕ) → (IsFile device.words i → ⊥) → 0 ≡ size_at state.tree i
+  no_file_size i other =
+      let none = bytes_bounded (node_at state.tree i) 0 (λ bytes is. absurd (other ((stands.reads.tree.nodes i (File bytes)).0 is).1.0)) in
+      omega (arith, none)
 
 -- ---- the totals of the inodes from 1 to n
 

@@ -3,6 +3,7 @@ use Rattle.std.proofs.Common.{◌≡◌, ◌↔◌, inl, inr, ℕ, ◌<◌, Bool
 use Rattle.std.proofs.lemmas.Bool.{cases_eq}
 use Rattle.layout.specs.Geometry.{data_pages_of}
 use Rattle.layout.specs.Fields.{page_kind, page_owner}
+use Rattle.layout.proofs.Widths.{descriptor_field_read}
 use Rattle.image_reading.specs.Reading.{Reached}
 use Rattle.image_reading.specs.Repairs.{IsKept, IsLitterPage}
 use Rattle.image_reading.specs.Tidy.{IsTidied}
@@ -25,7 +26,7 @@ module _ (P : ℕ) (I : List ℕ) (tidy : IsTidied P I) where
 
   litter : (j : ℕ) → j < data_pages_of P → page_owner P I j ≡ 0 → (page_kind P I j ≡ 0 → ⊥) → IsLitterPage P I j
   unfolding page_kind
-  litter j within unowned kind = record { in_range = within; free = not_kept j unowned; nonzero = (1, omega arith, kind) }
+  litter j within unowned kind = record { in_range = within; free = not_kept j unowned; nonzero = (1, descriptor_field_read I 1 (omega arith), kind) }
 
   pub unowned_unused : (j : ℕ) → j < data_pages_of P → page_owner P I j ≡ 0 → IsUnusedPage P I j
   unowned_unused j within unowned = elim (cases_eq (page_kind P I j) 0) [

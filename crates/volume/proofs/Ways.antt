@@ -2,7 +2,7 @@
 use Rattle.std.proofs.Common.{◌≡◌, ℕ, Bool, true, false, cond, List, [], ◌∷◌, ◌++◌, Option, Some, None, Result, Ok, Err, refl, sym, ap, ◌∙◌, append_assoc}
 use Rattle.std.proofs.lemmas.List.{append-nil}
 use Rattle.tree_model.specs.PathText.{Route}
-use Rattle.tree_model.specs.Tree.{Tree, Node, IsTree, is_directory_node, root_id, id_at, is_directory, is_root, parent, last_name}
+use Rattle.tree_model.specs.Tree.{Tree, IsTree, root_id, id_at, is_directory, is_root, parent, last_name}
 use Rattle.tree_model.specs.Walk.{Place, root_place, place_at, walk, walk_on, walk_to_parent, step_into, only_directory}
 use Rattle.tree_model.specs.declared.reply.Refusal.{Refusal}
 use Rattle.tree_model.specs.declared.reply.Refusal.TheVariants.{NotDir}
@@ -65,7 +65,7 @@ directory_holds T path here walked directory = ap (only_directory T) walked ∙ 
 
 -- the root has no parent but itself
 pub root_holds : (T : Tree) → IsTree T → walk_to_parent T [] ≡ Ok root_place
-root_holds T tree = ap (λ (o : Option Node). cond (is_directory_node o) (Ok root_place) (Err NotDir)) tree.root_directory
+root_holds T tree = ap (λ directory. cond directory (Ok root_place) (Err NotDir)) tree.root_directory
 
 -- ---- from there to the last name
 

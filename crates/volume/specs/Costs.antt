@@ -1,6 +1,7 @@
 -- What a plan costs on the device: its events, which are reserved before, and its fences.
 use Rattle.std.specs.Prelude.{ℕ, ◌+◌, ◌-◌, ◌*◌, ◌/◌, Bool, false, not, ◌&&◌, ◌||◌, nat_lt, nat_le, if◌then◌else◌, min, List, [], ◌∷◌, length, Option, Some, None, is_some}
 use Rattle.layout.specs.Geometry.{pieces}
+use Rattle.layout.specs.Fields.{inode_fields}
 use Rattle.layout.specs.declared.kinds.NodeKind.{NodeKind}
 use Rattle.layout.specs.declared.kinds.NodeKind.TheVariants.{File, Directory}
 use Rattle.tree_model.specs.Tree.{page_bytes}
@@ -33,7 +34,7 @@ word_events = 1 + 1
 
 -- the words of an inode, in one line
 abbrev pub inode_events : ℕ
-inode_events = 4 + 1
+inode_events = inode_fields + 1
 
 -- the words of a name, and all words of a slot but its number, in two lines
 abbrev pub name_events : ℕ

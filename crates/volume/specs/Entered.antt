@@ -31,8 +31,8 @@ with_given free (page ∷ pages) = with_given (slice_set free page true) pages
 -- ---- what is reserved
 
 -- the index has room for one more name of a directory, and for so many more pages of an inode
-abbrev pub HasPlace : VolumeView → ℕ → Type 0
-HasPlace volume directory = IsTrue (has_place_of volume.index directory)
+abbrev pub HasEntryPlace : VolumeView → ℕ → Type 0
+HasEntryPlace volume directory = IsTrue (has_place_of volume.index directory)
 
 abbrev pub HasPagePlaces : VolumeView → ℕ → List ℕ → Type 0
 HasPagePlaces volume inode [] = Unit {0}
@@ -40,7 +40,7 @@ HasPagePlaces volume inode (page ∷ pages) = length (pages_of volume.index inod
 
 -- and for a new name with the new page that it may need
 pub record HasNamePlace (volume : VolumeView) (directory : ℕ) (new_page : Option ℕ) : Type 0 where
-  pub entry : HasPlace volume directory
+  pub entry : HasEntryPlace volume directory
   pub page : HasPagePlaces volume directory (pages_of_option new_page)
 
 -- a name that takes another's place needs none of its own

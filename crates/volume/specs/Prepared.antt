@@ -1,14 +1,12 @@
 -- What preparing a command answers and leaves.
-use Rattle.std.specs.Prelude.{◌≡◌, ◌≢◌, ◌⊎◌, ℕ, ◌+◌, ◌^◌, ◌<◌, ◌≤◌, Bool, true, false, List, length, ◌||◌, ◌==◌, IsTrue, None, Some, Result, Ok, Err, OnOk, IfOk, IfErr}
+use Rattle.std.specs.Prelude.{◌≡◌, ◌≢◌, ◌⊎◌, ℕ, ◌+◌, ◌^◌, ◌<◌, ◌≤◌, Bool, true, false, List, length, ◌||◌, ◌==◌, IsTrue, None, Some, Result, Ok, Err, OnOk, IfOk, IfErr, MatchResult}
 use Rattle.pm_trait.specs.Device.{HasRisen}
 use Rattle.pm_trait.specs.DeviceView.{DeviceView}
-use Rattle.tree_model.specs.PathText.{Route}
 use Rattle.tree_model.specs.Step.{refusal_with}
 use Rattle.tree_model.specs.Capacity.{Supply, file_limit}
 use Rattle.tree_model.specs.Run.{State, is_changing}
 use Rattle.tree_model.specs.Places.{needs_places}
 use Rattle.tree_model.specs.declared.command.Command.{Command}
-use Rattle.tree_model.specs.declared.command.Command.TheVariants.{Create, Mkdir}
 use Rattle.tree_model.specs.declared.reply.Refusal.{Refusal}
 use Rattle.tree_model.specs.declared.reply.Refusal.TheVariants.{NoPages, NoMemory}
 use Rattle.volatile_index.specs.Index.{NodeView, inodes_of_index, entries_of, has_place_of, pages_of, page_places_of}
@@ -16,7 +14,7 @@ use Rattle.volume.specs.Volume.{VolumeView}
 use Rattle.volume.specs.Costs.{events_of, pages_of_loss}
 use Rattle.allocators.specs.Numbers.{IsFree, free_in}
 use Rattle.volume.specs.Lowest.{AreLowestOf}
-use Rattle.volume.specs.Beside.{MayPrepare}
+use Rattle.volume.specs.Beside.{StandsBeside, MayPrepare}
 use Rattle.volume.specs.Moves.{is_directory_kind}
 use Rattle.volume.specs.Planned.{IsPlannedWith}
 use Rattle.image_reading.specs.Counts.{Count}
@@ -24,9 +22,9 @@ use Rattle.image_reading.specs.Residue.{Residue}
 use Rattle.image_counts.specs.Entries.{IsPageIn}
 use Rattle.image_counts.specs.Laws.{supply_beside}
 use Rattle.volume.specs.Carried.{HasReserved}
+use Rattle.layout.specs.Geometry.{most_data_pages}
 use Rattle.layout.specs.Fields.{inode_links}
 use Rattle.layout.specs.declared.kinds.NodeKind.{NodeKind}
-use Rattle.layout.specs.declared.kinds.NodeKind.TheVariants.{File, Directory}
 use Rattle.volume.specs.declared.plan.NewEntry.{NewEntry}
 use Rattle.volume.specs.declared.plan.NewName.{NewName}
 use Rattle.volume.specs.declared.plan.Loss.{Loss}
@@ -35,11 +33,6 @@ use Rattle.volume.specs.declared.plan.Writing.{Writing}
 use Rattle.volume.specs.declared.plan.Resizing.{Resizing}
 use Rattle.volume.specs.declared.plan.Action.{Action}
 use Rattle.volume.specs.declared.plan.Action.TheVariants.{Make, Name, Remove, Move, Write as WriteBytes, WriteNothing, Resize, KeepSize, KeepNames, Read as ReadBytes, Status, Names, Space}
-
--- the command that makes a node of this kind
-abbrev pub making : NodeKind → Route → Command
-making File path = Create path
-making Directory path = Mkdir path
 
 -- Memory is short for a change that the tree and the room accept: for one that needs no place in a table only where the device
 -- refused room.
@@ -159,19 +152,19 @@ IsNamedIn inodes Space = Unit {0}
 pub record IsBoundedWriting (writing : Writing) : Type 0 where
   pub old_size : writing.old_size ≤ file_limit
   pub end : writing.offset + writing.count ≤ file_limit
-  pub new_pages : length writing.new_pages < 2 ^ 16
+  pub new_pages : length writing.new_pages ≤ most_data_pages
 
 pub record IsBoundedResizing (resizing : Resizing) : Type 0 where
   pub old_size : resizing.old_size ≤ file_limit
   pub cut : resizing.cut ≤ 2 ^ 28
-  pub new_pages : length resizing.new_pages < 2 ^ 16
+  pub new_pages : length resizing.new_pages ≤ most_data_pages
 
 -- the pages and bytes of a plan are no more than a volume and a file may have
 abbrev pub IsBounded : Action → Type 0
 IsBounded (Make entry) = Unit {0}
 IsBounded (Name link) = Unit {0}
-IsBounded (Remove removal) = removal.loss.pages < 2 ^ 16
-IsBounded (Move moving) = pages_of_loss moving.replaced < 2 ^ 16
+IsBounded (Remove removal) = removal.loss.pages ≤ most_data_pages
+IsBounded (Move moving) = pages_of_loss moving.replaced ≤ most_data_pages
 IsBounded (WriteBytes writing) = IsBoundedWriting writing
 IsBounded WriteNothing = Unit {0}
 IsBounded (Resize resizing) = IsBoundedResizing resizing
@@ -234,3 +227,12 @@ pub record Prepares (old new : VolumeView) (before after : DeviceView) (command 
   pub refused : IfErr result (λ refusal. refusal ≢ NoMemory → (new ≡ old) × (after ≡ before))
   pub idle : IfOk result (λ plan. events_of plan ≡ 0 → (new ≡ old) × (after ≡ before))
   pub reading : is_changing command ≡ false → (new ≡ old) × (after ≡ before)
+
+-- What preparing promises beside calls that run: the command's plan or why there is none, and a volume that stands as before, whatever
+-- the answer.
+pub record HasPrepared (old new : VolumeView) (before after : DeviceView) (command : Command) (result : Result Action Refusal) : Type 0 where
+  pub answers : (state : State) (residue : Residue) → MayPrepare old before state residue command → MatchResult result
+      (λ plan. IsPlannedWith (supply_beside new.size residue) after.words state command plan)
+      (λ refusal. IsRefusal (supply_beside old.size residue) state command refusal before after)
+  pub stands : (state : State) (residue : Residue) → StandsBeside old before state residue → StandsBeside new after state residue
+  pub leaves : Prepares old new before after command result

@@ -1,4 +1,5 @@
 // What plans cost on the device: the parts of their stores, flushes and fences.
+use layout::INODE_FIELDS;
 
 /// A fence.
 pub const FENCE_EVENTS: u64 = 1;
@@ -6,8 +7,8 @@ pub const FENCE_EVENTS: u64 = 1;
 /// One word, and the flush of its line.
 pub const WORD_EVENTS: u64 = 1 + 1;
 
-/// The four words of an inode, in one line.
-pub const INODE_EVENTS: u64 = 4 + 1;
+/// The words of an inode, in one line.
+pub const INODE_EVENTS: u64 = INODE_FIELDS + 1;
 
 /// The fourteen words of a name, in two lines.
 pub const NAME_EVENTS: u64 = 14 + 2;

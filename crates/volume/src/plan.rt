@@ -1,6 +1,6 @@
 // Plans of accepted commands. A plan can't be copied, and none is made but by `prepare`.
 ghost use Rattle.std.specs.Prelude.{◌≡◌, ◌+◌, ◌^◌, ◌<◌, ◌≤◌, length};
-ghost use Rattle.layout.specs.Geometry.{pieces as pieces_in};
+ghost use Rattle.layout.specs.Geometry.{most_data_pages, pieces as pieces_in};
 ghost use Rattle.tree_model.specs.Capacity.{file_limit};
 ghost use Rattle.volume.specs.Costs.{events_of, place_events as events_of_place, claim_events as events_of_claim, new_page_events as events_of_new_page, loss_events as events_of_loss, span_events as events_of_span, growth_events as events_of_growth};
 
@@ -78,7 +78,7 @@ pub struct Loss {
     pub kind: NodeKind,
     /// Whether this was its last name. Then the inode is free afterwards.
     pub goes: bool,
-    /// How many data pages it gives up: all that it has where it goes, else 0. A volume has fewer than 65,536.
+    /// How many data pages it gives up: all that it has where it goes, else 0.
     pub pages: u64,
 }
 
@@ -100,7 +100,7 @@ pub struct Removal {
 impl Removal {
     /// How many stores, flushes and fences the removal takes.
     pub fn events(&self) -> u64
-        requires { self.now.loss.pages < 2 ^ 16 }
+        requires { self.now.loss.pages ≤ most_data_pages }
         ensures { result ≡ events_of (Action.Remove self.now) }
     {
         let pages = match self.given_back {
@@ -146,7 +146,7 @@ impl Moving {
 
     /// How many stores, flushes and fences the move takes.
     pub fn events(&self) -> u64
-        requires { pages_of_loss self.now.replaced < 2 ^ 16 }
+        requires { pages_of_loss self.now.replaced ≤ most_data_pages }
         ensures { result ≡ events_of (Action.Move self.now) }
     {
         let (lost, goes) = match self.replaced {
@@ -352,7 +352,7 @@ pub fn span_events(first: u64, end: u64) -> u64
 // The events by which a file grows over so many new pages, and gets bytes from an offset on.
 fn growth_events(old_size: u64, offset: u64, new_pages: u64) -> u64
     requires size { old_size ≤ file_limit }
-    requires pages { new_pages < 2 ^ 16 }
+    requires pages { new_pages ≤ most_data_pages }
     ensures { result ≡ events_of_growth old_size offset new_pages }
 {
     let old_end = pieces(old_size, PAGE_BYTES) * PAGE_BYTES;
