@@ -10,50 +10,53 @@ use Rattle.pm_trait.proofs.DeviceLaws.{interval_keeps, interval_length, interval
 use Rattle.layout.specs.declared.fields.InodeFields.{InodeFields}
 use Rattle.layout.specs.declared.fields.SlotFields.{SlotFields}
 use Rattle.layout.specs.Geometry.{IsVolumeSize, inode_word_of, slot_word_of}
-use Rattle.layout.specs.Fields.{word, inode_kind, inode_links, inode_size, inode_own}
+use Rattle.layout.specs.Fields.{word, inode_fields, inode_words, inode_kind, inode_links, inode_size, inode_own}
 use Rattle.layout.specs.Name.{words_of_name}
 use Rattle.fence_token.specs.Objects.{StandsInFlight}
 use Rattle.fence_token.proofs.ObjectLaws.{stands_in_flight_stays}
+use Rattle.layout.proofs.Widths.{inode_words_written}
+use Rattle.inode_state.specs.States.{IsLive}
 use Rattle.inode_state.specs.Inode.{InodeView, IsInodeWord, fields_at}
 use Rattle.inode_state.proofs.InodeLaws.{same_fields_at, inode_is_local, inode_words_apart, inode_word_in_volume}
 use Rattle.dentry_state.specs.Dentry.{IsNameWord}
 use Rattle.dentry_state.proofs.DentryLaws.{same_fields_at as same_slot_at}
 use Rattle.layout.specs.declared.kinds.NodeKind.{NodeKind}
-use Rattle.layout.specs.declared.kinds.NodeKind.TheVariants.{File as AFile, Directory as ADirectory}
+use Rattle.layout.specs.declared.kinds.NodeKind.TheVariants.{File, Directory}
 use Rattle.volume.specs.declared.plan.NewEntry.{NewEntry}
+use Rattle.volume.specs.Costs.{inode_events}
 use Rattle.image_laws.specs.Create.{IsAmong, IsMadeWord, node_words, parent_links}
 use Rattle.entry_steps.specs.Steps.{IsLinkable}
 use Rattle.entry_steps.specs.Placing.{MayPlace, IsPlaceWord, IsWrittenWord, WritesPlace}
 use Rattle.entry_steps.proofs.Pages.{filled_word}
 use Rattle.entry_steps.proofs.Placing.{written_is_place, place_within, place_off_inode, may_still, named_there}
-use Rattle.create_ops.specs.Making.{node_of, fields_of, IsParentWord, IsReady, WritesNode}
+use Rattle.create_ops.specs.Making.{fields_of, IsParentWord, IsReady, WritesNode}
 
 -- ---- stores and the flush after them
 
-pub inode_stored : {a b c : DeviceView} {line : ℕ} (m n : ℕ) → n ≡ m → Stores (IsInodeWord n) a b 4 → Performs b c (Flush line ∷ []) → Stores (IsInodeWord m) a c 5
-inode_stored {a} {c = c} m n same run flush = subst (λ (k : ℕ). Stores (IsInodeWord k) a c 5) same (stores_flushed run (flush_stores flush))
+pub inode_stored : {a b c : DeviceView} {line : ℕ} (m n : ℕ) → n ≡ m → Stores (IsInodeWord n) a b inode_fields → Performs b c (Flush line ∷ []) → Stores (IsInodeWord m) a c inode_events
+inode_stored {a} {c = c} m n same run flush = subst (λ (k : ℕ). Stores (IsInodeWord k) a c inode_events) same (stores_flushed run (flush_stores flush))
 
 -- ---- the kind of the node
 
 parent_word : (kind : NodeKind) (directory a : ℕ) → IsParentWord kind directory a → IsInodeWord directory a
-parent_word AFile directory a is = absurd is
-parent_word ADirectory directory a is = record { field = 1; is_field = omega arith; at = is }
+parent_word File directory a is = absurd is
+parent_word Directory directory a is = record { field = 1; is_field = omega arith; at = is }
 
-made_words : (kind : NodeKind) (i : ℕ) (J : List ℕ) → fields_at J i ≡ fields_of kind i → (k : ℕ) → k < 4 → word J (inode_word_of i k) ≡ slice_index (node_words (node_of kind) i) k
+made_words : (kind : NodeKind) (i : ℕ) (J : List ℕ) → fields_at J i ≡ fields_of kind i → (k : ℕ) → k < inode_fields → word J (inode_word_of i k) ≡ slice_index (node_words kind i) k
 unfolding inode_kind inode_links inode_size inode_own
-made_words AFile i J is zero lt = ap (λ (f : InodeFields). f.kind) is
-made_words AFile i J is (suc zero) lt = ap (λ (f : InodeFields). f.links) is
-made_words AFile i J is (suc (suc zero)) lt = ap (λ (f : InodeFields). f.size) is
-made_words AFile i J is (suc (suc (suc zero))) lt = ap (λ (f : InodeFields). f.own) is
-made_words AFile i J is (suc (suc (suc (suc k)))) lt = absurd (omega arith)
-made_words ADirectory i J is zero lt = ap (λ (f : InodeFields). f.kind) is
-made_words ADirectory i J is (suc zero) lt = ap (λ (f : InodeFields). f.links) is
-made_words ADirectory i J is (suc (suc zero)) lt = ap (λ (f : InodeFields). f.size) is
-made_words ADirectory i J is (suc (suc (suc zero))) lt = ap (λ (f : InodeFields). f.own) is
-made_words ADirectory i J is (suc (suc (suc (suc k)))) lt = absurd (omega arith)
+made_words File i J is zero lt = ap (λ (f : InodeFields). f.kind) is
+made_words File i J is (suc zero) lt = ap (λ (f : InodeFields). f.links) is
+made_words File i J is (suc (suc zero)) lt = ap (λ (f : InodeFields). f.size) is
+made_words File i J is (suc (suc (suc zero))) lt = ap (λ (f : InodeFields). f.own) is
+made_words File i J is (suc (suc (suc (suc k)))) lt = absurd (omega arith)
+made_words Directory i J is zero lt = ap (λ (f : InodeFields). f.kind) is
+made_words Directory i J is (suc zero) lt = ap (λ (f : InodeFields). f.links) is
+made_words Directory i J is (suc (suc zero)) lt = ap (λ (f : InodeFields). f.size) is
+made_words Directory i J is (suc (suc (suc zero))) lt = ap (λ (f : InodeFields). f.own) is
+made_words Directory i J is (suc (suc (suc (suc k)))) lt = absurd (omega arith)
 
-inode_among : (i a : ℕ) → IsInodeWord i a → IsAmong (inode_word_of i) 4 a
-inode_among i a is = (is.field, is.is_field, is.at)
+inode_among : (I : List ℕ) (i a : ℕ) → IsInodeWord i a → IsAmong (inode_word_of i) (inode_words I) a
+inode_among I i a is = (is.field, (let few = is.is_field in omega (arith, few, inode_words_written I)), is.at)
 
 name_among : (P s a : ℕ) → IsNameWord P s a → IsAmong (λ k. slot_word_of P s (2 + k)) 14 a
 name_among P s a is =
@@ -62,15 +65,15 @@ name_among P s a is =
     let back : is.field ≡ 2 + (is.field - 2) = omega (arith, low) in
     (is.field - 2, omega (arith, low, high), is.at ∙ ap (λ (k : ℕ). slot_word_of P s k) back)
 
-made_inode : (P : ℕ) (kind : NodeKind) (d s i a : ℕ) → IsInodeWord i a ⊎ IsParentWord kind d a → IsMadeWord P (node_of kind) d s i a
-made_inode P AFile d s i a (inl is) = inl (inode_among i a is)
-made_inode P AFile d s i a (inr is) = absurd is
-made_inode P ADirectory d s i a (inl is) = inl (inode_among i a is)
-made_inode P ADirectory d s i a (inr is) = inr (inr is)
+made_inode : (P : ℕ) (I : List ℕ) (kind : NodeKind) (d s i a : ℕ) → IsInodeWord i a ⊎ IsParentWord kind d a → IsMadeWord P I kind d s i a
+made_inode P I File d s i a (inl is) = inl (inode_among I i a is)
+made_inode P I File d s i a (inr is) = absurd is
+made_inode P I Directory d s i a (inl is) = inl (inode_among I i a is)
+made_inode P I Directory d s i a (inr is) = inr (inr is)
 
-made_name : (P : ℕ) (kind : NodeKind) (d s i a : ℕ) → IsNameWord P s a → IsMadeWord P (node_of kind) d s i a
-made_name P AFile d s i a is = inr (name_among P s a is)
-made_name P ADirectory d s i a is = inr (inl (name_among P s a is))
+made_name : (P : ℕ) (I : List ℕ) (kind : NodeKind) (d s i a : ℕ) → IsNameWord P s a → IsMadeWord P I kind d s i a
+made_name P I File d s i a is = inr (name_among P s a is)
+made_name P I Directory d s i a is = inr (inl (name_among P s a is))
 
 -- ---- what is written
 
@@ -135,7 +138,7 @@ module _ (P : ℕ) (entry : NewEntry) {a : List ℕ} {ta : Option Trail} (size :
           record {
             least = ready.parent.least;
             most = ready.parent.most;
-            live = subst (λ (f : InodeFields). ((f.kind ≡ 1) ⊎ (f.kind ≡ 2)) × (f.own ≡ entry.directory)) (sym parent_same) ready.parent.live;
+            live = subst (λ (f : InodeFields). IsLive entry.directory f) (sym parent_same) ready.parent.live;
             countable = omega (arith, links, room);
           }
 
@@ -177,38 +180,38 @@ module _ (P : ℕ) (entry : NewEntry) {a : List ℕ} {ta : Option Trail} (size :
         made_by : (new_page : Option ℕ) → MayPlace P a entry.slot new_page → ((x : ℕ) → IsPlaceWord P entry.slot new_page x → slice_index d x ≡ slice_index c x)
             → IsInterval (λ x. (IsInodeWord entry.inode x ⊎ IsWrittenWord P entry.slot new_page x) ⊎ IsParentWord entry.kind entry.directory x) a ta d td
             → fields_at b entry.inode ≡ fields_of entry.kind entry.inode → WritesPlace P b c entry.slot (words_of_name entry.name) new_page
-            → inode_links d entry.directory ≡ parent_links (node_of entry.kind) (inode_links a entry.directory) → WritesNode P a d entry new_page
+            → inode_links d entry.directory ≡ parent_links entry.kind (inode_links a entry.directory) → WritesNode P a d entry new_page
         unfolding word
         made_by None may kept run inode name links = record {
           size = interval_length run;
-          inode = made_words entry.kind entry.inode d (inode_kept inode);
+          inode = λ f few. made_words entry.kind entry.inode d (inode_kept inode) f (omega (arith, few, inode_words_written a));
           words = ap (λ (f : SlotFields). f.name) (same_slot_at P entry.slot c d kept) ∙ name;
           parent = links;
           others = λ x out. interval_keeps x run (λ stored. out (elim stored [
-            | inl (inl is) ↦ made_inode P entry.kind entry.directory entry.slot entry.inode x (inl is)
-            | inl (inr is) ↦ made_name P entry.kind entry.directory entry.slot entry.inode x is
-            | inr is ↦ made_inode P entry.kind entry.directory entry.slot entry.inode x (inr is)
+            | inl (inl is) ↦ made_inode P a entry.kind entry.directory entry.slot entry.inode x (inl is)
+            | inl (inr is) ↦ made_name P a entry.kind entry.directory entry.slot entry.inode x is
+            | inr is ↦ made_inode P a entry.kind entry.directory entry.slot entry.inode x (inr is)
           ]));
         }
         made_by (Some page) may kept run inode name links = record {
           size = interval_length run;
           page = named_there P b c d page entry.slot (words_of_name entry.name) may.1 name (λ x is. kept x (written_is_place P entry.slot (Some page) x is));
-          inode = made_words entry.kind entry.inode d (inode_kept inode);
+          inode = λ f few. made_words entry.kind entry.inode d (inode_kept inode) f (omega (arith, few, inode_words_written a));
           parent = links;
           others = λ x off_page out. interval_keeps x run (λ stored. elim stored [
-            | inl (inl is) ↦ out (made_inode P entry.kind entry.directory entry.slot entry.inode x (inl is))
+            | inl (inl is) ↦ out (made_inode P a entry.kind entry.directory entry.slot entry.inode x (inl is))
             | inl (inr is) ↦ off_page (filled_word P page x is)
-            | inr is ↦ out (made_inode P entry.kind entry.directory entry.slot entry.inode x (inr is))
+            | inr is ↦ out (made_inode P a entry.kind entry.directory entry.slot entry.inode x (inr is))
           ]);
         }
 
         pub node_made : (e : List ℕ) (inode : InodeView) → e ≡ d → inode.number ≡ entry.inode → inode.fields ≡ fields_of entry.kind entry.inode → IsFlying inode b tb
             → WritesPlace P b c entry.slot (words_of_name entry.name) entry.new_page
-            → inode_links d entry.directory ≡ parent_links (node_of entry.kind) (inode_links c entry.directory)
+            → inode_links d entry.directory ≡ parent_links entry.kind (inode_links c entry.directory)
             → WritesNode P a e entry entry.new_page
         node_made e inode same number fields stands name links =
             subst (λ (l : List ℕ). WritesNode P a l entry entry.new_page) (sym same)
             (made_by entry.new_page ready.place place_kept written_run
             (ap (λ (n : ℕ). fields_at b n) (sym number) ∙ stands.stands.reads ∙ fields)
             name
-            (links ∙ ap (λ (n : ℕ). parent_links (node_of entry.kind) n) (ap (λ (f : InodeFields). f.links) parent_same)))
+            (links ∙ ap (λ (n : ℕ). parent_links entry.kind n) (ap (λ (f : InodeFields). f.links) parent_same)))

@@ -5,10 +5,11 @@ use Rattle.std.proofs.lemmas.List.{reverse-reverse}
 use Rattle.layout.specs.Geometry.{inodes_of, inode_word_of}
 use Rattle.layout.specs.Fields.{word}
 use Rattle.layout.specs.Name.{IsName, IsBytes, words_of_name}
+use Rattle.layout.proofs.Widths.{inode_words_written}
 use Rattle.tree_model.specs.PathText.{Route}
 use Rattle.tree_model.specs.Tree.{Node, IsTree, node_at, parent}
 use Rattle.tree_model.specs.Capacity.{untaken}
-use Rattle.tree_model.specs.Step.{least_free_id}
+use Rattle.tree_model.specs.Step.{making, least_free_id}
 use Rattle.tree_model.specs.Run.{State}
 use Rattle.tree_model.specs.declared.command.Command.TheVariants.{Create, Mkdir}
 use Rattle.tree_model.specs.Accepted.{MayMake}
@@ -21,12 +22,11 @@ use Rattle.image_laws.specs.Create.{CanMake}
 use Rattle.inode_state.specs.States.{free_fields}
 use Rattle.inode_state.specs.Inode.{fields_at}
 use Rattle.layout.specs.declared.kinds.NodeKind.{NodeKind}
-use Rattle.layout.specs.declared.kinds.NodeKind.TheVariants.{File as AFile, Directory as ADirectory}
+use Rattle.layout.specs.declared.kinds.NodeKind.TheVariants.{File, Directory}
 use Rattle.volume.specs.declared.plan.NewEntry.{NewEntry}
 use Rattle.volume.specs.declared.plan.Action.{Action}
 use Rattle.volume.specs.declared.plan.Action.TheVariants.{Make}
 use Rattle.volume.specs.Planned.{IsEntryFor, IsPlanned, IsPlanOf}
-use Rattle.volume.specs.Prepared.{making}
 use Rattle.volume.proofs.PlannedFree.{least_id}
 use Rattle.image_counts.proofs.States.{state_law}
 use Rattle.create_ops.specs.Making.{IsPlannedAt}
@@ -39,12 +39,12 @@ same_entry : (one two : NewEntry) → ◌≡◌ {A = Action} (Make one) (Make tw
 same_entry one two e = cc
 
 entry_by : (P : ℕ) (I : List ℕ) (state : State) (path : Route) (kind : NodeKind) (entry : NewEntry) → IsPlanOf P I state (making kind path) (Make entry) → IsEntryFor P I state path kind entry
-entry_by P I state path AFile entry (other, is, for) = subst (λ (e : NewEntry). IsEntryFor P I state path AFile e) (same_entry entry other is) for
-entry_by P I state path ADirectory entry (other, is, for) = subst (λ (e : NewEntry). IsEntryFor P I state path ADirectory e) (same_entry entry other is) for
+entry_by P I state path File entry (other, is, for) = subst (λ (e : NewEntry). IsEntryFor P I state path File e) (same_entry entry other is) for
+entry_by P I state path Directory entry (other, is, for) = subst (λ (e : NewEntry). IsEntryFor P I state path Directory e) (same_entry entry other is) for
 
 may_by : (P : ℕ) (I : List ℕ) (state : State) (path : Route) (kind : NodeKind) (action : Action) → IsTree state.tree → IsPlanned P I state (making kind path) action → MayMake (untaken P) state.tree state.room path
-may_by P I state path AFile action tree planned = Accepted-from_row (untaken P) state.tree state.room (Create path) tree planned.accepted
-may_by P I state path ADirectory action tree planned = Accepted-from_row (untaken P) state.tree state.room (Mkdir path) tree planned.accepted
+may_by P I state path File action tree planned = Accepted-from_row (untaken P) state.tree state.room (Create path) tree planned.accepted
+may_by P I state path Directory action tree planned = Accepted-from_row (untaken P) state.tree state.room (Mkdir path) tree planned.accepted
 
 module _ (P : ℕ) (W : List ℕ) (state : State) (path : Route) (entry : NewEntry) (at : IsPlannedAt P W state path entry) where
   pub for_entry : IsEntryFor P W state path entry.kind entry
@@ -83,7 +83,7 @@ module _ (P : ℕ) (W : List ℕ) (state : State) (path : Route) (entry : NewEnt
   inode_free = zero_inode W entry.inode (λ f lt. elim (cases_eq (word W (inode_word_of entry.inode f)) 0) [
     | inl is ↦ is
     | inr ne ↦ absurd (none_of (IsLitterInode P W) entry.inode at.tidy.repaired.of_inodes
-        (record { least = omega (arith, from_two); most = inode_within; unreached = unreached; nonzero = (f, lt, ne) }))
+        (record { least = omega (arith, from_two); most = inode_within; unreached = unreached; nonzero = (f, omega (arith, lt, inode_words_written W), ne) }))
   ])
 
   pub can : IsName entry.name → IsBytes entry.name → CanMake P W (reverse (parent path)) entry.directory entry.inode (words_of_name entry.name)

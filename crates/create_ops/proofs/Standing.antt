@@ -9,9 +9,10 @@ use Rattle.layout.specs.Fields.{page_owner}
 use Rattle.layout.specs.Geometry.{IsVolumeSize, data_pages_of, descriptor_word_of}
 use Rattle.layout.specs.Name.{IsName, IsBytes, words_of_name}
 use Rattle.layout.proofs.NameLaws.{IsNameWords-words_of_name}
+use Rattle.layout.proofs.Widths.{in_inode}
 use Rattle.inode_state.specs.Inode.{InodeView}
 use Rattle.dentry_state.specs.Dentry.{DentryView}
-use Rattle.image_laws.proofs.Addresses.{descriptor-ne_inode, descriptor-ne_slot, descriptor-ne_page, descriptor_word-one}
+use Rattle.image_laws.proofs.Addresses.{descriptor-ne_inode, descriptor-ne_slot, descriptor-ne_page}
 use Rattle.image_laws.proofs.NewPage.{not_page_made}
 use Rattle.image_laws.proofs.Ready.{not_made}
 use Rattle.allocators.specs.Numbers.{IsFree}
@@ -27,11 +28,12 @@ use Rattle.entry_steps.specs.Placing.{MayPlace}
 use Rattle.entry_steps.specs.Steps.{claim_steps, naming, owning}
 use Rattle.entry_steps.specs.Waiting.{IsSlotAt}
 use Rattle.entry_steps.proofs.Keeping.{kept_on}
+use Rattle.entry_steps.proofs.Opened.{owner_is_no_rest}
 use Rattle.entry_steps.proofs.Placing.{IsFilledPlace}
 use Rattle.entry_steps.proofs.Waiting.{claims, place_waits_at, inode_over_claim, page_taken}
 use Rattle.create_ops.specs.declared.node.NewNode.{NewNode}
 use Rattle.create_ops.specs.declared.run.Stage.TheVariants.{Written, Claimed}
-use Rattle.create_ops.specs.Making.{node_of, written_events, IsReady, IsNodeOf, WritesNode, writing}
+use Rattle.create_ops.specs.Making.{written_events, IsReady, IsNodeOf, WritesNode, writing}
 use Rattle.create_ops.specs.Stages.{IsInodeOf, IsAt, StandsStage, begun}
 
 -- ---- the words
@@ -43,9 +45,9 @@ module _ (P : ℕ) (W : List ℕ) (entry : NewEntry) (ready : IsReady P W entry)
   owner_same I page lt made = made.others (descriptor_word_of P page 0)
       (not_page_made P page (descriptor_word_of P page 0)
       (λ w l. descriptor-ne_page P page 0 page w lt (omega arith))
-      (λ g low high e. let (same_page, same_field) = descriptor_word-one P page 0 page g (omega arith) (omega (arith, high)) e in omega (arith, low, same_field)))
-      (not_made P (node_of entry.kind) entry.directory entry.slot entry.inode (descriptor_word_of P page 0)
-      (λ f l. descriptor-ne_inode P page 0 entry.inode f ready.least ready.most (omega (arith, l)))
+      (owner_is_no_rest P page page))
+      (not_made P W entry.kind entry.directory entry.slot entry.inode (descriptor_word_of P page 0)
+      (λ f l. descriptor-ne_inode P page 0 entry.inode f ready.least ready.most (in_inode W f l))
       (λ k l. descriptor-ne_slot P page 0 entry.slot (2 + k) lt (omega arith))
       (descriptor-ne_inode P page 0 entry.directory 1 ready.parent.least ready.parent.most (omega arith)))
 

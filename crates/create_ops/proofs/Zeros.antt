@@ -1,8 +1,9 @@
 -- Words of a device of zeros, and one that has an empty root.
-use Rattle.std.proofs.Common.{◌≡◌, inr, ℕ, ◌+◌, ◌-◌, ◌^◌, ◌<◌, ◌≤◌, List, [], ◌∷◌, ◌++◌, length, slice_index, replicate, ◌∙◌, ap, subst, sym, arith}
+use Rattle.std.proofs.Common.{◌≡◌, inr, ℕ, ◌+◌, ◌-◌, ◌^◌, ◌<◌, ◌≤◌, List, ◌++◌, length, slice_index, replicate, ◌∙◌, ap, subst, sym, arith}
 use Rattle.std.specs.Prelude.{None}
 use Rattle.layout.specs.Geometry.{inodes_of, first_data_word_of, inode_word_of, slot_word_of, slots_of}
-use Rattle.layout.specs.Fields.{word, inode_kind, inode_links, inode_size, inode_own}
+use Rattle.layout.specs.Format.{root_words}
+use Rattle.layout.specs.Fields.{word, inode_fields, inode_kind, inode_links, inode_size, inode_own}
 use Rattle.inode_state.specs.States.{IsLive}
 use Rattle.inode_state.specs.Inode.{fields_at}
 use Rattle.volume.specs.declared.plan.NewEntry.{NewEntry}
@@ -12,14 +13,14 @@ use Rattle.entry_steps.proofs.Zeros.{zero_inode, zero_slot, sixteen_pages, four_
 
 -- ---- the root's inode among zeros
 
-module _ (words front root rest : List ℕ) (few : ℕ) (is : words ≡ (front ++ root) ++ rest) (zeros : front ≡ replicate 512 0) (inode : root ≡ 2 ∷ 2 ∷ 0 ∷ 1 ∷ []) (others : rest ≡ replicate few 0) where
-  at_root : (k : ℕ) → k < 4 → slice_index words (512 + k) ≡ slice_index (2 ∷ 2 ∷ 0 ∷ 1 ∷ []) k
+module _ (words front root rest : List ℕ) (few : ℕ) (is : words ≡ (front ++ root) ++ rest) (zeros : front ≡ replicate 512 0) (inode : root ≡ root_words) (others : rest ≡ replicate few 0) where
+  at_root : (k : ℕ) → k < inode_fields → slice_index words (512 + k) ≡ slice_index root_words k
   at_root k low = at_node words front root rest 512 few is zeros (ap length inode) others k low ∙ ap (λ (l : List ℕ). slice_index l k) inode
 
-  past_root : (w : ℕ) → 516 ≤ w → w < 516 + few → slice_index words w ≡ 0
+  past_root : (w : ℕ) → 512 + inode_fields ≤ w → w < 512 + inode_fields + few → slice_index words w ≡ 0
   past_root w high low = past_node words front root rest 512 few is zeros (ap length inode) others w high low
 
-  long_words : length words ≡ 516 + few
+  long_words : length words ≡ 512 + inode_fields + few
   long_words = long_image words front root rest 512 few is zeros (ap length inode) others
 
   pub root_ready : (P : ℕ) (entry : NewEntry) → P ≡ 16 → few ≡ 7676 → entry.directory ≡ 1 → entry.inode ≡ 2 → entry.slot ≡ 0 → entry.new_page ≡ None → IsReady P words entry

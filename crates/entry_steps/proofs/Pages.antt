@@ -12,6 +12,7 @@ use Rattle.layout.specs.Geometry.{IsVolumeSize, data_pages_of, descriptor_word_o
 use Rattle.layout.specs.Fields.{word, page_owner}
 use Rattle.fence_token.proofs.StoredLaws.{exactly_stores, flushes_stores}
 use Rattle.page_state.specs.declared.page.Touched.{Touched}
+use Rattle.page_state.proofs.Releases.{released_is_own}
 use Rattle.page_state.specs.Page.{EachPage, OfSome, IsOwnWord, IsFilledWord, IsOwnerWord, touched_lines}
 use Rattle.page_state.specs.Events.{FillsPages, ClaimsPages, FlushesPages}
 use Rattle.page_state.proofs.PageLaws.{own_word_within, descriptor_word_is}
@@ -38,8 +39,7 @@ page_settled P pages now trail size one in_range whole settled word some =
 
 pub filled_word : (P j a : ℕ) → IsFilledWord P j a → IsPageMadeWord P j a
 filled_word P j a (inl content) = inl (content.place, content.in_page, content.at)
-filled_word P j a (inr (inl kind)) = inr (inl kind)
-filled_word P j a (inr (inr offset)) = inr (inr offset)
+filled_word P j a (inr rest) = inr rest
 
 module _ (P V : ℕ) (pages ps : List ℕ) (volume : V ≡ P) (list : ps ≡ pages) (one : length pages ≡ 1) where
   -- each word that was filled is flushed, where each of the page's is
@@ -48,8 +48,7 @@ module _ (P V : ℕ) (pages ps : List ℕ) (volume : V ≡ P) (list : ps ≡ pag
       let is = of_one pages (IsFilledWord P) word one some in
       let own : IsOwnWord P (slice_index pages 0) word = elim is [
         | inl content ↦ inl content
-        | inr (inl kind) ↦ inr (record { field = 1; is_field = omega arith; at = kind })
-        | inr (inr offset) ↦ inr (record { field = 2; is_field = omega arith; at = offset })
+        | inr rest ↦ released_is_own P (slice_index pages 0) word rest
       ] in
       flushed word (subst (λ (v : ℕ). OfSome ps (IsOwnWord v) word) (sym volume) (subst (λ (l : List ℕ). OfSome l (IsOwnWord P) word) (sym list) (is_one pages (IsOwnWord P) word one own)))
 

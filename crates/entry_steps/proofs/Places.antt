@@ -3,9 +3,10 @@ use Rattle.std.proofs.Common.{◌≡◌, ◌≢◌, ◌⊎◌, inl, inr, ℕ, �
 use Rattle.std.proofs.lemmas.Bool.{cases_eq}
 use Rattle.std.proofs.lemmas.Bool.Decides.{nat_tests}
 use Rattle.std.proofs.lemmas.List.{reverse-append}
+use Rattle.layout.proofs.Widths.{descriptor_words_written}
 use Rattle.layout.specs.Geometry.{IsVolumeSize, inodes_of, data_pages_of, slots_of, page_of_slot, descriptor_word_of}
 use Rattle.layout.proofs.GeometryLaws.{slots_in_pages, data_pages_below, page_of_slot_below, page_of_entry, slot_below}
-use Rattle.layout.specs.Fields.{word, inode_kind, inode_links}
+use Rattle.layout.specs.Fields.{word, inode_links}
 use Rattle.layout.specs.Name.{IsName, IsBytes, words_of_name, name_in_words}
 use Rattle.layout.proofs.NameLaws.{name_in_words-words_of_name, IsNameWords-words_of_name}
 use Rattle.tree_model.specs.PathText.{Route}
@@ -14,7 +15,7 @@ use Rattle.tree_model.specs.Accepted.{MayName}
 use Rattle.tree_model.specs.Capacity.{untaken}
 use Rattle.tree_model.specs.Step.{is_full}
 use Rattle.tree_model.specs.Run.{State, IsVolumeState}
-use Rattle.image_reading.specs.Reading.{IsDirectory, slot_owner, Names, Reached, IsNameOf, IsChildOf, ReadsAs}
+use Rattle.image_reading.specs.Reading.{IsFile, IsDirectory, slot_owner, Names, Reached, IsNameOf, IsChildOf, ReadsAs}
 use Rattle.image_reading.specs.Repairs.{IsLitterPage}
 use Rattle.image_reading.specs.Soundness.{Rule, IsCoherent}
 use Rattle.image_reading.specs.Tidy.{Tidy}
@@ -82,7 +83,7 @@ module _ {P : ℕ} {W : List ℕ} {state : State} (tidy : Tidy P W) (reads : Rea
       range : HasInodes P W state.tree
       range = inode_count_law P W state coherent_image reads
 
-      made : (inode_kind W x ≡ 1) ⊎ (inode_kind W x ≡ 2) → inode_links W x < 2 ^ 64 - 1 → IsLinkable P W x
+      made : IsFile W x ⊎ IsDirectory W x → inode_links W x < 2 ^ 64 - 1 → IsLinkable P W x
       made kind countable = record { least = range.least x reached; most = range.most x reached; live = (kind, (coherent_image Rule.kinds x).own reached); countable = countable }
 
 module _ {P : ℕ} {W : List ℕ} {state : State} {path : Route} {d : ℕ} {name : List ℕ} {slot : ℕ} {new_page : Option ℕ} (at : IsNamingAt P W state path d name slot new_page) where
@@ -171,7 +172,7 @@ module _ {P : ℕ} {W : List ℕ} {state : State} {path : Route} {d : ℕ} {name
     zero_descriptor P W page (λ f lt. elim (cases_eq (word W (descriptor_word_of P page f)) 0) [
       | inl is ↦ is
       | inr ne ↦ absurd (none_of (IsLitterPage P W) page at.tidy.repaired.of_pages
-          (record { in_range = free.0; free = λ kept. ((page_count_law P W state (tidied at.tidy) at.reads).kept page free.0).0 kept free.1; nonzero = (f, lt, ne) }))
+          (record { in_range = free.0; free = λ kept. ((page_count_law P W state (tidied at.tidy) at.reads).kept page free.0).0 kept free.1; nonzero = (f, omega (arith, lt, descriptor_words_written W), ne) }))
     ]),
   )
 

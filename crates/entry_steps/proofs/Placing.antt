@@ -1,7 +1,6 @@
 -- The place of a name: how it goes on while other words are stored, over a fence, and as a token settles it.
-use Rattle.std.proofs.Common.{◌≡◌, ◌⊎◌, inl, inr, ℕ, ◌+◌, ◌*◌, ◌<◌, ◌≤◌, List, slice_index, refl, sym, ap, subst, ◌∙◌, arith}
+use Rattle.std.proofs.Common.{◌≡◌, inl, inr, ℕ, ◌+◌, ◌*◌, ◌<◌, ◌≤◌, List, slice_index, refl, sym, ap, subst, ◌∙◌, arith}
 use Rattle.std.specs.Prelude.{Option, Some, None, Result}
-use Rattle.std.proofs.lemmas.Bool.{cases_eq}
 use Rattle.pm_trait.specs.declared.event.Event.TheVariants.{Fence}
 use Rattle.pm_trait.specs.Device.{IsInterval, with_event}
 use Rattle.pm_trait.specs.DeviceView.{DeviceView}
@@ -20,6 +19,7 @@ use Rattle.dentry_state.specs.declared.dentry.Touched.TheVariants.{BothLines}
 use Rattle.dentry_state.specs.Dentry.{DentryView, slot_fields_at}
 use Rattle.dentry_state.proofs.DentryLaws.{same_fields_at, dentry_is_local, name_word_is_slot_word, slot_word_is_no_inode_word, slot_word_in_volume}
 use Rattle.page_state.specs.Page.{IsFilledWord}
+use Rattle.page_state.proofs.Releases.{released_is_own}
 use Rattle.page_state.proofs.PageLaws.{own_word_within, same_descriptor_of, own_word_not_inode_word}
 use Rattle.image_laws.specs.Create.{MakesNamedPage}
 use Rattle.image_laws.specs.Taking.{IsNamedPage}
@@ -34,8 +34,7 @@ use Rattle.entry_steps.specs.Placing.{MayPlace, IsPlaceWord, IsWrittenWord, flyi
 pub written_is_place : (P slot : ℕ) (new_page : Option ℕ) (x : ℕ) → IsWrittenWord P slot new_page x → IsPlaceWord P slot new_page x
 written_is_place P slot None x is = name_word_is_slot_word P slot x is
 written_is_place P slot (Some page) x (inl content) = inl content
-written_is_place P slot (Some page) x (inr (inl kind)) = inr (record { field = 1; is_field = omega arith; at = kind })
-written_is_place P slot (Some page) x (inr (inr offset)) = inr (record { field = 2; is_field = omega arith; at = offset })
+written_is_place P slot (Some page) x (inr rest) = released_is_own P page x rest
 
 pub place_within : (P : ℕ) (I : List ℕ) (slot : ℕ) (new_page : Option ℕ) (x : ℕ) → IsVolumeSize P → MayPlace P I slot new_page → IsPlaceWord P slot new_page x → x < 512 * P
 place_within P I slot None x size may is = slot_word_in_volume P slot x may.0 is
@@ -106,14 +105,8 @@ named_there P I J K page slot name is made same =
     subst (λ (s : ℕ). IsNamedPage P K page s name) (sym is)
     (named_page_same P J K page (first_slot page) name (first_stands (first_slot page) page refl)
     (λ w low. same (page_word_of P page w) (inl (record { place = w; in_page = low; at = refl })))
-    (λ f least few. same (descriptor_word_of P page f) (inr (kind_or_offset f least few)))
+    (λ f which. same (descriptor_word_of P page f) (inr (elim which [ inl kind ↦ inl (ap (descriptor_word_of P page) kind) | inr offset ↦ inr (ap (descriptor_word_of P page) offset) ])))
     (named_page P I J page (first_slot page) name made))
-  where
-    kind_or_offset : (f : ℕ) → 1 ≤ f → f < 3 → (descriptor_word_of P page f ≡ descriptor_word_of P page 1) ⊎ (descriptor_word_of P page f ≡ descriptor_word_of P page 2)
-    kind_or_offset f least few = elim (cases_eq f 1) [
-      | inl one ↦ inl (ap (λ (k : ℕ). descriptor_word_of P page k) one)
-      | inr more ↦ inr (let two : f ≡ 2 = omega (arith, least, few, more) in ap (λ (k : ℕ). descriptor_word_of P page k) two)
-    ]
 
 -- so it can get its owner
 abbrev pub IsFilledPlace : ℕ → List ℕ → List ℕ → ℕ → List ℕ → Option ℕ → Type 0

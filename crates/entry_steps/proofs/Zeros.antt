@@ -3,7 +3,7 @@ use Rattle.std.proofs.Common.{◌≡◌, ℕ, zero, suc, ◌+◌, ◌-◌, ◌<�
 use Rattle.std.proofs.lemmas.List.{get_or-replicate, get_or_append_left, get_or-append_right, length-replicate}
 use Rattle.layout.specs.Geometry.{inodes_of, inode_pages_of, descriptor_pages_of, data_pages_of, first_data_word_of, descriptor_word_of, inode_word_of, slot_word_of, slots_of}
 use Rattle.layout.proofs.GeometryLaws.{descriptor_word_below}
-use Rattle.layout.specs.Fields.{word, words_from, inode_kind, inode_links, inode_size, inode_own, page_owner, page_kind, page_offset, slot_inode, slot_pointer, slot_words}
+use Rattle.layout.specs.Fields.{word, words_from, inode_fields, descriptor_fields, inode_kind, inode_links, inode_size, inode_own, page_owner, page_kind, page_offset, slot_inode, slot_pointer, slot_words}
 use Rattle.inode_state.specs.States.{free_fields}
 use Rattle.inode_state.specs.Inode.{fields_at}
 use Rattle.inode_state.proofs.InodeLaws.{same_fields as same_inode}
@@ -31,11 +31,11 @@ zero_slot P I s each =
     same_slot (slot_fields_at P I s) free_slot (each 0 (omega arith)) (each 1 (omega arith))
     (zero_words I (slot_word_of P s 2) 14 (λ k low. ap (λ (x : ℕ). word I x) (next_fields P s 2 k) ∙ each (2 + k) (omega (arith, low))))
 
-pub zero_inode : (I : List ℕ) (i : ℕ) → ((f : ℕ) → f < 4 → word I (inode_word_of i f) ≡ 0) → fields_at I i ≡ free_fields
+pub zero_inode : (I : List ℕ) (i : ℕ) → ((f : ℕ) → f < inode_fields → word I (inode_word_of i f) ≡ 0) → fields_at I i ≡ free_fields
 unfolding inode_kind inode_links inode_size inode_own
 zero_inode I i each = same_inode (fields_at I i) free_fields (each 0 (omega arith)) (each 1 (omega arith)) (each 2 (omega arith)) (each 3 (omega arith))
 
-pub zero_descriptor : (P : ℕ) (I : List ℕ) (j : ℕ) → ((f : ℕ) → f < 3 → word I (descriptor_word_of P j f) ≡ 0) → descriptor_of P I j ≡ record { owner = 0; kind = 0; offset = 0 }
+pub zero_descriptor : (P : ℕ) (I : List ℕ) (j : ℕ) → ((f : ℕ) → f < descriptor_fields → word I (descriptor_word_of P j f) ≡ 0) → descriptor_of P I j ≡ record { owner = 0; kind = 0; offset = 0 }
 unfolding page_owner page_kind page_offset
 zero_descriptor P I j each = same_descriptor_fields (descriptor_of P I j) (record { owner = 0; kind = 0; offset = 0 }) (each 0 (omega arith)) (each 1 (omega arith)) (each 2 (omega arith))
 
@@ -71,22 +71,22 @@ all_slots = refl
 
 -- ---- one inode's words among zeros
 
-module _ (words front node rest : List ℕ) (before few : ℕ) (is : words ≡ (front ++ node) ++ rest) (zeros : front ≡ replicate before 0) (four : length node ≡ 4) (others : rest ≡ replicate few 0) where
+module _ (words front node rest : List ℕ) (before few : ℕ) (is : words ≡ (front ++ node) ++ rest) (zeros : front ≡ replicate before 0) (long : length node ≡ inode_fields) (others : rest ≡ replicate few 0) where
   long_front : length front ≡ before
   long_front = ap length zeros ∙ length-replicate {A = ℕ} before 0
 
-  long_both : length (front ++ node) ≡ before + 4
-  long_both = let both = length-append front node in omega (arith, both, long_front, four)
+  long_both : length (front ++ node) ≡ before + inode_fields
+  long_both = let both = length-append front node in omega (arith, both, long_front, long)
 
-  pub at_node : (k : ℕ) → k < 4 → slice_index words (before + k) ≡ slice_index node k
+  pub at_node : (k : ℕ) → k < inode_fields → slice_index words (before + k) ≡ slice_index node k
   at_node k low =
       ap (λ (l : List ℕ). slice_index l (before + k)) is ∙ get_or_append_left (front ++ node) rest 0 (before + k) (omega (arith, long_both, low))
       ∙ get_or-append_right front node before (before + k) 0 long_front (omega arith) ∙ ap (λ (j : ℕ). slice_index node j) (let less : before + k - before ≡ k = omega arith in less)
 
-  pub past_node : (w : ℕ) → before + 4 ≤ w → w < before + 4 + few → slice_index words w ≡ 0
+  pub past_node : (w : ℕ) → before + inode_fields ≤ w → w < before + inode_fields + few → slice_index words w ≡ 0
   past_node w high low =
-      ap (λ (l : List ℕ). slice_index l w) is ∙ get_or-append_right (front ++ node) rest (before + 4) w 0 long_both high
-      ∙ ap (λ (l : List ℕ). slice_index l (w - (before + 4))) others ∙ get_or-replicate few (w - (before + 4)) 0 0 (omega (arith, high, low))
+      ap (λ (l : List ℕ). slice_index l w) is ∙ get_or-append_right (front ++ node) rest (before + inode_fields) w 0 long_both high
+      ∙ ap (λ (l : List ℕ). slice_index l (w - (before + inode_fields))) others ∙ get_or-replicate few (w - (before + inode_fields)) 0 0 (omega (arith, high, low))
 
-  pub long_image : length words ≡ before + 4 + few
+  pub long_image : length words ≡ before + inode_fields + few
   long_image = let both = length-append (front ++ node) rest in let more = ap length others ∙ length-replicate {A = ℕ} few 0 in omega (arith, ap length is, both, long_both, more)

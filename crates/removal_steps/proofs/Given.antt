@@ -10,7 +10,7 @@ use Rattle.pm_trait.proofs.DeviceLaws.{interval_keeps, interval_length, clean_st
 use Rattle.pm_trait.proofs.DeviceViewLaws.{stores_then, stores_weaker}
 use Rattle.layout.specs.declared.fields.DescriptorFields.{DescriptorFields}
 use Rattle.layout.specs.Geometry.{IsVolumeSize, data_pages_of, descriptor_word_of, slot_word_of}
-use Rattle.layout.specs.Fields.{word, page_owner, page_kind, slot_inode}
+use Rattle.layout.specs.Fields.{word, descriptor_fields, page_owner, page_kind, slot_inode}
 use Rattle.page_state.specs.Page.{EachPage, OfSome, IsOwnWord, IsOwnerWord}
 use Rattle.page_state.proofs.PageLaws.{own_words_apart}
 use Rattle.image_laws.specs.Drop.{GivesPages}
@@ -49,7 +49,7 @@ some_page b n is test = elim (nat_lt 0 n) as (λ t. b ≡ not t → t ≡ true) 
 pub still_emptied : (P j : ℕ) (a b : List ℕ) → ((w : ℕ) → IsOwnWord P j w → slice_index b w ≡ slice_index a w) → IsEmptied P a j → IsEmptied P b j
 unfolding page_owner page_kind slot_inode word
 still_emptied P j a b same emptied =
-    let at : (field : ℕ) → field < 3 → slice_index b (descriptor_word_of P j field) ≡ slice_index a (descriptor_word_of P j field) = λ field few. same (descriptor_word_of P j field) (inr (record { field = field; is_field = few; at = refl })) in
+    let at : (field : ℕ) → field < descriptor_fields → slice_index b (descriptor_word_of P j field) ≡ slice_index a (descriptor_word_of P j field) = λ field few. same (descriptor_word_of P j field) (inr (record { field = field; is_field = few; at = refl })) in
     record {
       in_range = emptied.in_range;
       owned = λ none. emptied.owned (sym (at 0 (omega arith)) ∙ none);

@@ -1,5 +1,6 @@
 -- What is left of a move, and what its next step costs, by its plan alone: its steps with a store, and their events.
-use Rattle.std.specs.Prelude.{ℕ, ◌+◌, ◌*◌, ◌^◌, ◌<◌, is_some, if◌then◌else◌}
+use Rattle.std.specs.Prelude.{ℕ, ◌+◌, ◌*◌, ◌≤◌, is_some, if◌then◌else◌}
+use Rattle.layout.specs.Geometry.{most_data_pages}
 use Rattle.volume.specs.Costs.{count_of, goes_of, pages_of_loss, pages_replaced, fences_for_page, fences_for_loss, word_events, page_events, fence_events, commit_events, clearing_events, pointing_events}
 use Rattle.volume.specs.Moves.{rising_of, falling_of}
 use Rattle.volume.specs.declared.plan.Moving.{Moving}
@@ -12,7 +13,7 @@ use Rattle.rename_ptr.specs.declared.rename.Stage.TheVariants.{Nothing, Moving a
 -- the pages that go with a replaced node are no more than a volume has
 abbrev pub IsBoundedStage : Stage → Type 0
 IsBoundedStage Nothing = Unit {0}
-IsBoundedStage (Moves moving progress) = pages_of_loss moving.replaced < 2 ^ 16
+IsBoundedStage (Moves moving progress) = pages_of_loss moving.replaced ≤ most_data_pages
 
 -- those of the two steps that give back what goes
 abbrev pub losing_fences : Moving → ℕ

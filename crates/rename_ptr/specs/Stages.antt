@@ -1,7 +1,8 @@
 -- The move of a name between two of its steps: what stands then of the device and of the volume, and what the next step makes. P is the
 -- number of pages; the pages are those that go with a replaced node. A move runs alone, so that what stands is said by the words at its
 -- begin and by the steps that were made since.
-use Rattle.std.specs.Prelude.{◌≡◌, ◌≢◌, ◌⊎◌, ℕ, ◌*◌, ◌^◌, ◌<◌, ◌≤◌, true, false, nat_lt, if◌then◌else◌, List, [], ◌∷◌, ◌++◌, length, Contains, Option, Some, None}
+use Rattle.std.specs.Prelude.{◌≡◌, ◌≢◌, ◌⊎◌, ℕ, ◌*◌, ◌<◌, ◌≤◌, true, false, nat_lt, if◌then◌else◌, List, [], ◌∷◌, ◌++◌, length, Contains, Option, Some, None}
+use Rattle.layout.specs.Geometry.{most_data_pages}
 use Rattle.pm_trait.specs.DeviceView.{DeviceView}
 use Rattle.pm_trait.specs.Unfolds.{Step, Through, events_in}
 use Rattle.layout.specs.Name.{words_of_name}
@@ -175,11 +176,11 @@ MayLose volume moving None = Unit {0}
 MayLose volume moving (Some loss) =
     (1 ≤ loss.inode) × (loss.inode ≤ inodes_of_index volume.index) × (loss.goes ≡ true → MayGo volume loss.inode × (moving.from_directory ≢ loss.inode))
 
--- What is given back is in the volume: the page of the old slot, and a replaced inode with its pages, fewer than a volume may have; they are apart.
+-- What is given back is in the volume: the page of the old slot, and a replaced inode with its pages, no more than a volume may have; they are apart.
 pub record HasLosses (volume : VolumeView) (moving : Moving) : Type 0 where
   pub directory : (1 ≤ moving.from_directory) × (moving.from_directory ≤ inodes_of_index volume.index)
   pub count : length (gone_pages volume moving.replaced) ≡ pages_of_loss moving.replaced
-  pub few : pages_of_loss moving.replaced < 2 ^ 16
+  pub few : pages_of_loss moving.replaced ≤ most_data_pages
   pub page : MayGiveBack volume moving.from_directory moving.given_back
   pub inode : MayLose volume moving moving.replaced
   pub apart : (page : ℕ) → moving.given_back ≡ Some page → ¬ Contains (gone_pages volume moving.replaced) page

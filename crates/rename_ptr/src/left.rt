@@ -1,5 +1,6 @@
 // What a move holds and has left between two of its steps, and what its next step costs.
-ghost use Rattle.std.specs.Prelude.{◌≡◌, ◌<◌, ◌^◌, nat_lt};
+ghost use Rattle.std.specs.Prelude.{◌≡◌, ◌≤◌, nat_lt};
+ghost use Rattle.layout.specs.Geometry.{most_data_pages};
 ghost use Rattle.volume.specs.Costs.{goes_of, pages_of_loss, pages_replaced};
 ghost use Rattle.rename_ptr.specs.Stages.{held_moving};
 ghost use Rattle.rename_ptr.specs.Counts.{pointing_cost, losing_fences, fences_at, events_at};
@@ -33,7 +34,7 @@ pub fn gives_pages(moving: &Moving) -> bool
 
 // How many pages are given back.
 fn pages_given(moving: &Moving) -> u64
-    requires bounded { pages_of_loss moving.now.replaced < 2 ^ 16 }
+    requires bounded { pages_of_loss moving.now.replaced ≤ most_data_pages }
     ensures { result ≡ pages_replaced moving.now }
 {
     let lost = match moving.replaced {
@@ -48,7 +49,7 @@ fn pages_given(moving: &Moving) -> u64
 
 // Until the commit the new page, and behind it what is given back.
 pub fn held_at(moving: &Moving, progress: Progress) -> Held
-    requires bounded { pages_of_loss moving.now.replaced < 2 ^ 16 }
+    requires bounded { pages_of_loss moving.now.replaced ≤ most_data_pages }
     ensures { result ≡ held_moving moving.now progress }
 {
     match progress {
@@ -118,7 +119,7 @@ fn pointing_events(moving: &Moving) -> u64
 
 // The events of the step that comes next.
 pub fn step_events(moving: &Moving, progress: Progress) -> u64
-    requires bounded { pages_of_loss moving.now.replaced < 2 ^ 16 }
+    requires bounded { pages_of_loss moving.now.replaced ≤ most_data_pages }
     ensures { result ≡ events_at moving.now progress }
 {
     match progress {

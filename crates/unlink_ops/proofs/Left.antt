@@ -3,6 +3,7 @@ use Rattle.std.proofs.Common.{◌≡◌, ◌≢◌, ◌↔◌, inl, inr, ℕ, �
 use Rattle.std.specs.Prelude.{Contains}
 use Rattle.layout.specs.Geometry.{inodes_of, data_pages_of, inode_word_of, slot_word_of}
 use Rattle.layout.proofs.GeometryLaws.{same_inode_word, inode_word_not_descriptor_word, inode_word_not_slot_word}
+use Rattle.layout.proofs.Widths.{in_inode, inode_field_read}
 use Rattle.layout.specs.Fields.{word, inode_kind, page_owner, slot_inode}
 use Rattle.tree_model.specs.PathText.{Route}
 use Rattle.tree_model.specs.Tree.{parent, is_directory}
@@ -82,7 +83,7 @@ module _ {P : ℕ} {W : List ℕ} {state : State} (kind : steps.Removal) (path :
   unfolding inode_kind word
   kind_kept x some most other node_some falling_some =
       drops.rest.others (inode_word_of x 0) (λ j f given low high. inode_word_not_descriptor_word P x j 0 f some most (omega arith))
-      (λ gone f lt e. other gone ((same_inode_word x (slot_inode P W removal.slot) 0 f some node_some (omega arith) (omega (arith, lt)) e).0))
+      (λ gone f lt e. other gone ((same_inode_word x (slot_inode P W removal.slot) 0 f some node_some (omega arith) (in_inode _ f lt) e).0))
       ∙ drops.gives.others (inode_word_of x 0) (λ j given. inode_word_not_descriptor_word P x j 0 0 some most (omega arith))
       ∙ drops.clears.others (inode_word_of x 0) (λ f low high. inode_word_not_slot_word P x removal.slot 0 f some most (omega arith))
       (λ e. let zero = (same_inode_word x (falling_of kind removal) 0 1 some falling_some (omega arith) (omega arith) e).1 in omega (arith, zero))
@@ -103,7 +104,7 @@ module _ {P : ℕ} {W : List ℕ} {state : State} (kind : steps.Removal) (path :
 
   kind_gone : removal.loss.goes ≡ true → inode_kind K removal.loss.inode ≡ 0
   unfolding inode_kind
-  kind_gone goes = ap (λ (i : ℕ). word K (inode_word_of i 0)) (sym (Removals.inode_is kind path at)) ∙ drops.rest.inode (gone_is goes) 0 (omega arith)
+  kind_gone goes = ap (λ (i : ℕ). word K (inode_word_of i 0)) (sym (Removals.inode_is kind path at)) ∙ drops.rest.inode (gone_is goes) 0 (inode_field_read _ 0 (omega arith))
 
   pub has_left : HasLeft P W K removal
   has_left = record {

@@ -7,7 +7,7 @@ use Rattle.layout.specs.Fields.{page_owner}
 use Rattle.layout.specs.Geometry.{IsVolumeSize, data_pages_of, descriptor_word_of}
 use Rattle.layout.specs.Name.{IsName, IsBytes, words_of_name}
 use Rattle.layout.proofs.NameLaws.{IsNameWords-words_of_name}
-use Rattle.image_laws.proofs.Addresses.{descriptor-ne_inode, descriptor-ne_slot, descriptor-ne_page, descriptor_word-one}
+use Rattle.image_laws.proofs.Addresses.{descriptor-ne_inode, descriptor-ne_slot, descriptor-ne_page}
 use Rattle.image_laws.proofs.Linking.{not_linked}
 use Rattle.image_laws.proofs.NewPage.{not_page_made}
 use Rattle.fence_token.specs.declared.states.Clean.{Clean}
@@ -24,6 +24,7 @@ use Rattle.entry_steps.specs.Steps.{first_slot, owning, naming, claim_steps}
 use Rattle.entry_steps.specs.Waiting.{IsSlotAt, IsPageAt}
 use Rattle.entry_steps.specs.declared.place.NamePlace.{NamePlace}
 use Rattle.entry_steps.specs.declared.place.NamePlace.TheVariants.{Page}
+use Rattle.entry_steps.proofs.Opened.{owner_is_no_rest}
 use Rattle.entry_steps.proofs.Placing.{IsFilledPlace}
 use Rattle.entry_steps.proofs.Keeping.{kept_on, settled, name_still, place_still}
 use Rattle.entry_steps.proofs.Waiting.{claims, place_waits_at, inode_over_claim, page_taken}
@@ -49,7 +50,7 @@ module _ (P : ℕ) (W : List ℕ) (link : NewName) (ready : IsReady P W link) wh
   owner_same I page lt made = made.others (descriptor_word_of P page 0)
       (not_page_made P page (descriptor_word_of P page 0)
       (λ w l. descriptor-ne_page P page 0 page w lt (omega arith))
-      (λ f low high e. let (same_page, same_field) = descriptor_word-one P page 0 page f (omega arith) (omega (arith, high)) e in omega (arith, low, same_field)))
+      (owner_is_no_rest P page page))
       (not_linked P link.slot link.inode (descriptor_word_of P page 0)
       (λ k l. descriptor-ne_slot P page 0 link.slot (2 + k) lt (omega arith))
       (descriptor-ne_inode P page 0 link.inode 1 ready.file.least ready.file.most (omega arith)))

@@ -128,7 +128,7 @@ module _ {P : ℕ} {W : List ℕ} {state : State} (kind : steps.Removal) (path :
       (inl (here, sym inode_is), (λ two t slot. omega (arith, here, two)))
   kind_by directory is =
       let same = some_one is.source.id removal.loss.inode (sym is.source.named ∙ for_removal.named.inode_is) ∙ sym inode_is in
-      let two = (((size_law P W state coherent at.reads).directories is.source.id).0 (ap (λ (o : Option Node). is_directory_node o) is.source.directory)).1 in
+      let two = (((size_law P W state coherent at.reads).directories is.source.id).0 is.source.directory).1 in
       let none = ((absence_law P W state coherent at.reads).empty is.source.id).0 is.empty in
       (inr (subst (λ (i : ℕ). IsDirectory W i) same two, sym owner_is), (λ _ t slot. none t (subst (λ (i : ℕ). IsSlotOf P W i t) (sym same) slot)))
 
@@ -142,7 +142,7 @@ module _ {P : ℕ} {W : List ℕ} {state : State} (kind : steps.Removal) (path :
   falling_by_kind directory is Directory kind_is = refl
   falling_by_kind directory is File kind_is =
       let same = some_one is.source.id removal.loss.inode (sym is.source.named ∙ for_removal.named.inode_is) in
-      let yes = ap (λ (i : ℕ). is_directory state.tree i) (sym same) ∙ ap (λ (o : Option Node). is_directory_node o) is.source.directory in
+      let yes = ap (λ (i : ℕ). is_directory state.tree i) (sym same) ∙ is.source.directory in
       absurd (false≢true (sym kind_is ∙ yes))
 
   pub falling_is : falling_by removal.loss.kind removal ≡ falling_of kind removal

@@ -2,7 +2,7 @@
 use Rattle.std.proofs.Common.{◌≡◌, inl, ℕ, ◌+◌, ◌-◌, ◌^◌, ◌<◌, List, [], ◌∷◌, ◌++◌, length, slice_index, replicate, None, ◌∙◌, ap, subst, sym, arith}
 use Rattle.std.specs.Prelude.{Option}
 use Rattle.layout.specs.Geometry.{inodes_of, first_data_word_of, inode_word_of, slot_word_of, slots_of}
-use Rattle.layout.specs.Fields.{word, inode_kind, inode_links, inode_size, inode_own}
+use Rattle.layout.specs.Fields.{word, inode_fields, inode_kind, inode_links, inode_size, inode_own}
 use Rattle.inode_state.specs.States.{IsLive}
 use Rattle.inode_state.specs.Inode.{fields_at}
 use Rattle.volume.specs.declared.plan.NewName.{NewName}
@@ -11,7 +11,7 @@ use Rattle.entry_steps.proofs.Zeros.{zero_slot, sixteen_pages, four_inodes, all_
 use Rattle.unlink_ops.specs.Linking.{IsReady}
 
 module _ (words front file rest : List ℕ) (few : ℕ) (is : words ≡ (front ++ file) ++ rest) (zeros : front ≡ replicate 528 0) (inode : file ≡ 1 ∷ 1 ∷ 0 ∷ 2 ∷ []) (others : rest ≡ replicate few 0) where
-  at_file : (k : ℕ) → k < 4 → slice_index words (528 + k) ≡ slice_index (1 ∷ 1 ∷ 0 ∷ 2 ∷ []) k
+  at_file : (k : ℕ) → k < inode_fields → slice_index words (528 + k) ≡ slice_index (1 ∷ 1 ∷ 0 ∷ 2 ∷ []) k
   at_file k low = at_node words front file rest 528 few is zeros (ap length inode) others k low ∙ ap (λ (l : List ℕ). slice_index l k) inode
 
   pub file_ready : (P : ℕ) (link : NewName) → P ≡ 16 → few ≡ 7660 → link.inode ≡ 2 → link.slot ≡ 0 → link.new_page ≡ None → IsReady P words link

@@ -1,9 +1,9 @@
 -- The taking away of a name between two steps of its call: what stands then of the device and of the volume as they are, and what the next
 -- step makes. P is the number of pages, I the words; the pages are those that go with the node.
-use Rattle.std.specs.Prelude.{◌≡◌, ◌≢◌, ◌⊎◌, ℕ, ◌*◌, ◌^◌, ◌<◌, ◌≤◌, true, false, nat_lt, if◌then◌else◌, List, [], ◌∷◌, length, Contains, Option, Some, None}
+use Rattle.std.specs.Prelude.{◌≡◌, ◌≢◌, ◌⊎◌, ℕ, ◌*◌, ◌<◌, ◌≤◌, true, false, nat_lt, if◌then◌else◌, List, [], ◌∷◌, length, Contains, Option, Some, None}
 use Rattle.pm_trait.specs.DeviceView.{DeviceView}
 use Rattle.pm_trait.specs.Unfolds.{Step, events_in}
-use Rattle.layout.specs.Geometry.{inodes_of, data_pages_of, page_of_slot}
+use Rattle.layout.specs.Geometry.{most_data_pages, inodes_of, data_pages_of, page_of_slot}
 use Rattle.layout.specs.Fields.{inode_kind, inode_own, inode_links, page_owner, page_kind, slot_inode}
 use Rattle.layout.specs.Kinds.{node_code}
 use Rattle.layout.specs.declared.kinds.NodeKind.TheVariants.{File}
@@ -134,12 +134,12 @@ HasName volume removal Unnamed = Unit {0}
 HasName volume removal Cleared = Unit {0}
 HasName volume removal Disowned = Unit {0}
 
--- What is given back is in the volume: the page of the slot, and the inode with its pages, fewer than a volume may have; they are apart.
+-- What is given back is in the volume: the page of the slot, and the inode with its pages, no more than a volume may have; they are apart.
 pub record HasLosses (volume : VolumeView) (removal : Removal) : Type 0 where
   pub node : (1 ≤ removal.loss.inode) × (removal.loss.inode ≤ inodes_of_index volume.index)
   pub directory : (1 ≤ removal.directory) × (removal.directory ≤ inodes_of_index volume.index)
   pub count : length (pages_gone volume removal) ≡ removal.loss.pages
-  pub few : removal.loss.pages < 2 ^ 16
+  pub few : removal.loss.pages ≤ most_data_pages
   pub page : MayGiveBack volume removal.directory removal.given_back
   pub inode : removal.loss.goes ≡ true → MayGo volume removal.loss.inode
   pub apart : removal.loss.goes ≡ true → (removal.directory ≢ removal.loss.inode) × ((page : ℕ) → removal.given_back ≡ Some page → ¬ Contains (pages_gone volume removal) page)
