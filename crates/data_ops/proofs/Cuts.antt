@@ -3,12 +3,10 @@ use Rattle.std.proofs.Common.{◌≡◌, ◌≢◌, ◌⊎◌, ℕ, ◌+◌, ◌
 use Rattle.std.proofs.lemmas.List.{get_or_default, get_or-set_same}
 use Rattle.std.proofs.lemmas.List.Elements.{Contains-get_or}
 use Rattle.std.specs.Prelude.{Result, Ok, OnOk}
-use Rattle.std.proofs.lemmas.Bool.Decides.{nat_tests}
-use Rattle.std.proofs.lemmas.Bool.{cases_eq}
+use Rattle.std.proofs.lemmas.Bool.{cases_eq, lt-ltb, ltb-true, ltb-false}
 use Rattle.pm_trait.specs.DeviceView.{DeviceView, IsSettledView}
-use Rattle.pm_trait.specs.Unfolds.{Step, Takes, events_in, MayFence, Along, fences_in, Unfolds}
+use Rattle.pm_trait.specs.Unfolds.{Step, Takes, events_in, Along, fences_in, Unfolds}
 use Rattle.pm_trait.proofs.Unfolding.{step_intervals, map_ok, through, next}
-use Rattle.pm_trait.proofs.Onward.{IsOnward, one_more, skips}
 use Rattle.layout.specs.declared.fields.DescriptorFields.{DescriptorFields}
 use Rattle.layout.specs.Geometry.{IsVolumeSize, pieces, data_pages_of, inode_word_of, descriptor_word_of, inodes_of}
 use Rattle.layout.specs.Fields.{word, inode_size, page_owner, page_kind, page_offset}
@@ -61,8 +59,9 @@ use Rattle.data_ops.specs.declared.truncate.CutProgress.{CutProgress}
 use Rattle.data_ops.specs.declared.truncate.CutProgress.TheVariants.{Begun, Lowered, Trimmed}
 use Rattle.data_ops.specs.declared.truncate.Stage.{Stage}
 use Rattle.data_ops.specs.declared.truncate.Stage.TheVariants.{Cutting}
-use Rattle.data_ops.proofs.Pages.{none_given, none_cleared, test_some, kept_descriptor}
-use Rattle.data_ops.proofs.Steps.{resizing_for, events_parted, first_fences, stored_events}
+use Rattle.data_ops.proofs.Pages.{none_given, none_cleared, kept_descriptor}
+use Rattle.data_ops.proofs.Steps.{resizing_for}
+use Rattle.data_ops.proofs.Going.{IsBehind, all_behind, none_behind, stored_events}
 use Rattle.data_ops.proofs.Spans.{IsPart, bytes_part, dropped_part}
 
 -- ---- the pages behind a file's new end: what stands before each step, by the words as they are, and what the laws ask of them
@@ -227,14 +226,14 @@ rest_of_cut P resizing pages Begun = giving P (gone_pages resizing pages) ∷ fr
 rest_of_cut P resizing pages Lowered = freeing P (gone_pages resizing pages) ∷ []
 rest_of_cut P resizing pages Trimmed = []
 
-pub cut_left : (P : ℕ) (resizing : Resizing) (pages : List ℕ) (progress : CutProgress) → left_of_cut P resizing pages progress ≡ step_of_cut P resizing pages progress ∷ rest_of_cut P resizing pages progress
+cut_left : (P : ℕ) (resizing : Resizing) (pages : List ℕ) (progress : CutProgress) → left_of_cut P resizing pages progress ≡ step_of_cut P resizing pages progress ∷ rest_of_cut P resizing pages progress
 cut_left P resizing pages Begun = refl
 cut_left P resizing pages Lowered = refl
 cut_left P resizing pages Trimmed = refl
 
 module _ (P : ℕ) (I : List ℕ) (resizing : Resizing) (pages : List ℕ) (enough : resizing.cut ≤ length pages) where
   some_gone : 0 < resizing.cut → nat_lt 0 (length (gone_pages resizing pages)) ≡ true
-  some_gone some = test_some (length (gone_pages resizing pages)) (let long = last_long resizing pages enough in omega (arith, some, long))
+  some_gone some = lt-ltb 0 (length (gone_pages resizing pages)) (let long = last_long resizing pages enough in omega (arith, some, long))
 
   -- the step has a store
   pub cut_stores : (progress : CutProgress) → IsCutAt P I resizing pages progress → (step_of_cut P resizing pages progress).stores ≡ true
@@ -281,7 +280,7 @@ module _ (volume : VolumeView) (device : DeviceView) (resizing : Resizing) (prog
 
 next_lowered : (volume : VolumeView) (device : DeviceView) (resizing : Resizing) (some : Bool) → nat_lt 0 resizing.cut ≡ some → (0 < resizing.cut → StandsStage volume device (Cutting resizing Lowered))
     → StandsNext volume device (if some then More (Cutting resizing Lowered) else Ended Done)
-next_lowered volume device resizing true is stands = stands (let test = is in grind (arith, nat_tests))
+next_lowered volume device resizing true is stands = stands (ltb-true 0 resizing.cut is)
 next_lowered volume device resizing false is stands = tt
 
 -- what is left of a cut stands behind its step
@@ -318,55 +317,28 @@ rank_of_cut Lowered = 2
 rank_of_cut Trimmed = 1
 
 module _ (P : ℕ) (resizing : Resizing) (pages : List ℕ) (enough : resizing.cut ≤ length pages) where
-  -- those behind the size, where pages go
-  abbrev pub left_of_loss : Bool → List Step
-  left_of_loss some = cond some (left_of_cut P resizing pages Lowered) []
-
-  abbrev pub left_behind_cut : CutProgress → List Step
-  left_behind_cut Begun = left_of_loss (nat_lt 0 resizing.cut)
-  left_behind_cut Lowered = left_of_cut P resizing pages Trimmed
-  left_behind_cut Trimmed = []
-
   none_gone : nat_lt 0 resizing.cut ≡ false → length (gone_pages resizing pages) ≡ 0
-  none_gone test = let long = last_long resizing pages enough in let none : resizing.cut ≡ 0 = grind (arith, nat_tests, test) in long ∙ none
+  none_gone test = let long = last_long resizing pages enough in let none = ltb-false 0 resizing.cut test in omega (arith, long, none)
 
   no_store : nat_lt 0 resizing.cut ≡ false → nat_lt 0 (length (gone_pages resizing pages)) ≡ false
   no_store test = ap (nat_lt 0) (last_long resizing pages enough) ∙ test
 
-  -- ---- events
+  -- those of the next stage: pages lose their owner and are freed where there are any
+  abbrev pub left_behind_cut : CutProgress → List Step
+  left_behind_cut Begun = cond (nat_lt 0 resizing.cut) (left_of_cut P resizing pages Lowered) []
+  left_behind_cut Lowered = left_of_cut P resizing pages Trimmed
+  left_behind_cut Trimmed = []
 
-  loss_events_left : (some : Bool) → nat_lt 0 resizing.cut ≡ some → events_in (left_of_loss some) ≡ events_in (left_of_cut P resizing pages Lowered)
-  loss_events_left true test = refl
-  loss_events_left false test =
-      sym (ap (λ (b : Bool). (cond b (giving P (gone_pages resizing pages)).events 0) + ((cond b (freeing P (gone_pages resizing pages)).events 0) + 0)) (no_store test))
+  loss_behind : (some : Bool) → nat_lt 0 resizing.cut ≡ some → (after : DeviceView) → IsBehind (rest_of_cut P resizing pages Begun) (cond some (left_of_cut P resizing pages Lowered) []) after
+  loss_behind true test after = all_behind (rest_of_cut P resizing pages Begun) after
+  loss_behind false test after =
+      none_behind (giving P (gone_pages resizing pages)) (no_store test) (none_given P after.words (gone_pages resizing pages) (none_gone test))
+      (none_behind (freeing P (gone_pages resizing pages)) (no_store test) (none_cleared P after.words (gone_pages resizing pages) (none_gone test)) (all_behind [] after))
 
-  rest_events : (progress : CutProgress) → events_in (left_behind_cut progress) ≡ events_in (rest_of_cut P resizing pages progress)
-  rest_events Begun = loss_events_left (nat_lt 0 resizing.cut) refl
-  rest_events Lowered = refl
-  rest_events Trimmed = refl
-
-  pub cut_events_left : (I : List ℕ) (progress : CutProgress) → IsCutAt P I resizing pages progress → events_in (left_of_cut P resizing pages progress) ≡ (step_of_cut P resizing pages progress).events + events_in (left_behind_cut progress)
-  cut_events_left I progress at = events_parted (cut_left P resizing pages progress) (left_behind_cut progress) (cut_stores P I resizing pages enough progress at) (rest_events progress)
-
-  -- ---- the list
-
-  module _ (words : ℕ) (steps : List Step) (before now : DeviceView) where
-    pub cut_may_advance : (progress : CutProgress) → IsCutAt P now.words resizing pages progress → IsOnward words steps before (left_of_cut P resizing pages progress) now → MayFence now words (step_of_cut P resizing pages progress).events 1
-    cut_may_advance progress at onward = first_fences (cut_left P resizing pages progress) (cut_stores P now.words resizing pages enough progress at) onward
-
-    -- pages lose their owner and are freed where there are any
-    loss_skipped : (some : Bool) → nat_lt 0 resizing.cut ≡ some → IsOnward words steps before (left_of_cut P resizing pages Lowered) now → IsOnward words steps before (left_of_loss some) now
-    loss_skipped true test onward = onward
-    loss_skipped false test onward =
-        skips words steps before (freeing P (gone_pages resizing pages)) [] now (no_store test) (none_cleared P now.words (gone_pages resizing pages) (none_gone test))
-        (skips words steps before (giving P (gone_pages resizing pages)) (freeing P (gone_pages resizing pages) ∷ []) now (no_store test) (none_given P now.words (gone_pages resizing pages) (none_gone test)) onward)
-
-  pub cut_onward : {T E : Type 0} {value : T} (words : ℕ) (steps : List Step) (before now : DeviceView) (progress : CutProgress) (after : DeviceView) → Takes {E = E} (step_of_cut P resizing pages progress) now after (Ok value)
-      → IsOnward words steps before (left_of_cut P resizing pages progress) now → IsOnward words steps before (left_behind_cut progress) after
-  cut_onward {value = value} words steps before now Begun after takes onward =
-      loss_skipped words steps before after (nat_lt 0 resizing.cut) refl (one_more words steps before (step_of_cut P resizing pages Begun) (rest_of_cut P resizing pages Begun) now after value takes onward)
-  cut_onward {value = value} words steps before now Lowered after takes onward = one_more words steps before (step_of_cut P resizing pages Lowered) (rest_of_cut P resizing pages Lowered) now after value takes onward
-  cut_onward {value = value} words steps before now Trimmed after takes onward = one_more words steps before (step_of_cut P resizing pages Trimmed) (rest_of_cut P resizing pages Trimmed) now after value takes onward
+  pub cut_behind : (progress : CutProgress) (after : DeviceView) → IsBehind (rest_of_cut P resizing pages progress) (left_behind_cut progress) after
+  cut_behind Begun after = loss_behind (nat_lt 0 resizing.cut) refl after
+  cut_behind Lowered after = all_behind (rest_of_cut P resizing pages Lowered) after
+  cut_behind Trimmed after = all_behind [] after
 
 -- ---- what a crash leaves while it runs, and what is cut then, by what stands before each step
 

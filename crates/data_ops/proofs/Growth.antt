@@ -1,15 +1,13 @@
 -- A file grows: what its steps leave for the next one, what a crash leaves, and what the volume knows then.
 use Rattle.std.proofs.Common.{◌≡◌, ◌≢◌, ◌⊎◌, inl, inr, ℕ, ◌+◌, ◌-◌, ◌*◌, ◌<◌, ◌≤◌, List, length, slice_index, refl, sym, ap, subst, ◌∙◌, arith, Contains, Bool, true, false, cond, nat_lt, [], ◌∷◌, Option, Some, None, ◌%◌, ◌↔◌}
-use Rattle.std.proofs.lemmas.Bool.{cases_lt}
+use Rattle.std.proofs.lemmas.Bool.{cases_lt, lt-ltb}
 use Rattle.std.proofs.lemmas.List.{length-set}
 use Rattle.std.proofs.lemmas.List.Elements.{Contains-get_or}
 use Rattle.std.proofs.lemmas.Option.{slice_get-get_or, slice_get_within}
 use Rattle.std.specs.Prelude.{Result, Ok, slice_set, OnOk}
-use Rattle.std.proofs.lemmas.Bool.Decides.{nat_tests}
 use Rattle.pm_trait.specs.DeviceView.{DeviceView, IsSettledView}
 use Rattle.pm_trait.specs.Unfolds.{MayFence, Step, Takes, step_events, events_in, fences_in, Unfolds}
 use Rattle.pm_trait.proofs.Unfolding.{step_intervals, map_ok, through, next}
-use Rattle.pm_trait.proofs.Onward.{IsOnward, one_more, skips}
 use Rattle.pm_trait.specs.Device.{Mix}
 use Rattle.layout.specs.declared.fields.DescriptorFields.{DescriptorFields}
 use Rattle.layout.specs.declared.fields.InodeFields.{InodeFields}
@@ -30,11 +28,13 @@ use Rattle.tree_model.specs.declared.command.Command.{Command}
 use Rattle.tree_model.specs.declared.command.Command.TheVariants.{Write}
 use Rattle.tree_model.specs.declared.reply.Refusal.{Refusal}
 use Rattle.image_reading.specs.Reading.{pages_of_size, Reads, HasBytes, Reached, IsPageOf}
+use Rattle.image_reading.proofs.FilePages.{page_from_place}
 use Rattle.image_reading.specs.Soundness.{Rule, IsCoherent}
 use Rattle.image_reading.specs.Counts.{IsIn, IsDistinct}
 use Rattle.image_reading.specs.Tidy.{IsTidied}
 use Rattle.image_reading.proofs.Tidied.{tidied, as_tidy}
 use Rattle.image_counts.specs.Entries.{IsEntryOf, IsPageIn, IsFreePage}
+use Rattle.image_laws.proofs.NewPage.{behind_owner}
 use Rattle.image_laws.proofs.Addresses.{page-ne_inode, descriptor-ne_inode, descriptor-ne_page, descriptor_word-one}
 use Rattle.image_laws.specs.CreateStep.{IsStepped}
 use Rattle.image_laws.specs.Frame.{SameMeaning}
@@ -81,8 +81,9 @@ use Rattle.data_ops.specs.declared.grow.Progress.{Progress}
 use Rattle.data_ops.specs.declared.grow.Progress.TheVariants.{Begun, Filled, Owned}
 use Rattle.data_ops.specs.GrowthSteps.{StandsGrowth, StandsNextGrowth}
 use Rattle.data_ops.specs.Hanging.{IsRangeWord}
-use Rattle.data_ops.proofs.Pages.{none_taken, test_some, kept_fields, kept_descriptor, owned_apart}
-use Rattle.data_ops.proofs.Steps.{exactly, first_words, leaves_stepped, events_parted, first_fences}
+use Rattle.data_ops.proofs.Pages.{none_taken, kept_fields, kept_descriptor, owned_apart}
+use Rattle.data_ops.proofs.Steps.{exactly, first_words, leaves_stepped}
+use Rattle.data_ops.proofs.Going.{IsBehind, all_behind, none_behind, stored_events}
 
 -- ---- what its steps leave for the next one, said of the words alone: the pages that are filled, and the file with its pages for
 -- its new size
@@ -116,7 +117,7 @@ module _ (P : ℕ) (W : List ℕ) (growth : Growth) (bytes old_pages new_pages :
   not_inode : (f : ℕ) → f < 16 → {a : ℕ} → IsFillWord P W growth.inode new_pages a → a ≡ inode_word_of growth.inode f → ⊥
   not_inode f few (IsFillWord.old k j w page low) e = page-ne_inode P j w growth.inode f can.held.least can.held.most few e
   not_inode f few (IsFillWord.new j w there low) e = page-ne_inode P j w growth.inode f can.held.least can.held.most few e
-  not_inode f few (IsFillWord.descriptor j g there low high) e = descriptor-ne_inode P j g growth.inode f can.held.least can.held.most few e
+  not_inode f few (IsFillWord.descriptor j g there which) e = descriptor-ne_inode P j g growth.inode f can.held.least can.held.most few e
 
   inode_kept : (f : ℕ) → f < 16 → word A (inode_word_of growth.inode f) ≡ word W (inode_word_of growth.inode f)
   inode_kept f few = fills.others (inode_word_of growth.inode f) (λ fill. not_inode f few fill refl)
@@ -124,8 +125,9 @@ module _ (P : ℕ) (W : List ℕ) (growth : Growth) (bytes old_pages new_pages :
   not_descriptor : (j f : ℕ) → j < data_pages_of P → f < 8 → (f ≡ 0) ⊎ ¬ Contains new_pages j → {a : ℕ} → IsFillWord P W growth.inode new_pages a → a ≡ descriptor_word_of P j f → ⊥
   not_descriptor j f within few why (IsFillWord.old k h w page low) e = descriptor-ne_page P j f h w within few (sym e)
   not_descriptor j f within few why (IsFillWord.new h w there low) e = descriptor-ne_page P j f h w within few (sym e)
-  not_descriptor j f within few why (IsFillWord.descriptor h g there low high) e =
-      let (same, field) = descriptor_word-one P h g j f (omega (arith, high)) few e in
+  not_descriptor j f within few why (IsFillWord.descriptor h g there which) e =
+      let (low, high) = behind_owner g which in
+      let (same, field) = descriptor_word-one P h g j f high few e in
       elim why [ inl owner ↦ (let none : ⊥ = omega (arith, low, field, owner) in none) | inr other ↦ other (subst (Contains new_pages) same there) ]
 
   descriptor_kept : (j f : ℕ) → j < data_pages_of P → f < 8 → (f ≡ 0) ⊎ ¬ Contains new_pages j → word A (descriptor_word_of P j f) ≡ word W (descriptor_word_of P j f)
@@ -348,7 +350,7 @@ module _ (volume : VolumeView) (now later : DeviceView) (growth : Growth) (bytes
   behind_owned {value = value} pages begins stands takes =
       let step = step_of_growth volume.size growth bytes pages Filled in
       let made = step_intervals step now later (Ok value) begins.settled takes in
-      let test = test_some (length pages) stands.at.some in
+      let test = lt-ltb 0 (length pages) stands.at.some in
       record {
         at = raised volume.size now.words growth (pages_of volume.index growth.inode) pages stands.at later takes.makes size (made.long ∙ begins.whole) made.settled;
         knows = knows_on volume _ growth.inode pages Filled Owned refl stands.knows stands.knows.numbers;
@@ -387,51 +389,27 @@ fewer_steps Owned pages = omega arith
 
 module _ (P : ℕ) (growth : Growth) (bytes : List ℕ) where
   -- those behind the first
-  abbrev rest_of_growth : List ℕ → Progress → List Step
+  abbrev pub rest_of_growth : List ℕ → Progress → List Step
   rest_of_growth pages Begun = owning P growth.inode pages ∷ sizing growth.inode growth.new_size ∷ []
   rest_of_growth pages Filled = sizing growth.inode growth.new_size ∷ []
   rest_of_growth pages Owned = []
 
-  pub growth_left : (pages : List ℕ) (progress : Progress) → left_of_growth P growth bytes pages progress ≡ step_of_growth P growth bytes pages progress ∷ rest_of_growth pages progress
-  growth_left pages Begun = refl
-  growth_left pages Filled = refl
-  growth_left pages Owned = refl
-
+  -- those of its next stage
   abbrev pub left_behind : List ℕ → Option Progress → List Step
-  left_behind pages (Some progress) = left_of_growth P growth bytes pages progress
+  left_behind pages (Some progress) = step_of_growth P growth bytes pages progress ∷ rest_of_growth pages progress
   left_behind pages None = []
 
-  -- each has a store
-  stores : (device : DeviceView) (olds pages : List ℕ) (progress : Progress) → IsGrowthAt P device growth bytes olds pages progress → (step_of_growth P growth bytes pages progress).stores ≡ true
-  stores device olds pages Begun stands = refl
-  stores device olds pages Filled stands = test_some (length pages) stands.some
-  stores device olds pages Owned stands = refl
+  -- owners are given where there are new pages
+  pub growth_behind : (pages : List ℕ) (progress : Progress) (after : DeviceView) → IsBehind (rest_of_growth pages progress) (left_behind pages (next_of_growth progress pages)) after
+  growth_behind [] Begun after = none_behind (owning P growth.inode []) refl (none_taken P growth.inode after.words [] refl) (all_behind (sizing growth.inode growth.new_size ∷ []) after)
+  growth_behind (page ∷ pages) Begun after = all_behind (rest_of_growth (page ∷ pages) Begun) after
+  growth_behind pages Filled after = all_behind (rest_of_growth pages Filled) after
+  growth_behind pages Owned after = all_behind [] after
 
-  -- the events of those behind it
-  rest_events : (pages : List ℕ) (progress : Progress) → events_in (left_behind pages (next_of_growth progress pages)) ≡ events_in (rest_of_growth pages progress)
-  rest_events [] Begun = refl
-  rest_events (page ∷ pages) Begun = refl
-  rest_events pages Filled = refl
-  rest_events pages Owned = refl
-
-  pub events_left : (device : DeviceView) (olds pages : List ℕ) (progress : Progress) → IsGrowthAt P device growth bytes olds pages progress
-      → events_in (left_of_growth P growth bytes pages progress) ≡ (step_of_growth P growth bytes pages progress).events + events_in (left_behind pages (next_of_growth progress pages))
-  events_left device olds pages progress stands = events_parted (growth_left pages progress) (left_behind pages (next_of_growth progress pages)) (stores device olds pages progress stands) (rest_events pages progress)
-
-  module _ (words : ℕ) (steps : List Step) (before now : DeviceView) where
-    pub growth_may_advance : (olds pages : List ℕ) (progress : Progress) → IsGrowthAt P now growth bytes olds pages progress → IsOnward words steps before (left_of_growth P growth bytes pages progress) now
-        → MayFence now words (step_of_growth P growth bytes pages progress).events 1
-    growth_may_advance olds pages progress stands onward = first_fences (growth_left pages progress) (stores now olds pages progress stands) onward
-
-    -- owners are given where there are new pages
-    pub growth_onward : {T E : Type 0} {value : T} (pages : List ℕ) (progress : Progress) (after : DeviceView) → Takes {E = E} (step_of_growth P growth bytes pages progress) now after (Ok value)
-        → IsOnward words steps before (left_of_growth P growth bytes pages progress) now → IsOnward words steps before (left_behind pages (next_of_growth progress pages)) after
-    growth_onward {value = value} [] Begun after takes onward =
-        skips words steps before (owning P growth.inode []) (sizing growth.inode growth.new_size ∷ []) after refl (none_taken P growth.inode after.words [] refl)
-        (one_more words steps before (step_of_growth P growth bytes [] Begun) (rest_of_growth [] Begun) now after value takes onward)
-    growth_onward {value = value} (page ∷ pages) Begun after takes onward = one_more words steps before (step_of_growth P growth bytes (page ∷ pages) Begun) (rest_of_growth (page ∷ pages) Begun) now after value takes onward
-    growth_onward {value = value} pages Filled after takes onward = one_more words steps before (step_of_growth P growth bytes pages Filled) (rest_of_growth pages Filled) now after value takes onward
-    growth_onward {value = value} pages Owned after takes onward = one_more words steps before (step_of_growth P growth bytes pages Owned) (rest_of_growth pages Owned) now after value takes onward
+  pub growth_own : (device : DeviceView) (olds pages : List ℕ) (progress : Progress) → IsGrowthAt P device growth bytes olds pages progress → step_events (step_of_growth P growth bytes pages progress) ≡ (step_of_growth P growth bytes pages progress).events
+  growth_own device olds pages Begun stands = refl
+  growth_own device olds pages Filled stands = stored_events (owning P growth.inode pages) (lt-ltb 0 (length pages) stands.some)
+  growth_own device olds pages Owned stands = refl
 
 -- ---- what the volume is by now
 
@@ -463,6 +441,14 @@ pub growth_beside : (inode : ℕ) (pages : List ℕ) (progress : Progress) (a b 
 growth_beside inode pages Begun a b takes = takes_beside a b pages takes
 growth_beside inode pages Filled a b same = none_beside a b same
 growth_beside inode pages Owned a b puts = pages_beside a b inode pages puts
+
+pub entered_beside : {a b : VolumeView} {inode : ℕ} {pages : List ℕ} → EntersPages a b inode pages → IsSameBeside a b
+entered_beside enters = record {
+  size = ap (λ (v : VolumeView). v.size) enters.rest;
+  stopped = ap (λ (v : VolumeView). v.stopped) enters.rest;
+  marked = ap (λ (v : VolumeView). v.marked) enters.rest;
+  kept = ap (λ (v : VolumeView). v.kept) enters.rest;
+}
 
 -- ---- what a crash leaves of it
 
@@ -566,9 +552,7 @@ module _ (P : ℕ) (growth : Growth) (bytes pages : List ℕ) where
 
 fences_are : (pages : List ℕ) → fences_for_growth pages ≡ 1 + (where_true (nat_lt 0 (length pages)) 1 + (1 + 0))
 fences_are [] = refl
-fences_are (page ∷ pages) =
-    let some : nat_lt 0 (length (page ∷ pages)) ≡ true = grind (arith, nat_tests) in
-    sym (ap (λ (t : Bool). 1 + (where_true t 1 + 1)) some)
+fences_are (page ∷ pages) = sym (ap (λ (t : Bool). 1 + (where_true t 1 + 1)) (lt-ltb 0 (length (page ∷ pages)) (omega arith)))
 
 pub growth_fences : (P : ℕ) (growth : Growth) (bytes pages : List ℕ) → fences_for_growth pages ≡ fences_in (growth_steps P growth bytes pages)
 growth_fences P growth bytes pages = fences_are pages
@@ -658,7 +642,7 @@ module _ (volume : VolumeView) (W K : List ℕ) (i : ℕ) (pages : List ℕ) (kn
   old_place : (x k j : ℕ) → 1 ≤ x → Reached volume.size W x → HasBytes W x → IsPageIn volume.size W x j → page_offset volume.size W j ≡ k → page_offset volume.size K j ≡ k
   old_place x k j some was bytes is place =
       let kind = (tidy.coherent Rule.page_kinds j).file is.in_range (subst (λ (y : ℕ). Reached volume.size W y) (sym is.owner) was) (subst (λ (y : ℕ). HasBytes W y) (sym is.owner) bytes) in
-      let of_file : IsPageOf volume.size W x k j = record { in_range = is.in_range; owner = is.owner; kind = kind; offset = place } in
+      let of_file : IsPageOf volume.size W x k j = page_from_place (record { in_range = is.in_range; owner = is.owner; kind = kind; offset = place }) in
       ((gained.files x k j was (λ there. was_ownerless x j some (contained_in j pages there) is)).1 of_file).offset
 
   said_grown : IsSaidBy volume.size facts_grown K

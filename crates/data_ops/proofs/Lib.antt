@@ -1,10 +1,12 @@
 mod Steps
+mod Going
+mod Carrying
 mod Pages
 mod Spans
 mod Growth
 mod Cuts
-mod Truncations
+mod TruncatingPlans
 pub mod Truncating
-mod Writings
+mod WritingPlans
 pub mod Writing
 mod ReadBytes

@@ -4,7 +4,7 @@ use Rattle.std.proofs.Common.{◌≡◌, inl, ℕ, zero, suc, ◌+◌, ◌<◌, 
 use Rattle.std.proofs.lemmas.Grind.{get_or_default_zero}
 use Rattle.std.proofs.lemmas.List.Elements.{Contains-get_or}
 use Rattle.std.proofs.lemmas.Option.{slice_get-get_or}
-use Rattle.std.proofs.lemmas.Bool.{cases_eq}
+use Rattle.std.proofs.lemmas.Bool.{cases_eq, lt-ltb}
 use Rattle.std.specs.Prelude.{Result, Ok}
 use Rattle.std.proofs.lemmas.Bool.Decides.{nat_tests}
 use Rattle.std.proofs.lemmas.List.{get_or_default}
@@ -20,7 +20,9 @@ use Rattle.pm_trait.specs.Unfolds.{Fenced}
 use Rattle.pm_trait.proofs.Unfolding.{interval_ends}
 use Rattle.fence_token.specs.Stored.{StoresExactly}
 use Rattle.fence_token.proofs.StoredLaws.{exactly_stores, flushes_stores}
-use Rattle.layout.specs.Fields.{inode_size, page_kind, page_offset, word, page_owner}
+use Rattle.layout.specs.Fields.{descriptor_fields, descriptor_words, inode_size, page_kind, page_offset, word, page_owner}
+use Rattle.layout.proofs.Widths.{descriptor_words_written}
+use Rattle.page_state.proofs.Releases.{zero_field, not_released}
 use Rattle.layout.specs.Geometry.{descriptor_word_of, IsVolumeSize, inodes_of, inode_word_of, data_pages_of}
 use Rattle.layout.specs.declared.fields.DescriptorFields.{DescriptorFields}
 use Rattle.inode_state.specs.Inode.{IsInodeWord, fields_at}
@@ -130,7 +132,7 @@ free_descriptor P W state tidy reads page free =
     zero_descriptor P W page (λ f lt. elim (cases_eq (word W (descriptor_word_of P page f)) 0) [
       | inl is ↦ is
       | inr ne ↦ absurd (none_of (IsLitterPage P W) page tidy.repaired.of_pages
-          (record { in_range = free.0; free = λ kept. ((page_count_law P W state (tidied tidy) reads).kept page free.0).0 kept free.1; nonzero = (f, lt, ne) }))
+          (record { in_range = free.0; free = λ kept. ((page_count_law P W state (tidied tidy) reads).kept page free.0).0 kept free.1; nonzero = (f, omega (arith, lt, descriptor_words_written W), ne) }))
     ])
 
 -- distinct pages without an owner are free ones
@@ -168,7 +170,7 @@ kept_fields i W A kept = same_fields_at i W A (λ a is.
     let few = is.is_field in
     ap (λ (k : ℕ). slice_index A k) is.at ∙ kept is.field (omega (arith, few)) ∙ ap (λ (k : ℕ). slice_index W k) (sym is.at))
 
-pub kept_descriptor : (P : ℕ) (W A : List ℕ) (page : ℕ) → ((f : ℕ) → f < 3 → word A (descriptor_word_of P page f) ≡ word W (descriptor_word_of P page f)) → descriptor_of P A page ≡ descriptor_of P W page
+pub kept_descriptor : (P : ℕ) (W A : List ℕ) (page : ℕ) → ((f : ℕ) → f < descriptor_fields → word A (descriptor_word_of P page f) ≡ word W (descriptor_word_of P page f)) → descriptor_of P A page ≡ descriptor_of P W page
 unfolding page_owner page_kind page_offset
 kept_descriptor P W A page kept = same_descriptor_fields (descriptor_of P A page) (descriptor_of P W page) (kept 0 (omega arith)) (kept 1 (omega arith)) (kept 2 (omega arith))
 
@@ -256,26 +258,12 @@ pages_given P pages run all d same = let taken = pages_taken P 0 pages run all d
 
 -- ---- the rest of descriptors
 
-zero_rest : (P j f : ℕ) (I : List ℕ) → IsWithoutKind P I j → 1 ≤ f → f < 3 → word I (descriptor_word_of P j f) ≡ 0
-unfolding page_kind page_offset
-zero_rest P j zero I none some few = absurd (omega (arith, some))
-zero_rest P j (suc zero) I none some few = none.kind
-zero_rest P j (suc (suc zero)) I none some few = none.offset
-zero_rest P j (suc (suc (suc f))) I none some few = absurd (omega (arith, few))
-
 module _ {a b : List ℕ} {ta tb : Option Trail} (P : ℕ) (pages : List ℕ) (run : IsInterval (OfSome pages (IsReleasedWord P)) a ta b tb) (all : EachPage pages (IsWithoutKind P b)) where
-  each_rest : (j f : ℕ) → Contains pages j → 1 ≤ f → f < 3 → word b (descriptor_word_of P j f) ≡ 0
-  each_rest j f (k, low, is) some few = subst (λ (p : ℕ). word b (descriptor_word_of P p f) ≡ 0) (get_or_default pages k 0 j low ∙ is) (zero_rest P (slice_index pages k) f b (all.each k low) some few)
+  each_rest : (j f : ℕ) → Contains pages j → 1 ≤ f → f < descriptor_words a → word b (descriptor_word_of P j f) ≡ 0
+  each_rest j f (k, low, is) some few = subst (λ (p : ℕ). word b (descriptor_word_of P p f) ≡ 0) (get_or_default pages k 0 j low ∙ is) (zero_field a P (slice_index pages k) b f (all.each k low) some few)
 
-  no_rest : (w : ℕ) → ((j f : ℕ) → Contains pages j → 1 ≤ f → f < 3 → w ≢ descriptor_word_of P j f) → ¬ OfSome pages (IsReleasedWord P) w
-  no_rest w out some = by some.is
-    where
-      there : Contains pages (slice_index pages some.index)
-      there = Contains-get_or pages some.index 0 some.before
-
-      by : IsReleasedWord P (slice_index pages some.index) w → ⊥
-      by (inl at) = out (slice_index pages some.index) 1 there (omega arith) (omega arith) at
-      by (inr at) = out (slice_index pages some.index) 2 there (omega arith) (omega arith) at
+  no_rest : (w : ℕ) → ((j f : ℕ) → Contains pages j → 1 ≤ f → f < descriptor_words a → w ≢ descriptor_word_of P j f) → ¬ OfSome pages (IsReleasedWord P) w
+  no_rest w out some = not_released a P (slice_index pages some.index) w (λ f. out (slice_index pages some.index) f (Contains-get_or pages some.index 0 some.before)) some.is
 
   pub pages_cleared : (d : List ℕ) → d ≡ b → ClearsPages P a d (Contains pages)
   unfolding word
@@ -312,10 +300,7 @@ none_cleared P I pages none = record {
   others = λ w out. refl;
 }
 
-pub test_some : (n : ℕ) → 0 < n → nat_lt 0 n ≡ true
-test_some n some = grind (arith, nat_tests)
-
-pub test_none : (n : ℕ) → n ≡ 0 → nat_lt 0 n ≡ false
+test_none : (n : ℕ) → n ≡ 0 → nat_lt 0 n ≡ false
 test_none n none = grind (arith, nat_tests)
 
 -- whether there are pages, as it was tested
@@ -354,7 +339,7 @@ module _ (Q : ℕ → ℕ → ℕ → Type 0) (own : (P page word : ℕ) → Q P
 -- ---- a step over pages, where there are any
 
 pub some_fenced : {T E : Type 0} {a b : DeviceView} {result : Result T E} (pages : List ℕ) (events : ℕ) (t : Bool) → t ≡ (length pages == 0) → t ≡ false → StoresAndFences a b events result → Fenced (nat_lt 0 (length pages)) events a b result
-some_fenced {a = a} {b} {result} pages events t is test one = subst (λ (some : Bool). Fenced some events a b result) (sym (test_some (length pages) (some_pages pages t is test))) one
+some_fenced {a = a} {b} {result} pages events t is test one = subst (λ (some : Bool). Fenced some events a b result) (sym (lt-ltb 0 (length pages) (some_pages pages t is test))) one
 
 pub none_fenced : (device : DeviceView) (pages : List ℕ) (events : ℕ) (t : Bool) → t ≡ (length pages == 0) → t ≡ true → Fenced {T = Unit {0}} {E = PmFault} (nat_lt 0 (length pages)) events device device (Ok tt)
 none_fenced device pages events t is test = subst (λ (some : Bool). Fenced {T = Unit {0}} {E = PmFault} some events device device (Ok tt)) (sym (test_none (length pages) (no_pages pages t is test))) (refl, refl)

@@ -1,5 +1,5 @@
 -- Bytes of a file that are read: from its pages, word by word.
-use Rattle.std.proofs.Common.{◌≡◌, ℕ, ◌+◌, ◌-◌, ◌*◌, ◌/◌, ◌%◌, ◌^◌, ◌<◌, ◌≤◌, true, List, ◌++◌, length, take, drop, slice_index, min, Option, Some, refl, sym, ap, ◌∙◌, arith, length-drop, length-take, inl, inr, length-append}
+use Rattle.std.proofs.Common.{◌≡◌, ℕ, ◌+◌, ◌-◌, ◌*◌, ◌/◌, ◌%◌, ◌^◌, ◌<◌, ◌≤◌, true, List, ◌++◌, length, take, drop, slice_index, min, Some, sym, ap, ◌∙◌, arith, length-drop, length-take, inl, inr, length-append}
 use Rattle.std.proofs.Math.Seq.{take-append_seam, drop-append_seam}
 use Rattle.std.proofs.lemmas.Grind.{same_number_lists}
 use Rattle.std.proofs.lemmas.List.{get_or-take, get_or-drop, get_or_append_left, get_or-append_right}
@@ -12,8 +12,9 @@ use Rattle.layout.specs.Name.{bytes_of_word, bytes_of_words}
 use Rattle.layout.proofs.ByteLaws.{slice_index-bytes_of_word}
 use Rattle.layout.proofs.FieldLaws.{get_or-bytes_of_words}
 use Rattle.layout.proofs.GeometryLaws.{page_word_within}
-use Rattle.tree_model.specs.Tree.{Node, File, Directory, node_at, is_file, is_file_node, bytes_of, bytes_of_node}
+use Rattle.tree_model.specs.Tree.{File, node_at, is_file, bytes_of, bytes_of_node}
 use Rattle.tree_model.specs.Run.{State}
+use Rattle.tree_model.proofs.NodeLaws.{file_is}
 use Rattle.image_reading.specs.Reading.{HasBytes, Reached, IsContent, pages_of_size}
 use Rattle.image_reading.specs.Residue.{Residue}
 use Rattle.image_reading.specs.Soundness.{Rule}
@@ -40,12 +41,6 @@ bytes_read before after part bytes offset count count_is joined long each = reco
   rest = ap (λ (l : List ℕ). drop count l) joined ∙ ap (λ (n : ℕ). drop n (part ++ drop count before)) (sym long) ∙ drop-append_seam part (drop count before);
 }
 
--- the node of a file, and its bytes
-file_is : (o : Option Node) → is_file_node o ≡ true → o ≡ Some (File (bytes_of_node o))
-file_is Option.None is = cc
-file_is (Some Directory) is = cc
-file_is (Some (File bytes)) is = refl
-
 module _ (volume : VolumeView) (device : DeviceView) (i : ℕ)
     (file : (state : State) × (residue : Residue) × StandsBeside volume device state residue × (is_file state.tree i ≡ true) × IsUntouched volume device.words residue i) where
   pub reached : Reached volume.size device.words i × HasBytes device.words i
@@ -55,7 +50,7 @@ module _ (volume : VolumeView) (device : DeviceView) (i : ℕ)
   held = has_pages_beside volume device file.0 file.1 file.2 i file.4 reached.0 reached.1
 
   node : node_at file.0.tree i ≡ Some (File (bytes_of file.0.tree i))
-  node = file_is (node_at file.0.tree i) file.3
+  node = let (bytes, is) = file_is (node_at file.0.tree i) file.3 in is ∙ ap (λ (l : List ℕ). Some (File l)) (sym (ap bytes_of_node is))
 
   pub long : length (bytes_of file.0.tree i) ≡ inode_size device.words i
   long = (size_law volume.size device.words file.0 file.2.sound.coherent file.2.reads).sizes i (bytes_of file.0.tree i) node

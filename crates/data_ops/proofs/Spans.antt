@@ -1,12 +1,11 @@
 -- New bytes of a file in its pages, old and new ones: the intervals that write inside its size, and that fill it for a growth.
 use Rattle.std.proofs.Common.{◌≡◌, ◌≢◌, ◌⊎◌, inl, inr, ℕ, ◌+◌, ◌-◌, ◌*◌, ◌/◌, ◌%◌, ◌<◌, ◌≤◌, Bool, true, false, cond, List, length, slice_index, refl, sym, ap, subst, ◌∙◌, arith, Option, nat_lt, drop, Some, min, length-drop, ◌^◌, take, None, length-take}
-use Rattle.std.specs.Prelude.{◌&&◌, nat_le, slice_get}
-use Rattle.std.proofs.lemmas.Bool.Decides.{nat_tests}
+use Rattle.std.specs.Prelude.{nat_le, slice_get}
 use Rattle.std.proofs.lemmas.List.{get_or_default, get_or-drop, get_or-take}
 use Rattle.std.proofs.lemmas.Option.{slice_get_within, slice_get-get_or}
 use Rattle.std.proofs.lemmas.List.Elements.{Contains-get_or}
 use Rattle.std.proofs.Math.Seq.{take-length}
-use Rattle.std.proofs.lemmas.Bool.{cases_lt}
+use Rattle.std.proofs.lemmas.Bool.{cases_lt, and_from, and_left, and_right, le-leb, lt-leb, lt-ltb, le-ltb}
 use Rattle.pm_trait.specs.Trail.{Trail}
 use Rattle.pm_trait.specs.Device.{IsInterval, IsFlushed, IsClean, IsSettledAt}
 use Rattle.pm_trait.specs.DeviceView.{DeviceView, Stores}
@@ -30,6 +29,7 @@ use Rattle.page_state.specs.Laws.{CountsNew}
 use Rattle.page_state.proofs.Counted.{beyond_law, inside_law}
 use Rattle.page_state.specs.States.{bytes_fields}
 use Rattle.image_reading.specs.Reading.{IsPageOf, pages_of_size}
+use Rattle.image_reading.proofs.FilePages.{page_from_place}
 use Rattle.content_laws.specs.Range.{IsBeside, IsWrittenByte, WritesBelow, WritesTail}
 use Rattle.content_laws.specs.Growth.{FillsFile, IsFillWord}
 use Rattle.content_laws.specs.Inside.{WritesInside}
@@ -48,29 +48,22 @@ use Rattle.data_ops.proofs.Pages.{pages_settled}
 -- ---- one byte
 
 range_true : (offset size at : ℕ) → offset ≤ at → at < offset + size → is_in_range offset size at ≡ true
-range_true offset size at low high =
-    let first : nat_le offset at ≡ true = grind (arith, nat_tests) in
-    let second : nat_lt at (offset + size) ≡ true = grind (arith, nat_tests) in
-    ap (λ (t : Bool). t && nat_lt at (offset + size)) first ∙ second
+range_true offset size at low high = and_from (nat_le offset at) (nat_lt at (offset + size)) (le-leb offset at low) (lt-ltb at (offset + size) high)
 
 range_false : (offset size at : ℕ) → (at < offset) ⊎ (offset + size ≤ at) → is_in_range offset size at ≡ false
-range_false offset size at (inl low) = let first : nat_le offset at ≡ false = grind (arith, nat_tests) in ap (λ (t : Bool). t && nat_lt at (offset + size)) first
-range_false offset size at (inr high) =
-    let second : nat_lt at (offset + size) ≡ false = grind (arith, nat_tests) in
-    ap (λ (t : Bool). nat_le offset at && t) second ∙ elim (nat_le offset at) as (λ t. t && false ≡ false) [ true ↦ refl | false ↦ refl ]
+range_false offset size at (inl low) = and_left (nat_le offset at) (nat_lt at (offset + size)) (lt-leb offset at low)
+range_false offset size at (inr high) = and_right (nat_le offset at) (nat_lt at (offset + size)) (le-ltb at (offset + size) high)
 
 byte_new : (span : FileSpan) (bytes : List ℕ) (at old : ℕ) → span.offset ≤ at → at < span.offset + span.length → byte_after span bytes at old ≡ slice_index bytes (at - span.offset)
 byte_new span bytes at old low high = ap (λ (t : Bool). cond t (slice_index bytes (at - span.offset)) (cond (nat_le span.zero_from at) 0 old)) (range_true span.offset span.length at low high)
 
 byte_old : (span : FileSpan) (bytes : List ℕ) (at old : ℕ) → (at < span.offset) ⊎ (span.offset + span.length ≤ at) → at < span.zero_from → byte_after span bytes at old ≡ old
 byte_old span bytes at old beside before =
-    let late : nat_le span.zero_from at ≡ false = grind (arith, nat_tests) in
-    ap (λ (t : Bool). cond t (slice_index bytes (at - span.offset)) (cond (nat_le span.zero_from at) 0 old)) (range_false span.offset span.length at beside) ∙ ap (λ (t : Bool). cond t 0 old) late
+    ap (λ (t : Bool). cond t (slice_index bytes (at - span.offset)) (cond (nat_le span.zero_from at) 0 old)) (range_false span.offset span.length at beside) ∙ ap (λ (t : Bool). cond t 0 old) (lt-leb span.zero_from at before)
 
 byte_zero : (span : FileSpan) (bytes : List ℕ) (at old : ℕ) → (at < span.offset) ⊎ (span.offset + span.length ≤ at) → span.zero_from ≤ at → byte_after span bytes at old ≡ 0
 byte_zero span bytes at old beside behind =
-    let late : nat_le span.zero_from at ≡ true = grind (arith, nat_tests) in
-    ap (λ (t : Bool). cond t (slice_index bytes (at - span.offset)) (cond (nat_le span.zero_from at) 0 old)) (range_false span.offset span.length at beside) ∙ ap (λ (t : Bool). cond t 0 old) late
+    ap (λ (t : Bool). cond t (slice_index bytes (at - span.offset)) (cond (nat_le span.zero_from at) 0 old)) (range_false span.offset span.length at beside) ∙ ap (λ (t : Bool). cond t 0 old) (le-leb span.zero_from at behind)
 
 same_length : (span : FileSpan) (bytes : List ℕ) (at : ℕ) → span.length ≡ length bytes → IsBeside span.offset bytes at → (at < span.offset) ⊎ (span.offset + span.length ≤ at)
 same_length span bytes at long (inl low) = inl low
@@ -124,12 +117,12 @@ module _ (P : ℕ) (W : List ℕ) (i : ℕ) (pages : List ℕ) (held : HasPages 
   pub page_at : (k : ℕ) → k < length pages → IsPageOf P W i k (slice_index pages k)
   page_at k low =
       let is = held.bytes.each k low in
-      record {
+      page_from_place (record {
         in_range = held.bytes.in_range.each k low;
         owner = ap (λ (d : DescriptorFields). d.owner) is;
         kind = ap (λ (d : DescriptorFields). d.kind) is;
         offset = let at = ap (λ (d : DescriptorFields). d.offset) is in omega (arith, at);
-      }
+      })
 
   module _ (span : FileSpan) (bytes part : List ℕ) (is : IsPart pages part span.first) {b : List ℕ} {ta tb : Option Trail} (run : IsInterval (IsNewWordOf span P part) W ta b tb) (have : HaveBytes P part span bytes (page_byte P W) b) where
     pub byte_at : (o j : ℕ) → IsPageOf P W i (o / 4096) j → span.first ≤ o / 4096 → o / 4096 < span.first + length part → page_byte P b j (o % 4096) ≡ byte_after span bytes o (page_byte P W j (o % 4096))
@@ -202,8 +195,7 @@ module _ {P : ℕ} (W bytes : List ℕ) {part : List ℕ} {span : FileSpan} {liv
 -- its events, where the range of its new words isn't empty
 new_events : (span : FileSpan) (n from to : ℕ) → CountsNew span n from to → from < to → span_events from to ≡ new_words span n + new_lines span n
 new_events span n from to counted far =
-    let test : nat_lt from to ≡ true = grind (arith, nat_tests) in
-    ap (λ (t : Bool). cond t (pieces to 8 - from / 8) 0 + cond t (pieces to 64 - from / 64) 0) test
+    ap (λ (t : Bool). cond t (pieces to 8 - from / 8) 0 + cond t (pieces to 64 - from / 64) 0) (lt-ltb from to far)
     ∙ sym (ap (λ (m : ℕ). m + new_lines span n) counted.words ∙ ap (λ (m : ℕ). (pieces to 8 - from / 8) + m) counted.lines)
 
 -- ---- a file's old pages are written to their end, and its new ones are filled
@@ -297,8 +289,8 @@ module _ (P : ℕ) (W : List ℕ) (growth : Growth) (bytes old_pages new_pages :
       is_fill : (a n : ℕ) → n < length new_pages → IsFilledWord P (slice_index new_pages n) a → IsFillWord P W growth.inode new_pages a
       is_fill a n low (inl content) =
           subst (IsFillWord P W growth.inode new_pages) (sym content.at) (IsFillWord.new (slice_index new_pages n) content.place (Contains-get_or new_pages n 0 low) content.in_page)
-      is_fill a n low (inr (inl at)) = subst (IsFillWord P W growth.inode new_pages) (sym at) (IsFillWord.descriptor (slice_index new_pages n) 1 (Contains-get_or new_pages n 0 low) (omega arith) (omega arith))
-      is_fill a n low (inr (inr at)) = subst (IsFillWord P W growth.inode new_pages) (sym at) (IsFillWord.descriptor (slice_index new_pages n) 2 (Contains-get_or new_pages n 0 low) (omega arith) (omega arith))
+      is_fill a n low (inr (inl at)) = subst (IsFillWord P W growth.inode new_pages) (sym at) (IsFillWord.descriptor (slice_index new_pages n) 1 (Contains-get_or new_pages n 0 low) (inl refl))
+      is_fill a n low (inr (inr at)) = subst (IsFillWord P W growth.inode new_pages) (sym at) (IsFillWord.descriptor (slice_index new_pages n) 2 (Contains-get_or new_pages n 0 low) (inr refl))
 
       is_tail : (a : ℕ) → IsTailWord P growth bytes old_pages a → IsFillWord P W growth.inode new_pages a
       is_tail a tail =

@@ -1,13 +1,11 @@
 -- Steps as a list tells them, and what holds of any plan of a write or a truncation: the state that it leaves, also where nothing is to
 -- be done, and that no step stores to the superblock.
-use Rattle.std.proofs.Common.{◌≡◌, inl, inr, ℕ, false, true, List, [], ◌∷◌, refl, sym, subst, Bool, ◌∙◌, ◌+◌, nat_lt, Contains, ◌⊎◌, cond, Some, arith, ◌==◌, length, ap, ◌<◌}
+use Rattle.std.proofs.Common.{◌≡◌, inl, inr, ℕ, false, true, List, [], ◌∷◌, refl, sym, subst, Bool, ◌∙◌, ◌+◌, nat_lt, Contains, ◌⊎◌, cond, Some, arith, ◌==◌, length, ◌<◌}
 use Rattle.std.specs.Prelude.{Result, Ok, Err, nat_le}
 use Rattle.pm_trait.specs.DeviceView.{DeviceView, IsSettledView, MakesIntervals}
-use Rattle.pm_trait.specs.Unfolds.{Step, Takes, InTurn, Unfolds, AllKeep, Quietly, MayFence, step_events, events_in}
-use Rattle.pm_trait.proofs.Unfolding as joining
+use Rattle.pm_trait.specs.Unfolds.{Step, Takes, InTurn, Unfolds, AllKeep, Quietly}
 use Rattle.pm_trait.proofs.Unfolding.{done}
 use Rattle.pm_trait.proofs.DeviceLaws.{leaves_here}
-use Rattle.pm_trait.proofs.Onward.{IsOnward}
 use Rattle.layout.specs.Superblock.{IsSuperblockWord}
 use Rattle.tree_model.specs.Capacity.{untaken}
 use Rattle.tree_model.specs.Run.{State}
@@ -59,22 +57,6 @@ only_turn (Err fault) (inr (b, one, (same, is))) = let clash : false ≡ true = 
 pub only : {T E : Type 0} {step : Step} {a c : DeviceView} {result : Result T E} → Unfolds (step ∷ []) a c result → Takes step a c result
 only {result = result} made = only_turn result made.in_turn
 
--- ---- the first of the steps that are left
-
--- a step that has a store has all its events
-pub stored_events : (step : Step) → step.stores ≡ true → step_events step ≡ step.events
-stored_events step stores = ap (λ (b : Bool). cond b step.events 0) stores
-
-module _ {left rest : List Step} {step : Step} (is : left ≡ step ∷ rest) where
-  pub events_parted : (behind : List Step) → step.stores ≡ true → events_in behind ≡ events_in rest → events_in left ≡ step.events + events_in behind
-  events_parted behind stores same = let all = ap events_in is in let first = stored_events step stores in omega (arith, all, first, same)
-
-  pub onward_first : {words : ℕ} {steps : List Step} {before now : DeviceView} → IsOnward words steps before left now → IsOnward words steps before (step ∷ rest) now
-  onward_first {words} {steps} {before} {now} = subst (λ (l : List Step). IsOnward words steps before l now) is
-
-  pub first_fences : {words : ℕ} {steps : List Step} {before now : DeviceView} → step.stores ≡ true → IsOnward words steps before left now → MayFence now words step.events 1
-  first_fences {words} {now = now} stores onward = subst (λ (n : ℕ). MayFence now words n 1) (stored_events step stores) (joining.starts step rest (onward_first onward).begins)
-
 -- ---- what the plan says of an action of its kind
 
 module _ {A : Type 0} (make : A → Action) (nothing : Action) (apart : (x : A) → make x ≡ nothing → ⊥) (same : (x y : A) → make x ≡ make y → x ≡ y) (For : A → Type 0) where
@@ -86,10 +68,10 @@ module _ {A : Type 0} (make : A → Action) (nothing : Action) (apart : (x : A) 
   says_nothing true is = refl
   says_nothing false (y, is, for) = absurd (apart y (sym is))
 
-not_nothing : (writing : Writing) → WriteBytes writing ≡ WriteNothing → ⊥
+pub not_nothing : (writing : Writing) → WriteBytes writing ≡ WriteNothing → ⊥
 not_nothing writing e = cc
 
-same_writing : (one two : Writing) → ◌≡◌ {A = Action} (WriteBytes one) (WriteBytes two) → one ≡ two
+pub same_writing : (one two : Writing) → ◌≡◌ {A = Action} (WriteBytes one) (WriteBytes two) → one ≡ two
 same_writing one two e = cc
 
 pub not_same_size : (resizing : Resizing) → Resize resizing ≡ KeepSize → ⊥

@@ -2,11 +2,11 @@
 use Rattle.std.proofs.Common.{◌≡◌, ℕ, ◌+◌, ◌-◌, ◌==◌, ◌<◌, ◌≤◌, Bool, true, false, cond, List, length, Some, unwrap_or, refl, sym, ap, subst, ◌∙◌, arith, Option, inl, ◌⊎◌, inr, [], ◌∷◌, Contains}
 use Rattle.std.proofs.lemmas.Bool.Decides.{nat_tests}
 use Rattle.std.specs.Prelude.{Ok, Result, OnOk, nat_le, Err}
-use Rattle.std.proofs.lemmas.Bool.{cases_lt}
+use Rattle.std.proofs.lemmas.Bool.{cases_lt, eqb-true, leb-true, leb-false}
 use Rattle.std.proofs.lemmas.List.{nil_from_length}
 use Rattle.pm_trait.specs.DeviceView.{DeviceView, IsSettledView, MakesIntervals}
 use Rattle.pm_trait.proofs.DeviceLaws.{fenced_stays}
-use Rattle.pm_trait.proofs.DeviceViewLaws.{intervals_none, intervals_as}
+use Rattle.pm_trait.proofs.DeviceViewLaws.{intervals_none}
 use Rattle.pm_trait.specs.Unfolds.{events_in, fences_in, Takes, Unfolds, KeepsWords}
 use Rattle.pm_trait.proofs.Unfolding.{quiet_fenced, intervals, map_ok, words_kept}
 use Rattle.layout.specs.Geometry.{pieces}
@@ -38,7 +38,7 @@ use Rattle.content_laws.proofs.Torn.{torn_tree_law}
 use Rattle.content_laws.specs.Gained.{HasGained}
 use Rattle.content_laws.proofs.Steps.{inside_step_law, written_tree}
 use Rattle.volatile_index.specs.Index.{pages_of}
-use Rattle.volume.specs.Carried.{IsPlanFor, IsAtomic, LeavesState, Follows, Carries, MayCarry}
+use Rattle.volume.specs.Carried.{IsPlanFor, IsAtomic, LeavesState, Carries, MayCarry}
 use Rattle.volume.specs.declared.plan.Action.TheVariants.{Write as WriteBytes, WriteNothing}
 use Rattle.volume.specs.Planned.{IsWritingFor}
 use Rattle.volume.specs.Volume.{VolumeView}
@@ -47,8 +47,8 @@ use Rattle.volume.proofs.LowestPages.{rising_distinct}
 use Rattle.volume.specs.Costs.{span_events, fence_events, growth_events, fences_for_growth, events_of_write, fences_of_write, events_of, fences_of_plan}
 use Rattle.volume.proofs.Unmarked.{ReadsAllowed, moments_read}
 use Rattle.volume.specs.Entered.{EntersPages}
-use Rattle.plan_laws.proofs.Left.{IsCountedBy, KeepsMark, kept_room}
-use Rattle.entry_steps.proofs.Answered.{follows_as, failed_as}
+use Rattle.plan_laws.proofs.Left.{IsCountedBy, KeepsMark}
+use Rattle.entry_steps.proofs.Answered.{follows_as}
 use Rattle.entry_steps.proofs.Moments.{is_mix, on_ok}
 use Rattle.entry_steps.proofs.Turning.{IsUnderway}
 use Rattle.data_ops.specs.Growing.{MayGrow, IsGrowing, IsGrowthBy}
@@ -57,13 +57,11 @@ use Rattle.data_ops.specs.Hanging.{IsRangeWord}
 use Rattle.data_ops.specs.Steps.{growth_steps}
 use Rattle.data_ops.proofs.Pages.{are_free, IsFileOf, found_file}
 use Rattle.data_ops.proofs.Steps.{leaves_stepped, write_keep, only, writing_for, no_byte, follows_idle, either_sum, either_made, made_as, either_more}
-use Rattle.data_ops.proofs.Growth.{growth_costs, growth_fences, grown_done, growth_underway, same_range, knows_grown, leaves_grown}
+use Rattle.data_ops.proofs.Carrying.{carries_made, carries_stopped}
+use Rattle.data_ops.proofs.Growth.{entered_beside, growth_costs, growth_fences, grown_done, growth_underway, same_range, knows_grown, leaves_grown}
 
 not_zero : (n : ℕ) → (n == 0) ≡ false → 0 < n
 not_zero n test = grind (arith, nat_tests)
-
-zero : (n : ℕ) → (n == 0) ≡ true → n ≡ 0
-zero n test = grind (arith, nat_tests)
 
 -- ---- what the plan of an accepted write says, and what its steps ask for
 
@@ -155,7 +153,7 @@ write_grows {P} {W} {state} path bytes writing at =
 
 module _ (volume : VolumeView) (device : DeviceView) (state : State) (path : Route) (offset : ℕ) (bytes : List ℕ) (plan : IsPlanFor volume device state (Write path offset bytes) WriteNothing) where
   pub none : length bytes ≡ 0
-  none = zero (length bytes) (no_byte volume.size device.words state path offset bytes plan.planned.plan_is)
+  none = eqb-true (length bytes) 0 (no_byte volume.size device.words state path offset bytes plan.planned.plan_is)
 
   -- the tree is as it was
   same_tree : state.tree ≡ tree_after (least_free_id state.tree) state.tree (Write path offset bytes)
@@ -176,14 +174,15 @@ module _ (volume : VolumeView) (device : DeviceView) (state : State) (path : Rou
       }
 
 -- the plan of a write that has nothing to do
-pub carried_nothing : {E : Type 0} (volume : VolumeView) (device : DeviceView) (bytes : List ℕ) → length bytes ≡ 0 → IsSettledView device → volume.stopped ≡ false → Carries {E = E} volume volume device device WriteNothing (Count (length bytes)) (IsWriteOf bytes) (Ok (Told 0))
-carried_nothing {E} volume device bytes none settled going = record {
+pub carried_nothing : {E : Type 0} (volume : VolumeView) (device : DeviceView) (bytes : List ℕ) (reply : Reply) → reply ≡ Told (length bytes) → IsSettledView device → volume.stopped ≡ false
+    → Carries {E = E} volume volume device device WriteNothing (Count (length bytes)) (IsWriteOf bytes) (Ok reply)
+carried_nothing {E} volume device bytes reply told settled going = record {
   meaning = λ state command ours plan.
       let (path, offset, is) = ours in
       let here = subst (λ (c : Command). IsPlanFor volume device state c WriteNothing) is plan in
-      follows_as (Write path offset bytes) command is (follows_idle here refl (λ gives. refl) (omega arith, omega arith) (is_stepped volume device state path offset bytes here) {E = E} (Told 0));
-  answered = record { reply = ap (λ (n : ℕ). let reply : Reply = Told n in reply) (sym none); going = going; knows = refl; stopped = tt; size = refl; marked = refl };
-  device = intervals_none device (Told 0) settled;
+      follows_as (Write path offset bytes) command is (follows_idle here refl (λ gives. refl) (omega arith, omega arith) (is_stepped volume device state path offset bytes here) {E = E} reply);
+  answered = record { reply = told; going = going; knows = refl; stopped = tt; size = refl; marked = refl };
+  device = intervals_none device reply settled;
   idle = λ none. (refl, refl);
   beside = λ word k. refl;
 }
@@ -247,18 +246,12 @@ all_fences P writing bytes =
 
 -- ---- what it leaves
 
-at_most : (a b : ℕ) → nat_le a b ≡ true → a ≤ b
-at_most a b test = grind (arith, nat_tests)
-
-more_than : (a b : ℕ) → nat_le a b ≡ false → b < a
-more_than a b test = grind (arith, nat_tests)
-
 module _ {T E : Type 0} (P : ℕ) (old new : DeviceView) (writing : Writing) (bytes pages : List ℕ) (result : Result T E) (may : MayWriteBytes P old.words writing bytes pages) (settled : IsSettledView old) (made : Unfolds (write_steps P writing bytes) old new result) where
   ways : ((writing.old_size < writing.offset + writing.count) × Unfolds (growth_steps P (growth_of writing) bytes writing.new_pages) old new result)
       ⊎ ((writing.offset + writing.count ≤ writing.old_size) × Takes (overwriting P writing.inode writing.offset bytes) old new result)
   ways = elim (either_made (nat_le (writing.offset + writing.count) writing.old_size) (overwriting P writing.inode writing.offset bytes ∷ []) (growth_steps P (growth_of writing) bytes writing.new_pages) made) [
-    | inl (test, inside) ↦ inr (at_most (writing.offset + writing.count) writing.old_size test, only inside)
-    | inr (test, grown) ↦ inl (more_than (writing.offset + writing.count) writing.old_size test, grown)
+    | inl (test, inside) ↦ inr (leb-true (writing.offset + writing.count) writing.old_size test, only inside)
+    | inr (test, grown) ↦ inl (leb-false (writing.offset + writing.count) writing.old_size test, grown)
   ]
 
   pub all_intervals : MakesIntervals old new (events_of_write writing) (fences_of_write writing) result
@@ -321,6 +314,14 @@ more_events writing =
     either_more (nat_le (writing.offset + writing.count) writing.old_size) (span_events writing.offset (writing.offset + writing.count) + fence_events) (growth_events writing.old_size writing.offset (length writing.new_pages))
     (omega arith) (omega arith)
 
+-- by the offset that the plan has
+pub own_offset : {volume : VolumeView} {device : DeviceView} {bytes : List ℕ} {writing : Writing} (state : State) (command : Command) → IsWriteOf bytes command → IsPlanFor volume device state command (WriteBytes writing)
+    → (path : Route) × (command ≡ Write path writing.offset bytes) × IsPlanFor volume device state (Write path writing.offset bytes) (WriteBytes writing)
+own_offset {volume} {device} {bytes} {writing} state command (path, offset, is) plan =
+    let at = subst (λ (c : Command). IsPlanFor volume device state c (WriteBytes writing)) is plan in
+    let same = sym (writing_for volume.size device.words state path offset bytes writing at.planned.plan_is).1.offset_is in
+    (path, is ∙ ap (λ (n : ℕ). Write path n bytes) same, subst (λ (n : ℕ). IsPlanFor volume device state (Write path n bytes) (WriteBytes writing)) same at)
+
 -- the plan of a write of these bytes, by the size that the call has
 module _ {volume : VolumeView} {old : DeviceView} {writing : Writing} {bytes : List ℕ} (planned : (state : State) × (path : Route) × IsPlanFor volume old state (Write path writing.offset bytes) (WriteBytes writing)) where
   may_store : MayWriteBytes volume.size old.words writing bytes (pages_of volume.index writing.inode)
@@ -336,56 +337,18 @@ module _ {volume : VolumeView} {old : DeviceView} {writing : Writing} {bytes : L
     beside : KeepsWords IsSuperblockWord old.words new.words
     beside = words_kept IsSuperblockWord (write_keep volume.size writing bytes) made
 
-    -- by the meaning of its command, which has these bytes
-    meant : {F : Type 0} {after : VolumeView} (reply : Result Reply F) → MayCarry volume old (WriteBytes writing)
-        → ((state : State) (path : Route) → IsPlanFor volume old state (Write path writing.offset bytes) (WriteBytes writing) → OnOk reply (LeavesState volume after old new state (Write path writing.offset bytes) (Count (length bytes))))
-        → (state : State) (command : Command) → IsWriteOf bytes command → IsPlanFor volume old state command (WriteBytes writing) → Follows volume after old new state command (Count (length bytes)) reply
-    meant {after = after} reply ready leaves state command (path, offset, is) plan =
-        let at = subst (λ (c : Command). IsPlanFor volume old state c (WriteBytes writing)) is plan in
-        let same = (writing_for volume.size old.words state path offset bytes writing at.planned.plan_is).1.offset_is in
-        let here = subst (λ (n : ℕ). IsPlanFor volume old state (Write path n bytes) (WriteBytes writing)) (sym same) at in
-        let follows : Follows volume after old new state (Write path writing.offset bytes) (Count (length bytes)) reply = record {
-          made = leaves state path here;
-          atomic = is_atomic volume.size old new writing bytes _ result may_store here.stands.settled made (record { reads = here.stands.reads; planned = here.planned })
-              (sym here.stands.mark ∙ ready.unmarked (more_events writing));
-        } in
-        follows_as (Write path writing.offset bytes) command (is ∙ ap (λ (n : ℕ). Write path n bytes) (sym same)) follows
+    atomic : (state : State) (path : Route) → IsPlanFor volume old state (Write path writing.offset bytes) (WriteBytes writing) → has_mark old.words ≡ false → IsAtomic volume.size old new state (Write path writing.offset bytes)
+    atomic state path here = is_atomic volume.size old new writing bytes _ result may_store here.stands.settled made (record { reads = here.stands.reads; planned = here.planned })
 
-  pub carried : {E T : Type 0} {done : T} {new : DeviceView} {after : VolumeView} → Unfolds {E = E} (write_steps volume.size writing bytes) old new (Ok done) → EntersPages volume after writing.inode writing.new_pages → MayCarry volume old (WriteBytes writing)
-      → Carries {E = E} volume after old new (WriteBytes writing) (Count (length bytes)) (IsWriteOf bytes) (Ok (Told writing.count))
-  carried {E} {done = done} {new} {after} unfolds enters ready =
-      let all = device unfolds in
-      let stores = stores_bytes volume.size old new writing bytes _ (Ok done) may_store planned.2.stands.settled unfolds in
-      let same_mark = ap (λ (v : VolumeView). v.marked) enters.rest in
-      let keeps : KeepsMark volume after old.words new.words new = record {
-        known = planned.2.stands.mark;
-        same = same_mark;
-        beside = beside unfolds;
-        room = kept_room volume.marked volume.kept (WriteBytes writing) old new (more_events writing) ready.reserved.room all.room;
-        no_call = ap (λ (v : VolumeView). v.kept) enters.rest ∙ planned.2.stands.no_call;
-      } in
-      record {
-        meaning = meant unfolds (Ok (Told writing.count)) ready (λ state path here. leaves_written volume old state path bytes writing here new stores after enters all.settled (all.counted, all.grown) keeps);
-        answered = record {
-          reply = ap (λ (n : ℕ). let reply : Reply = Told n in reply) (for_writing volume old planned.0 planned.1 bytes writing planned.2).count_is;
-          going = ap (λ (v : VolumeView). v.stopped) enters.rest ∙ ready.going;
-          knows = enters;
-          stopped = tt;
-          size = ap (λ (v : VolumeView). v.size) enters.rest;
-          marked = same_mark;
-        };
-        device = intervals_as (Told writing.count) all;
-        idle = λ none. absurd (let more = more_events writing in omega (arith, none, more));
-        beside = beside unfolds;
-      }
+  module _ (ready : MayCarry volume old (WriteBytes writing)) {T E F : Type 0} {new : DeviceView} {after : VolumeView} where
+    pub carried : {done : T} (reply : Reply) → reply ≡ Told (length bytes) → Unfolds {E = E} (write_steps volume.size writing bytes) old new (Ok done) → EntersPages volume after writing.inode writing.new_pages
+        → Carries {E = F} volume after old new (WriteBytes writing) (Count (length bytes)) (IsWriteOf bytes) (Ok reply)
+    carried {done = done} reply told made enters =
+        let all = device made in
+        let stores = stores_bytes volume.size old new writing bytes _ (Ok done) may_store planned.2.stands.settled made in
+        carries_made (λ (path : Route). Write path writing.offset bytes) own_offset planned ready (more_events writing) (beside made) (atomic made) reply told all (entered_beside enters) enters
+        (λ state path here keeps. leaves_written volume old state path bytes writing here new stores after enters all.settled (all.counted, all.grown) keeps)
 
-  -- a fence failed, and the volume is stopped
-  pub carried_no_further : {E T : Type 0} {new : DeviceView} {after : VolumeView} (fault : E) → Unfolds {T = T} (write_steps volume.size writing bytes) old new (Err fault) → MayCarry volume old (WriteBytes writing)
-      → (after.stopped ≡ true) × (after.size ≡ volume.size) × (after.marked ≡ volume.marked) → Carries {E = E} volume after old new (WriteBytes writing) (Count (length bytes)) (IsWriteOf bytes) (Err fault)
-  carried_no_further fault unfolds ready (stopped, size, marked) = record {
-    meaning = meant unfolds (Err fault) ready (λ state path here. tt);
-    answered = record { reply = tt; going = tt; knows = tt; stopped = stopped; size = size; marked = marked };
-    device = failed_as fault (device unfolds);
-    idle = λ none. absurd (let more = more_events writing in omega (arith, none, more));
-    beside = beside unfolds;
-  }
+    pub carried_no_further : {fault : E} (other : F) → Unfolds {T = T} (write_steps volume.size writing bytes) old new (Err fault) → (after.stopped ≡ true) × (after.size ≡ volume.size) × (after.marked ≡ volume.marked)
+        → Carries volume after old new (WriteBytes writing) (Count (length bytes)) (IsWriteOf bytes) (Err other)
+    carried_no_further other made = carries_stopped (λ (path : Route). Write path writing.offset bytes) own_offset planned ready (more_events writing) (beside made) (atomic made) other (device made)

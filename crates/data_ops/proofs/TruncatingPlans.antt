@@ -1,8 +1,7 @@
 -- What the plan of a truncation says of its file, what its steps cost and leave, and that the volume stands for what the command leaves.
-use Rattle.std.proofs.Common.{◌≡◌, ◌≢◌, ℕ, ◌-◌, ◌<◌, ◌≤◌, true, false, ◌==◌, List, [], length, Option, Some, unwrap_or, refl, sym, ap, subst, ◌∙◌, arith, ◌⊎◌, inl, inr, ◌+◌, nat_lt, Contains}
-use Rattle.std.proofs.lemmas.Bool.Decides.{nat_tests}
+use Rattle.std.proofs.Common.{◌≡◌, ◌≢◌, ℕ, ◌-◌, ◌<◌, ◌≤◌, false, List, [], length, Option, Some, unwrap_or, refl, sym, ap, subst, ◌∙◌, arith, ◌⊎◌, inl, inr, ◌+◌, nat_lt, Contains}
 use Rattle.std.specs.Prelude.{Result, OnOk, Ok}
-use Rattle.std.proofs.lemmas.Bool.{cases_lt}
+use Rattle.std.proofs.lemmas.Bool.{cases_lt, eqb-true, eqb-false, ltb-true, ltb-false}
 use Rattle.std.proofs.lemmas.List.{nil_from_length}
 use Rattle.pm_trait.specs.DeviceView.{DeviceView, IsSettledView, MakesIntervals}
 use Rattle.pm_trait.specs.Trail.{Trail}
@@ -15,12 +14,13 @@ use Rattle.layout.specs.Superblock.{has_mark}
 use Rattle.tree_model.specs.Capacity.{untaken}
 use Rattle.tree_model.specs.PathText.{Route}
 use Rattle.tree_model.specs.Run.{State}
-use Rattle.tree_model.specs.Step.{id_of, Done, least_free_id, resized}
+use Rattle.tree_model.specs.Step.{id_of, Done, least_free_id}
 use Rattle.tree_model.specs.Tree.{root_id, bytes_of, page_bytes}
 use Rattle.tree_model.specs.Accepted.{MayTruncate, IsFileAt}
 use Rattle.tree_model.specs.declared.command.Command.{Command}
 use Rattle.tree_model.specs.declared.command.Command.TheVariants.{Truncate}
 use Rattle.tree_model.proofs.AcceptedLaws.{Accepted-from_row}
+use Rattle.tree_model.specs.declared.reply.Reply.{Reply}
 use Rattle.tree_model.specs.declared.reply.Reply.TheVariants.{Done as Told}
 use Rattle.image_reading.specs.Reading.{pages_of_size}
 use Rattle.image_reading.specs.Soundness.{IsCoherent}
@@ -54,9 +54,6 @@ use Rattle.data_ops.proofs.Pages.{are_free, IsFileOf, found_file}
 use Rattle.data_ops.proofs.Cuts.{kept_is, can_be_cut, enough, cut_named, knows_cut, cut_costs, cut_fences, cut_done, cut_underway}
 use Rattle.data_ops.proofs.Steps.{leaves_stepped, resize_keep, resizing_for, same_size, either_sum, either_made, made_as, follows_idle}
 use Rattle.data_ops.proofs.Growth.{growth_costs, growth_fences, grown_done, growth_underway, leaves_grown}
-
-not_equal : (a b : ℕ) → (a == b) ≡ false → a ≢ b
-not_equal a b test same = grind (arith, nat_tests)
 
 -- ---- what the plan of a truncation says of its file
 
@@ -93,7 +90,7 @@ module _ (volume : VolumeView) (device : DeviceView) (state : State) (path : Rou
   none_cut most = let count = for_resizing.cut_is in omega (arith, count, most)
 
   other : resizing.new_size ≢ resizing.old_size
-  other same = not_equal resizing.new_size (length (bytes_of state.tree (id_of state.tree path))) (resizing_for volume.size device.words state path resizing.new_size resizing plan.planned.plan_is).0 (same ∙ sym was)
+  other same = eqb-false resizing.new_size (length (bytes_of state.tree (id_of state.tree path))) (resizing_for volume.size device.words state path resizing.new_size resizing plan.planned.plan_is).0 (same ∙ sym was)
 
   -- ---- what its steps ask for
 
@@ -158,11 +155,8 @@ growth_by path resizing at = record {
   grows = IsGrowing.truncate refl refl;
 }
 
-more_by : (a b : ℕ) → nat_lt a b ≡ true → a < b
-more_by a b test = grind (arith, nat_tests)
-
-less_by : (a b : ℕ) → b ≢ a → nat_lt a b ≡ false → b < a
-less_by a b other test = let most : b ≤ a = grind (arith, nat_tests) in omega (arith, most, other)
+pub less_by : (a b : ℕ) → b ≢ a → nat_lt a b ≡ false → b < a
+less_by a b other test = let most = ltb-false a b test in omega (arith, most, other)
 
 -- the plan's events and fences are those of its steps
 module _ (P : ℕ) (old : DeviceView) (resizing : Resizing) (pages : List ℕ) (may : MayResize P old.words resizing pages) where
@@ -183,7 +177,7 @@ module _ (P : ℕ) (old : DeviceView) (resizing : Resizing) (pages : List ℕ) (
   module _ {T E : Type 0} (new : DeviceView) (result : Result T E) (settled : IsSettledView old) (made : Unfolds (resize_steps P resizing pages) old new result) where
     ways : ((resizing.old_size < resizing.new_size) × Unfolds (growth_steps P (growth_to resizing) [] resizing.new_pages) old new result) ⊎ ((resizing.new_size < resizing.old_size) × Unfolds (cut_steps P resizing pages) old new result)
     ways = elim (either_made (nat_lt resizing.old_size resizing.new_size) (growth_steps P (growth_to resizing) [] resizing.new_pages) (cut_steps P resizing pages) made) [
-      | inl (test, grown) ↦ inl (more_by resizing.old_size resizing.new_size test, grown)
+      | inl (test, grown) ↦ inl (ltb-true resizing.old_size resizing.new_size test, grown)
       | inr (test, cut) ↦ inr (less_by resizing.old_size resizing.new_size may.other test, cut)
     ]
 
@@ -253,9 +247,6 @@ module _ (volume : VolumeView) (device : DeviceView) (state : State) (path : Rou
 
 -- ---- a truncation to the size that the file has: nothing is to be done
 
-equal : (a b : ℕ) → (a == b) ≡ true → a ≡ b
-equal a b test = grind (arith, nat_tests)
-
 module _ (volume : VolumeView) (device : DeviceView) (state : State) (path : Route) (size : ℕ) (plan : IsPlanFor volume device state (Truncate path size) KeepSize) where
   coherent : IsCoherent volume.size device.words
   coherent = (tidied plan.stands.tidy).coherent
@@ -268,7 +259,7 @@ module _ (volume : VolumeView) (device : DeviceView) (state : State) (path : Rou
 
   size_is : size ≡ length (bytes_of state.tree source.id)
   size_is =
-      equal size (length (bytes_of state.tree (id_of state.tree path))) (same_size volume.size device.words state path size plan.planned.plan_is)
+      eqb-true size (length (bytes_of state.tree (id_of state.tree path))) (same_size volume.size device.words state path size plan.planned.plan_is)
       ∙ ap (λ (o : Option ℕ). length (bytes_of state.tree (unwrap_or o root_id))) source.named
 
   is_stepped : IsStepped volume.size device.words state (Truncate path size) (least_free_id state.tree)
@@ -277,14 +268,14 @@ module _ (volume : VolumeView) (device : DeviceView) (state : State) (path : Rou
       same_size_step volume.size device.words state source.id size source.bytes source.file size_is path (least_free_id state.tree) coherent file.reached file.file plan.stands.reads source.named
 
 -- the plan of a truncation that has nothing to do
-pub carried_nothing : {E : Type 0} (volume : VolumeView) (device : DeviceView) → IsSettledView device → volume.stopped ≡ false → Carries {E = E} volume volume device device KeepSize Done IsTruncation (Ok Told)
-carried_nothing {E} volume device settled going = record {
+pub carried_nothing : {E : Type 0} (volume : VolumeView) (device : DeviceView) (reply : Reply) → reply ≡ Told → IsSettledView device → volume.stopped ≡ false → Carries {E = E} volume volume device device KeepSize Done IsTruncation (Ok reply)
+carried_nothing {E} volume device reply told settled going = record {
   meaning = λ state command ours plan.
       let (path, size, is) = ours in
       let here = subst (λ (c : Command). IsPlanFor volume device state c KeepSize) is plan in
-      follows_as (Truncate path size) command is (follows_idle here refl (λ gives. refl) (omega arith, omega arith) (is_stepped volume device state path size here) {E = E} Told);
-  answered = record { reply = refl; going = going; knows = refl; stopped = tt; size = refl; marked = refl };
-  device = intervals_none device Told settled;
+      follows_as (Truncate path size) command is (follows_idle here refl (λ gives. refl) (omega arith, omega arith) (is_stepped volume device state path size here) {E = E} reply);
+  answered = record { reply = told; going = going; knows = refl; stopped = tt; size = refl; marked = refl };
+  device = intervals_none device reply settled;
   idle = λ none. (refl, refl);
   beside = λ word k. refl;
 }
