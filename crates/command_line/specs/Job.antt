@@ -1,6 +1,7 @@
 -- What a command line asks for.
 use Rattle.std.specs.Prelude.{ℕ, Bool, true, false, ◌&&◌, nat_le, if◌then◌else◌, List, [], ◌∷◌, Option, Some, None, codes, unwrap_or, option_map, option_and_then}
 use Rattle.clap.specs.Walk.{Row}
+use Rattle.layout.specs.Geometry.{fewest_pages, most_pages}
 use Rattle.script.specs.Lines.{is_word, number_of, bytes_of_hex}
 use Rattle.crash_replay.specs.declared.moment.Moment.{Moment}
 use Rattle.crash_replay.specs.declared.moment.Moment.TheVariants.{At, Before}
@@ -14,7 +15,7 @@ abbrev pub both : {A B C : Type 0} → (A → B → C) → Option A → Option B
 both make first second = option_and_then (λ a. option_map (make a) second) first
 
 abbrev pub is_volume_size : ℕ → Bool
-is_volume_size pages = nat_le 16 pages && nat_le pages 65536
+is_volume_size pages = nat_le fewest_pages pages && nat_le pages most_pages
 
 abbrev pub mkfs_of_number : Option ℕ → Option Job
 mkfs_of_number None = None

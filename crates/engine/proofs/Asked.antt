@@ -4,13 +4,14 @@ use Rattle.pm_trait.specs.DeviceView.{DeviceView}
 use Rattle.layout.specs.declared.kinds.NodeKind.{NodeKind}
 use Rattle.tree_model.specs.PathText.{Route}
 use Rattle.tree_model.specs.Run.{State}
+use Rattle.tree_model.specs.Step.{making}
 use Rattle.tree_model.specs.declared.command.Command.{Command}
 use Rattle.tree_model.specs.declared.command.Command.TheVariants.{Create, Mkdir, Link, Unlink, Rmdir, Rename, Write, Truncate, Read, Stat as Tell, List as Show, Df}
 use Rattle.data_ops.specs.Cutting.{IsTruncation}
 use Rattle.data_ops.specs.Writing.{IsWriteOf}
 use Rattle.volume.specs.Volume.{VolumeView}
 use Rattle.volume.specs.Carried.{IsPlanFor}
-use Rattle.volume.specs.Prepared.{IsChange, making}
+use Rattle.volume.specs.Prepared.{IsChange}
 use Rattle.volume.specs.declared.plan.Action.{Action}
 use Rattle.volume.specs.declared.plan.Action.TheVariants.{Make, Name, Remove, Move, Write as WriteBytes, WriteNothing, Resize, KeepSize, KeepNames, Read as ReadBytes, Status, Names, Space}
 use Rattle.volume.specs.declared.plan.NewEntry.{NewEntry}

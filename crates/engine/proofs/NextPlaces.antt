@@ -1,5 +1,5 @@
 -- The deepest place, as it stands in the list; and what a volume says of the places of a listing.
-use Rattle.std.proofs.Common.{◌≡◌, inl, inr, ℕ, zero, suc, ◌+◌, ◌-◌, ◌<◌, ◌≤◌, true, false, IsTrue, List, [], ◌∷◌, ◌++◌, length, take, Option, Some, None, is_some, Contains, refl, sym, ap, subst, ◌∙◌, arith, take_all}
+use Rattle.std.proofs.Common.{◌≡◌, inl, inr, ℕ, zero, suc, ◌+◌, ◌-◌, ◌<◌, ◌≤◌, true, List, [], ◌∷◌, ◌++◌, length, take, Some, Contains, sym, ap, subst, ◌∙◌, arith, take_all}
 use Rattle.std.specs.Prelude.{slice_get, slice_index_or, slice_set, vec_len}
 use Rattle.std.specs.declared.vec.Vec.{Vec}
 use Rattle.std.specs.declared.alloc.Global.{Global}
@@ -8,7 +8,7 @@ use Rattle.std.proofs.lemmas.List.Elements.{Contains-get_or}
 use Rattle.std.proofs.lemmas.Option.{slice_get_within, get_or_from_slice_get}
 use Rattle.pm_trait.specs.DeviceView.{DeviceView}
 use Rattle.layout.specs.Geometry.{inodes_of}
-use Rattle.tree_model.specs.Tree.{Tree, Node, Directory, File, IsTree, node_at, is_directory, is_file, is_directory_node, is_file_node}
+use Rattle.tree_model.specs.Tree.{Tree, IsTree, is_directory}
 use Rattle.tree_model.specs.Run.{State}
 use Rattle.tree_model.specs.Step.{names_in}
 use Rattle.image_reading.specs.Residue.{no_residue, Residue}
@@ -112,12 +112,3 @@ module _ (volume : VolumeView) (device : DeviceView) (state : State) (stands : S
 
   pub node_led_to : (places : List Place) (inode : ℕ) → LeadsTo state.tree places inode → HasNode volume device inode
   node_led_to places inode leads = (state, stands, is_tree.present (route_through state.tree places) inode leads.named)
-
--- a node that is no directory is a file
-pub file_or_directory : (tree : Tree) (inode : ℕ) → IsTrue (is_some (node_at tree inode)) → is_directory tree inode ≡ false → IsTrue (is_file tree inode)
-file_or_directory tree inode there not = by_node (node_at tree inode) there not
-  where
-    by_node : (o : Option Node) → IsTrue (is_some o) → is_directory_node o ≡ false → IsTrue (is_file_node o)
-    by_node None there not = there
-    by_node (Some Directory) there not = absurd (cc not)
-    by_node (Some (File bytes)) there not = refl

@@ -46,5 +46,5 @@ module _ (P : ℕ) (I : List ℕ) (state : State) (tree : IsTree state.tree) (co
             (path, is ∙ unlinking removal.loss.kind path (kind_at path source.id for source.named ∙ ap is_directory_node source.file))
         | inr is ↦
             let source = (Accepted-from_row (untaken P) state.tree state.room (Rmdir path) tree (subst (λ (c : Command). refusal_of P state.tree state.room c ≡ None) is planned.accepted)).source in
-            (path, is ∙ emptying removal.loss.kind path (kind_at path source.id for source.named ∙ ap is_directory_node source.directory))
+            (path, is ∙ emptying removal.loss.kind path (kind_at path source.id for source.named ∙ source.directory))
       ]

@@ -1,11 +1,12 @@
 -- What is told of an accepted command that changes nothing.
-use Rattle.std.proofs.Common.{◌≡◌, ℕ, ◌≤◌, true, false, List, [], ◌∷◌, length, take, drop, Option, Some, None, is_some, unwrap_or, refl, sym, ap, subst, ◌∙◌}
+use Rattle.std.proofs.Common.{◌≡◌, ℕ, ◌≤◌, true, false, List, [], ◌∷◌, length, take, drop, Some, None, is_some, unwrap_or, refl, sym, ap, subst, ◌∙◌}
 use Rattle.std.specs.Prelude.{IsTrue}
 use Rattle.pm_trait.specs.DeviceView.{DeviceView}
 use Rattle.tree_model.specs.PathText.{Route}
-use Rattle.tree_model.specs.Tree.{Tree, Room, Node, Directory, File, IsTree, IsRoom, root_id, node_at, id_at, is_directory, is_directory_node, is_file, is_file_node, bytes_of}
+use Rattle.tree_model.specs.Tree.{Tree, Room, IsTree, IsRoom, root_id, node_at, id_at, is_directory, is_file, is_file_node, bytes_of}
 use Rattle.tree_model.specs.Capacity.{untaken}
 use Rattle.tree_model.specs.Walk.{walk}
+use Rattle.tree_model.proofs.NodeLaws.{directory_is, a_directory}
 use Rattle.tree_model.proofs.WalkLaws.{id_at-from_walk}
 use Rattle.tree_model.proofs.AcceptedLaws.{Accepted-from_row}
 use Rattle.tree_model.proofs.Accepted.{first-none, at-none, fault_of-none}
@@ -87,16 +88,11 @@ module _ (P : ℕ) (T : Tree) (room : Room) (path : Route) (t : IsTree T) where
   pub status_there : refusal_of P T room (Tell path) ≡ None → IsTrue (is_some (node_at T (id_of T path)))
   status_there e = walked (first-none (fault_of (walk T path)) [] e).0
 
-  only_directory : (o : Option Node) → IsTrue (is_some o) → is_file_node o ≡ false → is_directory_node o ≡ true
-  only_directory None there file = absurd (cc there)
-  only_directory (Some Directory) there file = refl
-  only_directory (Some (File bytes)) there file = absurd (cc file)
-
   pub listed_there : refusal_of P T room (Show path) ≡ None → is_directory T (id_of T path) ≡ true
   listed_there e =
       let walk_none = first-none (fault_of (walk T path)) (at NotDir (is_file T (id_of T path)) ∷ []) e in
       let file = at-none NotDir (is_file T (id_of T path)) (first-none (at NotDir (is_file T (id_of T path))) [] walk_none.1).0 in
-      only_directory (node_at T (id_of T path)) (walked walk_none.0) file
+      a_directory (node_at T (id_of T path)) (walked walk_none.0) file
 
   pub read_there : (offset count : ℕ) → refusal_of P T room (Read path offset count) ≡ None → IsTrue (is_file T (id_of T path)) × (count ≤ read_limit)
   read_there offset count e =
@@ -181,13 +177,9 @@ module _ (volume : VolumeView) (device : DeviceView) where
   pub directory_within : {state : State} {residue : Residue} (inode : ℕ) → StandsBeside volume device state residue → is_directory state.tree inode ≡ true
       → (1 ≤ inode) × (inode ≤ inodes_of_index volume.index)
   directory_within {state} inode stands directory =
-      let within = (state_law volume.size device.words state stands.sound.coherent stands.reads).fits.ids inode (is_there (node_at state.tree inode) directory) in
+      let within = (state_law volume.size device.words state stands.sound.coherent stands.reads).fits.ids inode (ap is_some (directory_is (node_at state.tree inode) directory)) in
       let as_many = stands.knows.nodes.each_inode in
       (within.0, subst (λ (n : ℕ). inode ≤ n) (sym as_many) within.1)
-    where
-      is_there : (o : Option Node) → is_directory_node o ≡ true → IsTrue (is_some o)
-      is_there None directory = directory
-      is_there (Some node) directory = refl
 
 -- ---- what is told where a plan was made for the command
 

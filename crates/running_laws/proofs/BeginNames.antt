@@ -3,11 +3,11 @@ use Rattle.std.proofs.Common.{◌≡◌, [], refl, sym, ap, subst, ◌∙◌}
 use Rattle.pm_trait.specs.DeviceView.{DeviceView}
 use Rattle.tree_model.specs.PathText.{Route}
 use Rattle.tree_model.specs.Run.{State}
+use Rattle.tree_model.specs.Step.{making as made_by}
 use Rattle.tree_model.specs.declared.command.Command.{Command}
 use Rattle.tree_model.specs.declared.command.Command.TheVariants.{Link}
 use Rattle.image_reading.specs.Residue.{Residue}
 use Rattle.volume.specs.Volume.{VolumeView}
-use Rattle.volume.specs.Prepared.{making as made_by}
 use Rattle.volume.specs.Stages.{keeping}
 use Rattle.volume.specs.declared.next.Next.{Next}
 use Rattle.volume.specs.declared.next.Next.TheVariants.{More}

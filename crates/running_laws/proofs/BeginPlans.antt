@@ -7,7 +7,7 @@ use Rattle.layout.specs.declared.kinds.NodeKind.TheVariants.{File, Directory}
 use Rattle.tree_model.specs.PathText.{Route}
 use Rattle.tree_model.specs.Tree.{id_at, is_directory, is_directory_node, IsTree}
 use Rattle.tree_model.specs.Capacity.{Supply}
-use Rattle.tree_model.specs.Step.{refusal_with, is_same_node}
+use Rattle.tree_model.specs.Step.{making as made_by, refusal_with, is_same_node}
 use Rattle.tree_model.specs.Run.{State, is_changing}
 use Rattle.tree_model.specs.declared.command.Command.{Command}
 use Rattle.tree_model.specs.declared.command.Command.TheVariants.{Create, Mkdir, Link, Unlink, Rmdir, Rename, Write, Truncate, Read, Stat as Tell, List as Show, Df}
@@ -18,7 +18,6 @@ use Rattle.image_counts.specs.Laws.{supply_beside}
 use Rattle.volume.specs.Volume.{VolumeView}
 use Rattle.volume.specs.Moves.{is_directory_kind}
 use Rattle.volume.specs.Planned.{IsNothingOr, IsPlanOf, IsRemovalFor, is_size_of}
-use Rattle.volume.specs.Prepared.{making as made_by}
 use Rattle.volume.specs.declared.plan.Action.{Action}
 use Rattle.volume.specs.declared.plan.Action.TheVariants.{Make, Name, Remove, Move, Write as WriteBytes, WriteNothing, Resize, KeepSize, KeepNames}
 use Rattle.volume.specs.declared.plan.Moving.{Moving}
@@ -110,7 +109,7 @@ module _ (supply : Supply) (P : ℕ) (I : List ℕ) (state : State) (tree : IsTr
   call_of (Rmdir path) action accepted (removal, is, for) =
       let source = (Accepted-from_row supply state.tree state.room (Rmdir path) tree accepted).source in
       removed path Directory removal action is
-      (directory_kind removal.loss.kind (kind_at (Rmdir path) path removal source.id for source.named ∙ ap is_directory_node source.directory))
+      (directory_kind removal.loss.kind (kind_at (Rmdir path) path removal source.id for source.named ∙ source.directory))
   call_of (Rename from to) action accepted plan = renamed from to action (is_same_node state.tree from to) _ plan
   call_of (Write path offset bytes) action accepted plan = written path offset bytes action (length bytes == 0) _ refl (λ writing for. for.offset_is) plan
   call_of (Truncate path size) action accepted plan = resized_by path size action (is_size_of state path size) _ (λ resizing for. for.new_is) plan

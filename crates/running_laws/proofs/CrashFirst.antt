@@ -88,7 +88,7 @@ command_of_removal supply I state command removal tree planned =
       | inr is ↦
           let accepted = subst (λ (c : Command). refusal_with supply state.tree state.room c ≡ None) is planned.accepted in
           let source = (Accepted-from_row supply state.tree state.room (Rmdir path) tree accepted).source in
-          (path, is ∙ as_rmdir removal.loss.kind path (kind_at supply.pages I state command removal path source.id for source.named ∙ ap is_directory_node source.directory))
+          (path, is ∙ as_rmdir removal.loss.kind path (kind_at supply.pages I state command removal path source.id for source.named ∙ source.directory))
     ]
 
 -- ---- what the plan begins

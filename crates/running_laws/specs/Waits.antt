@@ -3,6 +3,7 @@ use Rattle.std.specs.Prelude.{◌≡◌, ◌⊎◌, ℕ, ◌<◌, true, List, []
 use Rattle.pm_trait.specs.DeviceView.{DeviceView}
 use Rattle.pm_trait.specs.Unfolds.{events_in, fences_in}
 use Rattle.tree_model.specs.PathText.{Route}
+use Rattle.tree_model.specs.Step.{making as made_by}
 use Rattle.tree_model.specs.Tree.{id_at, node_at}
 use Rattle.tree_model.specs.Run.{State, is_changing}
 use Rattle.tree_model.specs.declared.command.Command.{Command}
@@ -12,7 +13,7 @@ use Rattle.image_reading.specs.Counts.{IsIn}
 use Rattle.image_reading.specs.Residue.{Residue, no_residue}
 use Rattle.weave_laws.specs.Waiting.{HasNoPageOf}
 use Rattle.volume.specs.Volume.{VolumeView}
-use Rattle.volume.specs.Prepared.{making as made_by, IsBoundedResizing}
+use Rattle.volume.specs.Prepared.{IsBoundedResizing}
 use Rattle.volume.specs.Stages.{HasKept}
 use Rattle.volume.specs.declared.next.Next.{Next}
 use Rattle.volume.specs.declared.next.Next.TheVariants.{More, Ended}

@@ -8,6 +8,7 @@ use Rattle.tree_model.specs.Tree.{Tree, Node, File, Directory, Room, id_at, node
 use Rattle.tree_model.specs.Step.{refusal_with, with_bytes, overwritten, resized}
 use Rattle.tree_model.specs.Run.{State, IsVolumeState}
 use Rattle.tree_model.specs.declared.command.Command.{Command}
+use Rattle.tree_model.proofs.NodeLaws.{no_directory}
 use Rattle.tree_model.proofs.TreeLaws.{node_at-with_bytes_other}
 use Rattle.naming_laws.specs.Naming.{names_inode}
 use Rattle.naming_laws.specs.Still.{Enters, FindsSame, KeepsNode}
@@ -44,11 +45,6 @@ same_stays words later command same = record {
 }
 
 -- ---- where bytes of a range are stored
-
-no_directory : (o : Option Node) → is_file_node o ≡ true → is_directory_node o ≡ false
-no_directory None is = cc
-no_directory (Some Directory) is = cc
-no_directory (Some (File bytes)) is = refl
 
 no_file : (o : Option Node) → is_file_node o ≡ true → o ≡ None → ⊥
 no_file None is none = cc

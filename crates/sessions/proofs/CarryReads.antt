@@ -182,7 +182,7 @@ module _ (weave : InterleaveView) (device : DeviceView) (calls : Calls) (history
     names_directory =
         let (path, command_is, inode_is) = path_listed in
         let source = accepted_as (Show path) command_is in
-        ap (is_directory words.tree) (inode_is ∙ source.is) ∙ ap is_directory_node source.directory
+        ap (is_directory words.tree) (inode_is ∙ source.is) ∙ source.directory
 
     pub names_within : (1 ≤ inode) × (inode ≤ inodes_of_index weave.volume.index)
     names_within =

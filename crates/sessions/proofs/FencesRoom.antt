@@ -8,7 +8,7 @@ use Rattle.layout.specs.declared.kinds.NodeKind.TheVariants.{File, Directory}
 use Rattle.tree_model.specs.Capacity.{Supply, untaken}
 use Rattle.tree_model.specs.PathText.{Route}
 use Rattle.tree_model.specs.Run.{State, IsVolumeState, is_changing}
-use Rattle.tree_model.specs.Step.{refusal_with, outcome_of, least_free_id, tree_after, room_after}
+use Rattle.tree_model.specs.Step.{making as made_by, refusal_with, outcome_of, least_free_id, tree_after, room_after}
 use Rattle.tree_model.specs.Tree.{Tree, IsRoom, IsTree, parent}
 use Rattle.tree_model.specs.declared.command.Command.{Command}
 use Rattle.tree_model.specs.declared.command.Command.TheVariants.{Rename}
@@ -26,7 +26,6 @@ use Rattle.image_laws.specs.DropStep as drops
 use Rattle.weave_laws.specs.Entering.{IsNamelessPage}
 use Rattle.weave_laws.proofs.Removed.{removed_entered_law, removed_room_law}
 use Rattle.weave_laws.proofs.UnnamedSlots as unnamed
-use Rattle.volume.specs.Prepared.{making as made_by}
 use Rattle.volume.specs.Volume.{VolumeView}
 use Rattle.volume.specs.declared.plan.Action.{Action}
 use Rattle.volume.specs.declared.plan.Action.TheVariants.{Remove, Move, KeepNames}

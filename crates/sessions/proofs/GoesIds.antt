@@ -6,14 +6,13 @@ use Rattle.layout.specs.declared.kinds.NodeKind.{NodeKind}
 use Rattle.layout.specs.declared.kinds.NodeKind.TheVariants.{File as AFile, Directory as ADirectory}
 use Rattle.tree_model.specs.PathText.{Route}
 use Rattle.tree_model.specs.Run.{State}
-use Rattle.tree_model.specs.Tree.{Directory}
 use Rattle.tree_model.specs.declared.command.Command.{Command}
 use Rattle.tree_model.specs.declared.command.Command.TheVariants.{Link, Write, Truncate}
 use Rattle.naming_laws.specs.Naming.{inode_need}
 use Rattle.image_reading.specs.Counts.{IsIn}
 use Rattle.image_reading.specs.Reading.{Reached}
 use Rattle.image_reading.specs.Residue.{Residue}
-use Rattle.image_counts.proofs.States.{state_law}
+use Rattle.image_counts.proofs.Paths.{root_reached}
 use Rattle.weave_laws.specs.Joined.{joined}
 use Rattle.volume.specs.Beside.{StandsBeside}
 use Rattle.volume.specs.Volume.{VolumeView}
@@ -45,8 +44,7 @@ no_removal_makes ADirectory path = refl
 -- an inode that a call has left isn't the root's, which is reached
 not_root : (volume : VolumeView) (device : DeviceView) (words : State) (residue : Residue) (i : ℕ) → StandsBeside volume device words residue → IsIn i residue.inodes → i ≡ 1 → ⊥
 not_root volume device words residue i stands among is =
-    let state = state_law volume.size device.words words stands.sound.coherent stands.reads in
-    let reached : Reached volume.size device.words 1 = ((stands.reads.tree.nodes 1 Directory).0 state.tree.root_directory).0 in
+    let reached = root_reached volume.size device.words stands.sound.coherent in
     ((stands.beside.of_inodes.each i).0 among).unreached (subst (λ (k : ℕ). Reached volume.size device.words k) (sym is) reached)
 
 module _ (volume : VolumeView) (device : DeviceView) (words : State) (command : Command) (others : Residue) where

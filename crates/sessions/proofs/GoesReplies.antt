@@ -8,7 +8,7 @@ use Rattle.tree_model.specs.Capacity.{Supply}
 use Rattle.tree_model.specs.PathText.{Route}
 use Rattle.tree_model.specs.Replies.{reply_of}
 use Rattle.tree_model.specs.Run.{State}
-use Rattle.tree_model.specs.Step.{answer_of}
+use Rattle.tree_model.specs.Step.{making as made_by, answer_of}
 use Rattle.tree_model.specs.Tree.{Tree, Room}
 use Rattle.tree_model.specs.declared.command.Command.{Command}
 use Rattle.tree_model.specs.declared.command.Command.TheVariants.{Link, Rename, Truncate}
@@ -16,7 +16,6 @@ use Rattle.tree_model.specs.declared.reply.Reply.{Reply}
 use Rattle.tree_model.specs.declared.reply.Reply.TheVariants.{Done, Count, Bytes}
 use Rattle.image_reading.specs.Residue.{Residue}
 use Rattle.volume.specs.Costs.{pages_removed, pages_replaced, goes_of}
-use Rattle.volume.specs.Prepared.{making as made_by}
 use Rattle.volume.specs.Volume.{VolumeView}
 use Rattle.volume.specs.declared.next.Next.{Next}
 use Rattle.volume.specs.declared.next.Next.TheVariants.{More, Ended}

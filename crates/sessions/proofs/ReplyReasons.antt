@@ -8,7 +8,7 @@ use Rattle.tree_model.specs.Capacity.{Supply, untaken}
 use Rattle.tree_model.specs.Places.{needs_places}
 use Rattle.tree_model.specs.Replies.{reply_of}
 use Rattle.tree_model.specs.Run.{State, Line, is_changing, fresh_state}
-use Rattle.tree_model.specs.Step.{first, at, walk_faults, later_faults, faults_of_rename, refusal_with, answer_of, is_same_node}
+use Rattle.tree_model.specs.Step.{making as made_by, first, at, walk_faults, later_faults, faults_of_rename, refusal_with, answer_of, is_same_node}
 use Rattle.tree_model.specs.Table.{Table}
 use Rattle.tree_model.specs.PathText.{Route}
 use Rattle.tree_model.specs.Tree.{Tree, Node, Room}
@@ -20,7 +20,7 @@ use Rattle.tree_model.specs.declared.reply.Reply.{Reply}
 use Rattle.tree_model.specs.declared.reply.Reply.TheVariants.{Refused}
 use Rattle.tree_model.proofs.RefusalLaws.{refusal_other}
 use Rattle.volume.specs.Named.{refusal_of_walks}
-use Rattle.volume.specs.Prepared.{IsRefusal, making as made_by}
+use Rattle.volume.specs.Prepared.{IsRefusal}
 use Rattle.layout.specs.declared.kinds.NodeKind.{NodeKind}
 use Rattle.layout.specs.declared.kinds.NodeKind.TheVariants.{File, Directory}
 use Rattle.image_reading.specs.Residue.{Residue}

@@ -3,6 +3,7 @@ use Rattle.std.proofs.Common.{◌≡◌, inl, inr, ℕ, suc, ◌+◌, ◌≤◌,
 use Rattle.std.proofs.Common.{refl, sym, ap, subst, ◌∙◌, arith}
 use Rattle.std.proofs.lemmas.Bool.{cases_eq}
 use Rattle.pm_trait.specs.DeviceView.{DeviceView}
+use Rattle.layout.specs.Geometry.{most_pages, most_data_pages}
 use Rattle.layout.proofs.GeometryLaws.{data_pages_below, inodes_below}
 use Rattle.tree_model.specs.PathText.{Route}
 use Rattle.tree_model.specs.Run.{State}
@@ -133,7 +134,7 @@ each_holds_left volume device words calls (alone r moved waits gone_on) s call r
 
 -- not more than the volume has
 abbrev HasFew : Residue → Type 0
-HasFew residue = (length residue.inodes ≤ 65536) × (length residue.pages ≤ 65536)
+HasFew residue = (length residue.inodes ≤ most_pages) × (length residue.pages ≤ most_data_pages)
 
 few_left : (volume : VolumeView) (device : DeviceView) (words : State) (residue : Residue) → StandsBeside volume device words residue → HasFew residue
 few_left volume device words residue stands =

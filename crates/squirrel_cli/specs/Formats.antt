@@ -16,7 +16,7 @@ pub record KeepsOldOrFormatted (pages : ℕ) (before after : DeviceView) : Type 
   pub any_moment : LeavesOnly before.trail after.trail (λ acks image. (acks ≡ 0) × IsOldHiddenOrFormatted pages before.words image)
   pub acks : after.acks ≡ before.acks
 
--- A fence failed: fewer than three were made, and nothing more was done with the device.
+-- A fence failed: fewer than three were made, and no event comes after it.
 pub record FailsToFormat {S K : Type 0} (pages : ℕ) (old new : Seen S K) (status : Status) : Type 0 where
   pub is : status ≡ DeviceFault
   pub silent : IsSilent old new

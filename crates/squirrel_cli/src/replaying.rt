@@ -6,11 +6,10 @@ ghost use Rattle.tree_model.specs.Tree.{Tree};
 ghost use Rattle.image_reading.specs.Reading.{Reads};
 ghost use Rattle.image_reading.specs.Soundness.{pages_in_image};
 ghost use Rattle.volume.specs.Stands.{IsStanding, StandsFor};
-ghost use Rattle.mount_scan.specs.Mounting.{IsSound};
 ghost use Rattle.io_edge.specs.Bytes.{Writes};
 ghost use Rattle.script.specs.Texts.{acked_text, listing_text};
 ghost use Rattle.squirrel_cli.specs.Causes.{TellsFaults};
-ghost use Rattle.squirrel_cli.specs.Ends.{IsStart};
+ghost use Rattle.squirrel_cli.specs.Ends.{IsStart, IsMountable};
 ghost use Rattle.squirrel_cli.specs.Replays.{IsUnbegun, ListsLeft};
 ghost use Rattle.squirrel_cli.specs.ReplaySteps.{HasLeft, LeavesSound};
 ghost use Rattle.squirrel_cli.specs.Rows.{Crashes, ReplaysCrash};
@@ -181,7 +180,7 @@ fn memory_alone(error: MountError) -> NoMemory
 
 // Mounts a device of these words, which never fails, and writes so many acknowledgements and the listing of the tree.
 fn list_words<K: Sink>(alloc: Global, words: &[u64], acked: u64, sink: &mut K) -> Status
-    requires sound { IsSound words.now }
+    requires mountable { IsMountable words.now }
     ensures no_memory { result ≡ Status.NoMemory → sink.new ≡ sink.old }
     ensures lists { (tree : Tree) → Reads (pages_in_image words.now) words.now tree →
         IsToldUnlessShort (acked_text acked ++ listing_text tree) result (K.took sink.old) (K.took sink.new) }

@@ -10,6 +10,7 @@ use Rattle.layout.proofs.GeometryLaws.{page_of_slot_below}
 use Rattle.tree_model.specs.PathText.{Route}
 use Rattle.tree_model.specs.Tree.{Tree, IsTree, parent, id_at}
 use Rattle.tree_model.specs.Run.{State}
+use Rattle.tree_model.specs.Step.{making}
 use Rattle.tree_model.specs.declared.command.Command.{Command}
 use Rattle.tree_model.specs.declared.command.Command.TheVariants.{Unlink, Rmdir}
 use Rattle.naming_laws.specs.Naming.{paths_of, names_inode}
@@ -28,7 +29,6 @@ use Rattle.volatile_index.specs.Index.{pages_of}
 use Rattle.volume.specs.Volume.{VolumeView}
 use Rattle.volume.specs.Beside.{StandsBeside}
 use Rattle.volume.specs.Planned.{IsPlace, IsEntryFor, IsPlanOf}
-use Rattle.volume.specs.Prepared.{making}
 use Rattle.volume.specs.declared.plan.NewEntry.{NewEntry}
 use Rattle.volume.specs.declared.plan.NewName.{NewName}
 use Rattle.volume.specs.declared.plan.Removal.{Removal}

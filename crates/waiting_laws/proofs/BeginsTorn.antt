@@ -3,17 +3,13 @@ use Rattle.std.proofs.Common.{◌≡◌, ◌≢◌, ℕ, ◌+◌, true, false, c
 use Rattle.tree_model.specs.Tree.{Tree, Node, Directory, File, Room, id_at, node_at, is_directory, is_directory_node, is_file, is_file_node, entries_in, path_count, pages_in}
 use Rattle.tree_model.specs.Step.{with_bytes}
 use Rattle.tree_model.specs.Run.{State}
+use Rattle.tree_model.proofs.NodeLaws.{no_directory}
 use Rattle.tree_model.proofs.TreeLaws.{node_at-with_bytes_other}
 use Rattle.naming_laws.specs.Still.{KeepsNode}
 use Rattle.naming_laws.proofs.Edits.{same_kind}
 use Rattle.image_reading.specs.Counts.{IsIn}
 use Rattle.waiting_laws.specs.Beside.{KeepsNodes}
 use Rattle.waiting_laws.specs.Growing.{TearsFile}
-
-no_directory : (o : Option Node) → is_file_node o ≡ true → is_directory_node o ≡ false
-no_directory None is = cc
-no_directory (Some Directory) is = cc
-no_directory (Some (File bytes)) is = refl
 
 -- a file gets other bytes
 module _ (old new : State) (i : ℕ) (bytes : List ℕ) (file : is_directory old.tree i ≡ false) (tree : new.tree ≡ with_bytes old.tree i bytes) (room : new.room ≡ old.room) where

@@ -3,6 +3,7 @@ use Rattle.std.proofs.Common.{◌≡◌, ◌↔◌, ◌⊎◌, inl, inr, ℕ, �
 use Rattle.std.specs.Prelude.{Contains}
 use Rattle.layout.specs.Geometry.{page_of_slot, descriptor_word_of}
 use Rattle.layout.specs.Fields.{word, page_owner, page_kind, page_offset}
+use Rattle.layout.proofs.Widths.{in_inode, in_descriptor, descriptor_field_read}
 use Rattle.image_reading.specs.Reading.{HasBytes, slot_owner, Reached}
 use Rattle.image_reading.specs.Residue.{Residue}
 use Rattle.image_reading.specs.Soundness.{Rule}
@@ -11,7 +12,7 @@ use Rattle.image_counts.proofs.Distinct.{in_front, in_either}
 use Rattle.image_laws.specs.Drop.{GivesPages, ClearsRest}
 use Rattle.image_laws.specs.Frame.{SameMeaning}
 use Rattle.image_laws.specs.Stages.{MayFree}
-use Rattle.image_laws.proofs.Addresses.{descriptor_word-one}
+use Rattle.image_laws.proofs.Addresses.{head-ne_descriptor, descriptor_word-one}
 use Rattle.image_laws.proofs.Free.{same_stores}
 use Rattle.image_laws.proofs.Given as lost
 use Rattle.image_laws.proofs.Stages as stages
@@ -55,11 +56,12 @@ module _ (P : ℕ) (I J : List ℕ) (i : ℕ) (pages : List ℕ) (may : MayTrim 
     after = same_given.coherent;
     file = may.reached;
     names = same_given.names;
-    descriptors = λ j f low few out. lost.give_descriptor P I J (Contains pages) gives j f (omega (arith, few)) (inr out);
+    version = gives.others 1 (λ j is. head-ne_descriptor P j 0 1 (omega arith));
+    descriptors = λ j f low few out. lost.give_descriptor P I J (Contains pages) gives j f (in_descriptor I f few) (inr out);
     unheld = λ t given held. let two = held.kind in let bytes = one (page_of_slot t) given in omega (arith, two, bytes);
     unheld_after = λ t given held. held.owned (gives.owners (page_of_slot t) given);
     slots = λ t f held few. lost.give_slot P I J (Contains pages) gives (λ j given. (may.past j given).in_range) t f;
-    inodes = λ x f least most few why. lost.give_inode P I J (Contains pages) gives x f least most (omega (arith, few));
+    inodes = λ x f least most few why. lost.give_inode P I J (Contains pages) gives x f least most (in_inode I f few);
   }
 
   -- they have their kind still
@@ -101,7 +103,7 @@ module _ (P : ℕ) (I J : List ℕ) (i : ℕ) (pages : List ℕ) (may : MayFree 
 
   descriptor_cleared : (j f : ℕ) → f < 8 → (f ≡ 0) ⊎ ¬ Contains pages j → word J (descriptor_word_of P j f) ≡ word I (descriptor_word_of P j f)
   descriptor_cleared j f few other = clears.others (descriptor_word_of P j f) (λ k g given least less e.
-      let (same_page, same_field) = descriptor_word-one P j f k g few (omega (arith, less)) e in
+      let (same_page, same_field) = descriptor_word-one P j f k g few (in_descriptor I g less) e in
       elim other [ inl zero ↦ omega (arith, zero, same_field, least) | inr out ↦ out (subst (Contains pages) (sym same_page) given) ])
 
   owner_cleared : (j : ℕ) → page_owner P J j ≡ page_owner P I j
@@ -123,16 +125,17 @@ module _ (P : ℕ) (I J : List ℕ) (i : ℕ) (pages : List ℕ) (may : MayFree 
     after = same_cleared.coherent;
     file = reached;
     names = same_cleared.names;
-    descriptors = λ j f low few out. descriptor_cleared j f (omega (arith, few)) (inr out);
+    version = clears.others 1 (λ j f is least few. head-ne_descriptor P j f 1 (omega arith));
+    descriptors = λ j f low few out. descriptor_cleared j f (in_descriptor I f few) (inr out);
     unheld = λ t given held. held.owned (may.unowned (page_of_slot t) given);
     unheld_after = λ t given held. held.owned (owner_cleared (page_of_slot t) ∙ may.unowned (page_of_slot t) given);
     slots = λ t f held few. stages.rest_slot P I J (Contains pages) Nothing i may rest t f;
-    inodes = λ x f least most few why. stages.rest_inode P I J (Contains pages) Nothing i may rest x f least most (omega (arith, few)) (λ goes. absurd (not_nothing goes));
+    inodes = λ x f least most few why. stages.rest_inode P I J (Contains pages) Nothing i may rest x f least most (in_inode I f few) (λ goes. absurd (not_nothing goes));
   }
 
   none_left : (j : ℕ) → Contains pages j → IsUnusedPage P J j
   unfolding page_kind
-  none_left j given = (owner_cleared j ∙ may.unowned j given, clears.rests j 1 given (omega arith) (omega arith))
+  none_left j given = (owner_cleared j ∙ may.unowned j given, clears.rests j 1 given (omega arith) (descriptor_field_read I 1 (omega arith)))
 
   -- they are free
   pub frees : FreesNumbers P I J [] pages

@@ -7,8 +7,9 @@ use Rattle.std.proofs.lemmas.Option.{slice_get-get_or}
 use Rattle.std.proofs.lemmas.List.Elements.{Contains-get_or}
 use Rattle.pm_trait.specs.DeviceView.{DeviceView}
 use Rattle.layout.specs.declared.fields.DescriptorFields.{DescriptorFields}
-use Rattle.layout.specs.Fields.{word, inode_size, page_owner, page_kind, page_offset}
+use Rattle.layout.specs.Fields.{word, descriptor_fields, inode_size, page_owner, page_kind, page_offset}
 use Rattle.layout.specs.Geometry.{inodes_of, descriptor_word_of}
+use Rattle.layout.proofs.Widths.{descriptor_field_read}
 use Rattle.tree_model.specs.Accepted.{IsFileAt}
 use Rattle.tree_model.specs.PathText.{Route}
 use Rattle.tree_model.specs.Run.{State}
@@ -175,10 +176,10 @@ module _ (volume : VolumeView) (device : DeviceView) (state : State) (residue : 
   not_kept j unused kept = elim kept [ inl page ↦ reached_pos P I (page_owner P I j) page.owner unused.1.0 | inr room ↦ reached_pos P I (page_owner P I j) room.reached unused.1.0 ]
 
   -- a page that none uses has a descriptor of zeros
-  zero_word : (j : ℕ) → IsUnusedDataPage P I j → (f : ℕ) → f < 3 → word I (descriptor_word_of P j f) ≡ 0
+  zero_word : (j : ℕ) → IsUnusedDataPage P I j → (f : ℕ) → f < descriptor_fields → word I (descriptor_word_of P j f) ≡ 0
   zero_word j unused f lt = elim (cases_eq (word I (descriptor_word_of P j f)) 0) [
     | inl is ↦ is
-    | inr ne ↦ absurd (unused_tidy P I j residue stands.beside unused.1 (record { in_range = unused.0; free = not_kept j unused; nonzero = (f, lt, ne) }))
+    | inr ne ↦ absurd (unused_tidy P I j residue stands.beside unused.1 (record { in_range = unused.0; free = not_kept j unused; nonzero = (f, descriptor_field_read I f lt, ne) }))
   ]
 
   pub are_free : (pages : List ℕ) → IsDistinct pages → ((j : ℕ) → Contains pages j → IsUnusedDataPage P I j) → AreFree P I pages

@@ -3,6 +3,7 @@ use Rattle.std.proofs.Common.{◌≡◌, inr, ℕ, ◌+◌, ◌<◌, ◌≤◌, 
 use Rattle.std.specs.Prelude.{Contains}
 use Rattle.layout.specs.Fields.{inode_size, page_owner, page_kind}
 use Rattle.layout.specs.Geometry.{data_pages_of, page_of_slot, descriptor_word_of}
+use Rattle.layout.proofs.Widths.{in_inode, in_descriptor}
 use Rattle.image_reading.specs.Counts.{IsIn}
 use Rattle.image_reading.specs.Reading.{pages_of_size}
 use Rattle.image_reading.specs.Residue.{Residue}
@@ -30,7 +31,7 @@ module _ (P : ℕ) (I J : List ℕ) (i offset : ℕ) (bytes pages : List ℕ) (o
   not_filled : (j f : ℕ) → j < data_pages_of P → f < 8 → ¬ Contains pages j → {a : ℕ} → IsFillWord P I i pages a → a ≡ descriptor_word_of P j f → ⊥
   not_filled j f lt l8 none (IsFillWord.old k h w page l) e = descriptor-ne_page P j f h w lt l8 (sym e)
   not_filled j f lt l8 none (IsFillWord.new h w is l) e = descriptor-ne_page P j f h w lt l8 (sym e)
-  not_filled j f lt l8 none (IsFillWord.descriptor h g is l m) e = none (subst (Contains pages) (descriptor_word-one P h g j f (omega (arith, m)) l8 e).0 is)
+  not_filled j f lt l8 none (IsFillWord.descriptor h g is which) e = none (subst (Contains pages) (descriptor_word-one P h g j f (omega (arith, which)) l8 e).0 is)
 
   shape : SameShape P I J
   shape = filling.shape P I J i offset bytes pages may fills
@@ -44,11 +45,12 @@ module _ (P : ℕ) (I J : List ℕ) (i offset : ℕ) (bytes pages : List ℕ) (o
     after = shape.coherent;
     file = may.reached;
     names = shape.names;
-    descriptors = λ j f lt l3 none. fills.others (descriptor_word_of P j f) (λ is. not_filled j f lt (omega (arith, l3)) none is refl);
+    version = quiet.head_same P I J stores 1 (omega arith);
+    descriptors = λ j f lt l3 none. fills.others (descriptor_word_of P j f) (λ is. not_filled j f lt (in_descriptor I f l3) none is refl);
     unheld = λ t is held. (let zero = (may.unused (page_of_slot t) is).1.1 in let two = held.kind in omega (arith, zero, two));
     unheld_after = λ t is held. (let one = kind_is (page_of_slot t) is in let two = held.kind in omega (arith, one, two));
     slots = λ t f held lt. quiet.slot_same P I J stores t f lt held;
-    inodes = λ x f some most lt why. quiet.inode_same P I J stores x f some most (omega (arith, lt));
+    inodes = λ x f some most lt why. quiet.inode_same P I J stores x f some most (in_inode I f lt);
   }
 
   -- ---- the new pages are left, and in use

@@ -3,11 +3,12 @@ use Rattle.std.proofs.Common.{◌≡◌, inl, inr, ℕ, ◌<◌, List, [], sym, 
 use Rattle.std.specs.Prelude.{Contains}
 use Rattle.layout.specs.Fields.{inode_size, page_owner, page_kind}
 use Rattle.layout.specs.Geometry.{data_pages_of, page_of_slot, inode_word_of, slot_word_of}
+use Rattle.layout.proofs.Widths.{in_inode, in_descriptor}
 use Rattle.image_reading.specs.Counts.{IsIn}
 use Rattle.image_reading.specs.Residue.{Residue}
 use Rattle.image_counts.specs.Entries.{IsPageIn, IsUnusedPage}
 use Rattle.image_laws.specs.Frame.{SameShape}
-use Rattle.image_laws.proofs.Addresses.{descriptor-ne_inode, descriptor-ne_slot}
+use Rattle.image_laws.proofs.Addresses.{head-ne_descriptor, descriptor-ne_inode, descriptor-ne_slot}
 use Rattle.content_laws.specs.Growth.{TakesPages}
 use Rattle.weave_laws.specs.Bytes.{MayOwn}
 use Rattle.weave_laws.specs.Waiting.{AreInOrder, HasNoPageOf}
@@ -32,11 +33,12 @@ module _ (P : ℕ) (I J : List ℕ) (i : ℕ) (pages : List ℕ) (may : MayOwn P
     after = shape.coherent;
     file = may.reached;
     names = shape.names;
-    descriptors = λ j f lt l3 none. taken.descriptor_same P I J i pages may takes j f l3 (inr none);
+    version = takes.others 1 (λ j is. head-ne_descriptor P j 0 1 (omega arith));
+    descriptors = λ j f lt l3 none. taken.descriptor_same P I J i pages may takes j f (in_descriptor I f l3) (inr none);
     unheld = λ t is held. (let one = (may.filled (page_of_slot t) is).kind in let two = held.kind in omega (arith, one, two));
     unheld_after = λ t is held. (let one = kind_after (page_of_slot t) is in let two = held.kind in omega (arith, one, two));
     slots = λ t f held lt. takes.others (slot_word_of P t f) (λ j is e. descriptor-ne_slot P j 0 t f (may.filled j is).free.0 (omega arith) (sym e));
-    inodes = λ x f some most lt why. takes.others (inode_word_of x f) (λ j is e. descriptor-ne_inode P j 0 x f some most (omega (arith, lt)) (sym e));
+    inodes = λ x f some most lt why. takes.others (inode_word_of x f) (λ j is e. descriptor-ne_inode P j 0 x f some most (in_inode I f lt) (sym e));
   }
 
   -- ---- the tables

@@ -9,7 +9,7 @@ use Rattle.tree_model.specs.PathText.{Route}
 use Rattle.tree_model.specs.Tree.{IsTree}
 use Rattle.tree_model.specs.Accepted.{MayMake}
 use Rattle.tree_model.specs.Capacity.{Supply}
-use Rattle.tree_model.specs.Step.{refusal_with}
+use Rattle.tree_model.specs.Step.{making as of_kind, refusal_with}
 use Rattle.tree_model.specs.Run.{State}
 use Rattle.tree_model.specs.declared.command.Command.TheVariants.{Create, Mkdir}
 use Rattle.tree_model.proofs.AcceptedLaws.{Accepted-from_row}
@@ -19,7 +19,6 @@ use Rattle.image_counts.specs.Laws.{supply_beside}
 use Rattle.weave_laws.proofs.FreeBeside.{kindless_unreached}
 use Rattle.volume.specs.Volume.{VolumeView}
 use Rattle.volume.specs.Planned.{IsEntryFor, IsPlanOf}
-use Rattle.volume.specs.Prepared.{making as of_kind}
 use Rattle.volume.specs.Stages.{HasKept, keeping}
 use Rattle.volume.specs.declared.plan.NewEntry.{NewEntry}
 use Rattle.volume.specs.declared.plan.Action.TheVariants.{Make}

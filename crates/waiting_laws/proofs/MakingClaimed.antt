@@ -2,8 +2,9 @@
 use Rattle.std.proofs.Common.{◌≡◌, ℕ, List, Some, refl, sym, ap, subst, ◌∙◌}
 use Rattle.pm_trait.specs.DeviceView.{DeviceView}
 use Rattle.fence_token.specs.declared.states.Clean.{Clean}
+use Rattle.layout.specs.declared.kinds.NodeKind.{NodeKind}
+use Rattle.layout.specs.declared.kinds.NodeKind.TheVariants.{File, Directory}
 use Rattle.tree_model.specs.PathText.{Route}
-use Rattle.tree_model.specs.Tree.{Node, Directory, File}
 use Rattle.tree_model.specs.Run.{State}
 use Rattle.tree_model.specs.declared.reply.Reply.TheVariants.{Done}
 use Rattle.image_reading.specs.Residue.{Residue}
@@ -23,14 +24,13 @@ use Rattle.entry_steps.specs.Steps.{owning}
 use Rattle.create_ops.specs.declared.run.NamedNode.{NamedNode}
 use Rattle.create_ops.specs.declared.run.Stage.{Stage}
 use Rattle.create_ops.specs.declared.run.Stage.TheVariants.{Begun, Written, Claimed}
-use Rattle.create_ops.specs.Making.{node_of}
 use Rattle.create_ops.specs.Stages.{RunningView, IsAfter, IsAfterPlace, EntersAtStage, EntersAfterPlace, StandsStage, step_at}
 use Rattle.create_ops.proofs.Standing.{paid_commit}
 use Rattle.waiting_laws.specs.Beside.{MakesStep}
 use Rattle.waiting_laws.specs.Making.{left_by, WaitsOn, WaitsToMake, MakingClaimedLaw}
 use Rattle.waiting_laws.proofs.NamingClaimed as claims
 use Rattle.waiting_laws.proofs.NamingClaimed.{IsClaimed}
-use Rattle.waiting_laws.proofs.NamingWords.{inode_stays, links_stay}
+use Rattle.waiting_laws.proofs.NamingWords.{read_before, inode_stays, links_stay}
 use Rattle.waiting_laws.proofs.NamingWritten.{none_of_inode}
 use Rattle.waiting_laws.proofs.MakingWritten.{next_is}
 
@@ -56,11 +56,11 @@ module _ (old : VolumeView) (before after : DeviceView) (state : State) (path : 
   claimed = claims.claimed on.beside on.name on.words.1 on.place after.words makes.takes.makes
 
   -- other words than the owner stay
-  raised : (node : Node) → HasRaisedLinks I state.tree node d → HasRaisedLinks J state.tree node d
+  raised : (kind : NodeKind) → HasRaisedLinks I state.tree kind d → HasRaisedLinks J state.tree kind d
   raised Directory links =
       let (least, most) = in_range P I on.beside.stands.sound.coherent d (((size_law P I state on.beside.stands.sound.coherent on.beside.stands.reads).directories d).0 on.name.directory).0 in
       links_stay claimed.step.range claimed.step.stores d least most (λ none. none) ∙ links
-  raised (File bytes) links = tt
+  raised File links = tt
 
   waits_again : (node : NamedNode) → StandsStage (paid_commit old) after (record { entry = entry; stage = Claimed node }) → WaitsOn old (paid_commit old) before after state path (record { entry = entry; stage = Claimed node }) others
   waits_again node stands =
@@ -73,8 +73,8 @@ module _ (old : VolumeView) (before after : DeviceView) (state : State) (path : 
           name = claimed.name;
           place = claims.place_then on.beside on.name on.words.1 on.place after.words makes.takes.makes;
           full = on.full;
-          node = record { empty = on.node.empty; words = λ f lt. inode_stays claimed.step.range claimed.step.stores i f on.words.0.least on.words.0.most lt (λ none. none) ∙ on.node.words f lt };
-          links = raised (node_of entry.kind) on.links;
+          node = λ f lt. (let low = read_before I J f lt in inode_stays claimed.step.range claimed.step.stores i f on.words.0.least on.words.0.most low (λ none. none) ∙ on.node f low);
+          links = raised entry.kind on.links;
           alone = none_of_inode (Some page) claimed.step.stores claimed.step.range (left_by entry) others (ap pages_left on.words.1.page_is) claimed.tidy i on.alone;
           knows = record { place = stands.place; unlisted = on.knows.unlisted };
         };

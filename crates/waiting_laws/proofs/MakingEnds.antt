@@ -2,16 +2,16 @@
 use Rattle.std.proofs.Common.{◌≡◌, inr, ℕ, ◌-◌, List, reverse, refl, sym, subst, ◌∙◌, arith}
 use Rattle.pm_trait.specs.DeviceView.{DeviceView}
 use Rattle.layout.specs.declared.kinds.NodeKind.{NodeKind}
-use Rattle.layout.specs.declared.kinds.NodeKind.TheVariants.{File as AFile, Directory as ADirectory}
 use Rattle.fence_token.specs.declared.states.Clean.{Clean}
 use Rattle.tree_model.specs.PathText.{Route}
-use Rattle.tree_model.specs.Tree.{Node, parent}
+use Rattle.tree_model.specs.Tree.{parent}
 use Rattle.tree_model.specs.Run.{State}
+use Rattle.tree_model.specs.Step.{making as of_kind}
 use Rattle.tree_model.specs.declared.reply.Reply.TheVariants.{Done}
 use Rattle.image_reading.specs.Residue.{Residue}
 use Rattle.image_laws.specs.Add.{CanAdd}
 use Rattle.image_laws.specs.Create.{committed}
-use Rattle.image_laws.specs.CreateStep.{making, IsStepped}
+use Rattle.image_laws.specs.CreateStep.{IsStepped}
 use Rattle.inode_state.specs.Inode.{InodeView}
 use Rattle.weave_laws.specs.Waiting.{WaitsBeside, IsWaitingName, MayCommitNode}
 use Rattle.weave_laws.proofs.Entered.{node_entered_law}
@@ -20,7 +20,6 @@ use Rattle.weave_laws.proofs.WaitingNames.{waiting_node_law, waiting_words_law}
 use Rattle.volume.specs.Volume.{VolumeView}
 use Rattle.volume.specs.Costs.{commit_events}
 use Rattle.volume.specs.Entered.{PutsName}
-use Rattle.volume.specs.Prepared.{making as of_kind}
 use Rattle.volume.specs.declared.next.Next.{Next}
 use Rattle.volume.specs.declared.next.Next.TheVariants.{More, Ended}
 use Rattle.volume.specs.declared.plan.NewEntry.{NewEntry}
@@ -29,16 +28,11 @@ use Rattle.entry_steps.specs.declared.place.NamePlace.TheVariants.{Slot, Page}
 use Rattle.entry_steps.specs.Steps.{naming}
 use Rattle.create_ops.specs.declared.run.Stage.{Stage}
 use Rattle.create_ops.specs.declared.run.Stage.TheVariants.{Begun, Written, Claimed}
-use Rattle.create_ops.specs.Making.{node_of}
 use Rattle.create_ops.specs.Stages.{RunningView, IsAfter, IsAfterPlace, EntersAtStage, EntersAfterPlace, step_at}
 use Rattle.waiting_laws.specs.Beside.{MakesStep, Commits}
 use Rattle.waiting_laws.specs.Making.{held_by, left_by, WaitsToMake, MakingEndsLaw}
 use Rattle.waiting_laws.proofs.Standing.{waits}
 use Rattle.waiting_laws.proofs.NamingEnds.{page_of_place, brings, same_page, name_commits, HasEnded, ended}
-
-command_is : (kind : NodeKind) (path : Route) → making (node_of kind) path ≡ of_kind kind path
-command_is AFile path = refl
-command_is ADirectory path = refl
 
 module _ (old : VolumeView) (before : DeviceView) (state : State) (path : Route) (running : RunningView) (others : Residue) (on : WaitsToMake old before state path running others)
     (name : IsWaitingName old.size before.words state.tree path running.entry.directory running.entry.slot) where
@@ -60,21 +54,21 @@ module _ (old : VolumeView) (before : DeviceView) (state : State) (path : Route)
   abbrev i : ℕ
   i = entry.inode
 
-  abbrev node : Node
-  node = node_of entry.kind
+  abbrev kind : NodeKind
+  kind = entry.kind
 
   beside : WaitsBeside P I (left_by entry) others state
   beside = waits old before state (left_by entry) others on.beside
 
-  may : MayCommitNode P I state path node d s entry.new_page i
-  may = waiting_node_law P I state path node d s entry.new_page i others beside name (page_of_place P I s entry.new_page on.place) on.full on.node on.alone
+  may : MayCommitNode P I state path kind d s entry.new_page i
+  may = waiting_node_law P I state path kind d s entry.new_page i others beside name (page_of_place P I s entry.new_page on.place) on.full on.node on.alone
 
   can : CanAdd P I (reverse (parent path)) d s i
   can = may.named.can
 
   stepped : IsStepped P (committed P I s i) state (of_kind entry.kind path) i
-  stepped = subst (λ command. IsStepped P (committed P I s i) state command i) (command_is entry.kind path)
-      (node_entered_law P I state (reverse (parent path)) path node d s i can may.new may.is_node on.node.empty may.named.has_place may.named.path_is beside.holds.reads)
+  stepped =
+      (node_entered_law P I state (reverse (parent path)) path kind d s i can may.new may.is_node may.named.has_place may.named.path_is beside.holds.reads)
 
   pub commits : (J : List ℕ) → (naming P s i).Makes I J → Commits P I J state (of_kind entry.kind path) i
   commits J made = name_commits on.beside.stands on.beside.unmarked can stepped J made
@@ -82,7 +76,7 @@ module _ (old : VolumeView) (before : DeviceView) (state : State) (path : Route)
   pub ends : (new : VolumeView) (after : DeviceView) (Enters : VolumeView → VolumeView → Type 0) → MakesStep (naming P s i) Enters old new before after → PutsName (record old { kept = old.kept - commit_events }) new d entry.name s entry.new_page
       → HasEnded old new before after state (of_kind entry.kind path) i others (held_by entry)
   ends new after Enters makes puts = ended on.beside can stepped
-      (node_committed_law P I (reverse (parent path)) node d s entry.new_page i others can (waiting_words_law P I state node d s entry.new_page i others beside on.node on.links) on.place beside.holds.beside)
+      (node_committed_law P I (reverse (parent path)) kind d s entry.new_page i others can (waiting_words_law P I state kind d s entry.new_page i others beside on.node on.links) on.place beside.holds.beside)
       (brings can entry.name (on.name_is ∙ sym name.name_is) (λ reached bytes. inr (let some = can.least in omega (arith, some), can.most, λ j page. may.new.no_pages j page.in_range (same_page can i j page).owner)))
       refl on.beside.no_pointer on.place on.knows Enters makes puts
 

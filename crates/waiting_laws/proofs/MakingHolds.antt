@@ -12,7 +12,6 @@ use Rattle.volume.specs.Stages.{HasKept}
 use Rattle.volume.specs.declared.plan.NewEntry.{NewEntry}
 use Rattle.create_ops.specs.declared.run.Stage.{Stage}
 use Rattle.create_ops.specs.declared.run.Stage.TheVariants.{Begun, Written, Claimed}
-use Rattle.create_ops.specs.Making.{node_of}
 use Rattle.create_ops.specs.Stages.{RunningView, AreTaken, HasNumbers, left_of, StandsStage}
 use Rattle.waiting_laws.specs.Beside.{Holds}
 use Rattle.waiting_laws.specs.Making.{held_by, left_by, HasWrittenName, WaitsToMake, MakingHoldsLaw, MakingStandsLaw}
@@ -39,7 +38,7 @@ module _ (volume : VolumeView) (device : DeviceView) (state : State) (path : Rou
     used = on.beside.stands.beside.kinds entry.inode (inl refl)
 
     holds_entry : Holds volume device.words (left_by entry) (held_by entry)
-    holds_entry = holds_name on.beside name on.knows refl refl entry.inode (λ x among. elim among [ inl is ↦ inl is | inr none ↦ absurd none ]) (λ x among. inr (inl (counts_in (node_of entry.kind) entry.directory x among))) inode used
+    holds_entry = holds_name on.beside name on.knows refl refl entry.inode (λ x among. elim among [ inl is ↦ inl is | inr none ↦ absurd none ]) (λ x among. inr (inl (counts_in entry.kind entry.directory x among))) inode used
 
     taken : AreTaken volume entry
     taken = record { inode = inode_taken on.beside name on.knows refl refl entry.inode inode used; page = page_taken on.beside name on.knows refl refl }

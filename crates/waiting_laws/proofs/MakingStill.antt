@@ -1,8 +1,9 @@
 -- Another call has made a step, and the making of an entry waits still.
 use Rattle.std.proofs.Common.{◌≡◌, inl, inr, ℕ, ◌+◌, [], ◌∷◌, length, refl, sym, ap, subst, ◌∙◌, arith}
 use Rattle.pm_trait.specs.DeviceView.{DeviceView}
+use Rattle.layout.specs.declared.kinds.NodeKind.{NodeKind}
+use Rattle.layout.specs.declared.kinds.NodeKind.TheVariants.{File, Directory}
 use Rattle.tree_model.specs.PathText.{Route}
-use Rattle.tree_model.specs.Tree.{Node, Directory, File}
 use Rattle.tree_model.specs.Run.{State}
 use Rattle.image_reading.specs.Counts.{IsIn}
 use Rattle.image_reading.specs.Residue.{Residue}
@@ -13,13 +14,13 @@ use Rattle.volume.specs.Volume.{VolumeView}
 use Rattle.volume.specs.declared.plan.NewEntry.{NewEntry}
 use Rattle.create_ops.specs.declared.run.Stage.{Stage}
 use Rattle.create_ops.specs.declared.run.Stage.TheVariants.{Begun, Written, Claimed}
-use Rattle.create_ops.specs.Making.{node_of}
 use Rattle.create_ops.specs.Stages.{RunningView, IsInodeOf, IsAt}
 use Rattle.waiting_laws.specs.Beside.{PassesBy, StandsWith}
 use Rattle.waiting_laws.specs.Making.{held_by, left_by, HasWrittenName, WaitsToMake, MakingStillLaw}
 use Rattle.waiting_laws.proofs.NamingEnds.{page_of_place}
 use Rattle.waiting_laws.proofs.NamingStill as kept
 use Rattle.waiting_laws.proofs.NamingStill.{HoldsName}
+use Rattle.waiting_laws.proofs.NamingWords.{read_before}
 
 module _ (old new : VolumeView) (before after : DeviceView) (state later : State) (path : Route) (others now : Residue) where
   module _ (running : RunningView) (on : WaitsToMake old before state path running others) (passes : PassesBy old new before after state later (held_by running.entry)) (with : StandsWith new after later (left_by running.entry) now) where
@@ -59,9 +60,9 @@ module _ (old new : VolumeView) (before after : DeviceView) (state later : State
     name_at (Written node) name = kept.name_kept passes named path node.place name
     name_at (Claimed node) name = kept.waiting_kept passes named name
 
-    raised : (node : Node) → HasRaisedLinks before.words state.tree node entry.directory → HasRaisedLinks after.words later.tree node entry.directory
+    raised : (kind : NodeKind) → HasRaisedLinks before.words state.tree kind entry.directory → HasRaisedLinks after.words later.tree kind entry.directory
     raised Directory links = kept.links_same passes entry.directory above ∙ links ∙ ap (λ n. n + 1) (sym (kept.counted_same passes entry.directory above))
-    raised (File bytes) links = tt
+    raised File links = tt
 
     pub waits_still : HasNoPageOf new.size after.words now entry.inode → WaitsToMake new after later path running now
     waits_still alone = record {
@@ -71,8 +72,8 @@ module _ (old new : VolumeView) (before after : DeviceView) (state later : State
       name = subst (λ p. HasWrittenName p after.words later.tree path entry running.stage) (sym passes.size) (name_at running.stage on.name);
       place = subst (λ p. IsWrittenPlace p after.words entry.slot entry.new_page) (sym passes.size) (kept.written_kept passes named entry.new_page on.place);
       full = kept.full_kept passes named entry.new_page on.full;
-      node = record { empty = on.node.empty; words = λ f lt. kept.inode_word passes entry.inode f own lt ∙ on.node.words f lt };
-      links = raised (node_of entry.kind) on.links;
+      node = λ f lt. (let low = read_before before.words after.words f lt in kept.inode_word passes entry.inode f own low ∙ on.node f low);
+      links = raised entry.kind on.links;
       alone = alone;
       knows = kept.knows_place_kept passes named entry.new_page (page_of_place P before.words entry.slot entry.new_page on.place) on.knows;
     }

@@ -3,12 +3,13 @@
 use Rattle.std.proofs.Common.{◌≡◌, ◌≢◌, inl, inr, ℕ, ◌+◌, ◌<◌, ◌≤◌, List, Option, Some, None, refl, sym, ap, subst, ◌∙◌, arith}
 use Rattle.std.proofs.lemmas.Bool.{cases_eq}
 use Rattle.layout.specs.Geometry.{inodes_of, data_pages_of, page_of_slot, inode_word_of, descriptor_word_of, slot_word_of, page_word_of}
-use Rattle.layout.specs.Fields.{word, inode_kind, page_owner, slot_inode, slot_pointer, slot_name}
+use Rattle.layout.specs.Fields.{word, descriptor_words, IsKindOrOffset, inode_kind, page_owner, slot_inode, slot_pointer, slot_name}
 use Rattle.layout.specs.Name.{words_of_name, name_in_words}
 use Rattle.tree_model.specs.PathText.{Route}
 use Rattle.tree_model.specs.Tree.{Directory}
 use Rattle.tree_model.specs.Run.{State}
 use Rattle.image_reading.specs.Counts.{IsIn}
+use Rattle.layout.proofs.Widths.{in_descriptor}
 use Rattle.image_reading.specs.Reading.{IsDirectory, slot_owner, IsHeld, Reached, IsReachedSlot}
 use Rattle.image_reading.specs.Residue.{Residue, no_residue, IsTidyBeside}
 use Rattle.image_reading.specs.Soundness.{IsCoherent}
@@ -140,23 +141,23 @@ module _ {P : ℕ} {W : List ℕ} {state : State} (from to : Route) {moving : Mo
     filled_means : SameMeaning P W A
     filled_means = quiet.making A (mix_itself W A makes.size)
 
-    same_word : (a : ℕ) → ((w : ℕ) → w < 512 → a ≢ page_word_of P page w) → ((f : ℕ) → 1 ≤ f → f < 3 → a ≢ descriptor_word_of P page f) → word A a ≡ word W a
+    same_word : (a : ℕ) → ((w : ℕ) → w < 512 → a ≢ page_word_of P page w) → ((f : ℕ) → IsKindOrOffset f → a ≢ descriptor_word_of P page f) → word A a ≡ word W a
     same_word a inside descriptor = makes.others a (not_page_made P page a inside descriptor)
 
-    descriptor_same : (k f : ℕ) → k < data_pages_of P → f < 3 → k ≢ page → word A (descriptor_word_of P k f) ≡ word W (descriptor_word_of P k f)
-    descriptor_same k f lt l3 other = same_word (descriptor_word_of P k f) (λ w l. descriptor-ne_page P k f page w lt (omega (arith, l3)))
-        (λ g low high e. other (descriptor_word-one P k f page g (omega (arith, l3)) (omega (arith, high)) e).0)
+    descriptor_same : (k f : ℕ) → k < data_pages_of P → f < descriptor_words W → k ≢ page → word A (descriptor_word_of P k f) ≡ word W (descriptor_word_of P k f)
+    descriptor_same k f lt l3 other = same_word (descriptor_word_of P k f) (λ w l. descriptor-ne_page P k f page w lt (in_descriptor W f l3))
+        (λ g which e. other (descriptor_word-one P k f page g (in_descriptor W f l3) (omega (arith, which)) e).0)
 
     slot_same : (t f : ℕ) → f < 16 → page_of_slot t ≢ page → word A (slot_word_of P t f) ≡ word W (slot_word_of P t f)
     slot_same t f lt beside = same_word (slot_word_of P t f)
         (λ w l e. page-ne_slot P page w t f l lt (λ z. beside (sym z)) (sym e))
-        (λ g low high e. descriptor-ne_slot P page g t f free.0 (omega (arith, high)) (sym e))
+        (λ g which e. descriptor-ne_slot P page g t f free.0 (omega (arith, which)) (sym e))
 
     kind_same : (i : ℕ) → 1 ≤ i → i ≤ inodes_of P → inode_kind A i ≡ inode_kind W i
     unfolding inode_kind
     kind_same i least most = same_word (inode_word_of i 0)
         (λ w l e. page-ne_inode P page w i 0 least most (omega arith) (sym e))
-        (λ g low high e. descriptor-ne_inode P page g i 0 least most (omega arith) (sym e))
+        (λ g which e. descriptor-ne_inode P page g i 0 least most (omega arith) (sym e))
 
     paged : KeepsPages P W A (λ k. k ≡ page)
     paged = by_words P W A (λ k. k ≡ page) descriptor_same
@@ -215,9 +216,9 @@ module _ {P : ℕ} {W : List ℕ} {state : State} (from to : Route) {moving : Mo
     owned_word : (a : ℕ) → a ≢ descriptor_word_of P page 0 → word B a ≡ word A a
     owned_word a other = other_word A (descriptor_word_of P page 0) x a other
 
-    owned_descriptor : (k f : ℕ) → k < data_pages_of P → f < 3 → k ≢ page → word B (descriptor_word_of P k f) ≡ word W (descriptor_word_of P k f)
+    owned_descriptor : (k f : ℕ) → k < data_pages_of P → f < descriptor_words W → k ≢ page → word B (descriptor_word_of P k f) ≡ word W (descriptor_word_of P k f)
     owned_descriptor k f lt l3 other =
-        owned_word (descriptor_word_of P k f) (λ e. other (descriptor_word-one P k f page 0 (omega (arith, l3)) (omega arith) e).0) ∙ descriptor_same k f lt l3 other
+        owned_word (descriptor_word_of P k f) (λ e. other (descriptor_word-one P k f page 0 (in_descriptor W f l3) (omega arith) e).0) ∙ descriptor_same k f lt l3 other
 
     owned_paged : KeepsPages P W B (λ k. k ≡ page)
     owned_paged = by_words P W B (λ k. k ≡ page) owned_descriptor

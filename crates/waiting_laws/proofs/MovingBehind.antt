@@ -3,12 +3,13 @@
 use Rattle.std.proofs.Common.{◌≡◌, ◌≢◌, ◌↔◌, inl, inr, ℕ, ◌+◌, ◌<◌, ◌≤◌, true, List, ◌++◌, Option, Some, None, sym, ap, subst, ◌∙◌, arith}
 use Rattle.std.proofs.lemmas.Bool.{cases_eq, false≢true}
 use Rattle.layout.specs.Geometry.{inodes_of, data_pages_of, page_of_slot, inode_word_of, descriptor_word_of, slot_word_of}
+use Rattle.layout.proofs.Widths.{in_descriptor}
 use Rattle.layout.specs.Fields.{word, inode_kind, page_owner, slot_inode, slot_pointer, slot_name}
 use Rattle.layout.specs.Name.{name_in_words}
 use Rattle.tree_model.specs.PathText.{Route}
 use Rattle.tree_model.specs.Run.{State}
 use Rattle.image_reading.specs.Counts.{IsIn}
-use Rattle.image_reading.specs.Reading.{slot_owner, IsHeld, Reached, IsRoomOf}
+use Rattle.image_reading.specs.Reading.{IsDirectory, slot_owner, IsHeld, Reached, IsRoomOf}
 use Rattle.image_reading.specs.Residue.{Residue, IsTidyBeside}
 use Rattle.image_reading.specs.Soundness.{IsCoherent}
 use Rattle.image_counts.specs.Entries.{IsEntryOf}
@@ -163,7 +164,7 @@ module _ {P : ℕ} {W : List ℕ} {state : State} (from to : Route) {moving : Mo
   owner_same : goes_of moving.replaced ≡ true → (j : ℕ) → j < data_pages_of P → page_owner P committed j ≡ page_owner P W j
   owner_same goes j lt = (here.only P I pa pb s d can).owner j lt ∙ near.owner_same P W I pa pb s x d (target_of moving) (rising_of moving) ready j lt (owner_by moving.replaced moving.new_page goes j)
 
-  pub source_reached : Reached P committed (slot_owner P W s) × (inode_kind committed (slot_owner P W s) ≡ 2)
+  pub source_reached : Reached P committed (slot_owner P W s) × IsDirectory committed (slot_owner P W s)
   source_reached =
       let owner = near.source_owner P W I pa pb s x d (target_of moving) (rising_of moving) ready in
       let reached = here.source_owner_reached P I pa pb s d can in (
@@ -240,7 +241,7 @@ module _ {P : ℕ} {W : List ℕ} {state : State} (from to : Route) {moving : Mo
     number = only_left.inode d (λ e. here.apart P I pa pb s d can (sym e)) ∙ here.number_new P I pa pb s d can;
     name = λ f low lt. word_left (slot_word_of P d f) (slot-ne_field P d f s 0 lt (omega arith) (λ e. omega (arith, e, low))) (slot-ne_field P d f d 0 lt (omega arith) (λ e. omega (arith, e, low)));
     source = words.left_number P I pa pb s d can;
-    paged = by_words P I D (λ j. ⊥) (λ j f lt l3 none. word_left (descriptor_word_of P j f) (descriptor-ne_slot P j f s 0 lt (omega (arith, l3))) (descriptor-ne_slot P j f d 0 lt (omega (arith, l3))));
+    paged = by_words P I D (λ j. ⊥) (λ j f lt l3 none. word_left (descriptor_word_of P j f) (descriptor-ne_slot P j f s 0 lt (in_descriptor I f l3)) (descriptor-ne_slot P j f d 0 lt (in_descriptor I f l3)));
     unowned = λ j none. absurd none;
   }
 
@@ -272,7 +273,7 @@ module _ {P : ℕ} {W : List ℕ} {state : State} (from to : Route) {moving : Mo
 
     paged_cleared : KeepsPages P I J no_page
     unfolding no_page
-    paged_cleared = by_words P I J (λ j. ⊥) (λ j f lt l3 none. has_cleared.descriptors j f lt (omega (arith, l3)))
+    paged_cleared = by_words P I J (λ j. ⊥) (λ j f lt l3 none. has_cleared.descriptors j f lt (in_descriptor I f l3))
 
     others_cleared : KeepsOthers P I J s d no_page
     unfolding slot_inode no_page
@@ -322,8 +323,8 @@ module _ {P : ℕ} {W : List ℕ} {state : State} (from to : Route) {moving : Mo
 
       paged_given : KeepsPages P I G (IsGivenUp P committed s (target_of moving))
       paged_given = by_words P I G (IsGivenUp P committed s (target_of moving)) (λ j f lt l3 out.
-          is_given.gives.others (descriptor_word_of P j f) (λ k given e. out (subst (IsGivenUp P committed s (target_of moving)) (sym (descriptor_word-one P j f k 0 (omega (arith, l3)) (omega arith) e).0) given))
-          ∙ has_cleared.descriptors j f lt (omega (arith, l3)))
+          is_given.gives.others (descriptor_word_of P j f) (λ k given e. out (subst (IsGivenUp P committed s (target_of moving)) (sym (descriptor_word-one P j f k 0 (in_descriptor I f l3) (omega arith) e).0) given))
+          ∙ has_cleared.descriptors j f lt (in_descriptor I f l3))
 
       slot_given : (t f : ℕ) → word G (slot_word_of P t f) ≡ word J (slot_word_of P t f)
       slot_given t f = given_word (slot_word_of P t f) (λ j lt e. descriptor-ne_slot P j 0 t f lt (omega arith) (sym e))

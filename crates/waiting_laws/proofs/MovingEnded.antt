@@ -2,10 +2,11 @@
 use Rattle.std.proofs.Common.{◌≡◌, ◌≢◌, ◌↔◌, ℕ, ◌≤◌, Bool, true, List, length, sym, ap, subst, ◌∙◌, arith}
 use Rattle.layout.specs.Geometry.{inodes_of}
 use Rattle.layout.specs.Fields.{inode_kind, page_owner, page_kind, slot_inode}
+use Rattle.layout.proofs.Widths.{inode_field_read, descriptor_field_read}
 use Rattle.tree_model.specs.PathText.{Route}
 use Rattle.tree_model.specs.Run.{State}
 use Rattle.image_reading.specs.Counts.{IsIn}
-use Rattle.image_reading.specs.Reading.{slot_owner}
+use Rattle.image_reading.specs.Reading.{IsDirectory, slot_owner}
 use Rattle.image_reading.specs.Residue.{Residue, no_residue, IsTidyBeside}
 use Rattle.image_reading.proofs.Residues.{tidied_beside}
 use Rattle.image_counts.specs.Entries.{IsEntryOf, IsUnusedPage}
@@ -94,7 +95,7 @@ module _ {P : ℕ} {W : List ℕ} {state : State} (from to : Route) {moving : Mo
 
   unused_end : (j : ℕ) → IsSpare P I C s d j → IsUnusedPage P K j
   unfolding page_owner page_kind
-  unused_end j spare = (has_ended.spare j 0 spare (omega arith), has_ended.spare j 1 spare (omega arith))
+  unused_end j spare = (has_ended.spare j 0 spare (descriptor_field_read K 0 (omega arith)), has_ended.spare j 1 spare (descriptor_field_read K 1 (omega arith)))
 
   others_end : KeepsOthers P I K s d (IsSpare P I C s d)
   unfolding slot_inode
@@ -121,18 +122,18 @@ module _ {P : ℕ} {W : List ℕ} {state : State} (from to : Route) {moving : Mo
   kind_end : (i : ℕ) → 1 ≤ i → i ≤ inodes_of P → (goes_of moving.replaced ≡ true → i ≢ number_of moving.replaced) → inode_kind K i ≡ inode_kind C i
   unfolding inode_kind
   kind_end i least most other =
-      has_ended.inodes i 0 least most (omega arith) (λ e. omega (arith, e)) (λ out e. other (goes_out.1 out) (e ∙ sym number_is))
+      has_ended.inodes i 0 least most (inode_field_read I 0 (omega arith)) (λ e. omega (arith, e)) (λ out e. other (goes_out.1 out) (e ∙ sym number_is))
       ∙ sym ((here.only P I pa pb s d can).node_kind i most)
 
   kind_gone : goes_of moving.replaced ≡ true → inode_kind K (number_of moving.replaced) ≡ 0
   unfolding inode_kind
-  kind_gone goes = ap (λ (i : ℕ). inode_kind K i) number_is ∙ has_ended.out (goes_out.0 goes) 0 (omega arith)
+  kind_gone goes = ap (λ (i : ℕ). inode_kind K i) number_is ∙ has_ended.out (goes_out.0 goes) 0 (inode_field_read K 0 (omega arith))
 
   -- the directory of the old name is one in the end
-  pub directory_end : inode_kind K moving.from_directory ≡ 2
+  pub directory_end : IsDirectory K moving.from_directory
   directory_end =
       let (reached, two) = behind.source_reached from to at pages are I ready in
-      subst (λ (i : ℕ). inode_kind K i ≡ 2) (Moves.for_move from to at).source.slot_is.owner (directory_forth has_ended.means (slot_owner P W s) reached two)
+      subst (IsDirectory K) (Moves.for_move from to at).source.slot_is.owner (directory_forth has_ended.means (slot_owner P W s) reached two)
 
   -- ---- the step, from whatever words behind the commit
 

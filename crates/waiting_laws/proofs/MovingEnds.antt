@@ -9,9 +9,10 @@ use Rattle.tree_model.specs.PathText.{Route}
 use Rattle.tree_model.specs.Run.{State}
 use Rattle.tree_model.specs.declared.reply.Reply.TheVariants.{Done}
 use Rattle.image_reading.specs.Counts.{IsIn}
-use Rattle.image_reading.specs.Reading.{HasBytes, slot_owner}
+use Rattle.image_reading.specs.Reading.{IsDirectory, slot_owner}
 use Rattle.image_reading.specs.Residue.{no_residue}
 use Rattle.image_counts.proofs.Distinct.{in_front, in_back}
+use Rattle.image_counts.proofs.Links.{not_both_kinds}
 use Rattle.image_laws.specs.Drop.{ClearsRest}
 use Rattle.rename_laws.specs.Intervals.{ClearsSource}
 use Rattle.weave_laws.specs.Naming.{pages_left}
@@ -72,7 +73,7 @@ nothing_cut pages (Some page) zero j (inr is) = omega (arith, zero)
 
 -- it is the last step, and the directory of the old name stays one
 abbrev IsLastOf : ℕ → List ℕ → List ℕ → Moving → List ℕ → Type 0
-IsLastOf P X K moving pages = IsLastStep P X K (pages ++ pages_left moving.given_back) (goes_of moving.replaced) (number_of moving.replaced) × (inode_kind K moving.from_directory ≡ 2)
+IsLastOf P X K moving pages = IsLastStep P X K (pages ++ pages_left moving.given_back) (goes_of moving.replaced) (number_of moving.replaced) × IsDirectory K moving.from_directory
 
 module _ {P : ℕ} {W : List ℕ} {state : State} (from to : Route) {moving : Moving} (at : IsMovingAt P W state from to moving) (pages : List ℕ) (are : AreGonePages P W moving.replaced pages)
     (count : length pages ≡ pages_of_loss moving.replaced) (X K : List ℕ) where
@@ -180,9 +181,6 @@ goer_within : (volume : VolumeView) (moving : Moving) (replaced : Option Loss) �
 goer_within volume moving None each has may = let (least, most) = has.directory in (least, omega (arith, most, each), (λ goes. absurd (false≢true goes)))
 goer_within volume moving (Some loss) each has (least, most, goes) = (least, omega (arith, most, each), (λ is. (goes is).1))
 
-no_file : (K : List ℕ) (i : ℕ) → inode_kind K i ≡ 2 → HasBytes K i → ⊥
-no_file K i two one = omega (arith, two, one)
-
 module _ (old : VolumeView) (before : DeviceView) (state : State) (from to : Route) (moving : Moving) (progress : Progress) (waits : WaitsToMove old before state from to moving progress)
     (e : next_moving moving progress ≡ Ended Done) where
   abbrev P : ℕ
@@ -237,7 +235,7 @@ module _ (old : VolumeView) (before : DeviceView) (state : State) (from to : Rou
         let (least, most, apart) = goer_within old moving moving.replaced each waits.knows.losses waits.knows.losses.inode in
         let directory = waits.knows.losses.directory in
         known_given kept new before.words after.words (left_by old moving progress) moving (least, most) behind_it.0
-        (stepping.knows_kept old before state from to moving progress waits) waits.stands.sound.coherent left_pages (directory.0, omega (arith, directory, each)) (no_file after.words moving.from_directory behind_it.1) apart
+        (stepping.knows_kept old before state from to moving progress waits) waits.stands.sound.coherent left_pages (directory.0, omega (arith, directory, each)) (λ file. not_both_kinds after.words moving.from_directory file behind_it.1) apart
         page_listed pages_listed (gives_by moving progress kept new e makes.enters)
 
     pub ends : StandsWith new after state no_residue no_residue

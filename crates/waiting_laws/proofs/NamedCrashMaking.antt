@@ -4,10 +4,10 @@ use Rattle.pm_trait.specs.DeviceView.{DeviceView}
 use Rattle.fence_token.specs.declared.states.Clean.{Clean}
 use Rattle.tree_model.specs.PathText.{Route}
 use Rattle.tree_model.specs.Run.{State}
+use Rattle.tree_model.specs.Step.{making as of_kind}
 use Rattle.image_reading.specs.Residue.{Residue}
 use Rattle.inode_state.specs.Inode.{InodeView}
 use Rattle.volume.specs.Volume.{VolumeView}
-use Rattle.volume.specs.Prepared.{making as of_kind}
 use Rattle.volume.specs.declared.plan.NewEntry.{NewEntry}
 use Rattle.entry_steps.specs.declared.place.NamePlace.{NamePlace}
 use Rattle.entry_steps.specs.declared.place.NamePlace.TheVariants.{Slot, Page}

@@ -10,12 +10,13 @@ use Rattle.layout.specs.Fields.{word, inode_kind, inode_links, page_owner}
 use Rattle.layout.specs.Name.{IsName, IsBytes, words_of_name}
 use Rattle.layout.proofs.GeometryLaws.{slots_in_pages, data_pages_below, page_of_slot_below, page_of_entry}
 use Rattle.layout.proofs.NameLaws.{name_in_words-words_of_name, IsNameWords-words_of_name}
+use Rattle.layout.proofs.Widths.{inode_field_read, descriptor_field_read}
 use Rattle.tree_model.specs.PathText.{Route}
 use Rattle.tree_model.specs.Tree.{id_at, is_directory, is_root, parent, last_name, name_count, link_count, pages_in}
 use Rattle.tree_model.specs.Accepted.{MayName}
 use Rattle.tree_model.specs.Run.{State}
 use Rattle.image_reading.specs.Counts.{IsIn}
-use Rattle.image_reading.specs.Reading.{IsDirectory, HasBytes, slot_owner, IsHeld, Reached, IsRoomOf, IsNameOf, IsChildOf, ReadsAs}
+use Rattle.image_reading.specs.Reading.{IsFile, IsDirectory, HasBytes, slot_owner, IsHeld, Reached, IsRoomOf, IsNameOf, IsChildOf, ReadsAs}
 use Rattle.image_reading.specs.Residue.{Residue}
 use Rattle.image_reading.specs.Soundness.{Rule}
 use Rattle.image_counts.specs.Entries.{IsUnusedDataPage, IsFreeInode}
@@ -81,14 +82,14 @@ module _ {P : ℕ} {I : List ℕ} {residue : Residue} {state : State} (holds : R
       is : link_count state.tree x ≡ inode_links I x
       is = link_word_beside_law P I residue state holds x reached apart
 
-      made : (inode_kind I x ≡ 1) ⊎ (inode_kind I x ≡ 2) → inode_links I x < 2 ^ 64 - 1 → IsLinkable P I x
+      made : IsFile I x ⊎ IsDirectory I x → inode_links I x < 2 ^ 64 - 1 → IsLinkable P I x
       made kind countable = record { least = (in_table x reached).0; most = (in_table x reached).1; live = (kind, (holds.coherent Rule.kinds x).own reached); countable = countable }
 
   -- an inode without a kind is free
   pub inode_free : (i : ℕ) → IsFreeInode P I i → fields_at I i ≡ free_fields
   inode_free i (least, most, none) = zero_inode I i (λ f lt. elim (cases_eq (word I (inode_word_of i f)) 0) [
     | inl is ↦ is
-    | inr ne ↦ absurd (kindless_tidy P I i residue holds.beside none (record { least = least; most = most; unreached = kindless_unreached P I i holds.coherent none; nonzero = (f, lt, ne) }))
+    | inr ne ↦ absurd (kindless_tidy P I i residue holds.beside none (record { least = least; most = most; unreached = kindless_unreached P I i holds.coherent none; nonzero = (f, inode_field_read I f lt, ne) }))
   ])
 
   -- and a page without owner and kind
@@ -99,7 +100,7 @@ module _ {P : ℕ} {I : List ℕ} {residue : Residue} {state : State} (holds : R
       zero_descriptor P I page (λ f lt. elim (cases_eq (word I (descriptor_word_of P page f)) 0) [
         | inl is ↦ is
         | inr ne ↦ absurd (unused_tidy P I page residue holds.beside unused
-            (record { in_range = low; free = λ kept. (has_pages_beside P I residue state holds).owned page kept unused.0; nonzero = (f, lt, ne) }))
+            (record { in_range = low; free = λ kept. (has_pages_beside P I residue state holds).owned page kept unused.0; nonzero = (f, descriptor_field_read I f lt, ne) }))
       ]),
     ),
     refl,

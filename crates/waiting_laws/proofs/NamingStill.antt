@@ -2,7 +2,7 @@
 use Rattle.std.proofs.Common.{◌≡◌, inl, inr, ℕ, ◌*◌, ◌<◌, ◌==◌, List, [], ◌∷◌, length, Option, Some, None, sym, ap, subst, ◌∙◌, arith}
 use Rattle.pm_trait.specs.DeviceView.{DeviceView, IsSettledView}
 use Rattle.layout.specs.Geometry.{page_of_slot, inode_word_of, slot_word_of}
-use Rattle.layout.specs.Fields.{word, inode_links}
+use Rattle.layout.specs.Fields.{word, inode_words, inode_links}
 use Rattle.layout.specs.Name.{IsNameWords}
 use Rattle.fence_token.specs.declared.states.Clean.{Clean}
 use Rattle.tree_model.specs.PathText.{Route}
@@ -48,7 +48,7 @@ module _ {old new : VolumeView} {before after : DeviceView} {state later : State
 
   -- ---- inodes
 
-  pub inode_word : (x f : ℕ) → IsIn x held.inodes → f < 4 → word J (inode_word_of x f) ≡ word I (inode_word_of x f)
+  pub inode_word : (x f : ℕ) → IsIn x held.inodes → f < inode_words I → word J (inode_word_of x f) ≡ word I (inode_word_of x f)
   inode_word x f among lt = passes.words.words (inode_word_of x f) (inode x f among lt)
 
   fields_same : (x : ℕ) → IsIn x held.inodes → fields_at J x ≡ fields_at I x
@@ -137,7 +137,7 @@ module _ {old new : VolumeView} {before after : DeviceView} {state later : State
     name_kept path (Page new_page) was = unclaimed_kept new_page was
 
     page_word_kept : (t f : ℕ) → page_of_slot t ≡ page_of_slot s → f < 16 → word J (slot_word_of P t f) ≡ word I (slot_word_of P t f)
-    page_word_kept t f same lt = passes.words.words (slot_word_of P t f) (subst (IsWordOf P held.slots held.pages held.inodes) (sym (slot_word-in_page P t f))
+    page_word_kept t f same lt = passes.words.words (slot_word_of P t f) (subst (IsWordOf P I held.slots held.pages held.inodes) (sym (slot_word-in_page P t f))
         (page (page_of_slot t) (word_in_page t f) (subst (λ x. IsIn x held.pages) (sym same) holds.page) (word_in_page-lt t f lt)))
 
     pub written_kept : (new_page : Option ℕ) → IsWrittenPlace P I s new_page → IsWrittenPlace P J s new_page

@@ -6,6 +6,7 @@ use Rattle.layout.specs.Geometry.{data_pages_of, page_of_slot}
 use Rattle.layout.specs.Fields.{inode_kind, page_owner, page_kind, slot_inode, slot_name}
 use Rattle.layout.specs.Name.{IsName, IsBytes, words_of_name, IsNameWords, name_in_words}
 use Rattle.layout.proofs.NameLaws.{name_in_words-words_of_name, IsNameWords-words_of_name}
+use Rattle.layout.proofs.Widths.{descriptor_field_read}
 use Rattle.fence_token.specs.declared.states.Clean.{Clean}
 use Rattle.tree_model.specs.PathText.{Route}
 use Rattle.tree_model.specs.Tree.{Tree, parent, last_name, id_at, is_directory}
@@ -82,14 +83,14 @@ module _ {name : List ℕ} {path : Route} (is_name : IsName name) (of_bytes : Is
 
   pub named_in_page : {P : ℕ} {I J : List ℕ} {T : Tree} {d s j i y : ℕ} → id_at T path ≡ None → WritesPage P I J j s i y (words_of_name name) → page_of_slot s ≡ j → id_at T (parent path) ≡ Some d → is_directory T d ≡ true → HasName P J T path d s (Some j)
   unfolding slot_name page_owner
-  named_in_page {P} {J = J} {T} {d} {s} {j} absent writes at above directory = record {
+  named_in_page {P} {I} {J} {T} {d} {s} {j} absent writes at above directory = record {
     in_slot = λ is. absurd (not_none j (sym is));
     in_page = λ new is. subst (IsUnclaimedName P J T path d s) (one_page j new is) (record {
       above = above;
       directory = directory;
       absent = absent;
       page_is = at;
-      unowned = writes.descriptors j 0 writes.free.0 (omega arith) (inr refl) ∙ writes.free.1;
+      unowned = writes.descriptors j 0 writes.free.0 (descriptor_field_read I 0 (omega arith)) (inr refl) ∙ writes.free.1;
       bare = record { kind = writes.page.kind; numbers = writes.page.numbers; pointers = writes.page.pointers };
       words = subst IsNameWords (sym writes.page.name_is) (IsNameWords-words_of_name name is_name of_bytes);
       name_is = ap name_in_words writes.page.name_is ∙ name_in_words-words_of_name name is_name of_bytes ∙ last;

@@ -27,6 +27,7 @@ use Rattle.image_laws.specs.Drop.{dropped}
 use Rattle.image_laws.proofs.RemoveFacts as facts
 use Rattle.weave_laws.proofs.Contained.{contained_in}
 use Rattle.weave_laws.proofs.UnnamedSlots as unnamed
+use Rattle.weave_laws.proofs.NodeWritten.{some_code}
 use Rattle.volatile_index.specs.Index.{inodes_of_index}
 use Rattle.volume.specs.Volume.{VolumeView}
 use Rattle.volume.specs.Beside.{StandsBeside}
@@ -283,15 +284,11 @@ module _ (volume : VolumeView) (device : DeviceView) (state : State) (path : Rou
         most = in_index i most;
         inode_taken = (
           (let each = stands.knows.each_inode in omega (arith, least, most, each)),
-          (λ free. some_kind removal.loss.kind (sym kind_is ∙ (stands.knows.inodes i least most).0 free)),
+          (λ free. some_code removal.loss.kind (sym kind_is ∙ (stands.knows.inodes i least most).0 free)),
         );
         once = stands.knows.nodes.once i least most;
         pages_taken = λ page there. page_taken i page least ((planned.node_listed volume device state path removal others ready page).0 there);
       }
-    where
-      some_kind : (kind : NodeKind) → node_code kind ≢ 0
-      some_kind File none = omega (arith, none)
-      some_kind Directory none = omega (arith, none)
 
   -- the node isn't its directory
   differ : d ≢ i

@@ -6,7 +6,8 @@ use Rattle.std.proofs.lemmas.List.{get_or_default}
 use Rattle.pm_trait.specs.DeviceView.{DeviceView}
 use Rattle.pm_trait.specs.Unfolds.{Step}
 use Rattle.layout.specs.Geometry.{inodes_of, inode_word_of, descriptor_word_of}
-use Rattle.layout.specs.Fields.{word, inode_kind, page_owner, page_kind, page_offset}
+use Rattle.layout.specs.Fields.{word, descriptor_words, inode_kind, page_owner, page_kind, page_offset}
+use Rattle.layout.proofs.Widths.{in_inode, in_descriptor, inode_field_read, descriptor_field_read}
 use Rattle.layout.specs.declared.fields.DescriptorFields.{DescriptorFields}
 use Rattle.tree_model.specs.Run.{State}
 use Rattle.image_reading.specs.Counts.{IsIn}
@@ -78,12 +79,12 @@ fewer_in front back page j among = elim (in_either j front back among) [ inl her
 -- ---- words of tables
 
 -- the kind of no inode is the kind or the offset of a page
-kind_apart : (P i j f : ℕ) → 1 ≤ f → f < 3 → inode_word_of i 0 ≢ descriptor_word_of P j f
+kind_apart : (P i j f : ℕ) → 1 ≤ f → f < 8 → inode_word_of i 0 ≢ descriptor_word_of P j f
 unfolding inode_word_of descriptor_word_of
 kind_apart P i j f low high same = omega (arith, same, low, high)
 
 -- nor a word of another inode
-kind_own : (x i f : ℕ) → f < 4 → 2 ≤ i → inode_word_of x 0 ≡ inode_word_of i f → x ≡ i
+kind_own : (x i f : ℕ) → f < 16 → 2 ≤ i → inode_word_of x 0 ≡ inode_word_of i f → x ≡ i
 unfolding inode_word_of
 kind_own x i f few some same = omega (arith, same, few, some)
 
@@ -196,28 +197,28 @@ module _ (old : VolumeView) (before : DeviceView) (state : State) (removal : Rem
       (freed_words_law P I J all goes i rest)
 
   -- a word of a descriptor, where it isn't cleared
-  descriptor_kept : (j f : ℕ) → f < 3 → (f ≡ 0) ⊎ (¬ Contains all j) → word J (descriptor_word_of P j f) ≡ word I (descriptor_word_of P j f)
+  descriptor_kept : (j f : ℕ) → f < descriptor_words I → (f ≡ 0) ⊎ (¬ Contains all j) → word J (descriptor_word_of P j f) ≡ word I (descriptor_word_of P j f)
   descriptor_kept j f few other = rest.others (descriptor_word_of P j f)
       (λ k g there low high same.
-      let (page, field) = descriptor_word-one P j f k g (omega (arith, few)) (omega (arith, high)) same in
+      let (page, field) = descriptor_word-one P j f k g (in_descriptor I f few) (in_descriptor I g high) same in
       elim other [ inl zero ↦ omega (arith, zero, field, low) | inr out ↦ out (subst (Contains all) (sym page) there) ])
-      (λ is g few same. descriptor-ne_inode P j f i g waits.losses.node.0 i_most (omega (arith, few)) same)
+      (λ is g few same. descriptor-ne_inode P j f i g waits.losses.node.0 i_most (in_inode I g few) same)
 
   owner_kept : (j : ℕ) → page_owner P J j ≡ page_owner P I j
   unfolding page_owner
-  owner_kept j = descriptor_kept j 0 (omega arith) (inl refl)
+  owner_kept j = descriptor_kept j 0 (descriptor_field_read I 0 (omega arith)) (inl refl)
 
   kind_kept : (j : ℕ) → ¬ Contains all j → page_kind P J j ≡ page_kind P I j
   unfolding page_kind
-  kind_kept j out = descriptor_kept j 1 (omega arith) (inr out)
+  kind_kept j out = descriptor_kept j 1 (descriptor_field_read I 1 (omega arith)) (inr out)
 
   offset_kept : (j : ℕ) → ¬ Contains all j → page_offset P J j ≡ page_offset P I j
   unfolding page_offset
-  offset_kept j out = descriptor_kept j 2 (omega arith) (inr out)
+  offset_kept j out = descriptor_kept j 2 (descriptor_field_read I 2 (omega arith)) (inr out)
 
   kind_gone : (j : ℕ) → Contains all j → page_kind P J j ≡ 0
   unfolding page_kind
-  kind_gone j there = rest.rests j 1 there (omega arith) (omega arith)
+  kind_gone j there = rest.rests j 1 there (omega arith) (descriptor_field_read I 1 (omega arith))
 
   -- the root never goes
   not_root : goes ≡ true → 2 ≤ i
@@ -229,12 +230,12 @@ module _ (old : VolumeView) (before : DeviceView) (state : State) (removal : Rem
   node_kind : (x : ℕ) → ¬ IsIn x (inodes_with goes i) → inode_kind J x ≡ inode_kind I x
   unfolding inode_kind
   node_kind x out = rest.others (inode_word_of x 0)
-      (λ j f there low high same. kind_apart P x j f low high same)
-      (λ is f few same. out (subst (λ (y : ℕ). IsIn y (inodes_with goes i)) (sym (kind_own x i f few (not_root is) same)) (in_goes goes i is)))
+      (λ j f there low high same. kind_apart P x j f low (in_descriptor I f high) same)
+      (λ is f few same. out (subst (λ (y : ℕ). IsIn y (inodes_with goes i)) (sym (kind_own x i f (in_inode I f few) (not_root is) same)) (in_goes goes i is)))
 
   node_gone_kind : goes ≡ true → inode_kind J i ≡ 0
   unfolding inode_kind
-  node_gone_kind is = rest.inode is 0 (omega arith)
+  node_gone_kind is = rest.inode is 0 (inode_field_read I 0 (omega arith))
 
   -- ---- what the volume knows
 

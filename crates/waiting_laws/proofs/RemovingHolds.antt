@@ -20,6 +20,7 @@ use Rattle.image_counts.proofs.Nodes.{size_law}
 use Rattle.weave_laws.specs.Naming.{slots_left, pages_left}
 use Rattle.weave_laws.specs.Removing.{inodes_left, falling_left}
 use Rattle.weave_laws.proofs.Contained.{in_contained, contained_in}
+use Rattle.weave_laws.proofs.NodeWritten.{some_code}
 use Rattle.volatile_index.specs.Index.{NodeView, empty_node, node_of, pages_of}
 use Rattle.volume.specs.Volume.{VolumeView}
 use Rattle.volume.specs.Beside.{IsUntouched}
@@ -48,10 +49,6 @@ kind_at P I removal pages Begun is goes = (is.going goes).kind_is
 kind_at P I removal pages Unnamed is goes = (is.going goes).kind_is
 kind_at P I removal pages Cleared is goes = (is.going goes).kind_is
 kind_at P I removal pages Disowned is goes = (is.rest.going goes).kind_is
-
-some_kind : (kind : NodeKind) → node_code kind ≢ 0
-some_kind File none = omega (arith, none)
-some_kind Directory none = omega (arith, none)
 
 -- ---- what is left, by the stage
 
@@ -158,7 +155,7 @@ module _ (volume : VolumeView) (device : DeviceView) (state : State) (removal : 
   -- ---- the inodes
 
   node_used : (goes : Bool) → removal.loss.goes ≡ goes → inode_kind I removal.loss.inode ≢ 0
-  node_used true goes none = some_kind removal.loss.kind (sym (kind_at P I removal pages stage waits.words goes) ∙ none)
+  node_used true goes none = some_code removal.loss.kind (sym (kind_at P I removal pages stage waits.words goes) ∙ none)
   node_used false stays none =
       let one = (((size_law P I state waits.beside.stands.sound.coherent waits.beside.stands.reads).files removal.loss.inode).0 (waits.stays stays)).1 in
       omega (arith, one, none)

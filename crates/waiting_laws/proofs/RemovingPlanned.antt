@@ -162,7 +162,7 @@ module _ (volume : VolumeView) (device : DeviceView) (state : State) (path : Rou
       let found = Accepted-from_row (supply_beside P others) state.tree state.room (Rmdir path) (state_law P I state coherent stands.reads).tree planned.accepted in
       let loss = (for_by Directory planned.plan_is).loss in
       let same : found.source.id ≡ i = let named = found.source.named in let here = for.named.inode_is in some_one found.source.id i (sym named ∙ here) in
-      let two : is_directory state.tree found.source.id ≡ true = ap (λ (o : Option Node). is_directory_node o) found.source.directory in (
+      let two = found.source.directory in (
         (
           (((size_law P I state coherent stands.reads).directories i).0 (subst (λ (x : ℕ). is_directory state.tree x ≡ true) same two)).1,
           loss.goes_is ∙ subst (λ (x : ℕ). is_none (node_at (tree_after (least_free_id state.tree) state.tree (Rmdir path)) x) ≡ true) same (ap (λ (o : Option Node). is_none o) (found.goes (least_free_id state.tree))),

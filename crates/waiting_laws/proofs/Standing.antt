@@ -35,16 +35,16 @@ no_mark volume device state residue stands unmarked = sym stands.mark ∙ unmark
 -- ---- the mark stays
 
 -- no word of a call is the mark
-mark_apart : (P a : ℕ) (slots pages inodes : List ℕ) → IsWordOf P slots pages inodes a → a ≡ mark_word → ⊥
+mark_apart : (P a : ℕ) (I slots pages inodes : List ℕ) → IsWordOf P I slots pages inodes a → a ≡ mark_word → ⊥
 unfolding inode_word_of descriptor_word_of slot_word_of page_word_of first_data_word_of
-mark_apart P _ slots pages inodes (slot s f among below) same = omega (arith, same)
-mark_apart P _ slots pages inodes (page j w among below) same = omega (arith, same)
-mark_apart P _ slots pages inodes (descriptor j f among below) same = omega (arith, same)
-mark_apart P _ slots pages inodes (inode i f among below) same = omega (arith, same)
+mark_apart P _ I slots pages inodes (slot s f among below) same = omega (arith, same)
+mark_apart P _ I slots pages inodes (page j w among below) same = omega (arith, same)
+mark_apart P _ I slots pages inodes (descriptor j f among below) same = omega (arith, same)
+mark_apart P _ I slots pages inodes (inode i f among below) same = omega (arith, same)
 
 pub same_mark : (P : ℕ) (I J slots pages inodes : List ℕ) → StoresIn P I J slots pages inodes → has_mark J ≡ has_mark I
 unfolding word
-same_mark P I J slots pages inodes stores = ap (λ (w : ℕ). w == closed_mark) (stores.others mark_word (λ of. mark_apart P mark_word slots pages inodes of refl))
+same_mark P I J slots pages inodes stores = ap (λ (w : ℕ). w == closed_mark) (stores.others mark_word (λ of. mark_apart P mark_word I slots pages inodes of refl))
 
 -- words that fit together are sound without a mark
 pub sound_without : (P : ℕ) (I : List ℕ) → IsCoherent P I → has_mark I ≡ false → Sound P I

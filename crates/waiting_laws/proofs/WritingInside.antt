@@ -8,6 +8,7 @@ use Rattle.pm_trait.specs.DeviceView.{DeviceView}
 use Rattle.layout.specs.Fields.{inode_size}
 use Rattle.layout.specs.Geometry.{descriptor_word_of}
 use Rattle.layout.specs.Superblock.{has_mark}
+use Rattle.layout.proofs.Widths.{in_inode, in_descriptor}
 use Rattle.tree_model.specs.PathText.{Route}
 use Rattle.tree_model.specs.Run.{State}
 use Rattle.tree_model.specs.Step.{with_bytes, overwritten, resized, tree_after, id_of}
@@ -69,11 +70,12 @@ module _ (P : ℕ) (I J : List ℕ) (i offset : ℕ) (bytes : List ℕ) (may : M
     after = shape.coherent;
     file = may.reached;
     names = shape.names;
-    descriptors = λ j f lt l3 none. stored.others (descriptor_word_of P j f) (λ k h w page l e. descriptor-ne_page P j f h w lt (omega (arith, l3)) e);
+    version = content.head_same P I J in_pages 1 (omega arith);
+    descriptors = λ j f lt l3 none. stored.others (descriptor_word_of P j f) (λ k h w page l e. descriptor-ne_page P j f h w lt (in_descriptor I f l3) e);
     unheld = λ t none held. none;
     unheld_after = λ t none held. none;
     slots = λ t f held lt. content.slot_same P I J in_pages t f lt held;
-    inodes = λ x f some most lt why. content.inode_same P I J in_pages x f some most (omega (arith, lt));
+    inodes = λ x f some most lt why. content.inode_same P I J in_pages x f some most (in_inode I f lt);
   }
 
 -- ---- the tree

@@ -5,13 +5,13 @@ use Rattle.pm_trait.specs.DeviceView.{DeviceView}
 use Rattle.tree_model.specs.PathText.{Route}
 use Rattle.tree_model.specs.Tree.{id_at}
 use Rattle.tree_model.specs.Run.{State}
+use Rattle.tree_model.specs.Step.{making as made_by}
 use Rattle.tree_model.specs.declared.command.Command.{Command}
 use Rattle.tree_model.specs.declared.command.Command.TheVariants.{Link, Rename, Write, Truncate}
 use Rattle.fence_token.specs.declared.states.Clean.{Clean}
 use Rattle.image_reading.specs.Residue.{Residue}
 use Rattle.image_laws.specs.CreateStep.{IsStepped}
 use Rattle.volume.specs.Volume.{VolumeView}
-use Rattle.volume.specs.Prepared.{making as made_by}
 use Rattle.volume.specs.declared.plan.NewEntry.{NewEntry}
 use Rattle.volume.specs.declared.plan.NewName.{NewName}
 use Rattle.volume.specs.declared.plan.Removal.{Removal}

@@ -6,19 +6,18 @@ use Rattle.layout.specs.Geometry.{page_of_slot}
 use Rattle.tree_model.specs.PathText.{Route}
 use Rattle.tree_model.specs.Tree.{Tree, last_name}
 use Rattle.tree_model.specs.Run.{State}
+use Rattle.tree_model.specs.Step.{making as of_kind}
 use Rattle.tree_model.specs.declared.reply.Reply.TheVariants.{Done}
 use Rattle.image_reading.specs.Residue.{Residue, no_residue}
 use Rattle.weave_laws.specs.Naming.{node_left, IsWrittenPlace}
 use Rattle.weave_laws.specs.Waiting.{HasNoPageOf, IsWaitingName, TakesPageIfFull, HasNodeWords, HasRaisedLinks}
 use Rattle.volume.specs.Volume.{VolumeView}
-use Rattle.volume.specs.Prepared.{making as of_kind}
 use Rattle.volume.specs.Stages.{HasKept, keeping}
 use Rattle.volume.specs.declared.next.Next.TheVariants.{More, Ended}
 use Rattle.volume.specs.declared.plan.NewEntry.{NewEntry}
 use Rattle.volume.specs.declared.plan.Action.TheVariants.{Make}
 use Rattle.create_ops.specs.declared.run.Stage.{Stage}
 use Rattle.create_ops.specs.declared.run.Stage.TheVariants.{Begun, Written, Claimed}
-use Rattle.create_ops.specs.Making.{node_of}
 use Rattle.create_ops.specs.Stages.{RunningView, begun, left_of, step_of, IsAt, IsNext, EntersAt, StandsStage, MayBegin}
 use Rattle.waiting_laws.specs.Beside.{Holding, Holds, IsReady, StandsWith, MakesStep, Leaves, Commits, PassesBy}
 use Rattle.waiting_laws.specs.Naming.{IsNameIn, KnowsPlace}
@@ -31,7 +30,7 @@ held_by entry = record { slots = entry.slot ∷ []; pages = page_of_slot entry.s
 
 -- its slot, or its new page in place of that; its inode; and the links of the directory that a directory is made in
 abbrev pub left_by : NewEntry → Residue
-left_by entry = node_left (node_of entry.kind) entry.directory entry.slot entry.new_page entry.inode
+left_by entry = node_left entry.kind entry.directory entry.slot entry.new_page entry.inode
 
 -- ---- where it waits
 
@@ -48,8 +47,8 @@ pub record WaitsToMake (volume : VolumeView) (device : DeviceView) (state : Stat
   pub name : HasWrittenName volume.size device.words state.tree path running.entry running.stage
   pub place : IsWrittenPlace volume.size device.words running.entry.slot running.entry.new_page
   pub full : TakesPageIfFull state running.entry.directory running.entry.new_page
-  pub node : HasNodeWords device.words (node_of running.entry.kind) running.entry.inode
-  pub links : HasRaisedLinks device.words state.tree (node_of running.entry.kind) running.entry.directory
+  pub node : HasNodeWords device.words running.entry.kind running.entry.inode
+  pub links : HasRaisedLinks device.words state.tree running.entry.kind running.entry.directory
   pub alone : HasNoPageOf volume.size device.words others running.entry.inode
   pub knows : KnowsPlace volume running.entry.directory running.entry.new_page
 

@@ -2,12 +2,12 @@ use Rattle.std.proofs.Common.{◌≡◌, ◌∷◌, [], cond, length, sym, ap, �
 use Rattle.io_edge.proofs.BytesLaws.{writes_then, writes_as}
 use Rattle.script.specs.Lines.{space}
 use Rattle.script.specs.Texts.{bytes_text}
-use Rattle.tree_model.specs.Tree.{bytes_of, is_directory, name_count}
+use Rattle.tree_model.specs.Tree.{node_at, bytes_of, is_directory, name_count}
 use Rattle.tree_model.specs.declared.reply.Stat.{Stat}
+use Rattle.tree_model.proofs.NodeLaws.{a_file}
 use Rattle.image_reading.specs.Residue.{no_residue}
 use Rattle.volume.proofs.Beside.{stands_beside, untouched_nothing}
 use Rattle.engine.specs.Places.{contents_text}
-use Rattle.engine.proofs.NextPlaces.{file_or_directory}
 use Rattle.engine.proofs.tree.write_contents.Goals as goal
 
 pub write_bytes-requires-clause-file : goal.write_bytes-requires-clause-file
@@ -17,7 +17,7 @@ write_bytes-requires-clause-file g c =
       state,
       no_residue,
       stands_beside stands,
-      file_or_directory state.tree c.args.stat.now.inode there (sym dir ∙ c.if-stat.false),
+      a_file (node_at state.tree c.args.stat.now.inode) there (sym dir ∙ c.if-stat.false),
       untouched_nothing c.args.volume.now (g.P.Pm.view c.args.pm.now).words c.args.stat.now.inode,
     )
 

@@ -1,7 +1,7 @@
 use Rattle.std.proofs.Common.{ℕ, List, inr, sym, subst}
 use Rattle.image_reading.specs.Soundness.{pages_in_image}
 use Rattle.image_reading.specs.Reading.{Reads}
-use Rattle.mount_scan.specs.Mounting.{IsSound}
+use Rattle.squirrel_cli.specs.Ends.{IsMountable}
 use Rattle.squirrel_cli.specs.declared.status.Status.TheVariants.{Done}
 use Rattle.squirrel_cli.proofs.Mounted.{stands_for, stands_on, tree_of_start}
 use Rattle.squirrel_cli.proofs.Refusals.{refused_memory, told_as, writes_tell}
@@ -14,7 +14,7 @@ write_left-requires-clause-stands g c =
     stands_on c.in-Ok-start.ensures.volume (mount.only.start, mount.stands)
 
 pub memory_alone-requires : goal.memory_alone-requires
-memory_alone-requires g c = refused_memory c.in-Err.error _ _ (subst IsSound (sym c.in-Ok.ensures.words) c.requires.sound) never_risen c.in-Err.ensures.answers
+memory_alone-requires g c = refused_memory c.in-Err.error _ _ (subst IsMountable (sym c.in-Ok.ensures.words) c.requires.mountable) never_risen c.in-Err.ensures.answers
 
 pub returns-clause-lists : goal.returns-clause-lists
 returns-clause-lists g c tree reads =
