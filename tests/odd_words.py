@@ -140,7 +140,7 @@ def copied(from_place, to_place, count, words):
 
 
 def copied_inode(places, rng):
-    """All four words, the own number too half of the time as it would have to be."""
+    """All words that are read, the own number too half of the time as it would have to be."""
     image = places.image
     inode, other = rng.choice(places.inodes), rng.choice(list(image.all_inodes()))
     words = copied(image.inode_address(inode, KIND), image.inode_address(other, KIND), OWN + 1, image.words)

@@ -1,6 +1,6 @@
-"""The fifteen rules, the five numbers of repairs and the listing of an image, slowly.
+"""The rules, the five numbers of repairs and the listing of an image, slowly.
 
-Written from docs/rules.md, docs/format.md and docs/scripts.md, and from no code, so that it doesn't share the program's mistakes. What is
+Written from docs/rules.md, docs/format.md and docs/commands.md, and from no code, so that it doesn't share the program's mistakes. What is
 held, live and reached are three sets, found by looks at all slots until nothing new is reached. A rule is then a look at every place, and
 at every other one where two have to differ. Nothing is sorted, indexed or kept between two rules.
 """

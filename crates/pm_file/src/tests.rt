@@ -1,7 +1,9 @@
 // Over files of the system: what a fence gives the file, and which files give which device.
 ghost use Rattle.std.specs.Prelude.{◌≤◌};
+ghost use Rattle.layout.specs.Geometry.{IsVolumeSize};
 
 use crate::{FileFault, FilePm};
+use layout::Geometry;
 use pm_trait::Pm;
 use std::fs::File;
 use std::io::{Read, Seek, SeekFrom};
@@ -135,8 +137,7 @@ fn word_in(rt: &HostRuntime, path: &str, word: u64) -> Result<u64, Fail>
 
 /// Whether a word of the first line and the last word of all reach their places in the file of so many pages.
 fn lines_reach_their_places(rt: &HostRuntime, name: &str, pages: u64) -> Result<bool, Fail>
-    requires least { 16 ≤ pages }
-    requires most { pages ≤ 65536 }
+    requires { IsVolumeSize pages }
 {
     let path = fresh_path(rt, name)?;
     let last = 512 * pages - 1;
@@ -156,7 +157,7 @@ fn lines_reach_their_places(rt: &HostRuntime, name: &str, pages: u64) -> Result<
 
 #[test]
 fn lines_of_the_smallest_and_the_largest_volume(rt: HostRuntime) -> Result<(), Fail> {
-    assert!(rt; lines_reach_their_places(&rt, "smallest", 16)?);
-    assert!(rt; lines_reach_their_places(&rt, "largest", 65_536)?);
+    assert!(rt; lines_reach_their_places(&rt, "smallest", Geometry::FEWEST_PAGES)?);
+    assert!(rt; lines_reach_their_places(&rt, "largest", Geometry::MOST_PAGES)?);
     Ok(())
 }

@@ -224,7 +224,7 @@ fn another_size_costs(rt: HostRuntime) -> Result<(), Fail> {
         volume.as_slice(),
         &[
             ("create /a\n", "ok\n", 3, ENTRY_IN_PAGE),
-            // Three pages of 579 and a fence, their owners, lines and a fence.
+            // Three pages and a fence, their owners, lines and a fence.
             (
                 "truncate /a 8200\n",
                 "ok\n",

@@ -22,12 +22,13 @@ const CHECK: &str = "squirrel check v";
 const TREE: &str = "squirrel tree v";
 
 // The jobs on a volume.
-const JOBS: [&str; 5] = [
+const JOBS: [&str; 6] = [
     CHECK,
     "squirrel run v",
     TREE,
     "squirrel crash v --at 0 --keep 00",
     "squirrel work v 1 1",
+    "squirrel weave v 1 --schedule 00",
 ];
 
 // The status of a job whose image is no volume or damaged.

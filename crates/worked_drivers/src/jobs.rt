@@ -5,7 +5,7 @@ ghost use Rattle.pm_trait.specs.Device.{IsSettledAt};
 use io_edge::{MemSink, MemSource};
 use layout::superblock::{CLOSED_MARK, MARK_WORD};
 use pm_memory::RamPm;
-use pm_trait::Pm;
+use pm_trait::{Event, Pm};
 use squirrel_cli::{Status, Words, squirrel};
 use std::alloc::Global;
 use std::fmt::Debug;
@@ -14,11 +14,11 @@ use std::test::Fail;
 // Events can be counted where there are no more acknowledgements.
 const MOST_ACKS: u64 = 1 << 62;
 
-// How many bytes of a script a read gives.
-const STEP: usize = 4_096;
+/// How many bytes of a script a read gives at the most.
+pub const PIECE: usize = 4_096;
 
-// How many bytes the output takes: the listing of a file of several pages has room in it.
-pub(crate) const ROOM: usize = 65_536;
+/// How many bytes the output takes: the listing of a file of several pages has room in it.
+pub const ROOM: usize = 65_536;
 
 /// How a job ended, what the output took, the device's words, and how many fences and acknowledgements it made.
 #[derive(Drop)]
@@ -138,7 +138,7 @@ pub fn sink_of(alloc: Global, room: usize, failing: u64) -> Result<MemSink, Fail
 
 // A script of which no read fails.
 fn whole_script(alloc: Global, script: &[u8]) -> Result<MemSource, Fail> {
-    source_of(alloc, script, STEP, 0)
+    source_of(alloc, script, PIECE, 0)
 }
 
 /// A job on these words, with this script, where nothing fails.
@@ -150,7 +150,7 @@ pub fn job_on(alloc: Global, line: &str, image: &[u64], script: &[u8]) -> Result
 
 /// A script that isn't to be read: the first read fails.
 pub fn unread_script(alloc: Global) -> Result<MemSource, Fail> {
-    source_of(alloc, b"create /z\n", STEP, 1)
+    source_of(alloc, b"create /z\n", PIECE, 1)
 }
 
 /// A job on these words that is to read no script: the first read would fail.
@@ -193,6 +193,18 @@ pub fn events_of(pm: &RamPm) -> Result<u64, Fail> {
         return Err("too many acknowledgements".into());
     }
     Ok(pm.events())
+}
+
+/// The last event that a device has recorded.
+pub fn last_event(pm: &RamPm) -> Result<Event, Fail> {
+    if pm.acks() > MOST_ACKS {
+        return Err("too many acknowledgements".into());
+    }
+    let events = pm.events();
+    if events == 0 {
+        return Err("no event".into());
+    }
+    Ok(pm.event(events - 1))
 }
 
 /// The words that a crash at this moment may leave: of each word that isn't settled the bytes choose the old value or a

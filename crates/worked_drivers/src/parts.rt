@@ -6,7 +6,7 @@ pub const FENCE: u64 = 1;
 /// A word and its line.
 pub const FIELD: u64 = 1 + 1;
 
-/// A node's four words and their line.
+/// A node's 4 words and their line.
 pub const NODE: u64 = 4 + 1;
 
 /// A name's 14 words and their 2 lines.

@@ -26,6 +26,11 @@ pub fn with_name(alloc: Global, start: &str, length: u64, end: &str) -> Result<S
     joined(alloc, &[start, name.as_str(), end])
 }
 
+/// How many lines these bytes are.
+pub fn lines_in(text: &[u8]) -> usize {
+    text.iter().filter(|byte| **byte == b'\n').count()
+}
+
 /// Some texts, one behind the other.
 pub fn joined(alloc: Global, texts: &[&str]) -> Result<String, Fail> {
     let mut whole = String::new(alloc);

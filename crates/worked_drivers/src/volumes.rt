@@ -31,7 +31,7 @@ pub fn volume_with_a(alloc: Global) -> Result<Vec<u64>, Fail> {
 
 /// Words that are set in the volume of 16 pages with the file `/a`: it is renamed to `/b`, as far as the commit. Besides a dead slot
 /// has a name, inode 2 has too many links, inode 3 isn't named, page 1 is past the end of the file, and page 2 has an owner that no
-/// volume of this size has. It isn't closed. A mount mends them in 59 events with 4 fences.
+/// volume of this size has. It isn't closed. A mount mends them with 4 fences.
 pub const LITTERED: [(usize, u64); 13] = [
     (5, 0),
     (529, 7),

@@ -2,11 +2,11 @@
 use crate::begins::MARK;
 use io_edge::MemSource;
 use pm_memory::RamPm;
-use pm_trait::{Event, Pm};
 use std::alloc::Global;
 use std::test::Fail;
 use worked_drivers::jobs::{
-    Left, crash_at, do_job, events_of, job_without_script, same, sink_of, source_of, text_of,
+    Left, PIECE, ROOM, crash_at, do_job, events_of, job_without_script, same, sink_of, source_of,
+    text_of,
 };
 
 /// The numbers of the statuses.
@@ -22,11 +22,6 @@ pub const READ_FAULT: u8 = 6;
 
 pub const WRITE_FAULT: u8 = 7;
 
-/// How many bytes a read gives and an output takes at the most, where a row doesn't say.
-pub const PIECE: usize = 4_096;
-
-pub const ROOM: usize = 65_536;
-
 /// The calls of this number are none, since they are counted from 1.
 pub const NONE: u64 = 0;
 
@@ -36,21 +31,6 @@ pub const ALL_OLD: [u8; 2] = [0x00, 0x00];
 pub const ALL_NEW: [u8; 2] = [0xff, 0xff];
 
 pub const MIXED: [[u8; 2]; 2] = [[0x00, 0xff], [0xff, 0x00]];
-
-// Events can be counted where there are no more acknowledgements.
-const MOST_ACKS: u64 = 1 << 62;
-
-/// The last event that a device has recorded.
-pub fn last_event(pm: &RamPm) -> Result<Event, Fail> {
-    if pm.acks() > MOST_ACKS {
-        return Err("too many acknowledgements".into());
-    }
-    let events = pm.events();
-    if events == 0 {
-        return Err("no event".into());
-    }
-    Ok(pm.event(events - 1))
-}
 
 /// The words that a crash at the end may leave.
 pub fn left_at_end(alloc: Global, pm: &RamPm, keep: &[u8; 2]) -> Result<Vec<u64>, Fail> {

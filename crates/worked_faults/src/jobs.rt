@@ -1,8 +1,8 @@
 // Each fence of jobs that run no script fails.
 use crate::begins::{Begin, FRESH, LINKS_TOO_HIGH, MUCH_LITTER, no_volume, words_of};
 use crate::ends::{
-    ALL_NEW, ALL_OLD, DEVICE_FAULT, DONE, Failing, NO_VOLUME, NONE, NOTHING_FAILS, PIECE, ROOM,
-    fail_in, left_at_end, unread,
+    ALL_NEW, ALL_OLD, DEVICE_FAULT, DONE, Failing, NO_VOLUME, NONE, NOTHING_FAILS, fail_in,
+    left_at_end, unread,
 };
 use crash_replay::Moment;
 use pm_memory::RamPm;
@@ -10,7 +10,7 @@ use squirrel_cli::replay;
 use std::alloc::Global;
 use std::test::Fail;
 use worked_drivers::jobs::{
-    compare_end, do_job, job_without_script, same, sink_of, source_of, text_of,
+    PIECE, ROOM, compare_end, do_job, job_without_script, same, sink_of, source_of, text_of,
 };
 use worked_drivers::volumes::small_volume;
 

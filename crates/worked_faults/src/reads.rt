@@ -1,13 +1,13 @@
 // Each read fails, of pieces of several lengths.
 use crate::begins::{CLOSED, FRESH, OPEN, words_of};
 use crate::ends::{
-    DONE, Failing, NONE, NOTHING_FAILS, READ_FAULT, ROOM, compare_settled, compare_tidy, fail_in,
+    DONE, Failing, NONE, NOTHING_FAILS, READ_FAULT, compare_settled, compare_tidy, fail_in,
     mark_of, pieces_of,
 };
 use pm_memory::RamPm;
 use std::alloc::Global;
 use std::test::Fail;
-use worked_drivers::jobs::{compare_end, do_job, same, sink_of};
+use worked_drivers::jobs::{ROOM, compare_end, do_job, same, sink_of};
 
 /// A script of 40 bytes, and what a run tells of it.
 pub const SCRIPT: &str = "create /a\ncreate /b\nrename /a /c\nlist /\n";

@@ -1,16 +1,15 @@
 // Runs of which each fence fails in turn, and what a crash at their end leaves.
 use crate::begins::{Begin, CLOSED, FRESH, OPEN, words_of};
 use crate::ends::{
-    ALL_NEW, ALL_OLD, DEVICE_FAULT, DONE, MIXED, NONE, PIECE, ROOM, last_event, left_at_end,
-    listed, mark_of,
+    ALL_NEW, ALL_OLD, DEVICE_FAULT, DONE, MIXED, NONE, left_at_end, listed, mark_of,
 };
 use pm_memory::RamPm;
 use pm_trait::Event;
 use std::alloc::Global;
 use std::test::Fail;
 use worked_drivers::jobs::{
-    Left, compare_end, do_job, events_of, is_done, job_with_fault, mark_fences, run_on, same,
-    sink_of, source_of, text_of,
+    Left, PIECE, ROOM, compare_end, do_job, events_of, is_done, job_with_fault, last_event,
+    mark_fences, run_on, same, sink_of, source_of, text_of,
 };
 
 /// A line, its reply, and how many fences it takes: with the first one that stores goes the mark of a closed volume, by a fence

@@ -1,8 +1,8 @@
 // Jobs on a device that is short of memory.
-use crate::ends::{NONE, PIECE, ROOM};
+use crate::ends::NONE;
 use std::alloc::Global;
 use std::test::Fail;
-use worked_drivers::jobs::{Left, do_job, sink_of, source_of};
+use worked_drivers::jobs::{Left, PIECE, ROOM, do_job, sink_of, source_of};
 use worked_drivers::scarce::ScarcePm;
 
 /// How a job ended on a device that is short of memory, and how often it asked for room.

@@ -7,6 +7,7 @@ use std::alloc::Global;
 use std::test::Fail;
 use worked_drivers::jobs::{Left, compare_end, same, text_of};
 use worked_drivers::rows::compare_replies;
+use worked_drivers::texts::lines_in;
 
 // A job that runs no line of its script on the device, how it ends, and how many fences it takes, where a write fails and where
 // none does. Then what the mark is where one fails.
@@ -119,10 +120,6 @@ const OUTPUTS: [Output<'static>; 9] = [
 // The first bytes of a text.
 fn first_bytes(text: &str, count: usize) -> &str {
     text.get(..count).unwrap_or(text)
-}
-
-fn lines_in(text: &[u8]) -> usize {
-    text.iter().filter(|byte| **byte == b'\n').count()
 }
 
 // Gives a job's output room for each number of bytes up to all.

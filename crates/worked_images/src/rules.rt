@@ -5,7 +5,7 @@ use std::alloc::Global;
 use std::test::Fail;
 use worked_drivers::images::compare_refused;
 
-/// The fifteen rules in their order.
+/// The rules in their order.
 pub(crate) const EACH_RULE: [Violation<'static>; 15] = [
     (&[(3, 5)], NOT_A_VOLUME),
     (&[(512, 1)], "damaged 2 1\n"),

@@ -128,7 +128,7 @@ fn compare_mount(alloc: Global, volume: &[u64], keep: &str) -> Result<(), Fail> 
     Ok(())
 }
 
-// The mount has 59 events and 4 fences, which come before those of the script.
+// The mount's events and its 4 fences come before those of the script.
 #[test]
 fn a_mount_is_cut(rt: HostRuntime) -> Result<(), Fail> {
     let volume = littered(rt.alloc())?;

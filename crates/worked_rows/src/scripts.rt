@@ -4,7 +4,7 @@ ghost use Rattle.std.specs.Prelude.{◌≤◌};
 use std::alloc::Global;
 use std::test::Fail;
 use worked_drivers::jobs::{is_done, job_between, same, sink_of, source_of};
-use worked_drivers::texts::{joined, repeated};
+use worked_drivers::texts::{joined, lines_in, repeated};
 use worked_drivers::volumes::small_volume;
 
 // How many bytes a read of a whole page gives.
@@ -28,10 +28,6 @@ fn compare_by(alloc: Global, script: &[u8], told: &str, step: usize) -> Result<(
     let left = job_between(alloc, "squirrel run v", volume.as_slice(), source, sink)?;
     is_done(&left, told, told)?;
     same(left.acks, lines_in(told.as_bytes()) as u64, told)
-}
-
-fn lines_in(text: &[u8]) -> usize {
-    text.iter().filter(|byte| **byte == b'\n').count()
 }
 
 // Runs a script that is read byte by byte, by seven bytes, and by pages.
