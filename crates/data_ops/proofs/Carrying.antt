@@ -1,5 +1,5 @@
 -- The plan of a command is carried out by a call that goes from stage to stage, whatever the two are.
-use Rattle.std.proofs.Common.{◌≡◌, ◌+◌, ◌<◌, ◌≤◌, false, true, List, [], ◌∷◌, length, sym, subst, ◌∙◌, arith, ◌⊎◌, inl, inr}
+use Rattle.std.proofs.Common.{◌≡◌, ◌+◌, ◌<◌, ◌≤◌, false, true, List, [], ◌∷◌, length, refl, sym, subst, ◌∙◌, arith, ◌⊎◌, inl, inr}
 use Rattle.std.specs.Prelude.{Result, Ok, Err, IsErr, OnOk}
 use Rattle.pm_trait.specs.declared.event.PmFault.{PmFault}
 use Rattle.pm_trait.specs.DeviceView.{DeviceView, MakesIntervals}
@@ -95,16 +95,25 @@ pub record Runs {R : Type 0} (call : Call R) (old : VolumeView) (before : Device
 
 -- with nothing to do the device and the volume are as they were
 pub runs_idle : {R : Type 0} {call : Call R} {old : VolumeView} {before : DeviceView} {plan : Action} {first : R} {answer : Answer} {IsOurs : Command → Type 0} {Stored : DeviceView → Result Reply PmFault → Type 0} → call.steps ≡ idle_step ∷ []
-    → HasGone call old before (keeping old plan) before (More first) → ((after : VolumeView) (reply : Reply) → call.Come after (Ended reply) → with_kept old.kept after ≡ after → (after ≡ old) × Carries {E = PmFault} old old before before plan answer IsOurs (Ok reply))
-    → ((device : DeviceView) (result : Result Reply PmFault) → Stored device result) → Runs call old before plan first answer IsOurs Stored
-runs_idle {call = call} {old} {before} {plan} {answer = answer} {IsOurs} is begun same stored = record {
+    → HasGone call old before (keeping old plan) before (More first) → old.stopped ≡ false → HasDone old old plan → ((reply : Reply) → MakesIntervals {E = PmFault} before before (events_of plan) (fences_of_plan plan) (Ok reply))
+    → ((state : State) (command : Command) → IsOurs command → IsPlanFor old before state command plan → (reply : Reply) → Follows {E = PmFault} old old before before state command answer (Ok reply))
+    → ((after : VolumeView) (reply : Reply) → call.Come after (Ended reply) → with_kept old.kept after ≡ after → (reply ≡ reply_of answer) × (after ≡ old)) → ((device : DeviceView) (result : Result Reply PmFault) → Stored device result)
+    → Runs call old before plan first answer IsOurs Stored
+runs_idle {call = call} {old} {before} {plan} {answer = answer} {IsOurs} is begun going done device follows same stored = record {
   begun = begun;
-  done = λ after device reply made come back.
-      let (still, carries) = same after reply come back in
-      let idle = (only (subst (λ (l : List Step). Unfolds {E = PmFault} l before device (Ok reply)) is made)).fenced in
-      subst (λ (v : VolumeView). Carries {E = PmFault} old v before device plan answer IsOurs (Ok reply)) (sym still) (subst (λ (d : DeviceView). Carries {E = PmFault} old old before d plan answer IsOurs (Ok reply)) (sym idle.0) carries);
-  stopped = λ after device fault made stops. let none : false ≡ true = (only (subst (λ (l : List Step). Unfolds {T = Reply} l before device (Err fault)) is made)).fenced.1 in absurd cc;
-  stored = λ device result made. stored device result;
+  done = λ after new reply made come back.
+      let (told, still) = same after reply come back in
+      let idle = (only (subst (λ (l : List Step). Unfolds {E = PmFault} l before new (Ok reply)) is made)).fenced in
+      let carries : Carries {E = PmFault} old old before before plan answer IsOurs (Ok reply) = record {
+        meaning = λ state command ours for. follows state command ours for reply;
+        answered = record { reply = told; going = going; knows = done; stopped = tt; size = refl; marked = refl };
+        device = device reply;
+        idle = λ none. (refl, refl);
+        beside = λ word k. refl;
+      } in
+      subst (λ (v : VolumeView). Carries {E = PmFault} old v before new plan answer IsOurs (Ok reply)) (sym still) (subst (λ (d : DeviceView). Carries {E = PmFault} old old before d plan answer IsOurs (Ok reply)) (sym idle.0) carries);
+  stopped = λ after new fault made stops. let none : false ≡ true = (only (subst (λ (l : List Step). Unfolds {T = Reply} l before new (Err fault)) is made)).fenced.1 in absurd cc;
+  stored = λ new result made. stored new result;
 }
 
 module _ {R : Type 0} {call : Call R} {old : VolumeView} {before : DeviceView} {plan : Action} {first : R} {answer : Answer} {IsOurs : Command → Type 0} {Stored : DeviceView → Result Reply PmFault → Type 0}

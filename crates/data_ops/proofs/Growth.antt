@@ -113,7 +113,7 @@ can_overwrite {writing = writing} may = record {
 
 -- ---- the fill
 
-module _ (P : ℕ) (W : List ℕ) (growth : Growth) (bytes old_pages new_pages : List ℕ) (can : CanFill P W growth bytes old_pages new_pages) (A : List ℕ) (fills : FillsFile P W A growth.inode growth.offset bytes new_pages) where
+module _ {P : ℕ} {W : List ℕ} {growth : Growth} {bytes old_pages new_pages : List ℕ} (can : CanFill P W growth bytes old_pages new_pages) {A : List ℕ} (fills : FillsFile P W A growth.inode growth.offset bytes new_pages) where
   not_inode : (f : ℕ) → f < 16 → {a : ℕ} → IsFillWord P W growth.inode new_pages a → a ≡ inode_word_of growth.inode f → ⊥
   not_inode f few (IsFillWord.old k j w page low) e = page-ne_inode P j w growth.inode f can.held.least can.held.most few e
   not_inode f few (IsFillWord.new j w there low) e = page-ne_inode P j w growth.inode f can.held.least can.held.most few e
@@ -191,7 +191,7 @@ module _ (P : ℕ) (W : List ℕ) (growth : Growth) (bytes old_pages new_pages :
 
 -- ---- the owners
 
-module _ (P : ℕ) (I : List ℕ) (growth : Growth) (old_pages new_pages : List ℕ) (held : HasPages P I growth.inode old_pages) (new : AreBytesFrom P I 0 (length old_pages) new_pages)
+module _ {P : ℕ} {I : List ℕ} (growth : Growth) {old_pages new_pages : List ℕ} (held : HasPages P I growth.inode old_pages) (new : AreBytesFrom P I 0 (length old_pages) new_pages)
     (enough : pages_of_size growth.new_size ≤ length old_pages + length new_pages) (device : DeviceView) (takes : TakesPages P I device.words growth.inode new_pages) where
   fields_taken : fields_at device.words growth.inode ≡ fields_at I growth.inode
   fields_taken = kept_fields growth.inode I device.words (λ f few. takes.others (inode_word_of growth.inode f) (λ j there e. descriptor-ne_inode P j 0 growth.inode f held.least held.most few (sym e)))
@@ -264,16 +264,15 @@ module _ (P : ℕ) (I : List ℕ) (growth : Growth) (old_pages new_pages : List 
   }
 
 -- the file may have its size once the new pages are its own
-pub raised : (P : ℕ) (I : List ℕ) (growth : Growth) (old_pages new_pages : List ℕ) → AreFilled P I growth old_pages new_pages → (device : DeviceView) → TakesPages P I device.words growth.inode new_pages
-    → IsVolumeSize P → length device.words ≡ 512 * P → IsSettledView device → CanRaise P device growth.inode growth.new_size
-raised P I growth old_pages new_pages filled device takes = can_raise P I growth old_pages new_pages filled.held filled.pages_are filled.enough device takes
+pub raised : {P : ℕ} {I : List ℕ} {growth : Growth} {old_pages new_pages : List ℕ} → AreFilled P I growth old_pages new_pages → (device : DeviceView) → TakesPages P I device.words growth.inode new_pages → IsVolumeSize P → length device.words ≡ 512 * P → IsSettledView device
+    → CanRaise P device growth.inode growth.new_size
+raised {growth = growth} filled device takes = can_raise growth filled.held filled.pages_are filled.enough device takes
 
 -- and where it needs none, behind the fill
-pub raised_at_once : (P : ℕ) (W : List ℕ) (growth : Growth) (bytes old_pages new_pages : List ℕ) → CanFill P W growth bytes old_pages new_pages → length new_pages ≡ 0 → (device : DeviceView)
+pub raised_at_once : {P : ℕ} {W : List ℕ} {growth : Growth} {bytes old_pages new_pages : List ℕ} → CanFill P W growth bytes old_pages new_pages → length new_pages ≡ 0 → (device : DeviceView)
     → FillsFile P W device.words growth.inode growth.offset bytes new_pages → IsVolumeSize P → length device.words ≡ 512 * P → IsSettledView device → CanRaise P device growth.inode growth.new_size
-raised_at_once P W growth bytes old_pages new_pages can none device fills =
-    can_raise P device.words growth old_pages new_pages (still_held P W growth bytes old_pages new_pages can device.words fills) (filled_pages P W growth bytes old_pages new_pages can device.words fills)
-    (enough P W growth bytes old_pages new_pages can device.words fills) device (none_taken P growth.inode device.words new_pages none)
+raised_at_once {P} {growth = growth} {new_pages = new_pages} can none device fills =
+    can_raise growth (still_held can fills) (filled_pages can fills) (enough can fills) device (none_taken P growth.inode device.words new_pages none)
 
 -- ---- its next step, once its fence succeeded: what stands then of the device and of the volume
 
@@ -335,12 +334,12 @@ module _ (volume : VolumeView) (now later : DeviceView) (growth : Growth) (bytes
   behind_filled {value = value} [] begins stands takes =
       let made = step_intervals (step_of_growth volume.size growth bytes [] Begun) now later (Ok value) begins.settled takes in
       record {
-        at = raised_at_once volume.size now.words growth bytes (pages_of volume.index growth.inode) [] stands.at refl later takes.makes size (made.long ∙ begins.whole) made.settled;
+        at = raised_at_once stands.at refl later takes.makes size (made.long ∙ begins.whole) made.settled;
         knows = knows_on volume _ growth.inode [] Begun Owned refl stands.knows (are_taken volume (filled_volume []) [] stands.knows.numbers refl);
         kept = kept_on (step_of_growth volume.size growth bytes [] Begun).events _ stands.kept refl (room_left (step_of_growth volume.size growth bytes [] Begun) now later (512 * volume.size) refl begins takes);
       }
   behind_filled {value = value} (page ∷ more) begins stands takes = record {
-    at = filled volume.size now.words growth bytes (pages_of volume.index growth.inode) (page ∷ more) stands.at later.words takes.makes (omega arith);
+    at = filled stands.at takes.makes (omega arith);
     knows = knows_on volume _ growth.inode (page ∷ more) Begun Filled refl stands.knows (are_taken volume (filled_volume (page ∷ more)) (page ∷ more) stands.knows.numbers refl);
     kept = kept_on (step_of_growth volume.size growth bytes (page ∷ more) Begun).events _ stands.kept refl (room_left (step_of_growth volume.size growth bytes (page ∷ more) Begun) now later (512 * volume.size) refl begins takes);
   }
@@ -352,7 +351,7 @@ module _ (volume : VolumeView) (now later : DeviceView) (growth : Growth) (bytes
       let made = step_intervals step now later (Ok value) begins.settled takes in
       let test = lt-ltb 0 (length pages) stands.at.some in
       record {
-        at = raised volume.size now.words growth (pages_of volume.index growth.inode) pages stands.at later takes.makes size (made.long ∙ begins.whole) made.settled;
+        at = raised stands.at later takes.makes size (made.long ∙ begins.whole) made.settled;
         knows = knows_on volume _ growth.inode pages Filled Owned refl stands.knows stands.knows.numbers;
         kept = kept_on step.events (events_in (left_of_growth volume.size growth bytes pages Owned))
             (subst (λ (t : Bool). HasKept volume now (cond t step.events 0 + events_in (left_of_growth volume.size growth bytes pages Owned))) test stands.kept) refl (room_left step now later (512 * volume.size) test begins takes);

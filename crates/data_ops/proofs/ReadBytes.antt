@@ -65,7 +65,7 @@ module _ (volume : VolumeView) (device : DeviceView) (i : ℕ)
 
   -- each byte below the size stands in its page
   pub byte_is : (o : ℕ) → o < inode_size device.words i → page_byte volume.size device.words (slice_index (pages_of volume.index i) (o / 4096)) (o % 4096) ≡ slice_index (bytes_of file.0.tree i) o
-  byte_is o low = sym (content.bytes_at o (slice_index (pages_of volume.index i) (o / 4096)) low (page_at volume.size device.words i (pages_of volume.index i) held (o / 4096) (let far = reach in omega (arith, far, low))))
+  byte_is o low = sym (content.bytes_at o (slice_index (pages_of volume.index i) (o / 4096)) low (page_at held (o / 4096) (let far = reach in omega (arith, far, low))))
 
   -- a file isn't too big
   pub small : inode_size device.words i ≤ 2 ^ 40

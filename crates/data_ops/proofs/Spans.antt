@@ -102,7 +102,7 @@ bytes_part P I owner first pages part from is = record {
       ∙ ap (λ (at : ℕ). let fields : DescriptorFields = record { owner = owner; kind = 1; offset = at } in fields) (let behind : 0 + (first + n) ≡ first + n = omega arith in behind);
 }
 
-module _ (P : ℕ) (W : List ℕ) (i : ℕ) (pages : List ℕ) (held : HasPages P W i pages) where
+module _ {P : ℕ} {W : List ℕ} {i : ℕ} {pages : List ℕ} (held : HasPages P W i pages) where
   -- a page of the file stands at its offset
   pub at_place : (k j : ℕ) → IsPageOf P W i k j → (k < length pages) × (slice_index pages k ≡ j)
   at_place k j page =
@@ -214,8 +214,8 @@ slice_at pages k j at =
     let same : ◌≡◌ {A = Option ℕ} (Some (slice_index pages k)) (Some j) = sym (slice_get-get_or pages k 0 low) ∙ at in
     (low, cc)
 
-pub may_fill : (P : ℕ) (W : List ℕ) (growth : Growth) (bytes old_pages new_pages : List ℕ) → CanFill P W growth bytes old_pages new_pages → MayFill P W growth bytes old_pages
-may_fill P W growth bytes old_pages new_pages can =
+pub may_fill : {P : ℕ} {W : List ℕ} {growth : Growth} {bytes old_pages new_pages : List ℕ} → CanFill P W growth bytes old_pages new_pages → MayFill P W growth bytes old_pages
+may_fill can =
     let larger = can.larger in
     let small = can.small in
     let inside = can.inside in
@@ -228,7 +228,7 @@ may_fill P W growth bytes old_pages new_pages can =
       some = can.some;
     }
 
-module _ (P : ℕ) (W : List ℕ) (growth : Growth) (bytes old_pages new_pages : List ℕ) (can : CanFill P W growth bytes old_pages new_pages) {tw : Option Trail} (size : IsVolumeSize P) (whole : length W ≡ 512 * P) (settled : IsSettledAt W tw) where
+module _ {P : ℕ} {W : List ℕ} {growth : Growth} {bytes old_pages new_pages : List ℕ} (can : CanFill P W growth bytes old_pages new_pages) {tw : Option Trail} (size : IsVolumeSize P) (whole : length W ≡ 512 * P) (settled : IsSettledAt W tw) where
   -- a page of the file is none of the new ones
   pub pages_differ : (k j n : ℕ) → IsPageOf P W growth.inode k j → n < length new_pages → j ≢ slice_index new_pages n
   pages_differ k j n page low same =
@@ -244,7 +244,7 @@ module _ (P : ℕ) (W : List ℕ) (growth : Growth) (bytes old_pages new_pages :
       let place = tail.index in
       let first = min growth.offset growth.old_size / 4096 in
       let parts = dropped_part old_pages first in
-      let page = page_at P W growth.inode old_pages can.held (first + place) (parts.below place low) in
+      let page = page_at can.held (first + place) (parts.below place low) in
       let is = sym (parts.same place low) in
       own_words_apart P (slice_index (drop first old_pages) place) (slice_index new_pages some.index) w
       (subst (λ (p : ℕ). p < data_pages_of P) is page.in_range) (can.free.in_range.each some.index some.before)
@@ -299,7 +299,7 @@ module _ (P : ℕ) (W : List ℕ) (growth : Growth) (bytes old_pages new_pages :
           let parts = dropped_part old_pages first in
           let place = tail.is in
           let at = place.is.at in
-          let page = page_at P W growth.inode old_pages can.held (first + tail.index) (parts.below tail.index low) in
+          let page = page_at can.held (first + tail.index) (parts.below tail.index low) in
           subst (IsFillWord P W growth.inode new_pages) (sym (at ∙ ap (λ (p : ℕ). page_word_of P p place.index) (parts.same tail.index low)))
           (IsFillWord.old (first + tail.index) (slice_index old_pages (first + tail.index)) place.index page place.below)
 
@@ -407,33 +407,33 @@ module _ {P : ℕ} {W : List ℕ} {growth : Growth} {bytes pages : List ℕ} (ma
     old_below : WritesBelow P W b growth.inode growth.offset bytes
     old_below o j low page = elim (cases_lt (o / 4096) old_first) [
       | inl before ↦
-          let same = byte_kept P W growth.inode pages may.held old_span bytes old_part old_parts run have o j page (inl before) in
+          let same = byte_kept may.held old_span bytes old_part old_parts run have o j page (inl before) in
           record {
             new = λ in_range. let least = in_range.least in let size = may.size in absurd (omega (arith, least, before, is, low, size));
             kept = λ beside. same;
           }
       | inr there ↦
-          let (high, at) = at_place P W growth.inode pages may.held (o / 4096) j page in
+          let (high, at) = at_place may.held (o / 4096) j page in
           let all = old_long in
           let size = may.size in
           written_byte old_span bytes o (page_byte P W j (o % 4096)) (page_byte P b j (o % 4096)) refl (omega (arith, low, size))
-          (byte_at P W growth.inode pages may.held old_span bytes old_part old_parts run have o j page there (omega (arith, high, all)))
+          (byte_at may.held old_span bytes old_part old_parts run have o j page there (omega (arith, high, all)))
     ]
 
     old_tail : WritesTail P W b growth.inode growth.offset bytes
     old_tail o j behind page =
-        let (high, at) = at_place P W growth.inode pages may.held (o / 4096) j page in
+        let (high, at) = at_place may.held (o / 4096) j page in
         let all = old_long in
         let size = may.size in
         zero_byte old_span bytes o (page_byte P W j (o % 4096)) (page_byte P b j (o % 4096)) refl (omega (arith, behind, size))
-        (byte_at P W growth.inode pages may.held old_span bytes old_part old_parts run have o j page (omega (arith, is, behind, size)) (omega (arith, high, all)))
+        (byte_at may.held old_span bytes old_part old_parts run have o j page (omega (arith, is, behind, size)) (omega (arith, high, all)))
 
   -- where the range and the old size begin behind all old pages
   pub none_below : length old_part ≡ 0 → WritesBelow P W W growth.inode growth.offset bytes
   none_below none o j low page = record {
     new = λ in_range.
         let least = in_range.least in
-        let (high, at) = at_place P W growth.inode pages may.held (o / 4096) j page in
+        let (high, at) = at_place may.held (o / 4096) j page in
         let all = old_long in
         let size = may.size in
         absurd (omega (arith, least, high, all, none, is, low, size));
@@ -442,7 +442,7 @@ module _ {P : ℕ} {W : List ℕ} {growth : Growth} {bytes pages : List ℕ} (ma
 
   pub none_tail : length old_part ≡ 0 → WritesTail P W W growth.inode growth.offset bytes
   none_tail none o j behind page =
-      let (high, at) = at_place P W growth.inode pages may.held (o / 4096) j page in
+      let (high, at) = at_place may.held (o / 4096) j page in
       let all = old_long in
       let size = may.size in
       absurd (omega (arith, high, all, none, is, behind, size))
@@ -549,16 +549,16 @@ module _ {P : ℕ} {W : List ℕ} {writing : Writing} {bytes pages : List ℕ} (
     below o j low page = elim (cases_lt (o / 4096) first) [
       | inl before ↦ record {
         new = λ inside. let least = inside.least in absurd (omega (arith, least, before));
-        kept = λ beside. byte_kept P W writing.inode pages may.held span bytes part parts run have o j page (inl before);
+        kept = λ beside. byte_kept may.held span bytes part parts run have o j page (inl before);
       }
       | inr there ↦ elim (cases_lt (o / 4096) (first + length part)) [
         | inl high ↦
             let far = (range may).1 in
             written_byte span bytes o (page_byte P W j (o % 4096)) (page_byte P b j (o % 4096)) refl (omega (arith, low, far))
-            (byte_at P W writing.inode pages may.held span bytes part parts run have o j page there high)
+            (byte_at may.held span bytes part parts run have o j page there high)
         | inr behind ↦ record {
           new = λ inside. let top = inside.below in let all = long in let more = order in absurd (omega (arith, top, behind, all, more, end_is));
-          kept = λ beside. byte_kept P W writing.inode pages may.held span bytes part parts run have o j page (inr behind);
+          kept = λ beside. byte_kept may.held span bytes part parts run have o j page (inr behind);
         }
       ]
     ]
@@ -566,7 +566,7 @@ module _ {P : ℕ} {W : List ℕ} {writing : Writing} {bytes pages : List ℕ} (
     -- the part ends not past the greatest file, and the range not past the size
     behind_kept : (o j : ℕ) → inode_size W writing.inode ≤ o → IsPageOf P W writing.inode (o / 4096) j → page_byte P b j (o % 4096) ≡ page_byte P W j (o % 4096)
     behind_kept o j behind page = elim (cases_lt (o / 4096) first) [
-      | inl before ↦ byte_kept P W writing.inode pages may.held span bytes part parts run have o j page (inl before)
+      | inl before ↦ byte_kept may.held span bytes part parts run have o j page (inl before)
       | inr there ↦ elim (cases_lt (o / 4096) (first + length part)) [
         | inl high ↦
             let all = long in
@@ -574,9 +574,9 @@ module _ {P : ℕ} {W : List ℕ} {writing : Writing} {bytes pages : List ℕ} (
             let top = few in
             let inside = may.inside in
             let is = written_byte span bytes o (page_byte P W j (o % 4096)) (page_byte P b j (o % 4096)) refl (omega (arith, high, all, more, top))
-            (byte_at P W writing.inode pages may.held span bytes part parts run have o j page there high) in
+            (byte_at may.held span bytes part parts run have o j page there high) in
             is.kept (inr (omega (arith, behind, inside)))
-        | inr away ↦ byte_kept P W writing.inode pages may.held span bytes part parts run have o j page (inr away)
+        | inr away ↦ byte_kept may.held span bytes part parts run have o j page (inr away)
       ]
     ]
 
@@ -585,7 +585,7 @@ module _ {P : ℕ} {W : List ℕ} {writing : Writing} {bytes pages : List ℕ} (
     writes = record {
       size = interval_length run;
       writes = below;
-      others = λ a out. interval_keeps a run (no_other P W writing.inode pages may.held span bytes part parts run have a out);
+      others = λ a out. interval_keeps a run (no_other may.held span bytes part parts run have a out);
     }
 
     pub stored : (d : List ℕ) → d ≡ b → StoresInside P W d writing.inode writing.offset bytes

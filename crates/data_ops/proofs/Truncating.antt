@@ -7,6 +7,7 @@ use Rattle.pm_trait.specs.DeviceView.{DeviceView, MakesIntervals}
 use Rattle.pm_trait.specs.Unfolds.{MayFence, Step, Takes, Unfolds, events_in, step_events, KeepsWords}
 use Rattle.pm_trait.proofs.Unfolding.{words_kept}
 use Rattle.layout.specs.Superblock.{IsSuperblockWord, has_mark}
+use Rattle.pm_trait.proofs.DeviceViewLaws.{intervals_none}
 use Rattle.tree_model.specs.declared.reply.Reply.{Reply}
 use Rattle.tree_model.specs.declared.reply.Reply.TheVariants.{Done as Told}
 use Rattle.tree_model.specs.PathText.{Route}
@@ -47,7 +48,7 @@ use Rattle.data_ops.proofs.Going.{Call, HasGone, IsBehind, all_behind, left_next
 use Rattle.data_ops.proofs.Carrying.{Runs, carries_made, carries_stopped, kept_begins, runs_idle, by_plan}
 use Rattle.data_ops.proofs.Growth.{HasComeTo, HasComeOn, rank_of_growth, rank_of_next, fewer_steps, rest_of_growth, left_behind, growth_behind, growth_own, growth_come_on, knows_kept, can_fill, none_beside, growth_beside, entered_beside}
 use Rattle.data_ops.proofs.Cuts.{rank_of_cut, rest_of_cut, left_behind_cut, cut_behind, cut_stores, can_be_cut, may_lose}
-use Rattle.data_ops.proofs.TruncatingPlans.{has_resized, leaves_resized, all_costs, all_intervals, stores_size, is_atomic, has_stored, may_resize, cut_at, carried_nothing, less_by}
+use Rattle.data_ops.proofs.TruncatingPlans.{has_resized, leaves_resized, all_costs, all_intervals, stores_size, is_atomic, has_stored, may_resize, cut_at, follows_nothing, less_by}
 use Rattle.data_ops.proofs.Steps.{resize_keep, not_same_size, same_resizing, resizing_for, either_more}
 
 -- ---- from one of its stages to the next
@@ -250,7 +251,7 @@ RunsTruncation volume old plan =
 -- the plan of another size
 module _ {volume : VolumeView} {old : DeviceView} {resizing : Resizing} (planned : (state : State) × (path : Route) × IsPlanFor volume old state (Truncate path resizing.new_size) (Resize resizing)) (ready : MayCarry volume old (Resize resizing)) where
   may : MayResize volume.size old.words resizing (pages_of volume.index resizing.inode)
-  may = may_resize volume old planned.0 planned.1 resizing planned.2
+  may = may_resize planned.2
 
   -- ---- before its first step
 
@@ -293,7 +294,7 @@ module _ {volume : VolumeView} {old : DeviceView} {resizing : Resizing} (planned
     made = subst (λ (l : List Step). Unfolds l old new result) all_steps unfolds
 
     pub stored : HasStoredSize volume.size old new resizing (pages_of volume.index resizing.inode) result
-    stored = has_stored volume.size old resizing _ may new result planned.2.stands.settled made (cut_at volume old planned.0 planned.1 resizing planned.2)
+    stored = has_stored volume.size old resizing _ may new result planned.2.stands.settled made (cut_at planned.2)
 
     device : MakesIntervals old new (events_of (Resize resizing)) (fences_of_plan (Resize resizing)) result
     device = all_intervals volume.size old resizing _ may new result planned.2.stands.settled made
@@ -302,16 +303,16 @@ module _ {volume : VolumeView} {old : DeviceView} {resizing : Resizing} (planned
     beside = words_kept IsSuperblockWord (resize_keep volume.size resizing (pages_of volume.index resizing.inode)) made
 
     atomic : (state : State) (path : Route) → IsPlanFor volume old state (Truncate path resizing.new_size) (Resize resizing) → has_mark old.words ≡ false → IsAtomic volume.size old new state (Truncate path resizing.new_size)
-    atomic state path here = is_atomic volume.size old resizing _ may new result here.stands.settled made (cut_at volume old state path resizing here)
+    atomic state path here = is_atomic volume.size old resizing _ may new result here.stands.settled made (cut_at here)
 
   carried : {E F T : Type 0} {done : T} {new : DeviceView} {after : VolumeView} (reply : Reply) → reply ≡ Told → Unfolds {E = E} (all_of volume (begun_resizing resizing)) old new (Ok done) → TakesIn volume after resizing
       → Carries {E = F} volume after old new (Resize resizing) Done IsTruncation (Ok reply)
   carried {done = done} {new} {after} reply told unfolds takes =
       let all = device unfolds in
       let sized = stores_size volume.size old resizing _ may new (Ok done) planned.2.stands.settled (made unfolds) in
-      let resized = has_resized volume old planned.0 planned.1 resizing planned.2 after takes in
+      let resized = has_resized planned.2 after takes in
       carries_made (λ (path : Route). Truncate path resizing.new_size) own_size planned ready (more_events resizing) (beside unfolds) (atomic unfolds) reply told all (volume_same resized) resized
-      (λ state path here keeps. leaves_resized volume old state path resizing here after takes new sized all.settled (all.counted, all.grown) keeps)
+      (λ state path here keeps. leaves_resized here after takes new sized all.settled (all.counted, all.grown) keeps)
 
   runs_resizing : RunsTruncation volume old (Resize resizing)
   runs_resizing = record {
@@ -328,7 +329,7 @@ runs_nothing : {volume : VolumeView} {old : DeviceView} (state : State) (path : 
 runs_nothing {volume} {old} state path size planned ready =
     runs_idle refl
     (kept_begins (call volume KeepSize) Nothing planned ready refl refl (omega arith) (λ has. (record { going = ready.going; whole = planned.stands.knows.whole; at = tt; kept = has }, (refl, kept_already volume volume.kept refl))))
-    (λ after reply come back. (sym back ∙ come.1.nothing refl, carried_nothing volume old reply come.0 planned.stands.settled ready.going))
+    ready.going refl (λ reply. intervals_none old reply planned.stands.settled) (λ to command ours for reply. follows_nothing to command ours for reply) (λ after reply come back. (come.0, sym back ∙ come.1.nothing refl))
     (λ device result resizing is. absurd (not_same_size resizing (sym is)))
 
 -- ---- the whole call

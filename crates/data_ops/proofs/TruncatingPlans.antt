@@ -32,7 +32,7 @@ use Rattle.content_laws.proofs.CutStates.{cut_step_law}
 use Rattle.content_laws.proofs.CutTidy.{cut_law, cut_index_law}
 use Rattle.content_laws.proofs.Steps.{same_size_step}
 use Rattle.volatile_index.specs.Index.{pages_of}
-use Rattle.volume.specs.Carried.{IsPlanFor, LeavesState, IsAtomic, Carries}
+use Rattle.volume.specs.Carried.{IsPlanFor, LeavesState, IsAtomic, Follows}
 use Rattle.volume.specs.declared.plan.Action.TheVariants.{Resize, KeepSize}
 use Rattle.volume.specs.Planned.{IsResizingFor}
 use Rattle.volume.specs.Volume.{VolumeView}
@@ -57,7 +57,7 @@ use Rattle.data_ops.proofs.Growth.{growth_costs, growth_fences, grown_done, grow
 
 -- ---- what the plan of a truncation says of its file
 
-module _ (volume : VolumeView) (device : DeviceView) (state : State) (path : Route) (resizing : Resizing) (plan : IsPlanFor volume device state (Truncate path resizing.new_size) (Resize resizing)) where
+module _ {volume : VolumeView} {device : DeviceView} {state : State} {path : Route} {resizing : Resizing} (plan : IsPlanFor volume device state (Truncate path resizing.new_size) (Resize resizing)) where
   pub for_resizing : IsResizingFor volume.size device.words state path resizing.new_size resizing
   for_resizing = (resizing_for volume.size device.words state path resizing.new_size resizing plan.planned.plan_is).1
 
@@ -212,25 +212,25 @@ module _ (P : ℕ) (old : DeviceView) (resizing : Resizing) (pages : List ℕ) (
 
 -- ---- it leaves a volume that stands for what its command leaves
 
-module _ (volume : VolumeView) (device : DeviceView) (state : State) (path : Route) (resizing : Resizing) (plan : IsPlanFor volume device state (Truncate path resizing.new_size) (Resize resizing)) (new : VolumeView) (takes : TakesIn volume new resizing) where
+module _ {volume : VolumeView} {device : DeviceView} {state : State} {path : Route} {resizing : Resizing} (plan : IsPlanFor volume device state (Truncate path resizing.new_size) (Resize resizing)) (new : VolumeView) (takes : TakesIn volume new resizing) where
   -- it has grown or is cut, and not both
   pub has_resized : HasResized volume new resizing
   has_resized = elim (cases_lt resizing.new_size resizing.old_size) [
-    | inl less ↦ has_cut volume new resizing (takes.cut less) (none_added volume device state path resizing plan less)
-    | inr most ↦ has_grown volume new resizing (takes.grown most) (none_cut volume device state path resizing plan most)
+    | inl less ↦ has_cut volume new resizing (takes.cut less) (none_added plan less)
+    | inr most ↦ has_grown volume new resizing (takes.grown most) (none_cut plan most)
   ]
 
   module _ (after : DeviceView) (resized : StoresSize volume.size device.words after.words resizing) (settled : IsSettledView after) (counted : IsCountedBy (Resize resizing) device after) (keeps : KeepsMark volume new device.words after.words after) where
     leaves_cut : resizing.new_size < resizing.old_size → LeavesState volume new device after state (Truncate path resizing.new_size) Done
     leaves_cut less =
-        let may = may_cut volume device state path resizing plan less in
+        let may = may_cut plan less in
         let file = can_be_cut may in
         let cut = resized.cut less in
         let leaves = takes.cut less in
         let i = resizing.inode in
         let z = resizing.new_size in
         let tidy = as_tidy (cut_law volume.size device.words cut.given after.words i z may.can cut.cuts).tidy in
-        let truncated = cut_step_law volume.size device.words cut.given after.words state path i z (least_free_id state.tree) may.can cut.cuts (for_resizing volume device state path resizing plan).inode_is plan.stands.reads in
+        let truncated = cut_step_law volume.size device.words cut.given after.words state path i z (least_free_id state.tree) may.can cut.cuts (for_resizing plan).inode_is plan.stands.reads in
         let knows = knows_cut volume device.words after.words i z resizing.cut plan.stands.knows may.can may.held.least may.held.most (kept_is file) (enough file)
         (cut_index_law volume.size device.words cut.given after.words i z may.can cut.cuts) (tidied tidy) new leaves in
         leaves_stepped plan refl (λ gives. refl) after.words tidy truncated.stepped new after (ap (λ (v : VolumeView). v.size) leaves.rest) knows refl settled counted keeps
@@ -239,15 +239,15 @@ module _ (volume : VolumeView) (device : DeviceView) (state : State) (path : Rou
     leaves_resized = elim (cases_lt resizing.new_size resizing.old_size) [
       | inl less ↦ leaves_cut less
       | inr most ↦
-          let differs = other volume device state path resizing plan in
+          let differs = other plan in
           let more : resizing.old_size < resizing.new_size = omega (arith, most, differs) in
-          leaves_grown plan refl (λ gives. refl) (may_grow volume device state path resizing plan more) (growth_by path resizing (cut_at volume device state path resizing plan))
-          (rising_distinct resizing.new_pages (for_resizing volume device state path resizing plan).new_pages.rising) new after (resized.grown more) (takes.grown most) settled counted keeps
+          leaves_grown plan refl (λ gives. refl) (may_grow plan more) (growth_by path resizing (cut_at plan))
+          (rising_distinct resizing.new_pages (for_resizing plan).new_pages.rising) new after (resized.grown more) (takes.grown most) settled counted keeps
     ]
 
 -- ---- a truncation to the size that the file has: nothing is to be done
 
-module _ (volume : VolumeView) (device : DeviceView) (state : State) (path : Route) (size : ℕ) (plan : IsPlanFor volume device state (Truncate path size) KeepSize) where
+module _ {volume : VolumeView} {device : DeviceView} {state : State} {path : Route} {size : ℕ} (plan : IsPlanFor volume device state (Truncate path size) KeepSize) where
   coherent : IsCoherent volume.size device.words
   coherent = (tidied plan.stands.tidy).coherent
 
@@ -267,15 +267,7 @@ module _ (volume : VolumeView) (device : DeviceView) (state : State) (path : Rou
       let file = found_file volume device state path source.id plan.stands source source.named in
       same_size_step volume.size device.words state source.id size source.bytes source.file size_is path (least_free_id state.tree) coherent file.reached file.file plan.stands.reads source.named
 
--- the plan of a truncation that has nothing to do
-pub carried_nothing : {E : Type 0} (volume : VolumeView) (device : DeviceView) (reply : Reply) → reply ≡ Told → IsSettledView device → volume.stopped ≡ false → Carries {E = E} volume volume device device KeepSize Done IsTruncation (Ok reply)
-carried_nothing {E} volume device reply told settled going = record {
-  meaning = λ state command ours plan.
-      let (path, size, is) = ours in
-      let here = subst (λ (c : Command). IsPlanFor volume device state c KeepSize) is plan in
-      follows_as (Truncate path size) command is (follows_idle here refl (λ gives. refl) (omega arith, omega arith) (is_stepped volume device state path size here) {E = E} reply);
-  answered = record { reply = told; going = going; knows = refl; stopped = tt; size = refl; marked = refl };
-  device = intervals_none device reply settled;
-  idle = λ none. (refl, refl);
-  beside = λ word k. refl;
-}
+pub follows_nothing : {volume : VolumeView} {device : DeviceView} (state : State) (command : Command) → IsTruncation command → IsPlanFor volume device state command KeepSize → {E : Type 0} (reply : Reply) → Follows {E = E} volume volume device device state command Done (Ok reply)
+follows_nothing {volume} {device} state command (path, size, is) plan reply =
+    let here = subst (λ (c : Command). IsPlanFor volume device state c KeepSize) is plan in
+    follows_as (Truncate path size) command is (follows_idle here refl (λ gives. refl) (omega arith, omega arith) (is_stepped here) reply)

@@ -5,6 +5,7 @@ use Rattle.std.specs.Prelude.{Result, Ok, if◌then◌else◌}
 use Rattle.std.proofs.lemmas.List.{nil_from_length}
 use Rattle.pm_trait.specs.DeviceView.{DeviceView}
 use Rattle.pm_trait.specs.Unfolds.{MayFence, Step, Takes, Unfolds, events_in, step_events}
+use Rattle.pm_trait.proofs.DeviceViewLaws.{intervals_none}
 use Rattle.tree_model.specs.declared.reply.Reply.{Reply}
 use Rattle.tree_model.specs.declared.reply.Reply.TheVariants.{Count as Told}
 use Rattle.tree_model.specs.PathText.{Route}
@@ -38,7 +39,7 @@ use Rattle.data_ops.specs.Steps.{either_steps, growth_steps}
 use Rattle.data_ops.proofs.Going.{Call, HasGone, IsBehind, all_behind, left_next, may_go, goes_on}
 use Rattle.data_ops.proofs.Growth.{HasComeTo, HasComeOn, rank_of_growth, rank_of_next, fewer_steps, rest_of_growth, left_behind, growth_behind, growth_own, growth_come_on, can_fill, can_overwrite, none_beside, growth_beside}
 use Rattle.data_ops.proofs.Carrying.{Runs, kept_begins, runs_idle, by_plan}
-use Rattle.data_ops.proofs.WritingPlans.{none, carried_nothing, stored, own_offset, carried, carried_no_further, for_writing, may_write, none_added, may_grow, all_costs}
+use Rattle.data_ops.proofs.WritingPlans.{none, follows_nothing, stored, own_offset, carried, carried_no_further, for_writing, may_write, none_added, may_grow, all_costs}
 use Rattle.data_ops.proofs.Steps.{not_nothing, same_writing}
 
 -- ---- from one of its stages to the next
@@ -179,7 +180,7 @@ module _ {volume : VolumeView} {before : DeviceView} {bytes : List ℕ} (writing
   is_write : IsWriteAt (keeping volume (WriteBytes writing)) writing bytes
   is_write =
       let (least, most) = written_in_index volume before planned.0 command writing planned.2 in
-      record { bounded = bounded volume before planned.0 command (WriteBytes writing) planned.2; least = least; most = most; count = (for_writing volume before planned.0 planned.1 bytes writing planned.2).count_is }
+      record { bounded = bounded volume before planned.0 command (WriteBytes writing) planned.2; least = least; most = most; count = (for_writing planned.2).count_is }
 
   -- the steps of its first stage are those of the write
   all_steps : all_of volume.size bytes (begun_writing writing) ≡ write_steps volume.size writing bytes
@@ -190,13 +191,13 @@ module _ {volume : VolumeView} {before : DeviceView} {bytes : List ℕ} (writing
       × HasComeStage volume (WriteBytes writing) bytes (keeping volume (WriteBytes writing)) (if inside then Inside writing else Growing writing Begun)
   first_stage true test has =
       let inside = leb-true (writing.offset + writing.count) writing.old_size test in (
-        record { going = ready.going; whole = planned.2.stands.knows.whole; at = (is_write, can_overwrite (may_write volume before planned.0 planned.1 bytes writing planned.2 inside)); kept = has },
-        (refl, none_added volume before planned.0 planned.1 bytes writing planned.2 inside, refl),
+        record { going = ready.going; whole = planned.2.stands.knows.whole; at = (is_write, can_overwrite (may_write planned.2 inside)); kept = has },
+        (refl, none_added planned.2 inside, refl),
       )
   first_stage false test has =
       let more = leb-false (writing.offset + writing.count) writing.old_size test in
       let numbers = may_take_written volume before planned.0 command writing planned.2 in
-      let grows = can_fill (may_grow volume before planned.0 planned.1 bytes writing planned.2 more) in
+      let grows = can_fill (may_grow planned.2 more) in
       let knows : KnowsGrowth (keeping volume (WriteBytes writing)) writing.inode writing.new_pages Begun =
       record { least = is_write.least; most = is_write.most; places = ready.reserved.places; numbers = record { once = numbers.once; free = numbers.free } } in
       (record { going = ready.going; whole = planned.2.stands.knows.whole; at = (is_write, grows, knows); kept = has }, (refl, refl))
@@ -217,11 +218,11 @@ module _ {volume : VolumeView} {before : DeviceView} {bytes : List ℕ} (writing
 
 runs_nothing : {volume : VolumeView} {before : DeviceView} {bytes : List ℕ} (state : State) (path : Route) (offset : ℕ) → IsPlanFor volume before state (Write path offset bytes) WriteNothing → MayCarry volume before WriteNothing → RunsWrite volume before bytes WriteNothing
 runs_nothing {volume} {before} {bytes} state path offset planned ready =
-    let no_byte = none volume before state path offset bytes planned in
+    let no_byte = none planned in
     runs_idle refl
     (kept_begins (call volume WriteNothing bytes) Nothing planned ready refl refl (omega arith)
     (λ has. (record { going = ready.going; whole = planned.stands.knows.whole; at = nil_from_length bytes no_byte; kept = has }, (refl, no_byte, refl))))
-    (λ after reply come back. (sym back ∙ come.1, carried_nothing volume before bytes reply come.0 planned.stands.settled ready.going))
+    ready.going refl (λ reply. intervals_none before reply planned.stands.settled) (λ to command ours for reply. follows_nothing to command ours for reply) (λ after reply come back. (come.0, sym back ∙ come.1))
     (λ device result writing is. absurd (not_nothing writing (sym is)))
 
 -- ---- the whole call

@@ -38,7 +38,7 @@ use Rattle.content_laws.proofs.Torn.{torn_tree_law}
 use Rattle.content_laws.specs.Gained.{HasGained}
 use Rattle.content_laws.proofs.Steps.{inside_step_law, written_tree}
 use Rattle.volatile_index.specs.Index.{pages_of}
-use Rattle.volume.specs.Carried.{IsPlanFor, IsAtomic, LeavesState, Carries, MayCarry}
+use Rattle.volume.specs.Carried.{IsPlanFor, IsAtomic, LeavesState, Follows, Carries, MayCarry}
 use Rattle.volume.specs.declared.plan.Action.TheVariants.{Write as WriteBytes, WriteNothing}
 use Rattle.volume.specs.Planned.{IsWritingFor}
 use Rattle.volume.specs.Volume.{VolumeView}
@@ -65,7 +65,7 @@ not_zero n test = grind (arith, nat_tests)
 
 -- ---- what the plan of an accepted write says, and what its steps ask for
 
-module _ (volume : VolumeView) (device : DeviceView) (state : State) (path : Route) (bytes : List ℕ) (writing : Writing) (plan : IsPlanFor volume device state (Write path writing.offset bytes) (WriteBytes writing)) where
+module _ {volume : VolumeView} {device : DeviceView} {state : State} {path : Route} {bytes : List ℕ} {writing : Writing} (plan : IsPlanFor volume device state (Write path writing.offset bytes) (WriteBytes writing)) where
   pub for_writing : IsWritingFor volume.size device.words state path writing.offset bytes writing
   for_writing = (writing_for volume.size device.words state path writing.offset bytes writing plan.planned.plan_is).1
 
@@ -151,7 +151,7 @@ write_grows {P} {W} {state} path bytes writing at =
 
 -- ---- a write of no bytes: nothing is to be done
 
-module _ (volume : VolumeView) (device : DeviceView) (state : State) (path : Route) (offset : ℕ) (bytes : List ℕ) (plan : IsPlanFor volume device state (Write path offset bytes) WriteNothing) where
+module _ {volume : VolumeView} {device : DeviceView} {state : State} {path : Route} {offset : ℕ} {bytes : List ℕ} (plan : IsPlanFor volume device state (Write path offset bytes) WriteNothing) where
   pub none : length bytes ≡ 0
   none = eqb-true (length bytes) 0 (no_byte volume.size device.words state path offset bytes plan.planned.plan_is)
 
@@ -173,19 +173,11 @@ module _ (volume : VolumeView) (device : DeviceView) (state : State) (path : Rou
         );
       }
 
--- the plan of a write that has nothing to do
-pub carried_nothing : {E : Type 0} (volume : VolumeView) (device : DeviceView) (bytes : List ℕ) (reply : Reply) → reply ≡ Told (length bytes) → IsSettledView device → volume.stopped ≡ false
-    → Carries {E = E} volume volume device device WriteNothing (Count (length bytes)) (IsWriteOf bytes) (Ok reply)
-carried_nothing {E} volume device bytes reply told settled going = record {
-  meaning = λ state command ours plan.
-      let (path, offset, is) = ours in
-      let here = subst (λ (c : Command). IsPlanFor volume device state c WriteNothing) is plan in
-      follows_as (Write path offset bytes) command is (follows_idle here refl (λ gives. refl) (omega arith, omega arith) (is_stepped volume device state path offset bytes here) {E = E} reply);
-  answered = record { reply = told; going = going; knows = refl; stopped = tt; size = refl; marked = refl };
-  device = intervals_none device reply settled;
-  idle = λ none. (refl, refl);
-  beside = λ word k. refl;
-}
+pub follows_nothing : {volume : VolumeView} {device : DeviceView} {bytes : List ℕ} (state : State) (command : Command) → IsWriteOf bytes command → IsPlanFor volume device state command WriteNothing → {E : Type 0} (reply : Reply)
+    → Follows {E = E} volume volume device device state command (Count (length bytes)) (Ok reply)
+follows_nothing {volume} {device} {bytes} state command (path, offset, is) plan reply =
+    let here = subst (λ (c : Command). IsPlanFor volume device state c WriteNothing) is plan in
+    follows_as (Write path offset bytes) command is (follows_idle here refl (λ gives. refl) (omega arith, omega arith) (is_stepped here) reply)
 
 -- ---- what a crash leaves of a write inside the size
 
@@ -282,19 +274,19 @@ module _ {T E : Type 0} (P : ℕ) (old new : DeviceView) (writing : Writing) (by
 
 -- ---- it leaves a volume that stands for what the command leaves
 
-module _ (volume : VolumeView) (device : DeviceView) (state : State) (path : Route) (bytes : List ℕ) (writing : Writing) (plan : IsPlanFor volume device state (Write path writing.offset bytes) (WriteBytes writing)) (after : DeviceView)
+module _ {volume : VolumeView} {device : DeviceView} {state : State} {path : Route} {bytes : List ℕ} {writing : Writing} (plan : IsPlanFor volume device state (Write path writing.offset bytes) (WriteBytes writing)) (after : DeviceView)
     (written : StoresBytes volume.size device.words after.words writing bytes) (new : VolumeView) (enters : EntersPages volume new writing.inode writing.new_pages) (settled : IsSettledView after)
     (counted : IsCountedBy (WriteBytes writing) device after) (keeps : KeepsMark volume new device.words after.words after) where
   left_inside : writing.offset + writing.count ≤ writing.old_size → LeavesState volume new device after state (Write path writing.offset bytes) (Count (length bytes))
   left_inside inside =
       let i = writing.inode in
-      let may = may_write volume device state path bytes writing plan inside in
-      let for = for_writing volume device state path bytes writing plan in
+      let may = may_write plan inside in
+      let for = for_writing plan in
       let writes = (written.inside inside).writes in
       let law = inside_law volume.size device.words after.words i writing.offset bytes may.can writes in
-      let none = nil_from_length writing.new_pages (none_added volume device state path bytes writing plan inside) in
+      let none = nil_from_length writing.new_pages (none_added plan inside) in
       let tidy = as_tidy law.tidy in
-      let knows = knows_grown volume device.words after.words i writing.new_pages plan.stands.knows may.can.tidy may.held.least may.held.most may.held.count (unused volume device state path bytes writing plan)
+      let knows = knows_grown volume device.words after.words i writing.new_pages plan.stands.knows may.can.tidy may.held.least may.held.most may.held.count (unused plan)
       (rising_distinct writing.new_pages for.new_pages.rising) (subst (λ (l : List ℕ). HasGained volume.size device.words after.words i l) (sym none) law.index) (tidied tidy) new enters in
       leaves_stepped plan refl (λ gives. refl) after.words tidy (inside_step_law volume.size device.words after.words state path i writing.offset (least_free_id state.tree) bytes may.can writes may.some for.inode_is plan.stands.reads)
       new after (ap (λ (v : VolumeView). v.size) enters.rest) knows refl settled counted keeps
@@ -302,8 +294,8 @@ module _ (volume : VolumeView) (device : DeviceView) (state : State) (path : Rou
   pub leaves_written : LeavesState volume new device after state (Write path writing.offset bytes) (Count (length bytes))
   leaves_written = elim (cases_lt writing.old_size (writing.offset + writing.count)) [
     | inl more ↦
-        leaves_grown plan refl (λ gives. refl) (may_grow volume device state path bytes writing plan more) (write_grows path bytes writing (record { reads = plan.stands.reads; planned = plan.planned }))
-        (rising_distinct writing.new_pages (for_writing volume device state path bytes writing plan).new_pages.rising) new after (written.past more) enters settled counted keeps
+        leaves_grown plan refl (λ gives. refl) (may_grow plan more) (write_grows path bytes writing (record { reads = plan.stands.reads; planned = plan.planned }))
+        (rising_distinct writing.new_pages (for_writing plan).new_pages.rising) new after (written.past more) enters settled counted keeps
     | inr inside ↦ left_inside inside
   ]
 
@@ -325,7 +317,7 @@ own_offset {volume} {device} {bytes} {writing} state command (path, offset, is) 
 -- the plan of a write of these bytes, by the size that the call has
 module _ {volume : VolumeView} {old : DeviceView} {writing : Writing} {bytes : List ℕ} (planned : (state : State) × (path : Route) × IsPlanFor volume old state (Write path writing.offset bytes) (WriteBytes writing)) where
   may_store : MayWriteBytes volume.size old.words writing bytes (pages_of volume.index writing.inode)
-  may_store = may_write_bytes volume old planned.0 planned.1 bytes writing planned.2
+  may_store = may_write_bytes planned.2
 
   module _ {T E : Type 0} {new : DeviceView} {result : Result T E} (made : Unfolds (write_steps volume.size writing bytes) old new result) where
     pub stored : HasStoredBytes volume.size old new writing bytes result
@@ -347,7 +339,7 @@ module _ {volume : VolumeView} {old : DeviceView} {writing : Writing} {bytes : L
         let all = device made in
         let stores = stores_bytes volume.size old new writing bytes _ (Ok done) may_store planned.2.stands.settled made in
         carries_made (λ (path : Route). Write path writing.offset bytes) own_offset planned ready (more_events writing) (beside made) (atomic made) reply told all (entered_beside enters) enters
-        (λ state path here keeps. leaves_written volume old state path bytes writing here new stores after enters all.settled (all.counted, all.grown) keeps)
+        (λ state path here keeps. leaves_written here new stores after enters all.settled (all.counted, all.grown) keeps)
 
     pub carried_no_further : {fault : E} (other : F) → Unfolds {T = T} (write_steps volume.size writing bytes) old new (Err fault) → (after.stopped ≡ true) × (after.size ≡ volume.size) × (after.marked ≡ volume.marked)
         → Carries volume after old new (WriteBytes writing) (Count (length bytes)) (IsWriteOf bytes) (Err other)

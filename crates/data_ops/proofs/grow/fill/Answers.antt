@@ -10,7 +10,7 @@ pub fill_old-requires : goal.fill_old-requires
 fill_old-requires g c = record {
   whole = c.requires.begins.whole;
   settled = c.requires.begins.settled;
-  may = may_fill c.args.geometry.now.pages (g.P.Pm.view c.args.pm.now).words c.args.growth.now c.args.bytes.now c.args.old_pages.now c.args.new_pages.now c.requires.ready;
+  may = may_fill c.requires.ready;
   room = let room = c.requires.begins.room in omega (arith, room);
 }
 
@@ -20,13 +20,11 @@ fill_new-requires g c =
     let can = c.requires.ready in
     let begins = c.requires.begins in
     let stores = c.fill_old.ensures.device in
-    let P = c.args.geometry.now.pages in
-    let W = (g.P.Pm.view c.args.pm.now).words in
     let size = c.args.geometry.now.volume_size in
     record {
       whole = interval_length stores.stores ∙ begins.whole;
-      settled = still_settled P W c.args.growth.now c.args.bytes.now c.args.old_pages.now c.args.new_pages.now can size begins.whole begins.settled stores.stores;
-      free = still_free P W c.args.growth.now c.args.bytes.now c.args.old_pages.now c.args.new_pages.now can size begins.whole begins.settled stores.stores;
+      settled = still_settled can size begins.whole begins.settled stores.stores;
+      free = still_free can size begins.whole begins.settled stores.stores;
       places = omega (arith, can.held.count, can.old_size, can.count, can.small, can.larger);
       range = omega (arith, can.small, can.inside);
       room = omega (arith, begins.room, stores.room);
@@ -41,12 +39,6 @@ end_interval-requires g c =
 
 pub returns : goal.returns
 returns g c =
-    let P = c.args.geometry.now.pages in
-    let W = (g.P.Pm.view c.args.pm.now).words in
-    let growth = c.args.growth.now in
-    let bytes = c.args.bytes.now in
-    let olds = c.args.old_pages.now in
-    let news = c.args.new_pages.now in
     let can = c.requires.ready in
     let size = c.args.geometry.now.volume_size in
     let settled = c.requires.begins.settled in
@@ -54,8 +46,8 @@ returns g c =
     let two = c.fill_new.ensures in
     record {
       takes = record {
-        makes = fills P W growth bytes olds news can size c.requires.begins.whole settled one.device.stores two.device.stores (g.P.Pm.view c.end_interval.new.pm).words c.end_interval.ensures.device.words one.below one.tail two.filled two.bytes;
-        fenced = interval_ends c.end_interval.result settled (stores_then one.device two.device (filled_apart P W growth bytes olds news can size c.requires.begins.whole settled))
-            (fill_flushed P W growth bytes olds news can size c.requires.begins.whole settled one.device.stores two.device.stores one.flushed two.flushed) c.end_interval.ensures.device;
+        makes = fills can size c.requires.begins.whole settled one.device.stores two.device.stores (g.P.Pm.view c.end_interval.new.pm).words c.end_interval.ensures.device.words one.below one.tail two.filled two.bytes;
+        fenced = interval_ends c.end_interval.result settled (stores_then one.device two.device (filled_apart can size c.requires.begins.whole settled))
+            (fill_flushed can size c.requires.begins.whole settled one.device.stores two.device.stores one.flushed two.flushed) c.end_interval.ensures.device;
       };
     }
